@@ -1,0 +1,6 @@
+use Rattle.std.proofs.Common.{◌≡◌, take}
+use Rattle.schema.proofs.tables.Tables.copy.Given as goal
+
+-- the tables so far
+abbrev pub invariant-loop-table : goal.invariant-loop-table
+invariant-loop-table g l = l.tables.items ≡ take l.table-index l.table-items

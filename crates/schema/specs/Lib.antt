@@ -1,0 +1,12 @@
+pub mod Adding
+pub mod Changed
+pub mod Changing
+pub mod Definition
+pub mod Inserting
+pub mod Keyed
+pub mod KeyedChange
+pub mod Left
+pub mod Named
+pub mod Names
+pub mod Plain
+pub mod Rows

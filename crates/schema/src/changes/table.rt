@@ -1,0 +1,73 @@
+ghost use Rattle.std.specs.Prelude.{◌≡◌, [], OnOk, OnErr, IfErr, IfSome};
+ghost use Rattle.std.specs.Option.{option_map, option_copied};
+ghost use Rattle.value.specs.Refusals.{out_of_memory};
+ghost use Rattle.schema.specs.Changing.{put_keyed, keyed_change, next_keyed};
+
+use crate::reader::Bound;
+use crate::row::Row;
+use std::alloc::{Allocator, Global};
+use std::collections::BTreeMap;
+use std::marker::Model;
+use std::ops;
+use value::key::Key;
+use value::refusal::Refusal;
+
+/// The changes of one table by key.
+#[derive(Drop)]
+#[derive_where(Debug)]
+pub struct ChangedTable<A: Allocator = Global> {
+    rows: BTreeMap<Key<A>, Option<Row<A>>, A>,
+}
+
+impl<A: Allocator> Model for ChangedTable<A> {
+    ghost use Rattle.std.specs.Prelude.{◌≡◌, List};
+    ghost use Rattle.schema.specs.KeyedChange.{KeyedChange, shown_changes, own_rows};
+
+    ghost Value = { List (KeyedChange A) };
+
+    ghost view = { λ t. shown_changes t.rows.entries };
+
+    // Each row stands beside its own key.
+    ghost invariant = { λ t. t.rows.entries ≡ own_rows (shown_changes t.rows.entries) };
+}
+
+impl<A: Allocator> ChangedTable<A> {
+    pub fn new(alloc: A) -> ChangedTable<A>
+        ensures { result ≡ [] }
+    {
+        ChangedTable {
+            rows: BTreeMap::new(alloc),
+        }
+    }
+
+    /// What is said of a key.
+    pub fn get(&self, key: &Key<A>) -> Option<&Option<Row<A>>>
+        ensures { option_copied result ≡ keyed_change self.now key.now }
+    {
+        self.rows.get(key)
+    }
+
+    /// The change of the least key within a bound.
+    pub fn next(&self, after: Bound<&Key<A>>) -> Option<(&Key<A>, &Option<Row<A>>)>
+        ensures { option_map (λ p. (p.0.now, p.1.now)) result ≡ next_keyed self.now after.entry }
+    {
+        let range = (after.start_key(), ops::Bound::Unbounded);
+        match self.rows.range(range).next() {
+            Some((key, row)) => Some((key, row)),
+            None => None,
+        }
+    }
+
+    /// Puts in a row or an absence, over any change of the key.
+    pub fn put(&mut self, alloc: A, key: Key<A>, row: Option<Row<A>>) -> Result<(), Refusal>
+    where
+        A: Copy,
+        requires { IfSome row (λ r. r.0 ≡ key) }
+        ensures ok { OnOk result (self.new ≡ put_keyed self.old key (option_map (λ r. r.1) row)) }
+        ensures err { OnErr result (self.new ≡ self.old) }
+        ensures memory { IfErr result (λ e. e ≡ out_of_memory) }
+    {
+        self.rows.insert(key, row)?;
+        Ok(())
+    }
+}

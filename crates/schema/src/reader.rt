@@ -1,0 +1,104 @@
+ghost use Rattle.std.specs.Prelude.{◌≡◌, ◌≤◌, ◌<◌, List, length};
+ghost use Rattle.std.specs.Option.{option_copied};
+ghost use Rattle.schema.specs.Keyed.{start_of, shown_bound};
+ghost use Rattle.schema.specs.Rows.{Rows, HasTable, IsInKeyOrder, row_of, next_row, rows_left, rows_after, rows_within};
+ghost use Rattle.schema.specs.Plain.{rows_of};
+
+use crate::catalog::TableNo;
+use crate::row::Row;
+use std::alloc::Allocator;
+use std::ops;
+use value::key::Key;
+use value::value::Value;
+
+/// Where a reading of rows goes on, as `Bound<&Key<A>>`.
+#[derive(Clone, Copy)]
+pub enum Bound<K> {
+    /// At the first row.
+    Start,
+    /// At a key, or the first after it.
+    From(K),
+    /// After a key.
+    After(K),
+}
+
+impl<'k, A: Allocator> Bound<&'k Key<A>> {
+    /// The same, as the start of a range of values.
+    pub fn start(self) -> ops::Bound<&'k Value<A>>
+        ensures { shown_bound result ≡ start_of self.entry }
+    {
+        match self {
+            Bound::Start => ops::Bound::Unbounded,
+            Bound::From(key) => ops::Bound::Included(key.value()),
+            Bound::After(key) => ops::Bound::Excluded(key.value()),
+        }
+    }
+
+    /// The same, as the start of a range of keys.
+    pub fn start_key(self) -> ops::Bound<&'k Key<A>>
+        ensures { shown_bound result ≡ start_of self.entry }
+    {
+        match self {
+            Bound::Start => ops::Bound::Unbounded,
+            Bound::From(key) => ops::Bound::Included(key),
+            Bound::After(key) => ops::Bound::Excluded(key),
+        }
+    }
+}
+
+/// What gives the rows of tables that stay as they are.
+pub trait SnapshotReader<A: Allocator> {
+    /// The tables that it reads.
+    ghost tables: { Self → List (Rows A) };
+
+    /// The row of the least key within a bound.
+    fn next_row(&self, table: TableNo, after: Bound<&Key<A>>) -> Option<&Row<A>>
+        requires { HasTable (tables self.now) table }
+        ensures row { option_copied result ≡ next_row (rows_of (tables self.now) table) after.entry }
+        ensures ordered { IsInKeyOrder (rows_of (tables self.now) table) };
+
+    /// The row of a key.
+    fn get(&self, table: TableNo, key: &Key<A>) -> Option<&Row<A>>
+        requires { HasTable (tables self.now) table }
+        ensures { option_copied result ≡ row_of (rows_of (tables self.now) table) key.now };
+}
+
+/// The first row of a table, with which a reading of all rows starts.
+pub fn first_row<'r, A: Allocator, R: SnapshotReader<A>>(
+    reader: &'r R,
+    table: TableNo,
+) -> Option<&'r Row<A>>
+    requires { HasTable (R.tables reader.now) table }
+    ensures row { option_copied result ≡ next_row (rows_of (R.tables reader.now) table) Bound.Start }
+    ensures ordered { IsInKeyOrder (rows_of (R.tables reader.now) table) }
+    ensures left { rows_left (rows_of (R.tables reader.now) table) result ≡ rows_of (R.tables reader.now) table }
+{
+    let start: Bound<&'r Key<A>> = Bound::Start;
+    reader.next_row(table, start)
+}
+
+/// The row after one, with which a reading of all rows goes on.
+pub fn row_after<'r, A: Allocator, R: SnapshotReader<A>>(
+    reader: &'r R,
+    table: TableNo,
+    row: &Row<A>,
+) -> Option<&'r Row<A>>
+    requires { HasTable (R.tables reader.now) table }
+    ensures left { rows_left (rows_of (R.tables reader.now) table) result ≡ rows_after (rows_of (R.tables reader.now) table) row.now.0 }
+    ensures ordered { IsInKeyOrder (rows_of (R.tables reader.now) table) }
+{
+    reader.next_row(table, Bound::After(row.key()))
+}
+
+/// The first row of a table within a bound, with which a reading of the rows within it starts.
+pub fn row_within<'r, A: Allocator, R: SnapshotReader<A>>(
+    reader: &'r R,
+    table: TableNo,
+    bound: Bound<&Key<A>>,
+) -> Option<&'r Row<A>>
+    requires { HasTable (R.tables reader.now) table }
+    ensures left { rows_left (rows_of (R.tables reader.now) table) result ≡ rows_within (rows_of (R.tables reader.now) table) bound.entry }
+    ensures ordered { IsInKeyOrder (rows_of (R.tables reader.now) table) }
+{
+    reader.next_row(table, bound)
+}

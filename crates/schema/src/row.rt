@@ -1,0 +1,83 @@
+ghost use Rattle.std.specs.Prelude.{◌≡◌, ◌+◌, ◌-◌, ◌<◌, ◌≤◌, ◌∷◌, length, slice_get, Some, IfOk, IfErr};
+ghost use Rattle.value.specs.Refusals.{out_of_memory};
+
+use std::alloc::{Allocator, Global};
+use std::marker::Model;
+use value::key::Key;
+use value::refusal::Refusal;
+use value::value::Value;
+
+/// A row: its key, and the fields after it.
+#[derive(Drop)]
+#[derive_where(Debug)]
+pub struct Row<A: Allocator = Global> {
+    key: Key<A>,
+    fields: Vec<Value<A>, A>,
+}
+
+impl<A: Allocator> Model for Row<A> {
+    ghost use Rattle.std.specs.Prelude.{List};
+    ghost use Rattle.value.specs.declared.value.Value.{Value as Datum};
+
+    // The key, and the fields beside it.
+    ghost Value = { Datum A × List (Datum A) };
+
+    ghost view = { λ r. (r.key, r.fields.items) };
+}
+
+impl<A: Allocator> Row<A> {
+    /// The row of a key and the other fields.
+    pub fn new(key: Key<A>, fields: Vec<Value<A>, A>) -> Row<A>
+        ensures { result ≡ (key, fields.items) }
+    {
+        Row { key, fields }
+    }
+
+    pub fn key(&self) -> &Key<A>
+        ensures { result.now ≡ self.now.0 }
+    {
+        &self.key
+    }
+
+    /// The fields beside the key.
+    pub fn fields(&self) -> &[Value<A>]
+        ensures { result.now ≡ self.now.1 }
+    {
+        self.fields.as_slice()
+    }
+
+    /// The key and the fields beside it, without memory.
+    pub fn into_parts(self) -> (Key<A>, Vec<Value<A>, A>)
+        ensures { (result.0, result.1.items) ≡ self }
+    {
+        (self.key, self.fields)
+    }
+
+    /// The value in a column, the first of which is the key's.
+    pub fn field(&self, column: usize) -> &Value<A>
+        requires within { column ≤ length self.now.1 + 1 }
+        requires counted { 0 < column }
+        ensures { slice_get (self.now.0 ∷ self.now.1) (column - 1) ≡ Some result.now }
+    {
+        if column == 1 {
+            self.key.value()
+        } else {
+            &self.fields[column - 2]
+        }
+    }
+
+    /// An equal row.
+    pub fn copy(&self, alloc: A) -> Result<Row<A>, Refusal>
+    where
+        A: Copy,
+        ensures ok { IfOk result (λ r. r ≡ self.now) }
+        ensures err { IfErr result (λ e. e ≡ out_of_memory) }
+    {
+        let key = self.key.copy(alloc)?;
+        let mut fields = Vec::with_capacity(alloc, self.fields.len())?;
+        for field in &self.fields {
+            fields.push(field.copy(alloc)?)?;
+        }
+        Ok(Row { key, fields })
+    }
+}

@@ -1,0 +1,311 @@
+ghost use Rattle.schema.specs.Rows.{HasTable};
+
+use crate::catalog::{Catalog, TableNo};
+use crate::changes::Changes;
+use crate::definition::{ColumnDef, TableDef};
+use crate::names::is_name;
+use crate::reader::{Bound, SnapshotReader, first_row, row_after};
+use crate::row::Row;
+use crate::tables::Tables;
+use std::alloc::Global;
+use std::test::Fail;
+use value::key::Key;
+use value::kind::Kind;
+use value::refusal::{Code, Refusal};
+use value::text::Text;
+use value::value::Value;
+
+// A column of a name, a kind and a mark, which may reference a table.
+fn column(
+    alloc: Global,
+    name: &str,
+    kind: Kind,
+    not_null: bool,
+    references: &str,
+) -> Result<ColumnDef, Refusal> {
+    let name = Text::from_str(alloc, name)?;
+    let references = match references {
+        "" => None,
+        table => Some(Text::from_str(alloc, table)?),
+    };
+    Ok(ColumnDef::new(name, kind, not_null, references))
+}
+
+// A table of bigint columns c0, c1, .., the last of which may reference a table.
+fn table(
+    alloc: Global,
+    name: &str,
+    count: usize,
+    kind: Kind,
+    references: &str,
+) -> Result<TableDef, Refusal> {
+    let mut columns = Vec::new(alloc);
+    for place in 0..count {
+        let last = place as u64 + 1 == count as u64;
+        let name = format!(in alloc; "c{place}")?;
+        let (kind, references) = if last {
+            (kind, references)
+        } else {
+            (Kind::Bigint, "")
+        };
+        columns.push(column(alloc, name.as_str(), kind, false, references)?)?;
+    }
+    TableDef::new(alloc, Text::from_str(alloc, name)?, columns)
+}
+
+fn code<T: Drop>(answer: Result<T, Refusal>) -> Option<Code> {
+    answer.err().map(|refusal| refusal.code)
+}
+
+#[test]
+fn names(rt: HostRuntime) -> Result<(), Fail> {
+    let longest = "a123456789b123456789c123456789d123456789e123456789f123456789abc";
+    let longer = "a123456789b123456789c123456789d123456789e123456789f123456789abcd";
+    for (word, want) in [
+        ("t", true),
+        ("_", true),
+        ("a_9", true),
+        ("", false),
+        ("9a", false),
+        ("Ab", false),
+        ("a-b", false),
+        ("select", false),
+        ("bytea", false),
+        ("selects", true),
+        (longest, true),
+        (longer, false),
+    ] {
+        assert_eq!(rt; is_name(word), want, "{word}");
+    }
+    Ok(())
+}
+
+#[test]
+fn definitions(rt: HostRuntime) -> Result<(), Fail> {
+    let alloc = rt.alloc();
+    for (name, first, second, references, want) in [
+        ("t", "id", "v", "", None),
+        ("T", "id", "v", "", Some(Code::SyntaxError)),
+        ("t", "table", "v", "", Some(Code::SyntaxError)),
+        ("t", "id", "id", "", Some(Code::SyntaxError)),
+        ("t", "id", "v", "P", Some(Code::SyntaxError)),
+    ] {
+        let mut columns = Vec::new(alloc);
+        columns.push(column(alloc, first, Kind::Bigint, true, "")?)?;
+        columns.push(column(alloc, second, Kind::Text, true, references)?)?;
+        let made = TableDef::new(alloc, Text::from_str(alloc, name)?, columns);
+        if let Ok(table) = &made {
+            let marks = table.columns().iter().map(|column| column.not_null());
+            let marks: Vec<bool> = marks.collect(alloc)?;
+            assert_eq!(rt; marks.as_slice(), [false, true].as_slice());
+        }
+        assert_eq!(rt; code(made), want, "{name} {first} {second} {references}");
+    }
+    let none = TableDef::new(alloc, Text::from_str(alloc, "t")?, Vec::new(alloc));
+    assert_eq!(rt; code(none), Some(Code::SyntaxError));
+    Ok(())
+}
+
+#[test]
+fn adding_to_a_catalog(rt: HostRuntime) -> Result<(), Fail> {
+    let alloc = rt.alloc();
+    let mut catalog = Catalog::new(alloc);
+    for (name, count, kind, references, want) in [
+        ("p", 1, Kind::Bigint, "", None),
+        ("p", 2, Kind::Bigint, "nope", Some(Code::DuplicateTable)),
+        ("c", 2, Kind::Bigint, "c", Some(Code::UndefinedTable)),
+        ("c", 33, Kind::Text, "p", Some(Code::DatatypeMismatch)),
+        ("c", 33, Kind::Bigint, "p", Some(Code::ProgramLimitExceeded)),
+        ("c", 32, Kind::Bigint, "p", None),
+    ] {
+        let added = catalog.add(alloc, table(alloc, name, count, kind, references)?);
+        assert_eq!(rt; code(added), want, "{name} {count} {references}");
+    }
+    assert_eq!(rt; catalog.len(), 2);
+    assert_eq!(rt; catalog.find("c").map(|t| t.place()), Some(1));
+    assert_eq!(rt; catalog.find_bytes(b"d").map(|t| t.place()), None);
+    for place in 2..256 {
+        let name = format!(in alloc; "t{place}")?;
+        let added = catalog.add(alloc, table(alloc, name.as_str(), 1, Kind::Bigint, "")?);
+        assert_eq!(rt; code(added), None, "{place}");
+    }
+    let added = catalog.add(alloc, table(alloc, "one_more", 1, Kind::Bigint, "")?);
+    assert_eq!(rt; code(added), Some(Code::ProgramLimitExceeded));
+    Ok(())
+}
+
+// The tables p (id) and c (id, name, p): a name mustn't be null, and c.p references p.
+fn parent_and_child(alloc: Global) -> Result<Catalog, Refusal> {
+    let mut catalog = Catalog::new(alloc);
+    catalog.add(alloc, table(alloc, "p", 1, Kind::Bigint, "")?)?;
+    let mut columns = Vec::new(alloc);
+    columns.push(column(alloc, "id", Kind::Bigint, false, "")?)?;
+    columns.push(column(alloc, "name", Kind::Text, true, "")?)?;
+    columns.push(column(alloc, "p", Kind::Bigint, false, "p")?)?;
+    let name = Text::from_str(alloc, "c")?;
+    catalog.add(alloc, TableDef::new(alloc, name, columns)?)?;
+    Ok(catalog)
+}
+
+// A row of a key and fields: a text, where it isn't `-`, and a number, where it isn't 0; as many of them as are asked for.
+fn row(alloc: Global, key: i64, name: &str, parent: i64, count: usize) -> Result<Row, Fail> {
+    let key = Key::new(Value::Int(key)).ok_or("a null key")?;
+    let name = match name {
+        "-" => Value::Null,
+        "7" => Value::Int(7),
+        name => Value::Text(Text::from_str(alloc, name)?),
+    };
+    let parent = match parent {
+        0 => Value::Null,
+        parent => Value::Int(parent),
+    };
+    let mut fields = Vec::new(alloc);
+    if count > 0 {
+        fields.push(name)?;
+    }
+    if count > 1 {
+        fields.push(parent)?;
+    }
+    Ok(Row::new(key, fields))
+}
+
+#[test]
+fn inserting_rows(rt: HostRuntime) -> Result<(), Fail> {
+    let alloc = rt.alloc();
+    let catalog = parent_and_child(alloc)?;
+    let mut tables = Tables::new(alloc, &catalog)?;
+    for (place, key, name, parent, count, want) in [
+        (0, 1, "-", 0, 0, None),
+        (1, 1, "a", 1, 2, None),
+        (1, 1, "\0", 9, 1, Some(Code::DatatypeMismatch)),
+        (1, 1, "7", 9, 2, Some(Code::DatatypeMismatch)),
+        (1, 1, "\0", 9, 2, Some(Code::CharacterNotInRepertoire)),
+        (1, 1, "-", 9, 2, Some(Code::NotNullViolation)),
+        (1, 1, "b", 9, 2, Some(Code::UniqueViolation)),
+        (1, 5, "b", 9, 2, Some(Code::ForeignKeyViolation)),
+        (1, 5, "b", 0, 2, None),
+    ] {
+        let table = TableNo::at(place);
+        assert!(rt; catalog.has(table) && tables.count() == catalog.len());
+        let done = tables.insert(
+            alloc,
+            &catalog,
+            table,
+            row(alloc, key, name, parent, count)?,
+        );
+        assert_eq!(rt; code(done), want, "{key} {name} {parent} {count}");
+    }
+    let child = TableNo::at(1);
+    assert!(rt; tables.has(child));
+    assert_eq!(rt; tables.len(child), 2);
+    assert!(rt; tables.sound(&catalog));
+    tables.put(alloc, child, row(alloc, 6, "c", 9, 2)?)?;
+    assert!(rt; !tables.sound(&catalog));
+    Ok(())
+}
+
+// A reader of another's tables.
+#[derive(Clone, Copy)]
+struct Lent<'t> {
+    tables: &'t Tables,
+}
+
+impl SnapshotReader<Global> for Lent<'_> {
+    ghost tables = { λ l. l.tables.now };
+
+    fn next_row(&self, table: TableNo, after: Bound<&Key>) -> Option<&Row> {
+        self.tables.next_row(table, after)
+    }
+
+    fn get(&self, table: TableNo, key: &Key) -> Option<&Row> {
+        self.tables.get(table, key)
+    }
+}
+
+// The keys of a table, in the order in which they are read.
+fn keys<R: SnapshotReader<Global>>(
+    alloc: Global,
+    reader: &R,
+    table: TableNo,
+) -> Result<Vec<i64>, Fail>
+    requires { HasTable (R.tables reader.now) table }
+{
+    let mut keys = Vec::new(alloc);
+    let mut next = first_row(reader, table);
+    while let Some(row) = next {
+        if let Value::Int(key) = row.key().value() {
+            keys.push(*key)?;
+        }
+        next = row_after(reader, table, row);
+    }
+    Ok(keys)
+}
+
+#[test]
+fn reading_in_key_order(rt: HostRuntime) -> Result<(), Fail> {
+    let alloc = rt.alloc();
+    let catalog = parent_and_child(alloc)?;
+    let mut tables = Tables::new(alloc, &catalog)?;
+    let table = TableNo::at(0);
+    assert!(rt; tables.has(table));
+    for key in [5, -1, 3] {
+        assert!(rt; tables.has(table));
+        tables.put(alloc, table, row(alloc, key, "-", 0, 0)?)?;
+    }
+    let copy = tables.copy(alloc)?;
+    let reader = Lent { tables: &copy };
+    assert!(rt; copy.has(table));
+    assert_eq!(rt;
+        keys(alloc, &copy, table)?.as_slice(),
+        [-1, 3, 5].as_slice()
+    );
+    assert_eq!(rt;
+        keys(alloc, &reader, table)?.as_slice(),
+        [-1, 3, 5].as_slice()
+    );
+    let three = Key::new(Value::Int(3)).ok_or("a null key")?;
+    assert!(rt; reader.get(table, &three).is_some());
+    let from = reader
+        .next_row(table, Bound::From(&three))
+        .map(|row| row.fields().len());
+    assert_eq!(rt; from, Some(0));
+    Ok(())
+}
+
+#[test]
+fn a_hundred_thousand_rows(rt: HostRuntime) -> Result<(), Fail> {
+    let alloc = rt.alloc();
+    let catalog = parent_and_child(alloc)?;
+    let mut tables = Tables::new(alloc, &catalog)?;
+    let table = TableNo::at(0);
+    for number in 0..100_000u32 {
+        assert!(rt; catalog.has(table) && tables.count() == catalog.len());
+        let key = i64::from(number.wrapping_mul(7919) % 100_003);
+        tables.insert(alloc, &catalog, table, row(alloc, key, "-", 0, 0)?)?;
+    }
+    assert!(rt; tables.has(table));
+    assert_eq!(rt; tables.len(table), 100_000);
+    for number in 0..100_000u32 {
+        let number = i64::from(number.wrapping_mul(7919) % 100_003);
+        let key = Key::new(Value::Int(number)).ok_or("a null key")?;
+        assert!(rt; tables.get(table, &key).is_some(), "{number}");
+    }
+    Ok(())
+}
+
+#[test]
+fn changes_by_table_and_key(rt: HostRuntime) -> Result<(), Fail> {
+    let alloc = rt.alloc();
+    let mut changes = Changes::new(alloc);
+    let table = TableNo::at(2);
+    let key = Key::new(Value::Int(4)).ok_or("a null key")?;
+    assert!(rt; changes.get(table, &key).is_none());
+    changes.put_row(alloc, table, row(alloc, 4, "a", 1, 2)?)?;
+    changes.put_row(alloc, TableNo::at(0), row(alloc, 4, "-", 0, 0)?)?;
+    assert!(rt; matches!(changes.get(table, &key), Some(Some(_))));
+    changes.put_absence(alloc, table, key.copy(alloc)?)?;
+    assert!(rt; matches!(changes.get(table, &key), Some(None)));
+    assert!(rt; matches!(changes.next(table, Bound::From(&key)), Some((_, None))));
+    assert!(rt; changes.next(table, Bound::After(&key)).is_none());
+    Ok(())
+}
