@@ -1,0 +1,15 @@
+pub mod CoverExamples
+pub mod CoverLemmas
+pub mod CoverSet
+pub mod EvaluationExamples
+pub mod ExampleWords
+pub mod FootprintExamples
+pub mod LawsLemmas
+pub mod MarksLemmas
+pub mod RowsLemmas
+pub mod SoundSteps
+pub mod Suffices
+pub mod WritesLemmas
+pub mod WalkLemmas
+pub mod FootprintLemmas
+pub mod HeldLemmas

@@ -1,0 +1,10 @@
+pub mod Agreement
+pub mod Conditions
+pub mod Cover
+pub mod Evaluation
+pub mod Fits
+pub mod Footprint
+pub mod Laws
+pub mod Marks
+pub mod Select
+pub mod Walk

@@ -1,0 +1,199 @@
+//! The rows that a WHERE chooses, read from the lower end of its interval to the upper end.
+
+ghost use Rattle.std.specs.Prelude.{◌≡◌, ◌++◌, [], ◌∷◌, true, map, filter, OnOk, IfOk, IfErr, IfSome};
+ghost use Rattle.std.specs.FinMap.{is_sorted};
+ghost use Rattle.std.specs.List.{AllByRecursion};
+ghost use Rattle.std.specs.Option.{option_copied};
+ghost use Rattle.std.specs.declared.cmp.Ordering.TheVariants.{Equal};
+ghost use Rattle.value.specs.Order.{value_cmp};
+ghost use Rattle.value.specs.Refusals.{out_of_memory};
+ghost use Rattle.value.specs.declared.value.Value.{Value as Datum};
+ghost use Rattle.schema.specs.Plain.{rows_of};
+ghost use Rattle.schema.specs.Rows.{HasTable, IsInKeyOrder, is_within, rows_left};
+ghost use Rattle.statement.specs.Conditions.{satisfies, chosen};
+ghost use Rattle.statement.specs.Cover.{is_from, is_to};
+ghost use Rattle.statement.specs.Select.{HasColumns};
+ghost use Rattle.statement.specs.Walk.{AreReadable, IsWithin, IsAt, listed};
+
+use crate::condition::Condition;
+use crate::evaluate::rows::satisfies;
+use crate::interval::{Interval, intersection};
+use crate::reading::End;
+use schema::catalog::TableNo;
+use schema::reader::{Bound, SnapshotReader, row_after};
+use schema::row::Row;
+use std::alloc::Allocator;
+use value::key::Key;
+use value::refusal::Refusal;
+
+// Adds a row, where it meets all conditions.
+fn push_chosen<'r, A: Allocator>(
+    conditions: &[Condition<A>],
+    row: &'r Row<A>,
+    chosen: &mut Vec<&'r Row<A>, A>,
+) -> Result<(), Refusal>
+    requires { HasColumns conditions.now row.now }
+    ensures ok { OnOk result (map (λ row. row.now) chosen.new.items ≡ map (λ row. row.now) chosen.old.items ++ filter (satisfies conditions.now) (row.now ∷ [])) }
+    ensures err { IfErr result (λ e. e ≡ out_of_memory) }
+{
+    if satisfies(conditions, row) {
+        chosen.push(row)?;
+    }
+    Ok(())
+}
+
+// Adds the row that was found, where one was and it meets all conditions.
+fn push_found<'r, A: Allocator>(
+    conditions: &[Condition<A>],
+    found: Option<&'r Row<A>>,
+    chosen: &mut Vec<&'r Row<A>, A>,
+) -> Result<(), Refusal>
+    requires { IfSome found (λ row. HasColumns conditions.now row.now) }
+    ensures ok { OnOk result (map (λ row. row.now) chosen.new.items ≡ map (λ row. row.now) chosen.old.items ++ filter (satisfies conditions.now) (listed (option_copied found.entry))) }
+    ensures err { IfErr result (λ e. e ≡ out_of_memory) }
+{
+    match found {
+        Some(row) => push_chosen(conditions, row, chosen),
+        None => Ok(()),
+    }
+}
+
+// Whether a key isn't above an upper end.
+fn is_to<A: Allocator>(end: &End<A>, key: &Key<A>) -> bool
+    ensures { result ≡ is_to end.now key.now }
+{
+    match end {
+        End::Open => true,
+        End::Closed(last) => last.cmp(key).is_ge(),
+        End::Without(limit) => limit.cmp(key).is_gt(),
+    }
+}
+
+// A lower end as a bound of a reading.
+fn lower_bound<A: Allocator>(end: &End<A>) -> Bound<&Key<A>>
+    ensures { (k : Datum A) → is_within result k ≡ is_from end.now k }
+{
+    match end {
+        End::Open => Bound::Start,
+        End::Closed(first) => Bound::From(first),
+        End::Without(before) => Bound::After(before),
+    }
+}
+
+// The first row that isn't below a lower end.
+fn first_from<'r, A: Allocator, R: SnapshotReader<A>>(
+    reader: &'r R,
+    table: TableNo,
+    end: &End<A>,
+) -> Option<&'r Row<A>>
+    requires { HasTable (R.tables reader.now) table }
+    ensures left { rows_left (rows_of (R.tables reader.now) table) result ≡ filter (λ row. is_from end.now row.0) (rows_of (R.tables reader.now) table) }
+    ensures ordered { IsInKeyOrder (rows_of (R.tables reader.now) table) }
+{
+    let bound = lower_bound(end);
+    reader.next_row(table, bound)
+}
+
+// The rows that satisfy the conditions, where all that do are between two ends.
+fn chosen_between<'r, A: Allocator, R: SnapshotReader<A>>(
+    alloc: A,
+    reader: &'r R,
+    table: TableNo,
+    conditions: &[Condition<A>],
+    low: &End<A>,
+    high: &End<A>,
+) -> Result<Vec<&'r Row<A>, A>, Refusal>
+    requires has { HasTable (R.tables reader.now) table }
+    requires within { AllByRecursion (λ row. IsWithin conditions.now low.now high.now row) (rows_of (R.tables reader.now) table) }
+    ensures ok { IfOk result (λ rows. map (λ row. row.now) rows.items ≡ chosen (R.tables reader.now) table conditions.now) }
+    ensures err { IfErr result (λ e. e ≡ out_of_memory) }
+{
+    let mut chosen = Vec::new(alloc);
+    let mut next = first_from(reader, table, low);
+    while let Some(row) = next {
+        if !is_to(high, row.key()) {
+            return Ok(chosen);
+        }
+        push_chosen(conditions, row, &mut chosen)?;
+        next = row_after(reader, table, row);
+    }
+    Ok(chosen)
+}
+
+// The row of a key, where it satisfies the conditions and no other does.
+fn chosen_at<'r, A: Allocator, R: SnapshotReader<A>>(
+    alloc: A,
+    reader: &'r R,
+    table: TableNo,
+    conditions: &[Condition<A>],
+    key: &Key<A>,
+) -> Result<Vec<&'r Row<A>, A>, Refusal>
+    requires has { HasTable (R.tables reader.now) table }
+    requires sorted { is_sorted value_cmp (rows_of (R.tables reader.now) table) ≡ true }
+    requires at { AllByRecursion (λ row. IsAt conditions.now key.now row) (rows_of (R.tables reader.now) table) }
+    ensures ok { IfOk result (λ rows. map (λ row. row.now) rows.items ≡ chosen (R.tables reader.now) table conditions.now) }
+    ensures err { IfErr result (λ e. e ≡ out_of_memory) }
+{
+    let found = reader.get(table, key);
+    let mut chosen = Vec::new(alloc);
+    push_found(conditions, found, &mut chosen)?;
+    Ok(chosen)
+}
+
+// The only key between two ends, where they are the same and both included.
+fn only_key<'e, A: Allocator>(low: &'e End<A>, high: &End<A>) -> Option<&'e Key<A>>
+    ensures { IfSome result (λ key. (k : Datum A) → is_from low.now k ≡ true → is_to high.now k ≡ true → value_cmp key.now k ≡ Equal) }
+{
+    match (low, high) {
+        (End::Closed(first), End::Closed(last)) => {
+            if first.cmp(last).is_eq() {
+                Some(first)
+            } else {
+                None
+            }
+        }
+        _ => None,
+    }
+}
+
+// The rows that satisfy the conditions, where all that do are between two ends.
+fn chosen_within<'r, A: Allocator, R: SnapshotReader<A>>(
+    alloc: A,
+    reader: &'r R,
+    table: TableNo,
+    conditions: &[Condition<A>],
+    low: &End<A>,
+    high: &End<A>,
+) -> Result<Vec<&'r Row<A>, A>, Refusal>
+    requires has { HasTable (R.tables reader.now) table }
+    requires sorted { is_sorted value_cmp (rows_of (R.tables reader.now) table) ≡ true }
+    requires within { AllByRecursion (λ row. IsWithin conditions.now low.now high.now row) (rows_of (R.tables reader.now) table) }
+    ensures ok { IfOk result (λ rows. map (λ row. row.now) rows.items ≡ chosen (R.tables reader.now) table conditions.now) }
+    ensures err { IfErr result (λ e. e ≡ out_of_memory) }
+{
+    match only_key(low, high) {
+        Some(key) => chosen_at(alloc, reader, table, conditions, key),
+        None => chosen_between(alloc, reader, table, conditions, low, high),
+    }
+}
+
+/// The rows of a table that satisfy all conditions, by key.
+pub(crate) fn chosen<'r, A: Allocator + Copy, R: SnapshotReader<A>>(
+    alloc: A,
+    reader: &'r R,
+    table: TableNo,
+    conditions: &[Condition<A>],
+) -> Result<Vec<&'r Row<A>, A>, Refusal>
+    requires has { HasTable (R.tables reader.now) table }
+    requires readable { AreReadable conditions.now (rows_of (R.tables reader.now) table) }
+    ensures ok { IfOk result (λ rows. map (λ row. row.now) rows.items ≡ chosen (R.tables reader.now) table conditions.now) }
+    ensures err { IfErr result (λ e. e ≡ out_of_memory) }
+{
+    match intersection(alloc, conditions)? {
+        None => chosen_between(alloc, reader, table, conditions, &End::Open, &End::Open),
+        Some(Interval::Nothing) => Ok(Vec::new(alloc)),
+        Some(Interval::Span(low, high)) => {
+            chosen_within(alloc, reader, table, conditions, &low, &high)
+        }
+    }
+}

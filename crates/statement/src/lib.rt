@@ -1,0 +1,18 @@
+//! Statements, what they answer and change, and what they read.
+#![tactic(auto)]
+
+pub mod condition;
+#[cfg(test)]
+mod copy_tests;
+pub mod evaluate;
+mod fits;
+pub mod footprint;
+#[cfg(test)]
+mod footprint_tests;
+mod interval;
+pub mod laws;
+pub mod outcome;
+pub mod reading;
+pub mod reply;
+pub mod statement;
+pub mod values;
