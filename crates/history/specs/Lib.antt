@@ -1,0 +1,5 @@
+pub mod Checkpoint
+pub mod Events
+pub mod Opening
+pub mod Serial
+pub mod Transactions

@@ -1,0 +1,132 @@
+// A history: what a server opened with, and each event since with its reply.
+ghost use Rattle.std.specs.Prelude.{◌≡◌, ◌<◌, ◌≤◌, [], ◌∷◌, ◌++◌, List, length, Ok, Err, IfSome, IfNone, if◌then◌else◌, ◌==◌};
+ghost use Rattle.value.specs.Refusals.{AnswersOrNoMemory, of_code};
+ghost use Rattle.history.specs.declared.event.Record.{Record as AnyRecord};
+
+use crate::base::Base;
+use crate::event::Record;
+use schema::catalog::Catalog;
+use schema::tables::Tables;
+use std::alloc::{Allocator, Global};
+use std::marker::Model;
+use value::refusal::{Code, Refusal};
+
+/// What a server opened with, and each event since with its reply, in room that was reserved at
+/// the opening.
+#[derive(Drop)]
+pub struct History<A: Allocator = Global> {
+    catalog: Catalog<A>,
+    tables: Tables<A>,
+    base: Base,
+    records: Vec<Record<A>, A>,
+    most: u32,
+}
+
+impl<A: Allocator> Model for History<A> {
+    ghost use Rattle.std.specs.Prelude.{◌≤◌, length, vec_capacity};
+    ghost use Rattle.history.specs.Opening.{Recorded};
+
+    ghost Value = { Recorded A };
+
+    ghost view = { λ h. record { opening = record { catalog = h.catalog; tables = h.tables; base = h.base }; records = h.records.items; most = h.most } };
+
+    ghost invariant = { λ h. (length h.records.items ≤ h.most) × (h.most ≤ vec_capacity h.records) };
+}
+
+impl<A: Allocator> History<A> {
+    /// The history of nothing yet, with room for `max_events` events; refused with 54000 where that is none.
+    pub fn open(
+        alloc: A,
+        catalog: Catalog<A>,
+        tables: Tables<A>,
+        base: Base,
+        max_events: u32,
+    ) -> Result<History<A>, Refusal>
+        ensures { AnswersOrNoMemory result
+            (if max_events == 0
+            then Err (of_code Code.ProgramLimitExceeded)
+            else Ok (record { opening = record { catalog = catalog; tables = tables; base = base }; records = []; most = max_events })) }
+    {
+        if max_events == 0 {
+            return Err(Refusal::of_code(Code::ProgramLimitExceeded));
+        }
+        Ok(History {
+            catalog,
+            tables,
+            base,
+            records: Vec::with_capacity(alloc, max_events as usize)?,
+            most: max_events,
+        })
+    }
+
+    /// Adds an event with its reply at the end. It takes no memory.
+    pub fn push(&mut self, entry: Record<A>)
+        requires { length self.old.records < self.old.most }
+        ensures { self.new ≡ record self.old { records = self.old.records ++ entry ∷ [] } }
+    {
+        self.records.push_reserved(entry);
+    }
+
+    /// Whether there is no room for a further event.
+    pub fn is_full(&self) -> bool
+        ensures full { result ≡ (length self.now.records == self.now.most) }
+        ensures room { length self.now.records ≤ self.now.most }
+    {
+        self.records.len() == self.most as usize
+    }
+
+    /// The greatest number of events that it may have.
+    pub fn max_events(&self) -> u32
+        ensures { result ≡ self.now.most }
+    {
+        self.most
+    }
+
+    /// The opening catalog.
+    pub fn catalog(&self) -> &Catalog<A>
+        ensures { result.now ≡ self.now.opening.catalog }
+    {
+        &self.catalog
+    }
+
+    /// The opening tables.
+    pub fn tables(&self) -> &Tables<A>
+        ensures { result.now ≡ self.now.opening.tables }
+    {
+        &self.tables
+    }
+
+    /// What was counted before this history.
+    pub fn base(&self) -> Base
+        ensures { result ≡ self.now.opening.base }
+    {
+        self.base
+    }
+
+    /// The events with their replies.
+    pub fn records(&self) -> &[Record<A>]
+        ensures { result.now ≡ self.now.records }
+    {
+        self.records.as_slice()
+    }
+
+    /// The last event with its reply.
+    pub fn last(&self) -> Option<&Record<A>>
+        ensures some { IfSome result (λ entry. (before : List (AnyRecord A)) × (self.now.records ≡ before ++ entry.now ∷ [])) }
+        ensures none { IfNone result (self.now.records ≡ []) }
+    {
+        self.records.last()
+    }
+
+    /// The catalog and the tables, taken out.
+    pub fn into_opening(self) -> (Catalog<A>, Tables<A>)
+        ensures { result ≡ (self.opening.catalog, self.opening.tables) }
+    {
+        let History {
+            catalog,
+            tables,
+            ..
+        } = self;
+        (catalog, tables)
+    }
+}

@@ -1,0 +1,24 @@
+pub mod Legal
+pub mod Dooms
+pub mod Numbers
+pub mod Faithful
+pub mod FirstUpdater
+pub mod NoneDangerous
+pub mod InTime
+pub mod Stamps
+pub mod SerialTheorem
+pub mod SafePrefix
+pub mod Later
+pub mod AlwaysSound
+pub mod Answered
+pub mod SafeReply
+pub mod DoneFromSnapshot
+pub mod Based
+pub mod OnBase
+pub mod FollowsBase
+pub mod BaseOrder
+pub mod Histories
+pub mod Play
+mod Examples
+mod LegalExample
+mod PivotExamples
