@@ -1,0 +1,5 @@
+mod CreateLemmas
+mod EachLemmas
+mod FitsLemmas
+mod LexerLemmas
+mod ListLemmas
