@@ -1,0 +1,30 @@
+ghost use Rattle.std.specs.Prelude.{◌≡◌};
+ghost use Rattle.dumpworker.specs.declared.fault.DumpFault.TheVariants.{Device, Memory};
+
+use collector::DeviceError;
+use value::refusal::Refusal;
+
+/// Why no whole dump was written.
+#[derive(Clone, Copy, Debug, PartialEq, Eq)]
+pub enum DumpFault {
+    /// The device has failed.
+    Device,
+    /// A growth was refused.
+    Memory,
+}
+
+impl From<Refusal> for DumpFault {
+    ghost from_gives = { λ _ e. e ≡ Memory };
+
+    fn from(_refusal: Refusal) -> DumpFault {
+        DumpFault::Memory
+    }
+}
+
+impl From<DeviceError> for DumpFault {
+    ghost from_gives = { λ _ e. e ≡ Device };
+
+    fn from(_error: DeviceError) -> DumpFault {
+        DumpFault::Device
+    }
+}
