@@ -1,0 +1,2 @@
+pub mod ExtentLemmas
+pub mod WalkLemmas
