@@ -1,5 +1,5 @@
 -- Which definitions are well made, and what follows where nothing stands against adding a table.
-use Rattle.std.proofs.Common.{◌≡◌, ℕ, ◌+◌, ◌<◌, ◌≤◌, nat_le, nat_lt, Bool, true, false, true≢false, cond, inl, inr, Ok, Err, not, ◌&&◌, ◌||◌, List, [], ◌∷◌, ◌++◌, length, map, get_or, drop, Option, Some, None, is_some, if◌then◌else◌, Bor, refl, sym, ap, ◌∙◌, arith}
+use Rattle.std.proofs.Common.{◌≡◌, ℕ, ◌+◌, ◌<◌, ◌≤◌, nat_le, nat_lt, Bool, true, false, true≢false, inl, inr, Ok, Err, not, ◌&&◌, ◌||◌, List, [], ◌∷◌, ◌++◌, length, map, get_or, drop, Some, None, is_some, if◌then◌else◌, Bor, refl, sym, ap, ◌∙◌, arith}
 use Rattle.std.proofs.lemmas.Bool.Decides.{nat_tests}
 use Rattle.std.proofs.lemmas.List.{at_drop_more}
 use Rattle.std.specs.List.{list_any, list_all}
@@ -44,23 +44,24 @@ module _ (texts : List (Bor (List ℕ))) (name : Bor (List ℕ)) (columns : List
       ap (λ ns. have_new_names ns (drop (i + 1) columns)) names
       ∙ sym (names_from (map (λ text. text.now) texts) columns i d within is ∙ ap (λ b. not b && have_new_names (map (λ text. text.now) texts ++ d.name ∷ []) (drop (i + 1) columns)) new)
 
-no_fault : (a b c d : Bool) (w x y z : Code) → (if a then Some w else (if b then Some x else (if c then Some y else (if d then Some z else None)))) ≡ None → (a ≡ false) × (d ≡ false)
+-- no fault: none of the four
+pub no_fault : (a b c d : Bool) (w x y z : Code) → (if a then Some w else (if not b then Some x else (if not c then Some y else (if d then Some z else None)))) ≡ None → (a ≡ false) × (c ≡ true) × (d ≡ false)
 no_fault true b c d w x y z e = cc
-no_fault false true c d w x y z e = cc
-no_fault false false true d w x y z e = cc
-no_fault false false false true w x y z e = cc
-no_fault false false false false w x y z e = (refl, refl)
-
--- where nothing stands against it, the name is new
-pub new_name : (c : Catalog) (d : TableDef) → adding_fault c d ≡ None → is_some (table_named c d.name) ≡ false
-new_name c d none = (no_fault (is_some (table_named c d.name)) (not (list_all (finds_table c) d.columns)) (not (list_all (matches_key c) d.columns)) (is_over_limit c d) _ _ _ _ none).0
+no_fault false false c d w x y z e = cc
+no_fault false true false d w x y z e = cc
+no_fault false true true true w x y z e = cc
+no_fault false true true false w x y z e = (refl, refl, refl)
 
 within_limits : (n : ℕ) (m : ℕ) → (nat_le 256 n || nat_lt 32 m) ≡ false → (n < 256) × (m ≤ 32)
 within_limits n m e = grind (arith, nat_tests)
 
--- and there is room
+-- where nothing stands against it, there is room
 pub room : (c : Catalog) (d : TableDef) → adding_fault c d ≡ None → length c < 256
-room c d none = (within_limits (length c) (length d.columns) (no_fault (is_some (table_named c d.name)) (not (list_all (finds_table c) d.columns)) (not (list_all (matches_key c) d.columns)) (is_over_limit c d) _ _ _ _ none).1).0
+room c d none = (within_limits (length c) (length d.columns) (no_fault (is_some (table_named c d.name)) (list_all (finds_table c) d.columns) (list_all (matches_key c) d.columns) (is_over_limit c d) _ _ _ _ none).2).0
+
+-- and it has few enough columns
+pub few_columns : (c : Catalog) (d : TableDef) → adding_fault c d ≡ None → length d.columns ≤ 32
+few_columns c d none = (within_limits (length c) (length d.columns) (no_fault (is_some (table_named c d.name)) (list_all (finds_table c) d.columns) (list_all (matches_key c) d.columns) (is_over_limit c d) _ _ _ _ none).2).1
 
 -- what an insertion into a set told of the name
 pub was_there : (added there : Bool) → added ≡ not there → added ≡ false → there ≡ true

@@ -1,21 +1,23 @@
 -- Changes by table and key: what the maps that hold them say.
-use Rattle.std.proofs.Common.{◌≡◌, ℕ, zero, suc, ◌+◌, ◌<◌, ◌≤◌, ◌==◌, ◌&&◌, Bool, true, false, cond, List, [], ◌∷◌, ◌++◌, map, length, get_or, set, eqb, Option, Some, None, Result, Ok, Err, OnOk, Bor, IfSome, refl, sym, ap, subst, ◌∙◌, arith, append_assoc}
+use Rattle.std.proofs.Common.{◌≡◌, ℕ, zero, suc, ◌+◌, ◌<◌, ◌≤◌, ◌==◌, ◌&&◌, Bool, true, false, cond, List, [], ◌∷◌, ◌++◌, length, get_or, set, Option, Some, None, Result, Ok, Err, OnOk, Bor, IfSome, refl, sym, ap, subst, ◌∙◌, arith, map, append-nil}
 use Rattle.std.proofs.lemmas.Bool.Decides.{nat_tests}
-use Rattle.std.proofs.lemmas.List.{get_or_read}
+use Rattle.std.proofs.lemmas.List.{get_or_read, get_or_past}
 use Rattle.std.specs.BTreeMap.{insert_entry, is_at}
 use Rattle.std.specs.BTreeMap.Range.{entries_between}
 use Rattle.std.specs.Cmp.{nat_cmp_is}
-use Rattle.std.specs.List.{find, slice_get}
-use Rattle.std.specs.Map.{lookup}
+use Rattle.std.specs.List.{AllByRecursion, find, slice_get}
+use Rattle.std.specs.List.Sorted.{IsStrictlySortedBy}
+use Rattle.std.proofs.lemmas.List.Elements.{filter-append}
+use Rattle.std.specs.Map.{lookup, keys_of}
 use Rattle.std.specs.Option.{option_map}
-use Rattle.std.specs.Ordering.{is_eq, nat_cmp, ordering_then, match_ordering}
+use Rattle.std.specs.Ordering.{is_eq, nat_cmp, ordering_then, ordering_reverse, match_ordering}
 use Rattle.std.specs.declared.cmp.Ordering.{Ordering}
 use Rattle.std.specs.declared.cmp.Ordering.TheVariants.{Less, Equal, Greater}
 use Rattle.std.specs.declared.ops.Bound.{Bound as RangeBound}
 use Rattle.std.specs.declared.ops.Bound.TheVariants as range
 use Rattle.value.specs.declared.key.Key.{Key}
 use Rattle.value.specs.declared.value.Value.{Value}
-use Rattle.value.specs.Order.{value_cmp, value_cmp-exact}
+use Rattle.value.specs.Order.{value_cmp, value_cmp-exact, value_cmp-total}
 use Rattle.schema.specs.declared.row.Row.{Row}
 use Rattle.schema.specs.declared.reader.Bound.{Bound}
 use Rattle.schema.specs.declared.changes.Change.{Change}
@@ -23,7 +25,7 @@ use Rattle.schema.specs.Keyed.{start_of}
 use Rattle.schema.specs.Rows.{is_within}
 use Rattle.schema.proofs.KeyedLemmas.{within_is}
 use Rattle.schema.specs.KeyedChange.{KeyedChange, shown_changes, own_rows}
-use Rattle.schema.specs.Changing.{change_cmp, put_change, new_row, change_of, next_change, put_keyed, own_row, keyed_change, next_keyed, changes_in, changes_from}
+use Rattle.schema.specs.Changing.{change_cmp, put_change, new_row, change_of, next_change, changes_at, IsByKey, put_keyed, own_row, keyed_change, next_keyed, changes_in, changes_from}
 
 same_place : (t : ℕ) → (t == t) ≡ true
 same_place t = grind (arith, nat_tests)
@@ -48,6 +50,12 @@ find-append test (x ∷ xs) ys none = by_test (test x) none (find-append test xs
 option_map-twice : {X Y Z : Type 0} (f : Y → Z) (g : X → Y) (o : Option X) → option_map f (option_map g o) ≡ option_map (λ x. f (g x)) o
 option_map-twice f g None = refl
 option_map-twice f g (Some x) = refl
+
+differ : (n t : ℕ) → t < n → (n == t) ≡ false
+differ n t before = grind (arith, nat_tests)
+
+differ_below : (n t : ℕ) → n < t → (n == t) ≡ false
+differ_below n t after = grind (arith, nat_tests)
 
 module _ {A : Type 0} where
   -- ---- the changes of one table
@@ -227,3 +235,75 @@ module _ {A : Type 0} where
   -- and the first within a bound
   pub next_change-table : (t : ℕ) (tables : List (List (KeyedChange A))) (bound : Bound (Bor (Key A))) → next_change (changes_from 0 tables) t bound ≡ next_keyed (get_or tables t []) bound
   next_change-table t tables bound = ap (option_map {T = Change A} {U = Value A × Option (Row A)} (λ x. (x.key, new_row x))) (first_from (is_within bound) t 0 t tables (omega arith)) ∙ next-both (find (λ c. is_within bound c.0) (get_or tables t [])) t
+
+  -- ---- changes put in one above another
+
+  -- a change above all others comes last
+  pub put_change-last : (xs : List (Change A)) (x : Change A) → AllByRecursion (λ y. change_cmp x y ≡ Greater) xs → put_change xs x ≡ xs ++ x ∷ []
+  put_change-last [] x above = refl
+  put_change-last (y ∷ ys) x above = rw above.0 (ap (λ more. y ∷ more) (put_change-last ys x above.1))
+
+  above_key : (x y : Change A) → y.table ≡ x.table → value_cmp y.key x.key ≡ Less → change_cmp x y ≡ Greater
+  above_key x y same_table below =
+      ap (λ t. ordering_then (nat_cmp x.table t) (value_cmp x.key y.key)) same_table
+      ∙ ap (λ o. ordering_then o (value_cmp x.key y.key)) (same_number x.table)
+      ∙ value_cmp-total.antisymm x.key y.key ∙ ap ordering_reverse below
+
+  above_keys : (xs : List (Change A)) (x : Change A) → AllByRecursion (λ y. (y.table ≡ x.table) × (value_cmp y.key x.key ≡ Less)) xs → AllByRecursion (λ y. change_cmp x y ≡ Greater) xs
+  above_keys [] x below = tt
+  above_keys (y ∷ ys) x below = (above_key x y below.0.0 below.0.1, above_keys ys x below.1)
+
+  -- and so does one of a key above those of all others, which are of its table
+  pub put_change-last_key : (xs : List (Change A)) (x : Change A) → AllByRecursion (λ y. (y.table ≡ x.table) × (value_cmp y.key x.key ≡ Less)) xs → put_change xs x ≡ xs ++ x ∷ []
+  put_change-last_key xs x below = put_change-last xs x (above_keys xs x below)
+
+  -- ---- the order of keys
+
+  shown_keys : (entries : List (Value A × Option (Row A))) → keys_of entries ≡ map (λ c. c.0) (shown_changes entries)
+  shown_keys [] = refl
+  shown_keys (e ∷ entries) = ap (λ keys. e.0 ∷ keys) (shown_keys entries)
+
+  -- a map in the order of its keys holds changes by rising keys
+  pub shown_order : (entries : List (Value A × Option (Row A))) (cs : List (KeyedChange A)) → shown_changes entries ≡ cs → IsStrictlySortedBy value_cmp (keys_of entries) → IsStrictlySortedBy value_cmp (map (λ c. c.0) cs)
+  shown_order entries cs shown sorted = subst (IsStrictlySortedBy value_cmp) (shown_keys entries ∙ ap (map (λ c. c.0)) shown) sorted
+
+  at_other : (t n : ℕ) (cs : List (KeyedChange A)) → (n == t) ≡ false → changes_at (changes_in n cs) t ≡ []
+  at_other t n [] other = refl
+  at_other t n (c ∷ cs) other = rw other (at_other t n cs other)
+
+  at_own : (t : ℕ) (cs : List (KeyedChange A)) → changes_at (changes_in t cs) t ≡ changes_in t cs
+  at_own t [] = refl
+  at_own t (c ∷ cs) = rw (same_place t) (ap (λ xs. record { table = t; key = c.0; fields = c.1 } ∷ xs) (at_own t cs))
+
+  at_later : (t n : ℕ) (tables : List (List (KeyedChange A))) → t < n → changes_at (changes_from n tables) t ≡ []
+  at_later t n [] before = refl
+  at_later t n (cs ∷ tables) before = filter-append _ (changes_in n cs) (changes_from (suc n) tables) ∙ (λ i. at_other t n cs (differ n t before) i ++ at_later t (suc n) tables (omega arith) i)
+
+  -- the changes of a table are those in its place
+  changes_at-place : (t n i : ℕ) (tables : List (List (KeyedChange A))) → t ≡ n + i → changes_at (changes_from n tables) t ≡ changes_in t (get_or tables i [])
+  changes_at-place t n i [] at = refl
+  changes_at-place t n zero (cs ∷ tables) at =
+      let here : n ≡ t = omega (arith, at) in
+      filter-append _ (changes_in n cs) (changes_from (suc n) tables)
+      ∙ (λ i. changes_at (changes_in (here i) cs) t ++ at_later t (suc n) tables (omega (arith, at)) i)
+      ∙ append-nil _ ∙ at_own t cs
+  changes_at-place t n (suc i) (cs ∷ tables) at =
+      filter-append _ (changes_in n cs) (changes_from (suc n) tables)
+      ∙ ap (λ xs. xs ++ changes_at (changes_from (suc n) tables) t) (at_other t n cs (differ_below n t (omega (arith, at))))
+      ∙ changes_at-place t (suc n) i tables (omega (arith, at))
+
+  keys_in : (t : ℕ) (cs : List (KeyedChange A)) → map (λ x. x.key) (changes_in t cs) ≡ map (λ c. c.0) cs
+  keys_in t [] = refl
+  keys_in t (c ∷ cs) = ap (λ keys. c.0 ∷ keys) (keys_in t cs)
+
+  -- where those in its place are by key, a table's changes are
+  pub by_key-place : (t : ℕ) (tables : List (List (KeyedChange A))) (cs : List (KeyedChange A)) → get_or tables t [] ≡ cs → IsStrictlySortedBy value_cmp (map (λ c. c.0) cs) → IsByKey (changes_from 0 tables) t
+  by_key-place t tables cs read sorted =
+      subst (IsStrictlySortedBy value_cmp) (sym (ap (map (λ x. x.key)) (changes_at-place t 0 t tables (omega arith) ∙ ap (changes_in t) read) ∙ keys_in t cs)) sorted
+
+  pub by_key-found : (t place : ℕ) (tables : List (List (KeyedChange A))) (cs : List (KeyedChange A)) → place ≡ t → cs ≡ get_or tables place [] → IsStrictlySortedBy value_cmp (map (λ c. c.0) cs) → IsByKey (changes_from 0 tables) t
+  by_key-found t place tables cs same found sorted = by_key-place t tables cs (ap (λ n. get_or tables n []) (sym same) ∙ sym found) sorted
+
+  pub by_key-absent : (t place : ℕ) (tables : List (List (KeyedChange A))) → place ≡ t → length tables ≤ place → IsByKey (changes_from 0 tables) t
+  unfolding IsStrictlySortedBy
+  by_key-absent t place tables same past = by_key-place t tables [] (ap (λ n. get_or tables n []) (sym same) ∙ get_or_past tables place [] past) tt

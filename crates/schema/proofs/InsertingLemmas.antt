@@ -1,11 +1,11 @@
 -- A row against which nothing stands may stand in its table, and sound tables stay sound with it.
-use Rattle.std.proofs.Common.{◌≡◌, ℕ, zero, suc, ◌+◌, ◌<◌, ◌≤◌, ◌⊎◌, inl, inr, Bool, true, false, true≢false, T, cond, not, ◌&&◌, ◌||◌, List, [], ◌∷◌, map, length, Option, Some, None, is_some, slice_get, set, get_or, drop, add-one, if◌then◌else◌, eqb, Result, Ok, Err, OnOk, OnErr, refl, sym, ap, subst, ◌∙◌, arith}
-use Rattle.std.specs.List.{list_any, list_all, zip}
+use Rattle.std.proofs.Common.{◌≡◌, ℕ, zero, suc, ◌+◌, ◌<◌, ◌≤◌, ◌⊎◌, inl, inr, Bool, true, false, true≢false, T, cond, not, ◌&&◌, ◌||◌, List, [], ◌∷◌, map, length, Option, Some, None, is_some, slice_get, set, get_or, drop, add-one, if◌then◌else◌, eqb, Result, Ok, Err, OnOk, OnErr, refl, sym, ap, ◌∙◌, arith}
+use Rattle.std.specs.List.{list_any, list_all}
 use Rattle.std.specs.List.Sorted.{IsStrictlySortedBy}
 use Rattle.std.specs.List.{AllByRecursion}
 use Rattle.std.specs.FinMap.{is_sorted, put}
 use Rattle.std.specs.FinMap.Entries.{below_all, by_order}
-use Rattle.std.specs.Ordering.{is_lt, match_ordering}
+use Rattle.std.specs.Ordering.{match_ordering}
 use Rattle.std.specs.declared.cmp.Ordering.{Ordering}
 use Rattle.std.specs.declared.cmp.Ordering.TheVariants.{Less, Equal, Greater}
 use Rattle.std.proofs.lemmas.Bool.{eqb-true}
@@ -20,12 +20,12 @@ use Rattle.schema.specs.Definition.{Column, TableSchema, Catalog, columns_of}
 use Rattle.schema.specs.declared.row.Row.{Row}
 use Rattle.schema.specs.declared.changes.Change.{Change}
 use Rattle.schema.specs.declared.tables.Tables.{Tables}
-use Rattle.schema.specs.Plain.{same, in_range, is_null, cells, rows_of, row_at, is_there, has_kind, fits_columns, is_sound_table, sound_tables, is_sound, put_all}
+use Rattle.schema.specs.Plain.{same, is_null, cells, rows_of, row_at, is_there, has_kind, fits_columns, is_sound_table, sound_tables, is_sound, changed, put_all}
 use Rattle.schema.specs.Rows.{put_row, IsInKeyOrder}
 use Rattle.schema.specs.Inserting.{is_of_kind, are_of_kinds, has_zero_byte, is_made, lacks_value, dangles, inserting_fault}
 use Rattle.schema.proofs.NamedLemmas.{columns_of-get}
 use Rattle.schema.proofs.PlainLemmas.{same_value, IsOrdered, touches, left_by, rows_of-past}
-use Rattle.schema.proofs.SoundLemmas.{Sound, sound_from, sound_to, sound_changes, sound_at, sound_count, row_ok}
+use Rattle.schema.proofs.SoundLemmas.{sound_from, sound_to, sound_changes, sound_at, sound_count, row_ok}
 
 two_of : (a b : Bool) → (a && b) ≡ true → (a ≡ true) × (b ≡ true)
 two_of true b e = (refl, e)
@@ -102,7 +102,7 @@ module _ {A : Type 0} where
       fits_from X (columns_of c t) (cells row) (not_so _ n.0) made n.1 n.2 n.4
 
   -- the two ways to put in a row are one
-  put_row-put : (rows : List (Row A)) (row : Row A) → put value_cmp row.0 row.1 rows ≡ put_row rows row
+  pub put_row-put : (rows : List (Row A)) (row : Row A) → put value_cmp row.0 row.1 rows ≡ put_row rows row
   put_row-put [] row = refl
   put_row-put (first ∷ rows) row = by_cases (value_cmp row.0 first.0) refl (put_row-put rows row)
     where
@@ -111,6 +111,12 @@ module _ {A : Type 0} where
       by_cases Less is rest = refl
       by_cases Equal is rest = ap (λ k. (k, row.1) ∷ rows) (sym (value_cmp-exact row.0 first.0 is))
       by_cases Greater is rest = ap (λ more. first ∷ more) rest
+
+  -- a row that is put in is a change put in
+  pub put_changed : {U E : Type 0} (r : Result U E) (rows new : List (Row A)) (row : Row A) (k : Value A) (fields : List (Value A)) (said : Option (List (Value A))) → row ≡ (k, fields) → said ≡ Some fields
+      → OnOk r (new ≡ put_row rows row) → OnOk r (new ≡ changed k said rows)
+  put_changed (Ok u) rows new row k fields said is some put = put ∙ sym (put_row-put rows row) ∙ ap (λ (p : Row A). changed p.0 (Some p.1) rows) is ∙ ap (λ o. changed k o rows) (sym some)
+  put_changed (Err e) rows new row k fields said is some put = tt
 
   change_of : ℕ → Row A → Change A
   change_of t row = record { table = t; key = row.0; fields = Some row.1 }

@@ -1,11 +1,12 @@
 -- Rows beside their keys: look-ups, ranges and insertions are those of the rows.
-use Rattle.std.proofs.Common.{◌≡◌, Bool, true, false, cond, ◌&&◌, List, [], ◌∷◌, map, Option, Some, None, is_some, Bor, refl, sym, ap, subst, ◌∙◌}
+use Rattle.std.proofs.Common.{◌≡◌, Bool, true, false, not, cond, ◌&&◌, List, [], ◌∷◌, map, Option, Some, None, is_some, Bor, refl, sym, ap, subst, ◌∙◌}
 use Rattle.std.specs.BTreeMap.{insert_entry, is_at}
 use Rattle.std.specs.BTreeMap.Range.{entries_between, range_contains}
 use Rattle.std.specs.FinMap as finmap
-use Rattle.std.specs.List.{find, slice_get}
+use Rattle.std.specs.FinMap.Entries.{where_key}
+use Rattle.std.specs.List.{AllByRecursion, find, slice_get}
 use Rattle.std.specs.List.Sorted.{IsStrictlySortedBy}
-use Rattle.std.specs.Map.{lookup, keys_of, values_of}
+use Rattle.std.specs.Map.{lookup, keys_of, values_of, remove_entry}
 use Rattle.std.specs.Option.{option_map}
 use Rattle.std.specs.Ordering.{is_eq, match_ordering}
 use Rattle.std.specs.declared.cmp.Ordering.{Ordering}
@@ -19,6 +20,7 @@ use Rattle.schema.specs.declared.row.Row.{Row}
 use Rattle.schema.specs.declared.reader.Bound.{Bound}
 use Rattle.schema.specs.declared.reader.Bound.TheVariants.{Start, From, After}
 use Rattle.schema.specs.Keyed.{keyed, start_of}
+use Rattle.schema.specs.Plain.{same, changed}
 use Rattle.schema.specs.Rows.{Rows, is_within, row_of, next_row, put_row, IsInKeyOrder}
 
 and_true : (b : Bool) → (b && true) ≡ b
@@ -111,3 +113,32 @@ module _ {A : Type 0} where
   -- each row stands beside its key still
   pub keyed-put : (old new : List (Key A × Row A)) (key : Key A) (row : Row A) → old ≡ keyed (values_of old) → key ≡ row.0 → new ≡ insert_entry value_cmp old key row → new ≡ keyed (values_of new)
   keyed-put old new key row own same put = put-keyed old new key row own same put ∙ ap keyed (sym (values_of-put old new key row own same put))
+
+  -- ---- a removal
+
+  -- rows of greater keys stay
+  greater_stay : (k : Key A) (rows : Rows A) → AllByRecursion (λ l. value_cmp k l ≡ Less) (map (λ row. row.0) rows) → where_key value_cmp (λ x. not (same k x)) rows ≡ rows
+  greater_stay k [] greater = refl
+  greater_stay k (row ∷ rows) greater = rw greater.0 (ap (λ rest. row ∷ rest) (greater_stay k rows greater.1))
+
+  remove_entry-keyed : (k : Key A) (rows : Rows A) → IsInKeyOrder rows → remove_entry (is_at (value_cmp k)) (keyed rows) ≡ keyed (changed k None rows)
+  unfolding IsStrictlySortedBy
+  remove_entry-keyed k [] sorted = refl
+  remove_entry-keyed k (row ∷ rows) sorted = by_order (value_cmp k row.0) refl (remove_entry-keyed k rows sorted.1)
+    where
+      by_order : (o : Ordering) → value_cmp k row.0 ≡ o → remove_entry (is_at (value_cmp k)) (keyed rows) ≡ keyed (changed k None rows)
+          → cond (is_eq o) (keyed rows) ((row.0, row) ∷ remove_entry (is_at (value_cmp k)) (keyed rows)) ≡ keyed (cond (not (is_eq o)) (row ∷ changed k None rows) (changed k None rows))
+      by_order Less is rest = ap (λ entries. (row.0, row) ∷ entries) rest
+      by_order Equal is rest = ap keyed (sym (greater_stay k rows (subst (λ x. AllByRecursion (λ l. value_cmp x l ≡ Less) (map (λ r. r.0) rows)) (sym (value_cmp-exact k row.0 is)) sorted.0)))
+      by_order Greater is rest = ap (λ entries. (row.0, row) ∷ entries) rest
+
+  removed-keyed : (old new : List (Key A × Row A)) (k : Key A) → old ≡ keyed (values_of old) → IsStrictlySortedBy value_cmp (keys_of old) → new ≡ remove_entry (is_at (value_cmp k)) old → new ≡ keyed (changed k None (values_of old))
+  removed-keyed old new k own sorted removed = removed ∙ ap (remove_entry (is_at (value_cmp k))) own ∙ remove_entry-keyed k (values_of old) (in_key_order old own sorted)
+
+  -- what a map holds after a removal
+  pub values_of-removed : (old new : List (Key A × Row A)) (k : Key A) → old ≡ keyed (values_of old) → IsStrictlySortedBy value_cmp (keys_of old) → new ≡ remove_entry (is_at (value_cmp k)) old → values_of new ≡ changed k None (values_of old)
+  values_of-removed old new k own sorted removed = ap values_of (removed-keyed old new k own sorted removed) ∙ values_of-keyed _
+
+  -- each row stands beside its key still
+  pub keyed-removed : (old new : List (Key A × Row A)) (k : Key A) → old ≡ keyed (values_of old) → IsStrictlySortedBy value_cmp (keys_of old) → new ≡ remove_entry (is_at (value_cmp k)) old → new ≡ keyed (values_of new)
+  keyed-removed old new k own sorted removed = removed-keyed old new k own sorted removed ∙ ap keyed (sym (values_of-removed old new k own sorted removed))

@@ -1,9 +1,10 @@
 mod AddingLemmas
 pub mod ChangingLemmas
-mod InsertingLemmas
+pub mod InsertingLemmas
 mod KeyedLemmas
 mod MadeLemmas
 mod NamedLemmas
 pub mod RowsInOrder
 pub mod PlainLemmas
 pub mod SoundLemmas
+pub mod WellFormedLemmas

@@ -16,7 +16,7 @@ use Rattle.schema.specs.Rows.{Rows, is_within, next_row, rows_within, rows_after
 
 module _ {A : Type 0} where
   -- what comes after a key that is within a bound is within it too
-  later_within : (bound : Bound (Bor (Key A))) (k l : Key A) → value_cmp k l ≡ Less → is_within bound k ≡ true → is_within bound l ≡ true
+  pub later_within : (bound : Bound (Bor (Key A))) (k l : Key A) → value_cmp k l ≡ Less → is_within bound k ≡ true → is_within bound l ≡ true
   later_within Start k l later within = refl
   later_within (From first) k l later within = by_order (value_cmp first.now k) refl within
     where

@@ -1,6 +1,7 @@
 -- Changes by table, then by key: putting one in, and looking one up.
 -- Source: this project's choice.
-use Rattle.std.specs.Prelude.{ℕ, suc, ◌==◌, ◌&&◌, Bool, Option, List, [], ◌∷◌, ◌++◌, map, find}
+use Rattle.std.specs.Prelude.{ℕ, suc, ◌==◌, ◌&&◌, Option, List, [], ◌∷◌, ◌++◌, map, find, filter}
+use Rattle.std.specs.List.Sorted.{IsStrictlySortedBy}
 use Rattle.std.specs.Borrow.{Bor}
 use Rattle.std.specs.Option.{option_map}
 use Rattle.std.specs.Ordering.{nat_cmp, ordering_then, match_ordering}
@@ -36,6 +37,14 @@ module _ {A : Type 0} where
   -- the first change of a table within a bound: its key, and what it says of it
   abbrev pub next_change : List (Change A) → ℕ → Bound (Bor (Key A)) → Option (Value A × Option (Row A))
   next_change xs t bound = option_map (λ x. (x.key, new_row x)) (find (λ x. x.table == t && is_within bound x.key) xs)
+
+  -- the changes of a table
+  abbrev pub changes_at : List (Change A) → ℕ → List (Change A)
+  changes_at xs t = filter (λ x. x.table == t) xs
+
+  -- the keys of a table's changes rise, so that each key has one at most
+  abbrev pub IsByKey : List (Change A) → ℕ → Type 0
+  IsByKey xs t = IsStrictlySortedBy value_cmp (map (λ x. x.key) (changes_at xs t))
 
   -- ---- the changes of one table
 

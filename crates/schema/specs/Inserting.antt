@@ -1,6 +1,6 @@
 -- What inserting a row into plain tables answers, and what it leaves.
 -- Source: PostgreSQL manual, INSERT, constraints and error codes; the order of the refusals is this project's own.
-use Rattle.std.specs.Prelude.{ℕ, ◌==◌, nat_lt, Bool, true, false, not, ◌&&◌, ◌||◌, if◌then◌else◌, Option, Some, None, is_some, List, [], ◌∷◌, length, map, slice_set, Result, Ok, Err}
+use Rattle.std.specs.Prelude.{ℕ, ◌==◌, nat_lt, Bool, true, false, not, ◌&&◌, if◌then◌else◌, Option, Some, None, is_some, List, [], ◌∷◌, map, slice_set, Result, Ok, Err}
 use Rattle.std.specs.List.{list_any, list_all, zip}
 use Rattle.std.specs.Str.{is_utf8}
 use Rattle.value.specs.declared.kind.Kind.{Kind}

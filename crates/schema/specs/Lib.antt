@@ -10,3 +10,4 @@ pub mod Named
 pub mod Names
 pub mod Plain
 pub mod Rows
+pub mod WellFormed

@@ -1,6 +1,7 @@
-ghost use Rattle.std.specs.Prelude.{◌≡◌, ◌<◌, ◌≤◌, ◌↔◌, [], length, slice_get, Some, IsTrue, IfSome, IfOk, IfErr};
+ghost use Rattle.std.specs.Prelude.{◌≡◌, ◌<◌, ◌≤◌, ◌↔◌, [], length, slice_get, true, Some, IsTrue, IfSome, IfOk, IfErr};
 ghost use Rattle.value.specs.Refusals.{out_of_memory};
 ghost use Rattle.schema.specs.Definition.{columns_of, table_named, column_named};
+ghost use Rattle.schema.specs.WellFormed.{is_catalog};
 
 mod add;
 
@@ -188,17 +189,18 @@ pub struct Catalog<A: Allocator = Global> {
 }
 
 impl<A: Allocator> Model for Catalog<A> {
-    ghost use Rattle.std.specs.Prelude.{◌≡◌, ◌≤◌, length};
+    ghost use Rattle.std.specs.Prelude.{◌≡◌, ◌≤◌, [], true, length};
     ghost use Rattle.std.specs.Map.{keys_of, values_of};
     ghost use Rattle.schema.specs.Definition.{Catalog as Definition};
     ghost use Rattle.schema.specs.Named.{IsByName};
+    ghost use Rattle.schema.specs.WellFormed.{are_tables_after};
 
     ghost Value = { Definition };
 
     ghost view = { λ c. values_of c.tables.entries };
 
-    // Each table stands beside its own name, and there are few enough.
-    ghost invariant = { λ c. IsByName c.tables.entries × (length (values_of c.tables.entries) ≤ 256) };
+    // Each table stands beside its own name, there are few enough, and each may stand after those before it.
+    ghost invariant = { λ c. IsByName c.tables.entries × (length (values_of c.tables.entries) ≤ 256) × (are_tables_after [] (values_of c.tables.entries) ≡ true) };
 }
 
 impl<A: Allocator> Catalog<A> {
@@ -211,6 +213,13 @@ impl<A: Allocator> Catalog<A> {
         Catalog {
             tables: IndexMap::with_hasher(alloc, BuildHasherDefault::new()),
         }
+    }
+
+    /// Every catalog is well formed. Nothing is done.
+    pub fn well_formed(&self)
+        ensures { is_catalog self.now ≡ true }
+    {
+        let _tables = &self.tables;
     }
 
     /// How many tables there are.

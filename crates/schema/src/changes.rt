@@ -1,14 +1,14 @@
-ghost use Rattle.std.specs.Prelude.{◌≡◌, ◌<◌, [], vec_len, slice_index_or, OnOk, OnErr, IfErr, IfSome};
+ghost use Rattle.std.specs.Prelude.{◌≡◌, ◌<◌, ◌≤◌, ◌^◌, [], vec_len, slice_index_or, OnOk, OnErr, IfOk, IfErr, IfSome};
 ghost use Rattle.std.specs.Option.{option_map, option_copied};
 ghost use Rattle.value.specs.Refusals.{out_of_memory};
-ghost use Rattle.schema.specs.Changing.{changes_from, put_change, change_of, next_change, keyed_change, next_keyed};
+ghost use Rattle.schema.specs.Changing.{changes_from, put_change, change_of, next_change, IsByKey, keyed_change, next_keyed};
 
 mod table;
 
 use crate::catalog::TableNo;
 use crate::changes::table::ChangedTable;
 use crate::reader::Bound;
-use crate::row::Row;
+use crate::row::{Row, copy_all};
 use std::alloc::{Allocator, Global};
 use std::marker::Model;
 use value::key::Key;
@@ -33,6 +33,50 @@ impl<A: Allocator> Model for Change<A> {
     ghost view = { λ c. record { table = c.table; key = c.key; fields = option_map (λ v. v.items) c.fields } };
 }
 
+impl<A: Allocator> Change<A> {
+    /// The table of the key.
+    pub fn table(&self) -> TableNo
+        ensures { result ≡ self.now.table }
+    {
+        self.table
+    }
+
+    pub fn key(&self) -> &Key<A>
+        ensures { result.now ≡ self.now.key }
+    {
+        &self.key
+    }
+
+    /// The fields that the key has beside it from now on. Nothing where it has no row any more.
+    pub fn fields(&self) -> Option<&[Value<A>]>
+        ensures { option_copied result ≡ self.now.fields }
+    {
+        match &self.fields {
+            Some(fields) => Some(fields.as_slice()),
+            None => None,
+        }
+    }
+
+    /// An equal change.
+    pub fn copy(&self, alloc: A) -> Result<Change<A>, Refusal>
+    where
+        A: Copy,
+        ensures ok { IfOk result (λ c. c ≡ self.now) }
+        ensures err { IfErr result (λ e. e ≡ out_of_memory) }
+    {
+        let key = self.key.copy(alloc)?;
+        let fields = match &self.fields {
+            Some(fields) => Some(copy_all(alloc, fields.as_slice())?),
+            None => None,
+        };
+        Ok(Change {
+            table: self.table,
+            key,
+            fields,
+        })
+    }
+}
+
 /// Changes of rows, at most one for each key of a table. Contracts see them by table, then by key.
 #[derive(Drop)]
 #[derive_where(Debug)]
@@ -41,13 +85,16 @@ pub struct Changes<A: Allocator = Global> {
 }
 
 impl<A: Allocator> Model for Changes<A> {
-    ghost use Rattle.std.specs.Prelude.{List};
+    ghost use Rattle.std.specs.Prelude.{◌≤◌, ◌^◌, List, vec_len};
     ghost use Rattle.schema.specs.declared.changes.Change.{Change};
     ghost use Rattle.schema.specs.Changing.{changes_from};
 
     ghost Value = { List (Change A) };
 
     ghost view = { λ c. changes_from 0 c.tables.items };
+
+    // Each place is the number of a table.
+    ghost invariant = { λ c. vec_len c.tables ≤ 2 ^ 32 };
 }
 
 // Makes room for the changes of a table.
@@ -58,6 +105,7 @@ fn make_room<A: Allocator + Copy>(
 ) -> Result<(), Refusal>
     ensures same { changes_from 0 tables.new.items ≡ changes_from 0 tables.old.items }
     ensures ok { OnOk result (place < vec_len tables.new) }
+    ensures few { place < 2 ^ 32 → vec_len tables.old ≤ 2 ^ 32 → vec_len tables.new ≤ 2 ^ 32 }
     ensures memory { IfErr result (λ e. e ≡ out_of_memory) }
 {
     'room: while tables.len() <= place {
@@ -77,6 +125,7 @@ fn put<A: Allocator + Copy>(
     requires { IfSome row (λ r. r.0 ≡ key) }
     ensures ok { OnOk result (changes_from 0 tables.new.items ≡ put_change (changes_from 0 tables.old.items) (record { table = table; key = key; fields = option_map (λ r. r.1) row })) }
     ensures err { OnErr result (changes_from 0 tables.new.items ≡ changes_from 0 tables.old.items) }
+    ensures few { vec_len tables.old ≤ 2 ^ 32 → vec_len tables.new ≤ 2 ^ 32 }
     ensures memory { IfErr result (λ e. e ≡ out_of_memory) }
 {
     let place = table.place() as usize;
@@ -113,6 +162,16 @@ fn next<'c, A: Allocator>(
     }
 }
 
+// The keys of a table's changes rise. Nothing is done.
+fn in_key_order<A: Allocator>(tables: &[ChangedTable<A>], table: TableNo)
+    ensures { IsByKey (changes_from 0 tables.now) table }
+{
+    match tables.get(table.place() as usize) {
+        Some(changes) => changes.in_key_order(),
+        None => {}
+    }
+}
+
 impl<A: Allocator> Changes<A> {
     /// No change.
     pub fn new(alloc: A) -> Changes<A>
@@ -137,6 +196,13 @@ impl<A: Allocator> Changes<A> {
         next(self.tables.as_slice(), table.place() as usize, after)
     }
 
+    /// The keys of a table's changes rise. Nothing is done.
+    pub fn in_key_order(&self, table: TableNo)
+        ensures { IsByKey self.now table }
+    {
+        in_key_order(self.tables.as_slice(), table);
+    }
+
     /// Puts in that a table has a row from now on, over any change of its key.
     pub fn put_row(&mut self, alloc: A, table: TableNo, row: Row<A>) -> Result<(), Refusal>
     where
@@ -158,5 +224,20 @@ impl<A: Allocator> Changes<A> {
         ensures memory { IfErr result (λ e. e ≡ out_of_memory) }
     {
         put(alloc, &mut self.tables, table, key, None)
+    }
+
+    /// The changes, moved out into a list in the order in which contracts see them.
+    pub fn into_list(self, alloc: A) -> Result<Vec<Change<A>, A>, Refusal>
+        ensures ok { IfOk result (λ list. list.items ≡ self) }
+        ensures err { IfErr result (λ e. e ≡ out_of_memory) }
+    {
+        let Changes { tables } = self;
+        let mut list = Vec::new(alloc);
+        let mut place: usize = 0;
+        for changes in tables {
+            changes.move_into(TableNo::at(place as u32), &mut list)?;
+            place += 1;
+        }
+        Ok(list)
     }
 }

@@ -1,4 +1,4 @@
-ghost use Rattle.std.specs.Prelude.{◌≡◌, ◌<◌, vec_len};
+ghost use Rattle.std.specs.Prelude.{◌≡◌, ◌<◌, true, vec_len};
 ghost use Rattle.std.specs.List.{list_all};
 ghost use Rattle.std.specs.Option.{option_copied};
 ghost use Rattle.value.specs.Refusals.{AnswersOrNoMemory, pointing_nowhere};
@@ -92,11 +92,16 @@ pub struct TableDef<A: Allocator = Global> {
 }
 
 impl<A: Allocator> Model for TableDef<A> {
+    ghost use Rattle.std.specs.Prelude.{◌≡◌, true};
+    ghost use Rattle.schema.specs.Adding.{is_well_made, without_key_mark};
     ghost use Rattle.schema.specs.Definition.{TableDef as Definition};
 
     ghost Value = { Definition };
 
     ghost view = { λ d. record { name = d.name; columns = d.columns.items } };
+
+    // The names are names and differ, there is a column, and the key has no mark.
+    ghost invariant = { λ d. (is_well_made d.name d.columns.items ≡ true) × (without_key_mark d.columns.items ≡ d.columns.items) };
 }
 
 // Whether the names that a column has and references are names.
@@ -175,6 +180,14 @@ impl<A: Allocator> TableDef<A> {
         ensures { result.now ≡ self.now.name }
     {
         &self.name
+    }
+
+    // Every definition is well made, with no mark on its key. Nothing is done.
+    pub(crate) fn well_formed(&self)
+        ensures made { is_well_made self.now.name self.now.columns ≡ true }
+        ensures unmarked { without_key_mark self.now.columns ≡ self.now.columns }
+    {
+        let _columns = &self.columns;
     }
 
     /// The columns, of which the first is the key.

@@ -74,10 +74,22 @@ impl<A: Allocator> Row<A> {
         ensures err { IfErr result (λ e. e ≡ out_of_memory) }
     {
         let key = self.key.copy(alloc)?;
-        let mut fields = Vec::with_capacity(alloc, self.fields.len())?;
-        for field in &self.fields {
-            fields.push(field.copy(alloc)?)?;
-        }
+        let fields = copy_all(alloc, self.fields.as_slice())?;
         Ok(Row { key, fields })
     }
+}
+
+/// Equal values.
+pub(crate) fn copy_all<A: Allocator + Copy>(
+    alloc: A,
+    values: &[Value<A>],
+) -> Result<Vec<Value<A>, A>, Refusal>
+    ensures ok { IfOk result (λ copy. copy.items ≡ values.now) }
+    ensures err { IfErr result (λ e. e ≡ out_of_memory) }
+{
+    let mut copy = Vec::with_capacity(alloc, values.len())?;
+    for value in values {
+        copy.push(value.copy(alloc)?)?;
+    }
+    Ok(copy)
 }

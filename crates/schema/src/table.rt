@@ -1,12 +1,13 @@
-ghost use Rattle.std.specs.Prelude.{◌≡◌, [], length, is_some, OnOk, OnErr, IfOk, IfErr};
+ghost use Rattle.std.specs.Prelude.{◌≡◌, [], None, length, is_some, OnOk, OnErr, IfOk, IfErr};
 ghost use Rattle.std.specs.FinMap.{find};
 ghost use Rattle.value.specs.Order.{value_cmp};
 ghost use Rattle.std.specs.Option.{option_copied};
 ghost use Rattle.value.specs.Refusals.{out_of_memory};
+ghost use Rattle.schema.specs.Plain.{changed};
 ghost use Rattle.schema.specs.Rows.{IsInKeyOrder, row_of, next_row, put_row, rows_left, rows_after};
 
 use crate::reader::Bound;
-use crate::row::Row;
+use crate::row::{Row, copy_all};
 use std::alloc::{Allocator, Global};
 use std::collections::BTreeMap;
 use std::marker::Model;
@@ -106,6 +107,40 @@ impl<A: Allocator> Table<A> {
         let key = row.key().value().copy(alloc)?;
         self.rows.insert(key, row)?;
         Ok(())
+    }
+
+    /// Takes the row of a key away, if there is one.
+    pub fn remove(&mut self, key: &Key<A>)
+        ensures { self.new ≡ changed key.now None self.old }
+    {
+        // The count tells that the keys rise.
+        let _count = self.rows.len();
+        let _ = self.rows.remove(key.value());
+    }
+
+    /// Puts in fields beside a key, over any row of it, or takes its row away where there are none.
+    pub fn apply(
+        &mut self,
+        alloc: A,
+        key: &Key<A>,
+        fields: Option<&[Value<A>]>,
+    ) -> Result<(), Refusal>
+    where
+        A: Copy,
+        ensures ok { OnOk result (self.new ≡ changed key.now (option_copied fields.entry) self.old) }
+        ensures err { OnErr result (self.new ≡ self.old) }
+        ensures memory { IfErr result (λ e. e ≡ out_of_memory) }
+    {
+        match fields {
+            Some(fields) => {
+                let row = Row::new(key.copy(alloc)?, copy_all(alloc, fields)?);
+                self.put(alloc, row)
+            }
+            None => {
+                self.remove(key);
+                Ok(())
+            }
+        }
     }
 
     /// Equal rows.

@@ -1,13 +1,14 @@
-ghost use Rattle.std.specs.Prelude.{◌≡◌, length, slice_set, ◌↔◌, IsTrue, OnOk, OnErr, IfOk, IfErr};
+ghost use Rattle.std.specs.Prelude.{◌≡◌, [], ◌∷◌, length, slice_set, ◌↔◌, IsTrue, OnOk, OnErr, IfOk, IfErr};
 ghost use Rattle.value.specs.Refusals.{out_of_memory};
 ghost use Rattle.schema.specs.Rows.{HasTable, put_row};
-ghost use Rattle.schema.specs.Plain.{rows_of};
+ghost use Rattle.schema.specs.Plain.{rows_of, put_all};
 ghost use Rattle.schema.specs.Inserting.{empty_tables};
 
 mod insert;
 mod sound;
 
 use crate::catalog::{Catalog, TableNo};
+use crate::changes::Change;
 use crate::reader::{Bound, SnapshotReader};
 use crate::row::Row;
 use crate::table::Table;
@@ -80,6 +81,19 @@ impl<A: Allocator> Tables<A> {
         ensures memory { IfErr result (λ e. e ≡ out_of_memory) }
     {
         self.tables[table.place() as usize].put(alloc, row)
+    }
+
+    /// Puts in a change: its row, over any of its key, or that its key has no row.
+    pub fn apply(&mut self, alloc: A, change: &Change<A>) -> Result<(), Refusal>
+    where
+        A: Copy,
+        requires { HasTable self.old change.now.table }
+        ensures ok { OnOk result (self.new ≡ put_all (change.now ∷ []) self.old) }
+        ensures err { OnErr result (self.new ≡ self.old) }
+        ensures memory { IfErr result (λ e. e ≡ out_of_memory) }
+    {
+        let table = &mut self.tables[change.table().place() as usize];
+        table.apply(alloc, change.key(), change.fields())
     }
 
     /// Equal tables.

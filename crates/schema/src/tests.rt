@@ -1,7 +1,7 @@
 ghost use Rattle.schema.specs.Rows.{HasTable};
 
 use crate::catalog::{Catalog, TableNo};
-use crate::changes::Changes;
+use crate::changes::{Change, Changes};
 use crate::definition::{ColumnDef, TableDef};
 use crate::names::is_name;
 use crate::reader::{Bound, SnapshotReader, first_row, row_after};
@@ -307,5 +307,64 @@ fn changes_by_table_and_key(rt: HostRuntime) -> Result<(), Fail> {
     assert!(rt; matches!(changes.get(table, &key), Some(None)));
     assert!(rt; matches!(changes.next(table, Bound::From(&key)), Some((_, None))));
     assert!(rt; changes.next(table, Bound::After(&key)).is_none());
+    Ok(())
+}
+
+// The numbers of the change's table and key, and how many fields it gives: -1 where it takes the row away.
+fn shown(change: &Change) -> (u32, i64, i64) {
+    let key = match change.key().value() {
+        Value::Int(key) => *key,
+        _ => 0,
+    };
+    let count = match change.fields() {
+        Some([]) => 0,
+        Some([_]) => 1,
+        Some(_) => 2,
+        None => -1,
+    };
+    (change.table().place(), key, count)
+}
+
+#[test]
+fn changes_one_after_another(rt: HostRuntime) -> Result<(), Fail> {
+    let alloc = rt.alloc();
+    let mut tables = Tables::new(alloc, &parent_and_child(alloc)?)?;
+    let (parent, child) = (TableNo::at(0), TableNo::at(1));
+    assert!(rt; tables.has(parent));
+    tables.put(alloc, parent, row(alloc, 1, "-", 0, 0)?)?;
+    let one = Key::new(Value::Int(1)).ok_or("a null key")?;
+    let mut changes = Changes::new(alloc);
+    changes.put_row(alloc, child, row(alloc, 1, "a", 2, 2)?)?;
+    changes.put_row(alloc, parent, row(alloc, 2, "-", 0, 0)?)?;
+    changes.put_absence(alloc, parent, one)?;
+    changes.in_key_order(parent);
+    let mut met = Vec::new(alloc);
+    for change in &changes.into_list(alloc)? {
+        met.push(shown(&change.copy(alloc)?))?;
+        assert!(rt; tables.has(change.table()));
+        tables.apply(alloc, change)?;
+    }
+    assert_eq!(rt;
+        met.as_slice(),
+        [(0, 1, -1), (0, 2, 0), (1, 1, 2)].as_slice()
+    );
+    assert!(rt; tables.has(parent) && tables.has(child));
+    assert_eq!(rt; keys(alloc, &tables, parent)?.as_slice(), [2].as_slice());
+    assert_eq!(rt; keys(alloc, &tables, child)?.as_slice(), [1].as_slice());
+    Ok(())
+}
+
+#[test]
+fn a_copied_catalog(rt: HostRuntime) -> Result<(), Fail> {
+    let alloc = rt.alloc();
+    let copy = parent_and_child(alloc)?.copy(alloc)?;
+    copy.well_formed();
+    let child = copy.find("c").ok_or("no table c")?;
+    assert!(rt; copy.len() == 2 && copy.has(child));
+    let columns = copy.table(child).columns();
+    assert_eq!(rt; columns.len(), 3);
+    assert_eq!(rt; columns[1].name(), "name");
+    assert!(rt; columns[1].not_null());
+    assert_eq!(rt; columns[2].references().map(|table| table.place()), Some(0));
     Ok(())
 }

@@ -1,8 +1,8 @@
-ghost use Rattle.std.specs.Prelude.{◌≡◌, ◌<◌, ◌≤◌, [], ◌∷◌, ◌++◌, false, length, map, is_some, IfOk, IfErr, OnOk, OnErr};
+ghost use Rattle.std.specs.Prelude.{◌≡◌, ◌<◌, ◌≤◌, [], ◌∷◌, ◌++◌, true, length, map, IfOk, IfErr, OnOk, OnErr};
 ghost use Rattle.std.specs.List.{list_all};
 ghost use Rattle.schema.specs.Left.{leaving};
 ghost use Rattle.value.specs.Refusals.{AnswersOrNoMemory, pointing_nowhere, out_of_memory};
-ghost use Rattle.schema.specs.Definition.{table_named};
+ghost use Rattle.schema.specs.WellFormed.{is_table_after};
 ghost use Rattle.schema.specs.Adding.{same_kind, key_has_kind, finds_table, matches_key, resolved_column, resolved, is_over_limit, adding_fault, added};
 
 use super::{Catalog, Column, TableNo, TableSchema};
@@ -135,7 +135,7 @@ impl<A: Allocator + Copy> Catalog<A> {
 
     // Puts a table of a new name last.
     fn push(&mut self, alloc: A, table: TableSchema<A>) -> Result<TableNo, Refusal>
-        requires new_name { is_some (table_named self.old table.name) ≡ false }
+        requires well_formed { is_table_after self.old table ≡ true }
         requires room { length self.old < 256 }
         ensures ok { OnOk result (self.new ≡ self.old ++ table ∷ []) }
         ensures number { IfOk result (λ t. t ≡ length self.old) }
@@ -162,7 +162,22 @@ impl<A: Allocator + Copy> Catalog<A> {
         if let Some(code) = self.adding_fault(&table) {
             return Err(Refusal::of_code(code));
         }
+        table.well_formed();
         let table = self.resolved(alloc, &table)?;
         self.push(alloc, table)
+    }
+
+    /// An equal catalog.
+    pub fn copy(&self, alloc: A) -> Result<Catalog<A>, Refusal>
+        ensures ok { IfOk result (λ c. c ≡ self.now) }
+        ensures err { IfErr result (λ e. e ≡ out_of_memory) }
+    {
+        self.well_formed();
+        let mut copy = Catalog::new(alloc);
+        for place in 0..self.len() {
+            let table = self.table(TableNo::at(place as u32)).copy(alloc)?;
+            copy.push(alloc, table)?;
+        }
+        Ok(copy)
     }
 }

@@ -1,8 +1,12 @@
-ghost use Rattle.std.specs.Prelude.{◌≡◌, [], OnOk, OnErr, IfErr, IfSome};
+ghost use Rattle.std.specs.Prelude.{◌≡◌, ◌++◌, [], map, OnOk, OnErr, IfErr, IfSome};
 ghost use Rattle.std.specs.Option.{option_map, option_copied};
+ghost use Rattle.std.specs.List.Sorted.{IsStrictlySortedBy};
+ghost use Rattle.value.specs.Order.{value_cmp};
 ghost use Rattle.value.specs.Refusals.{out_of_memory};
-ghost use Rattle.schema.specs.Changing.{put_keyed, keyed_change, next_keyed};
+ghost use Rattle.schema.specs.Changing.{put_keyed, keyed_change, next_keyed, changes_in};
 
+use super::Change;
+use crate::catalog::TableNo;
 use crate::reader::Bound;
 use crate::row::Row;
 use std::alloc::{Allocator, Global};
@@ -11,6 +15,7 @@ use std::marker::Model;
 use std::ops;
 use value::key::Key;
 use value::refusal::Refusal;
+use value::value::Value;
 
 /// The changes of one table by key.
 #[derive(Drop)]
@@ -58,6 +63,14 @@ impl<A: Allocator> ChangedTable<A> {
         }
     }
 
+    /// The keys rise. Nothing is done.
+    pub fn in_key_order(&self)
+        ensures { IsStrictlySortedBy value_cmp (map (λ c. c.0) self.now) }
+    {
+        // The count tells that the keys rise.
+        let _count = self.rows.len();
+    }
+
     /// Puts in a row or an absence, over any change of the key.
     pub fn put(&mut self, alloc: A, key: Key<A>, row: Option<Row<A>>) -> Result<(), Refusal>
     where
@@ -69,5 +82,31 @@ impl<A: Allocator> ChangedTable<A> {
     {
         self.rows.insert(key, row)?;
         Ok(())
+    }
+
+    /// The changes, moved to the end of a list.
+    pub fn move_into(self, table: TableNo, list: &mut Vec<Change<A>, A>) -> Result<(), Refusal>
+        ensures ok { OnOk result (list.new.items ≡ list.old.items ++ changes_in table self) }
+        ensures memory { IfErr result (λ e. e ≡ out_of_memory) }
+    {
+        let ChangedTable { rows } = self;
+        for (key, row) in rows {
+            let fields = fields_of(row);
+            list.push(Change { table, key, fields })?;
+        }
+        Ok(())
+    }
+}
+
+// The fields of a row, where there is one.
+fn fields_of<A: Allocator>(row: Option<Row<A>>) -> Option<Vec<Value<A>, A>>
+    ensures { option_map (λ v. v.items) result ≡ option_map (λ r. r.1) row }
+{
+    match row {
+        Some(row) => {
+            let (_, fields) = row.into_parts();
+            Some(fields)
+        }
+        None => None,
     }
 }

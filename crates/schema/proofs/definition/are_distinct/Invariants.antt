@@ -1,4 +1,4 @@
-use Rattle.std.proofs.Common.{◌≡◌, map, take, drop}
+use Rattle.std.proofs.Common.{◌≡◌, map, drop}
 use Rattle.schema.specs.Adding.{have_new_names, are_distinct}
 use Rattle.schema.proofs.definition.are_distinct.Given as goal
 

@@ -1,5 +1,3 @@
-use Rattle.std.proofs.Common.{ap, ◌∙◌, slice_get}
-use Rattle.schema.specs.Definition.{columns_of}
 use Rattle.schema.proofs.NamedLemmas.{columns_of-get}
 use Rattle.schema.proofs.catalog.Catalog.table.Goals as goal
 

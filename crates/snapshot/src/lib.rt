@@ -1,0 +1,6 @@
+//! A transaction's own changes over the snapshot that it reads.
+#![tactic(auto)]
+
+pub mod overlay;
+#[cfg(test)]
+mod tests;

@@ -1,0 +1,98 @@
+ghost use Rattle.std.specs.Prelude.{◌≡◌, ◌<◌, IfOk, IfErr, length};
+ghost use Rattle.std.specs.Option.{option_copied};
+ghost use Rattle.schema.specs.Plain.{put_all};
+ghost use Rattle.schema.specs.Rows.{HasTable, IsInKeyOrder, next_row};
+ghost use Rattle.snapshot.specs.Overlaid.{rows_with, is_before, next_after, changes_after, changes_within};
+
+use schema::catalog::TableNo;
+use schema::changes::Changes;
+use schema::reader::{Bound, SnapshotReader};
+use schema::row::Row;
+use std::alloc::{Allocator, Global};
+use value::key::Key;
+
+/// Own changes over a lent reader: itself a reader, of the lent tables with the changes put in.
+#[derive(Clone, Copy)]
+pub struct Overlay<'a, R, A: Allocator = Global> {
+    reader: &'a R,
+    changes: &'a Changes<A>,
+}
+
+// Whether there is a row, of a lesser key.
+fn is_before<A: Allocator>(row: Option<&Row<A>>, key: &Key<A>) -> bool
+    ensures { result ≡ is_before (option_copied row.entry) key.now }
+{
+    match row {
+        Some(row) => row.key().cmp(key).is_lt(),
+        None => false,
+    }
+}
+
+impl<'a, R: SnapshotReader<A>, A: Allocator> Overlay<'a, R, A> {
+    /// The reader with the changes put in, without memory.
+    pub fn new(reader: &'a R, changes: &'a Changes<A>) -> Overlay<'a, R, A>
+        ensures parts { result ≡ record { reader = reader.entry; changes = changes.entry } }
+        ensures count { length (put_all changes.now (R.tables reader.now)) ≡ length (R.tables reader.now) }
+    {
+        Overlay { reader, changes }
+    }
+
+    // The row of the least key within a bound; or a key whose row the changes take away, where no row comes before it.
+    fn next_or_gone(
+        &self,
+        table: TableNo,
+        after: Bound<&Key<A>>,
+    ) -> Result<Option<&'a Row<A>>, &'a Key<A>>
+        requires { HasTable (R.tables self.now.reader.now) table }
+        ensures row { IfOk result (λ row. option_copied row ≡ next_row (rows_with self.now.changes.now (R.tables self.now.reader.now) table) after.entry) }
+        ensures gone { IfErr result (λ key. next_row (rows_with self.now.changes.now (R.tables self.now.reader.now) table) after.entry ≡ next_after (rows_with self.now.changes.now (R.tables self.now.reader.now) table) key.now) }
+        ensures fewer { IfErr result (λ key. length (changes_after self.now.changes.now table key.now) < length (changes_within self.now.changes.now table after.entry)) }
+        ensures ordered { IsInKeyOrder (rows_with self.now.changes.now (R.tables self.now.reader.now) table) }
+    {
+        self.changes.in_key_order(table);
+        let lent = self.reader.next_row(table, after);
+        let Some((key, own)) = self.changes.next(table, after) else {
+            return Ok(lent);
+        };
+        if is_before(lent, key) {
+            return Ok(lent);
+        }
+        match own {
+            Some(row) => Ok(Some(row)),
+            None => Err(key),
+        }
+    }
+
+    // The row of the least key after one.
+    fn next_past(&self, table: TableNo, key: &'a Key<A>) -> Option<&'a Row<A>>
+        requires { HasTable (R.tables self.now.reader.now) table }
+        ensures { option_copied result ≡ next_after (rows_with self.now.changes.now (R.tables self.now.reader.now) table) key.now }
+    {
+        let mut past = key;
+        'past: loop {
+            match self.next_or_gone(table, Bound::After(past)) {
+                Ok(row) => return row,
+                Err(gone) => past = gone,
+            }
+        }
+    }
+}
+
+impl<R: SnapshotReader<A>, A: Allocator> SnapshotReader<A> for Overlay<'_, R, A> {
+    ghost tables = { λ o. put_all o.changes.now (R.tables o.reader.now) };
+
+    fn next_row(&self, table: TableNo, after: Bound<&Key<A>>) -> Option<&Row<A>> {
+        match self.next_or_gone(table, after) {
+            Ok(row) => row,
+            Err(gone) => self.next_past(table, gone),
+        }
+    }
+
+    fn get(&self, table: TableNo, key: &Key<A>) -> Option<&Row<A>> {
+        self.changes.in_key_order(table);
+        match self.changes.get(table, key) {
+            Some(own) => own.as_ref(),
+            None => self.reader.get(table, key),
+        }
+    }
+}
