@@ -53,6 +53,11 @@ pub answered : {T : Type 0} (r : Result T Refusal) (x : T) → IfOk r (λ y. y �
 answered (Ok y) x ok err = inl (ap Ok ok)
 answered (Err e) x ok err = inr (ap Err err)
 
+-- what was answered is the exact value
+pub answer_of : {T : Type 0} (y x : T) → AnswersOrNoMemory (Ok y) (Ok x) → y ≡ x
+answer_of y x (inl e) = cc
+answer_of y x (inr e) = cc
+
 module _ {A : Type 0} where
   -- where there are too few literals, they don't fit
   pub literals_none : (ds : List Column) (vs : List (Value A)) → 0 < length ds → length vs < 1 → false ≡ literals_fit ds vs
@@ -60,7 +65,7 @@ module _ {A : Type 0} where
   literals_none (d ∷ ds) [] some few = refl
   literals_none (d ∷ ds) (v ∷ vs) some few = absurd (omega arith)
 
-  literals_length : (ds : List Column) (vs : List (Value A)) → literals_fit ds vs ≡ true → length vs ≡ length ds
+  pub literals_length : (ds : List Column) (vs : List (Value A)) → literals_fit ds vs ≡ true → length vs ≡ length ds
   literals_length [] [] h = refl
   literals_length (d ∷ ds) (v ∷ vs) h = ap suc (literals_length ds vs (and_both (takes v d) _ h).1)
   literals_length [] (v ∷ vs) h = absurd (true≢false (sym h))

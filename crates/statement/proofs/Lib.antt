@@ -13,3 +13,8 @@ pub mod WritesLemmas
 pub mod WalkLemmas
 pub mod FootprintLemmas
 pub mod HeldLemmas
+pub mod ReferenceLemmas
+pub mod WritingLemmas
+pub mod UpdatingLemmas
+pub mod DeleteLemmas
+pub mod InsertLemmas

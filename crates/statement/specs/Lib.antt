@@ -4,7 +4,10 @@ pub mod Cover
 pub mod Evaluation
 pub mod Fits
 pub mod Footprint
+pub mod Inserting
 pub mod Laws
 pub mod Marks
 pub mod Select
 pub mod Walk
+pub mod Updating
+pub mod Writing

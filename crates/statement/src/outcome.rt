@@ -48,6 +48,13 @@ impl<A: Allocator> Marks<A> {
     {
         self.marks.as_slice()
     }
+
+    /// The marks, taken out.
+    pub fn into_list(self) -> Vec<Mark<A>, A>
+        ensures { result.items ≡ self }
+    {
+        self.marks
+    }
 }
 
 /// What comes of a statement: its reply, the rows that it writes, and the references that they had

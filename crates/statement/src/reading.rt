@@ -69,4 +69,11 @@ impl<A: Allocator> Footprint<A> {
     {
         self.readings.as_slice()
     }
+
+    /// The readings, taken out.
+    pub fn into_list(self) -> Vec<Reading<A>, A>
+        ensures { result.items ≡ self }
+    {
+        self.readings
+    }
 }

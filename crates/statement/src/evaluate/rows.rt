@@ -2,7 +2,7 @@
 
 ghost use Rattle.std.specs.Prelude.{◌≡◌, ◌<◌, length, IfOk, IfErr};
 ghost use Rattle.value.specs.Refusals.{out_of_memory};
-ghost use Rattle.schema.specs.Plain.{cells, field};
+ghost use Rattle.schema.specs.Plain.{cells, field, is_null};
 ghost use Rattle.statement.specs.Conditions.{compares, is_so, holds, satisfies};
 ghost use Rattle.statement.specs.Select.{column_of, HasColumns};
 
@@ -25,6 +25,13 @@ fn accepts(comparison: Comparison, order: Ordering) -> bool
         Comparison::Greater => order.is_gt(),
         Comparison::GreaterOrEqual => order.is_ge(),
     }
+}
+
+/// Whether a value is null.
+pub(super) fn is_null<A: Allocator>(value: &Value<A>) -> bool
+    ensures { result ≡ is_null value.now }
+{
+    matches!(value, Value::Null)
 }
 
 // Whether a value compares so with a literal. With null none does.

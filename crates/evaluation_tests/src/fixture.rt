@@ -1,0 +1,201 @@
+//! Tables made of texts, and what a statement's text answers there.
+
+use schema::catalog::{Catalog, TableNo};
+use schema::changes::Changes;
+use schema::reader::{Bound, SnapshotReader};
+use schema::row::Row;
+use schema::tables::Tables;
+use sqltext::create::parse_create;
+use sqltext::parse::parse_statement;
+use statement::evaluate::{evaluate, sound_tables_are_held};
+use statement::outcome::Outcome;
+use statement::reply::Reply;
+use statement::statement::Statement;
+use std::alloc::Global;
+use std::test::Fail;
+use value::key::Key;
+use value::refusal::Refusal;
+use value::value::Value;
+
+/// A reader of another's tables.
+#[derive(Drop)]
+struct Lent<'t> {
+    tables: &'t Tables,
+}
+
+impl SnapshotReader<Global> for Lent<'_> {
+    ghost tables = { λ l. l.tables.now };
+
+    fn next_row(&self, table: TableNo, after: Bound<&Key>) -> Option<&Row> {
+        self.tables.next_row(table, after)
+    }
+
+    fn get(&self, table: TableNo, key: &Key) -> Option<&Row> {
+        self.tables.get(table, key)
+    }
+}
+
+/// A catalog and its tables.
+#[derive(Drop)]
+pub struct Database {
+    catalog: Catalog,
+    tables: Tables,
+}
+
+// Puts in the row of an INSERT.
+fn put(alloc: Global, catalog: &Catalog, tables: &mut Tables, text: &str) -> Result<(), Fail> {
+    let Statement::Insert(table, values) = parse_statement(alloc, catalog, text)? else {
+        return Err("no INSERT".into());
+    };
+    let [key, rest @ ..] = values.as_slice() else {
+        return Err("no values".into());
+    };
+    let key = Key::new(key.copy(alloc)?).ok_or("a null key")?;
+    let mut fields = Vec::new(alloc);
+    for value in rest {
+        fields.push(value.copy(alloc)?)?;
+    }
+    if !catalog.has(table) || tables.count() != catalog.len() {
+        return Err("no such table".into());
+    }
+    tables.insert(alloc, catalog, table, Row::new(key, fields))?;
+    Ok(())
+}
+
+/// The tables of these CREATE TABLEs, with the rows of these INSERTs.
+pub fn database_of(alloc: Global, creates: &[&str], inserts: &[&str]) -> Result<Database, Fail> {
+    let mut catalog = Catalog::new(alloc);
+    for text in creates {
+        let table = parse_create(alloc, text)?;
+        catalog.add(alloc, table)?;
+    }
+    let mut tables = Tables::new(alloc, &catalog)?;
+    for text in inserts {
+        put(alloc, &catalog, &mut tables, text)?;
+    }
+    Ok(Database { catalog, tables })
+}
+
+// What comes of a statement's text.
+fn outcome(alloc: Global, database: &Database, text: &str) -> Result<Outcome, Fail> {
+    let statement = parse_statement(alloc, &database.catalog, text)?;
+    if !database.tables.sound(&database.catalog) {
+        return Err("the tables aren't sound".into());
+    }
+    sound_tables_are_held::<Global>();
+    let reader = Lent {
+        tables: &database.tables,
+    };
+    let outcome = evaluate(alloc, &database.catalog, &statement, &reader)?;
+    Ok(outcome)
+}
+
+// A value, as it is printed here.
+fn push_value(alloc: Global, printed: &mut String, value: &Value) -> Result<(), Fail> {
+    let text = match value {
+        Value::Null => format!(in alloc; "null")?,
+        Value::Int(number) => format!(in alloc; "{number}")?,
+        Value::Text(text) => format!(in alloc; "{}", text.as_str())?,
+        Value::Bytes(bytes) => format!(in alloc; "{:?}", bytes.as_slice())?,
+    };
+    printed.push_str(text.as_str())?;
+    Ok(())
+}
+
+// Values, with a bar between each two.
+fn push_values(alloc: Global, printed: &mut String, values: &[Value]) -> Result<(), Fail> {
+    let mut is_first = true;
+    for value in values {
+        if !is_first {
+            printed.push_str("|")?;
+        }
+        is_first = false;
+        push_value(alloc, printed, value)?;
+    }
+    Ok(())
+}
+
+// A reply, as it is printed: of rows their number, and then each after a space.
+fn printed(alloc: Global, reply: &Reply) -> Result<String, Fail> {
+    match reply {
+        Reply::Inserted => Ok(format!(in alloc; "INSERT 0 1")?),
+        Reply::Updated(rows) => Ok(format!(in alloc; "UPDATE {rows}")?),
+        Reply::Deleted(rows) => Ok(format!(in alloc; "DELETE {rows}")?),
+        Reply::Refused(refusal) => Ok(format!(in alloc; "ERROR {refusal}")?),
+        Reply::Rows(rows) => {
+            let mut printed = format!(in alloc; "SELECT {}", rows.as_slice().len())?;
+            for row in rows.as_slice() {
+                printed.push_str(" ")?;
+                push_values(alloc, &mut printed, row.as_slice())?;
+            }
+            Ok(printed)
+        }
+        _ => Err("no reply of a statement".into()),
+    }
+}
+
+/// The reply to a statement's text, as it is printed.
+pub fn reply(alloc: Global, database: &Database, text: &str) -> Result<String, Fail> {
+    let outcome = outcome(alloc, database, text)?;
+    printed(alloc, &outcome.reply)
+}
+
+// A written row with its values, or a key that has none any more.
+fn push_change(
+    alloc: Global,
+    printed: &mut String,
+    key: &Key,
+    row: &Option<Row>,
+) -> Result<(), Fail> {
+    push_value(alloc, printed, key.value())?;
+    match row {
+        Some(row) => {
+            for field in row.fields() {
+                printed.push_str("|")?;
+                push_value(alloc, printed, field)?;
+            }
+        }
+        None => printed.push_str(" gone")?,
+    }
+    printed.push_str(";")?;
+    Ok(())
+}
+
+// The first rows that are written to a table.
+fn push_changes(
+    alloc: Global,
+    printed: &mut String,
+    changes: &Changes,
+    table: TableNo,
+) -> Result<(), Fail> {
+    let mut next = changes.next(table, Bound::Start);
+    for _ in 0..9 {
+        let Some((key, row)) = next else {
+            return Ok(());
+        };
+        push_change(alloc, printed, key, row)?;
+        next = changes.next(table, Bound::After(key));
+    }
+    Ok(())
+}
+
+/// What a statement's text writes: the rows of each table, and then the references that they had
+/// and have, by their tables and columns, counted from 0.
+pub fn written(alloc: Global, database: &Database, text: &str) -> Result<String, Fail> {
+    let outcome = outcome(alloc, database, text)?;
+    let mut printed = String::new(alloc);
+    for place in 0..database.catalog.len() {
+        push_changes(
+            alloc,
+            &mut printed,
+            &outcome.changes,
+            TableNo::at(place as u32),
+        )?;
+    }
+    for mark in outcome.marks.as_slice() {
+        let text = format!(in alloc; " {}.{}=", mark.table.place(), mark.column)?;
+        printed.push_str(text.as_str())?;
+        push_value(alloc, &mut printed, mark.key.value())?;
+    }
+    Ok(printed)
+}

@@ -1,0 +1,231 @@
+//! INSERT.
+
+ghost use Rattle.std.specs.Prelude.{◌≡◌, ◌<◌, ◌≤◌, ◌+◌, ◌∷◌, [], Ok, Some, suc, true, length, IfOk, IfErr, IfSome};
+ghost use Rattle.value.specs.Refusals.{out_of_memory, AnswersOrNoMemory};
+ghost use Rattle.schema.specs.Plain.{cells, columns_of, is_null, row_at};
+ghost use Rattle.statement.specs.declared.statement.Statement.{Statement};
+ghost use Rattle.statement.specs.Evaluation.{answers, fault, inserted, lacks_row, lacks_value, least_column, puts};
+ghost use Rattle.statement.specs.Fits.{Fits};
+ghost use Rattle.statement.specs.Inserting.{inserting_fault};
+ghost use Rattle.statement.specs.Marks.{references_of};
+ghost use Rattle.statement.specs.Walk.{are_of};
+
+use super::answers;
+use crate::evaluate::reference::{has_row, is_there};
+use crate::evaluate::rows::is_null;
+use crate::evaluate::written::Written;
+use crate::fits::columns_of;
+use crate::interval::key_of;
+use crate::outcome::Outcome;
+use crate::reply::Reply;
+use crate::values::Values;
+use schema::catalog::{Catalog, Column, TableNo};
+use schema::reader::SnapshotReader;
+use schema::row::Row;
+use std::alloc::Allocator;
+use value::refusal::{Code, Place, Refusal};
+use value::value::Value;
+
+// Whether a value of a column, counted from 0, is null where none may be.
+fn lacks_value<A: Allocator>(place: u32, column: &Column<A>, value: &Value<A>) -> bool
+    ensures { result ≡ lacks_value place column.now value.now }
+{
+    (place == 0 || column.not_null()) && is_null(value)
+}
+
+// The least column, counted from a place on, whose value is null where none may be.
+fn least_null<A: Allocator>(place: u32, columns: &[Column<A>], values: &[Value<A>]) -> Option<u32>
+    requires { place + length columns.now ≤ 32 }
+    ensures least { result ≡ least_column lacks_value place columns.now values.now }
+    ensures few { IfSome result (λ n. n < 32) }
+{
+    match columns {
+        [] => None,
+        [column, columns @ ..] => match values {
+            [] => None,
+            [value, values @ ..] => {
+                if lacks_value(place, column, value) {
+                    Some(place)
+                } else {
+                    least_null(place + 1, columns, values)
+                }
+            }
+        },
+    }
+}
+
+// The least column, counted from a place on, whose value references a row that isn't there.
+fn least_dangling<A: Allocator + Copy, R: SnapshotReader<A>>(
+    alloc: A,
+    catalog: &Catalog<A>,
+    reader: &R,
+    place: u32,
+    columns: &[Column<A>],
+    values: &[Value<A>],
+) -> Result<Option<u32>, Refusal>
+    requires held { are_of catalog.now (R.tables reader.now) ≡ true }
+    requires few { place + length columns.now ≤ 32 }
+    ensures least { IfOk result (λ least. least ≡ least_column (lacks_row (R.tables reader.now)) place columns.now values.now) }
+    ensures few { IfOk result (λ least. IfSome least (λ n. n < 32)) }
+    ensures memory { IfErr result (λ e. e ≡ out_of_memory) }
+{
+    match columns {
+        [] => Ok(None),
+        [column, columns @ ..] => match values {
+            [] => Ok(None),
+            [value, values @ ..] => {
+                if is_there(alloc, catalog, reader, column, value)? {
+                    least_dangling(alloc, catalog, reader, place + 1, columns, values)
+                } else {
+                    Ok(Some(place))
+                }
+            }
+        },
+    }
+}
+
+// A fault at a column, counted from 0.
+fn at_column(code: Code, place: u32) -> Refusal
+    requires { place < 32 }
+    ensures { result ≡ fault code (Place.Column (suc place)) }
+{
+    Refusal {
+        code,
+        place: Place::Column(place + 1),
+    }
+}
+
+// Why a row isn't inserted. These are its values.
+fn inserting_fault<A: Allocator + Copy, R: SnapshotReader<A>>(
+    alloc: A,
+    catalog: &Catalog<A>,
+    reader: &R,
+    table: TableNo,
+    row: &Row<A>,
+    values: &[Value<A>],
+) -> Result<Option<Refusal>, Refusal>
+    requires has { table < length catalog.now }
+    requires held { are_of catalog.now (R.tables reader.now) ≡ true }
+    requires same { values.now ≡ cells row.now }
+    ensures ok { IfOk result (λ found. found ≡ inserting_fault catalog.now table row.now (R.tables reader.now)) }
+    ensures memory { IfErr result (λ e. e ≡ out_of_memory) }
+{
+    let columns = columns_of(catalog, table);
+    match least_null(0, columns, values) {
+        Some(place) => Ok(Some(at_column(Code::NotNullViolation, place))),
+        None => {
+            if has_row(catalog, reader, table, row.key()) {
+                return Ok(Some(at_column(Code::UniqueViolation, 0)));
+            }
+            match least_dangling(alloc, catalog, reader, 0, columns, values)? {
+                Some(place) => Ok(Some(at_column(Code::ForeignKeyViolation, place))),
+                None => Ok(None),
+            }
+        }
+    }
+}
+
+// Equal values.
+fn copy_values<A: Allocator + Copy>(
+    alloc: A,
+    values: &[Value<A>],
+) -> Result<Vec<Value<A>, A>, Refusal>
+    ensures ok { IfOk result (λ copy. copy.items ≡ values.now) }
+    ensures memory { IfErr result (λ e. e ≡ out_of_memory) }
+{
+    let mut copy = Vec::with_capacity(alloc, values.len())?;
+    for value in values {
+        copy.push(value.copy(alloc)?)?;
+    }
+    Ok(copy)
+}
+
+// Writes a row that is new.
+fn insert_row<A: Allocator + Copy>(
+    alloc: A,
+    catalog: &Catalog<A>,
+    table: TableNo,
+    row: Row<A>,
+) -> Result<Written<A>, Refusal>
+    requires { table < length catalog.now }
+    ensures changes { IfOk result (λ written. written.changes ≡ puts table row ∷ []) }
+    ensures marks { IfOk result (λ written. written.marks.items ≡ references_of table (columns_of catalog.now table) row.0 (Some row.1)) }
+    ensures memory { IfErr result (λ e. e ≡ out_of_memory) }
+{
+    let mut written = Written::new(alloc);
+    written.insert(alloc, table, columns_of(catalog, table), row)?;
+    Ok(written)
+}
+
+// What an INSERT of a row answers and writes. These are its values.
+fn insert_or_refuse<A: Allocator + Copy, R: SnapshotReader<A>>(
+    alloc: A,
+    catalog: &Catalog<A>,
+    reader: &R,
+    table: TableNo,
+    row: Row<A>,
+    values: &[Value<A>],
+) -> Result<Outcome<A>, Refusal>
+    requires has { table < length catalog.now }
+    requires held { are_of catalog.now (R.tables reader.now) ≡ true }
+    requires same { values.now ≡ cells row }
+    ensures ok { IfOk result (λ outcome. outcome ≡ inserted catalog.now table (cells row) (R.tables reader.now)) }
+    ensures memory { IfErr result (λ e. e ≡ out_of_memory) }
+{
+    match inserting_fault(alloc, catalog, reader, table, &row, values)? {
+        Some(fault) => Ok(answers(alloc, Reply::Refused(fault))),
+        None => {
+            let written = insert_row(alloc, catalog, table, row)?;
+            Ok(written.outcome(Reply::Inserted))
+        }
+    }
+}
+
+// What an INSERT of these values answers and writes: a key, and the fields beside it.
+fn insert_values<A: Allocator + Copy, R: SnapshotReader<A>>(
+    alloc: A,
+    catalog: &Catalog<A>,
+    reader: &R,
+    table: TableNo,
+    key: &Value<A>,
+    fields: &[Value<A>],
+    values: &[Value<A>],
+) -> Result<Outcome<A>, Refusal>
+    requires has { table < length catalog.now }
+    requires some { 0 < length (columns_of catalog.now table) }
+    requires held { are_of catalog.now (R.tables reader.now) ≡ true }
+    requires same { values.now ≡ key.now ∷ fields.now }
+    ensures ok { IfOk result (λ outcome. outcome ≡ inserted catalog.now table (key.now ∷ fields.now) (R.tables reader.now)) }
+    ensures memory { IfErr result (λ e. e ≡ out_of_memory) }
+{
+    match key_of(alloc, key)? {
+        None => {
+            let fault = at_column(Code::NotNullViolation, 0);
+            Ok(answers(alloc, Reply::Refused(fault)))
+        }
+        Some(key) => {
+            let row = Row::new(key, copy_values(alloc, fields)?);
+            insert_or_refuse(alloc, catalog, reader, table, row, values)
+        }
+    }
+}
+
+/// What an INSERT answers, and what it writes. One row is looked up by the key, and one for each
+/// reference.
+pub(super) fn insert<A: Allocator + Copy, R: SnapshotReader<A>>(
+    alloc: A,
+    catalog: &Catalog<A>,
+    reader: &R,
+    table: TableNo,
+    values: &Values<A>,
+) -> Result<Outcome<A>, Refusal>
+    requires fits { Fits catalog.now (Statement.Insert table values.now) }
+    requires held { are_of catalog.now (R.tables reader.now) ≡ true }
+    ensures { AnswersOrNoMemory result (Ok (inserted catalog.now table values.now (R.tables reader.now))) }
+{
+    let all = values.as_slice();
+    match all {
+        [] => Ok(answers(alloc, Reply::Inserted)),
+        [key, fields @ ..] => insert_values(alloc, catalog, reader, table, key, fields, all),
+    }
+}
