@@ -1,10 +1,9 @@
 -- The words of a CREATE TABLE, and what makes a table of them.
-use Rattle.std.proofs.Common.{◌≡◌, ℕ, List, Result, Ok, Err, refl, sym, ap, ◌∙◌, inl, inr}
+use Rattle.std.proofs.Common.{◌≡◌, ℕ, List, Result, Ok, Err, refl, sym, ap, inl, inr}
 use Rattle.std.specs.Str.{IsUtf8, is_utf8}
 use Rattle.std.proofs.lemmas.Bool.{false_from_ne_true}
 use Rattle.std.proofs.lemmas.Str.{is_utf8-from_IsUtf8, IsUtf8-from_is_utf8}
 use Rattle.value.specs.declared.refusal.Refusal.{Refusal}
-use Rattle.value.specs.declared.refusal.Code.{Code}
 use Rattle.value.specs.declared.refusal.Code.TheVariants.{SyntaxError, OutOfMemory}
 use Rattle.value.specs.Refusals.{AnswersOrNoMemory, out_of_memory}
 use Rattle.schema.specs.Definition.{TableDef}

@@ -1,5 +1,5 @@
 -- What a text says of a catalog's tables fits the catalog.
-use Rattle.std.proofs.Common.{◌≡◌, ℕ, zero, suc, ◌+◌, ◌*◌, ◌%◌, ◌^◌, drop, codes, nat_eq, ◌<◌, ◌≤◌, ◌==◌, nat_lt, nat_le, ℤ, pos, negsuc, Bool, true, false, cond, not, ◌&&◌, ◌||◌, List, [], ◌∷◌, ◌++◌, length, Option, Some, None, Result, Ok, Err, slice_get, position, refl, sym, ap, subst, ◌∙◌, w64, arith}
+use Rattle.std.proofs.Common.{◌≡◌, ℕ, ◌+◌, ◌*◌, ◌%◌, ◌^◌, drop, codes, nat_eq, ◌<◌, ◌==◌, nat_lt, ℤ, pos, negsuc, Bool, true, false, cond, not, ◌&&◌, ◌||◌, List, [], ◌∷◌, ◌++◌, length, Option, Some, None, Result, Ok, Err, slice_get, refl, sym, ap, subst, ◌∙◌, w64, arith}
 use Rattle.std.specs.Prelude.{FitsSigned}
 use Rattle.std.specs.List.{list_any, list_all, starts_with}
 use Rattle.std.specs.Option.{option_map_or}
@@ -19,8 +19,8 @@ use Rattle.value.specs.declared.refusal.Code.{Code}
 use Rattle.value.specs.declared.refusal.Code.TheVariants.{SyntaxError, CharacterNotInRepertoire, InvalidTextRepresentation, UndefinedColumn, UndefinedTable, DatatypeMismatch, ProgramLimitExceeded}
 use Rattle.value.specs.declared.value.Value.{Value}
 use Rattle.value.specs.declared.value.Value.TheVariants.{Null, Int, Text, Bytes}
-use Rattle.value.specs.Literal.{bigint_of, text_of, bytea_of, decoded, as_int, as_text, as_bytes, literal_of}
-use Rattle.schema.specs.Definition.{Column, Catalog, TableSchema, columns_of, table_named}
+use Rattle.value.specs.Literal.{bigint_of, decoded, as_int, as_text, as_bytes, literal_of}
+use Rattle.schema.specs.Definition.{Column, Catalog, TableSchema, columns_of, column_named, table_named}
 use Rattle.schema.specs.Plain.{in_range, has_kind}
 use Rattle.value.specs.Refusals.{of_code}
 use Rattle.statement.specs.declared.condition.Condition.{Condition}
@@ -50,7 +50,7 @@ use Rattle.sqltext.specs.Tokens.{tokens}
 use Rattle.sqltext.specs.Grammar.{whole}
 use Rattle.sqltext.specs.Source.{bytes_of, unquoted, in_small_letters}
 use Rattle.sqltext.specs.Reading.{◌>>=◌}
-use Rattle.sqltext.specs.Resolving.{refused, column_place, with_kind, column, place_of, table_place, table, each, at_token, require_bigint, addend, value_of, number, content, value, condition, projection, first_kind, values, inserted, target, sum, assignment, assignments, resolved}
+use Rattle.sqltext.specs.Resolving.{refused, with_kind, column, place_of, table, each, at_token, require_bigint, addend, value_of, number, content, value, condition, projection, values, inserted, target, sum, assignment, assignments, resolved}
 use Rattle.sqltext.specs.Parsed.{parsed, parsed_small}
 use Rattle.sqltext.proofs.EachLemmas.{bigint_fits}
 
@@ -202,7 +202,7 @@ found_in columns None found r h = absurd (not_done {A = ℕ × Kind} r found h)
 
 column_found : (columns : List Column) (text : List ℕ) (name : Name) (found : ℕ × Kind) → column columns text name ≡ Ok found → IsColumn columns found
 unfolding column
-column_found columns text name found h = found_in columns (column_place columns (bytes_of name.0 text)) found (refused UndefinedColumn name.0) h
+column_found columns text name found h = found_in columns (column_named columns (bytes_of name.0 text)) found (refused UndefinedColumn name.0) h
 
 -- what holds of the column holds at its place
 passes : (columns : List Column) (found : ℕ × Kind) (test : Column → Bool) (c : IsColumn columns found) → test c.column ≡ true → column_passes test columns found.0 ≡ true
@@ -271,15 +271,11 @@ found_table : (catalog : Catalog) (o : Option ℕ) (t : ℕ) (r : Refusal) → o
 found_table catalog (Some n) t r h = ap (λ (m : ℕ). Some m) (done_same {E = Refusal} n t h)
 found_table catalog None t r h = absurd (not_done {A = ℕ} r t h)
 
-named_table : (is_text : Bool) (catalog : Catalog) (word : List ℕ) (t : ℕ) → cond is_text (table_named catalog word) None ≡ Some t → table_named catalog word ≡ Some t
-named_table true catalog word t h = h
-named_table false catalog word t h = absurd cc
-
 table_is_there : (catalog : Catalog) (text : List ℕ) (name : Name) (t : ℕ) → table catalog text name ≡ Ok t → has_table catalog t ≡ true
 unfolding table
 table_is_there catalog text name t h =
     let word = bytes_of name.0 text in
-    let found = named_table (is_utf8 word) catalog word t (found_table catalog (table_place catalog word) t (refused UndefinedTable name.0) h) in
+    let found = found_table catalog (table_named catalog word) t (refused UndefinedTable name.0) h in
     let none : TableSchema = record { name = []; columns = [] } in
     let lt : t < length catalog = (position-Some (λ d. bytes_eq word d.name) catalog t none found).0 in
     grind (arith, nat_tests)

@@ -1,5 +1,13 @@
+mod ChoiceLemmas
 mod CreateLemmas
 mod EachLemmas
 mod FitsLemmas
 mod LexerLemmas
 mod ListLemmas
+mod PhraseLemmas
+mod RepeatLemmas
+mod RuleLemmas
+mod StatementLemmas
+mod TableLemmas
+mod TextLemmas
+mod WholeLemmas

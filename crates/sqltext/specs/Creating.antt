@@ -1,6 +1,6 @@
 -- What the text of a CREATE TABLE says: a table, or that it is none.
 -- Source: PostgreSQL manual, CREATE TABLE; the forms that are read are this project's own.
-use Rattle.std.specs.Prelude.{◌≡◌, ℕ, Bool, true, false, if◌then◌else◌, List, [], ◌∷◌, Option, Some, None, Result, Ok, Err}
+use Rattle.std.specs.Prelude.{ℕ, Bool, true, false, if◌then◌else◌, List, [], ◌∷◌, Option, Some, None, Result, Ok, Err}
 use Rattle.std.specs.Option.{option_map_or}
 use Rattle.std.specs.Str.{is_utf8}
 use Rattle.value.specs.declared.kind.Kind.{Kind}
@@ -17,7 +17,7 @@ use Rattle.sqltext.specs.declared.tree.Name.{Name}
 use Rattle.sqltext.specs.declared.tree.ColumnTree.{ColumnTree}
 use Rattle.sqltext.specs.declared.tree.TableTree.{TableTree}
 use Rattle.sqltext.specs.Tokens.{tokens}
-use Rattle.sqltext.specs.Reading.{◌>>=◌, syntax_error, past, expect, list_of}
+use Rattle.sqltext.specs.Reading.{◌>>=◌, syntax_error, past, expect, nothing_left, list_of}
 use Rattle.sqltext.specs.Grammar.{Rule, name}
 use Rattle.sqltext.specs.Source.{in_small_letters, bytes_of}
 use Rattle.sqltext.specs.Resolving.{refused, each}
@@ -69,7 +69,7 @@ table ts = name ts >>= λ n. expect kind.Open n.1 >>= λ open_. key open_.1 >>= 
 
 unfoldable pub whole : List Token → Result TableParts Refusal
 whole ts = expect kind.Create ts >>= λ create. expect kind.Table create.1 >>= λ word. table word.1 >>= λ tree. expect kind.Semicolon tree.1 >>= λ semicolon.
-    expect kind.End semicolon.1 >>= λ end. Ok tree.0
+    expect kind.End semicolon.1 >>= λ end. nothing_left end.1 >>= λ left. Ok tree.0
 
 -- ---- the definition
 

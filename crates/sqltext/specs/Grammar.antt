@@ -1,5 +1,5 @@
 -- The rules of the grammar of statements, each as what it reads from the front of the tokens.
-use Rattle.std.specs.Prelude.{◌≡◌, ℕ, Bool, true, false, ◌||◌, if◌then◌else◌, List, [], ◌∷◌, Option, Some, None, is_some, Result, Ok, Err}
+use Rattle.std.specs.Prelude.{if◌then◌else◌, List, [], ◌∷◌, Option, Some, None, is_some, Result, Ok, Err}
 use Rattle.std.specs.Option.{option_map_or}
 use Rattle.value.specs.declared.refusal.Refusal.{Refusal}
 use Rattle.statement.specs.declared.condition.Comparison.{Comparison}
@@ -19,7 +19,7 @@ use Rattle.sqltext.specs.declared.tree.Shown.TheVariants.{All, Count, Columns}
 use Rattle.sqltext.specs.declared.tree.Tree.{Tree}
 use Rattle.sqltext.specs.declared.tree.Tree.TheVariants.{Select, Insert, Update, Delete}
 use Rattle.sqltext.specs.Tokens.{same_kind}
-use Rattle.sqltext.specs.Reading.{◌>>=◌, syntax_error, past, expect, list_of}
+use Rattle.sqltext.specs.Reading.{◌>>=◌, syntax_error, past, expect, nothing_left, list_of}
 
 -- what a rule reads from the front of the tokens, and the tokens after it; or the refusal
 abbrev pub Rule : Type 0 → Type 0
@@ -129,4 +129,4 @@ ending ts = option_map_or (expect kind.End) (past kind.Semicolon ts) (expect kin
 module _ {A : Type 0} where
   -- the statement that all of the tokens say
   unfoldable pub whole : List Token → Result (Tree A) Refusal
-  whole ts = statement ts >>= λ tree. ending tree.1 >>= λ end. Ok tree.0
+  whole ts = statement ts >>= λ tree. ending tree.1 >>= λ end. nothing_left end.1 >>= λ left. Ok tree.0

@@ -5,4 +5,6 @@ pub mod Parsed
 pub mod Reading
 pub mod Resolving
 pub mod Source
+pub mod Spelling
+pub mod TableSpelling
 pub mod Tokens

@@ -1,11 +1,10 @@
 -- What a text says: a statement of the catalog's tables, or the first refusal.
-use Rattle.std.specs.Prelude.{ℕ, nat_lt, false, if◌then◌else◌, List, length, Result, Ok, Err}
+use Rattle.std.specs.Prelude.{ℕ, nat_lt, false, if◌then◌else◌, List, length, Result, Err}
 use Rattle.value.specs.declared.refusal.Refusal.{Refusal}
 use Rattle.value.specs.declared.refusal.Code.TheVariants.{ProgramLimitExceeded}
 use Rattle.value.specs.Refusals.{of_code}
 use Rattle.schema.specs.Definition.{Catalog}
 use Rattle.statement.specs.declared.statement.Statement.{Statement}
-use Rattle.sqltext.specs.declared.tree.Tree.{Tree}
 use Rattle.sqltext.specs.Tokens.{tokens}
 use Rattle.sqltext.specs.Reading.{◌>>=◌}
 use Rattle.sqltext.specs.Grammar.{whole}

@@ -1,12 +1,11 @@
 -- Reading tokens from left to right, with the first fault that is met.
-use Rattle.std.specs.Prelude.{◌≡◌, ℕ, zero, suc, ◌-◌, ◌^◌, min, Bool, true, false, ◌||◌, if◌then◌else◌, List, [], ◌∷◌, length, Option, Some, None, Result, Ok, Err}
+use Rattle.std.specs.Prelude.{◌≡◌, ℕ, zero, suc, min, if◌then◌else◌, List, [], ◌∷◌, length, Option, Some, None, Result, Ok, Err}
 use Rattle.std.specs.Option.{option_map_or}
 use Rattle.value.specs.declared.refusal.Refusal.{Refusal}
 use Rattle.value.specs.declared.refusal.Code.{Code}
 use Rattle.value.specs.declared.refusal.Code.TheVariants.{SyntaxError}
 use Rattle.value.specs.declared.refusal.Place.TheVariants.{Byte}
 use Rattle.sqltext.specs.declared.token.TokenKind.{TokenKind}
-use Rattle.sqltext.specs.declared.token.TokenKind.TheVariants as kind
 use Rattle.sqltext.specs.declared.token.Token.{Token}
 use Rattle.sqltext.specs.declared.error.ParseError.{ParseError}
 use Rattle.sqltext.specs.declared.error.ParseError.TheVariants as error
@@ -53,6 +52,11 @@ past k (t ∷ ts) = if same_kind t.kind k then Some ts else None
 unfoldable pub expect : TokenKind → List Token → Result (Token × List Token) Refusal
 expect k [] = Err (syntax_error [])
 expect k (t ∷ ts) = if same_kind t.kind k then Ok (t, ts) else Err (syntax_error (t ∷ ts))
+
+-- no tokens are left
+unfoldable pub nothing_left : List Token → Result (Unit {0}) Refusal
+nothing_left [] = Ok tt
+nothing_left (t ∷ ts) = Err (syntax_error (t ∷ ts))
 
 -- a separator and an item, as long as a separator comes, and at most so often
 unfoldable pub more : {T : Type 0} → TokenKind → (List Token → Result (T × List Token) Refusal) → ℕ → List Token → Result (List T × List Token) Refusal

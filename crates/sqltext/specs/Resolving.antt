@@ -1,16 +1,15 @@
 -- The statement that a tree says of the catalog's tables, or the first refusal from left to right.
-use Rattle.std.specs.Prelude.{◌≡◌, ℕ, ℤ, pos, neg_ℤ, ◌==◌, Bool, true, false, ◌||◌, if◌then◌else◌, List, [], ◌∷◌, ◌++◌, length, Option, Some, None, Result, Ok, Err, slice_get, position}
+use Rattle.std.specs.Prelude.{ℕ, ℤ, neg_ℤ, ◌==◌, ◌||◌, if◌then◌else◌, List, [], ◌∷◌, ◌++◌, length, Option, Some, None, Result, Ok, Err, slice_get}
 use Rattle.std.specs.Option.{option_map_or}
-use Rattle.std.specs.Str.{bytes_eq, is_utf8}
 use Rattle.value.specs.declared.kind.Kind.{Kind}
 use Rattle.value.specs.declared.kind.Kind.TheVariants as of
 use Rattle.value.specs.declared.refusal.Refusal.{Refusal}
 use Rattle.value.specs.declared.refusal.Code.{Code}
 use Rattle.value.specs.declared.refusal.Code.TheVariants.{SyntaxError, UndefinedColumn, UndefinedTable, DatatypeMismatch, NumericValueOutOfRange}
 use Rattle.value.specs.declared.value.Value.{Value}
-use Rattle.value.specs.declared.value.Value.TheVariants.{Null, Int}
+use Rattle.value.specs.declared.value.Value.TheVariants.{Null}
 use Rattle.value.specs.Literal.{bigint_of, literal_of}
-use Rattle.schema.specs.Definition.{Column, Catalog, columns_of, table_named}
+use Rattle.schema.specs.Definition.{Column, Catalog, columns_of, column_named, table_named}
 use Rattle.schema.specs.Plain.{in_range}
 use Rattle.statement.specs.declared.condition.Condition.{Condition}
 use Rattle.statement.specs.declared.condition.Condition.TheVariants as c
@@ -45,9 +44,6 @@ refused code t = refusal_at code t.start
 
 -- ---- names
 
-abbrev pub column_place : List Column → List ℕ → Option ℕ
-column_place columns name = position (λ d. bytes_eq name d.name) columns
-
 -- a column's place, and its kind
 abbrev pub with_kind : List Column → Option ℕ → Option (ℕ × Kind)
 with_kind columns None = None
@@ -55,19 +51,15 @@ with_kind columns (Some n) = option_map_or (λ d. Some (n, d.kind)) (slice_get c
 
 -- the column of a name and its kind
 unfoldable pub column : List Column → List ℕ → Name → Result (ℕ × Kind) Refusal
-column columns text name = option_map_or (λ found. Ok found) (with_kind columns (column_place columns (bytes_of name.0 text))) (Err (refused UndefinedColumn name.0))
+column columns text name = option_map_or (λ found. Ok found) (with_kind columns (column_named columns (bytes_of name.0 text))) (Err (refused UndefinedColumn name.0))
 
 -- the place of the column of a name
 unfoldable pub place_of : List Column → List ℕ → Name → Result ℕ Refusal
 place_of columns text name = column columns text name >>= λ found. Ok found.0
 
--- the place of the table of a name; what isn't text names none
-abbrev pub table_place : Catalog → List ℕ → Option ℕ
-table_place catalog name = if is_utf8 name then table_named catalog name else None
-
 -- the table of a name
 unfoldable pub table : Catalog → List ℕ → Name → Result ℕ Refusal
-table catalog text name = option_map_or (λ t. Ok t) (table_place catalog (bytes_of name.0 text)) (Err (refused UndefinedTable name.0))
+table catalog text name = option_map_or (λ t. Ok t) (table_named catalog (bytes_of name.0 text)) (Err (refused UndefinedTable name.0))
 
 -- the kind of the first column, and the columns after it
 abbrev pub first_kind : List Column → Option (Kind × List Column)

@@ -1,5 +1,5 @@
 -- What stands in a text at a token.
-use Rattle.std.specs.Prelude.{◌≡◌, ℕ, ◌-◌, Bool, true, false, not, if◌then◌else◌, ◌==◌, List, [], ◌∷◌, length, take, drop}
+use Rattle.std.specs.Prelude.{ℕ, ◌-◌, Bool, true, false, not, if◌then◌else◌, ◌==◌, List, [], ◌∷◌, length, take, drop}
 use Rattle.std.specs.Char.{to_ascii_lowercase}
 use Rattle.sqltext.specs.declared.token.Token.{Token}
 

@@ -8,7 +8,7 @@ ghost use Rattle.sqltext.specs.Reading.{Gives};
 use crate::error::{ParseError, refusal_at};
 use crate::grammar::name;
 use crate::lexer::tokens;
-use crate::read::{Item, expect, list_of, past, refused_at};
+use crate::read::{Item, expect, list_of, nothing_left, past, refused_at};
 use crate::sequence::Sequence;
 use crate::source::{bytes_of, in_small_letters};
 use crate::token::{Token, TokenKind};
@@ -153,7 +153,8 @@ fn whole<A: Allocator>(alloc: A, tokens: &[Token]) -> Result<TableTree<A>, Parse
     let (_, rest) = expect(rest, TokenKind::Table)?;
     let (tree, rest) = table(alloc, rest)?;
     let (_, rest) = expect(rest, TokenKind::Semicolon)?;
-    expect(rest, TokenKind::End)?;
+    let (_, rest) = expect(rest, TokenKind::End)?;
+    nothing_left(rest)?;
     Ok(tree)
 }
 

@@ -5,7 +5,7 @@ ghost use Rattle.sqltext.specs.Grammar as spec;
 ghost use Rattle.sqltext.specs.Reading.{Gives, list_of as list_of_items, expect as expects};
 
 use crate::error::ParseError;
-use crate::read::{Item, expect, list_of, past, refused_at};
+use crate::read::{Item, expect, list_of, nothing_left, past, refused_at};
 use crate::sequence::Sequence;
 use crate::token::{Token, TokenKind};
 use crate::tree::{Literal, Name, Setting, Shown, Test, Tree};
@@ -326,6 +326,7 @@ pub fn whole<A: Allocator + Copy>(alloc: A, tokens: &[Token]) -> Result<Tree<A>,
     ensures { Gives (λ tree. tree) result (spec.whole tokens.now) }
 {
     let (tree, rest) = statement(alloc, tokens)?;
-    ending(rest)?;
+    let (_, rest) = ending(rest)?;
+    nothing_left(rest)?;
     Ok(tree)
 }

@@ -46,6 +46,17 @@ pub fn expect(tokens: &[Token], kind: TokenKind) -> Read<'_, Token>
     }
 }
 
+/// That no tokens are left.
+#[tactic(auto, unfolding(crate::specs::Reading::nothing_left))]
+pub fn nothing_left(tokens: &[Token]) -> Result<(), ParseError>
+    ensures { Gives (λ u. u) result (spec.nothing_left tokens.now) }
+{
+    match tokens {
+        [] => Ok(()),
+        _ => Err(refused_at(tokens)),
+    }
+}
+
 /// What stands in lists.
 pub trait Item: Copy + Drop {
     ghost use Rattle.std.specs.Prelude.{List, Result};

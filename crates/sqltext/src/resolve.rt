@@ -15,7 +15,6 @@ use statement::condition::{Condition, Conditions};
 use statement::statement::{Assignment, Assignments, ColumnList, Projection, Source, Statement};
 use statement::values::Values;
 use std::alloc::Allocator;
-use std::str;
 use value::kind::Kind;
 use value::refusal::Code;
 use value::value::Value;
@@ -29,16 +28,6 @@ fn refused(code: Code, token: Token) -> ParseError
 
 // ---- names
 
-// The place of the column of a name, counted from 0.
-fn column_place<A: Allocator>(columns: &[Column<A>], name: &[u8]) -> Option<usize>
-    ensures place { result ≡ spec.column_place columns.now name.now }
-    ensures has { IfSome result (λ n. n < length columns.now) }
-{
-    columns
-        .iter()
-        .position(|column| name == column.name().as_bytes())
-}
-
 // A column and its kind.
 #[tactic(auto, unfolding(crate::specs::Resolving::column))]
 fn column<A: Allocator>(
@@ -48,21 +37,9 @@ fn column<A: Allocator>(
 ) -> Result<(u32, Kind), ParseError>
     ensures { Gives (λ x. x) result (spec.column table.now.columns text.now name) }
 {
-    let columns = table.columns();
-    match column_place(columns, bytes_of(name.0, text)) {
-        Some(place) => Ok((place as u32, columns[place].kind())),
+    match table.find_column_bytes(bytes_of(name.0, text)) {
+        Some(place) => Ok((place, table.columns()[place as usize].kind())),
         None => Err(refused(Code::UndefinedColumn, name.0)),
-    }
-}
-
-// The table of a name, if there is one.
-fn table_named<A: Allocator>(catalog: &Catalog<A>, name: &[u8]) -> Option<TableNo>
-    ensures place { result ≡ spec.table_place catalog.now name.now }
-    ensures has { IfSome result (λ t. t < length catalog.now) }
-{
-    match str::from_utf8(name) {
-        Ok(name) => catalog.find(name),
-        Err(_) => None,
     }
 }
 
@@ -76,7 +53,7 @@ fn table_of<A: Allocator>(
     ensures gives { Gives (λ x. x) result (spec.table catalog.now text.now name) }
     ensures has { IfOk result (λ t. t < length catalog.now) }
 {
-    match table_named(catalog, bytes_of(name.0, text)) {
+    match catalog.find_bytes(bytes_of(name.0, text)) {
         Some(table) => Ok(table),
         None => Err(refused(Code::UndefinedTable, name.0)),
     }

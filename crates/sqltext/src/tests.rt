@@ -1,11 +1,12 @@
 use crate::create::parse_create;
+use crate::laws;
 use crate::parse::parse_statement;
 use schema::catalog::{Catalog, TableNo};
 use statement::condition::{Comparison, Condition};
 use statement::statement::{Projection, Source, Statement};
 use std::alloc::Global;
 use std::test::Fail;
-use value::refusal::{Code, Place, Refusal};
+use value::refusal::{Code, Refusal};
 use value::value::Value;
 
 // t (id, v) of numbers, and u (id text, b bytea, n bigint).
@@ -21,150 +22,120 @@ fn tables(alloc: Global) -> Result<Catalog, Refusal> {
     Ok(catalog)
 }
 
-fn refusal(alloc: Global, catalog: &Catalog, text: &str) -> Option<(Code, Place)> {
-    let refusal = parse_statement(alloc, catalog, text).err()?;
-    Some((refusal.code, refusal.place))
+// How a text is refused, as it is printed.
+fn refusal(alloc: Global, catalog: &Catalog, text: &str) -> Result<String, Refusal> {
+    match parse_statement(alloc, catalog, text) {
+        Ok(_) => Ok(String::from_str(alloc, "taken")?),
+        Err(refusal) => Ok(refusal.to_string(alloc)?),
+    }
 }
+
+// A line for each text: how it is refused, and the text.
+const REFUSED: &str = "\
+42P01 byte 14: SELECT * FROM nope
+42703 byte 7: SELECT w FROM t
+42601 byte 14: INSERT INTO t VALUES (1)
+42601 byte 0: 
+42601 byte 3:  \t\r
+42601 byte 6: SELECT
+42601 byte 0: CREATE TABLE x (id bigint PRIMARY KEY);
+42601 byte 25: SELECT w FROM nope WHERE 
+42601 byte 9: SELECT v v FROM t
+42601 byte 17: SELECT * FROM t; SELECT
+42601 byte 15: DELETE FROM t; DELETE FROM t
+42601 byte 16: SELECT * FROM t;;
+42601 byte 13: SELECT count(v) FROM t
+42601 byte 27: SELECT * FROM t WHERE v = 1a
+42601 byte 26: SELECT * FROM t WHERE v = 'a''
+42601 byte 26: SELECT * FROM t WHERE v = é
+42601 byte 7: SELECT é FROM t
+42703 byte 36: SELECT * FROM u WHERE id = 'é' AND w = 1
+42601 byte 26: SELECT * FROM t WHERE v < = 1
+42601 byte 28: SELECT * FROM t WHERE v = - +1
+42601 byte 27: SELECT * FROM t WHERE v = --1
+42601 byte 24: SELECT * FROM t WHERE v NOT NULL
+42601 byte 27: SELECT * FROM t WHERE v IS 1
+42601 byte 28: SELECT * FROM t WHERE v = 1 OR v = 2
+22003 byte 26: SELECT * FROM t WHERE v = 99999999999999999999
+22003 byte 26: SELECT * FROM t WHERE v = - 9223372036854775809
+42804 byte 26: SELECT * FROM t WHERE v = '1'
+42804 byte 27: SELECT * FROM u WHERE id = 1
+42703 byte 22: SELECT * FROM t WHERE w = 1
+42804 byte 38: SELECT * FROM t WHERE v BETWEEN 1 AND 'x'
+42601 byte 13: UPDATE t SET id = 1
+42601 byte 20: UPDATE t SET v = 1, v = 'a'
+42601 byte 19: UPDATE t SET v = 1 - 1
+42703 byte 13: UPDATE t SET w = 'a'
+42703 byte 17: UPDATE t SET v = w + 1
+42804 byte 13: UPDATE u SET b = b + 1
+42804 byte 17: UPDATE u SET n = b + 1
+22003 byte 21: UPDATE t SET v = v - 9223372036854775808
+42601 byte 21: UPDATE t SET v = v - - 1
+22P02 byte 27: INSERT INTO u VALUES ('a', '00', 1)
+22021 byte 22: INSERT INTO u VALUES ('\0', '\\x', 1)
+42601 byte 22: INSERT INTO t VALUES ()
+42601 byte 7: DELETE t
+42703 byte 12: seLECT V,id,_v FROM T
+";
 
 #[test]
 fn refusals_and_their_places(rt: HostRuntime) -> Result<(), Fail> {
     let catalog = tables(rt.alloc())?;
-    for (text, code, byte) in [
-        ("SELECT * FROM nope", Code::UndefinedTable, 14),
-        ("SELECT w FROM t", Code::UndefinedColumn, 7),
-        ("INSERT INTO t VALUES (1)", Code::SyntaxError, 14),
-        ("", Code::SyntaxError, 0),
-        (" \t\r\n", Code::SyntaxError, 4),
-        ("SELECT", Code::SyntaxError, 6),
-        (
-            "CREATE TABLE x (id bigint PRIMARY KEY);",
-            Code::SyntaxError,
-            0,
-        ),
-        ("SELECT w FROM nope WHERE ", Code::SyntaxError, 25),
-        ("SELECT v v FROM t", Code::SyntaxError, 9),
-        ("SELECT * FROM t; SELECT", Code::SyntaxError, 17),
-        ("SELECT * FROM t;;", Code::SyntaxError, 16),
-        ("SELECT count(v) FROM t", Code::SyntaxError, 13),
-        ("SELECT * FROM t WHERE v = 1a", Code::SyntaxError, 27),
-        ("SELECT * FROM t WHERE v = 'a''", Code::SyntaxError, 26),
-        ("SELECT * FROM t WHERE v = é", Code::SyntaxError, 26),
-        ("SELECT * FROM t WHERE v < = 1", Code::SyntaxError, 26),
-        ("SELECT * FROM t WHERE v = - +1", Code::SyntaxError, 28),
-        ("SELECT * FROM t WHERE v NOT NULL", Code::SyntaxError, 24),
-        ("SELECT * FROM t WHERE v IS 1", Code::SyntaxError, 27),
-        (
-            "SELECT * FROM t WHERE v = 1 OR v = 2",
-            Code::SyntaxError,
-            28,
-        ),
-        (
-            "SELECT * FROM t WHERE v = 99999999999999999999",
-            Code::NumericValueOutOfRange,
-            26,
-        ),
-        (
-            "SELECT * FROM t WHERE v = - 9223372036854775809",
-            Code::NumericValueOutOfRange,
-            26,
-        ),
-        ("SELECT * FROM t WHERE v = '1'", Code::DatatypeMismatch, 26),
-        ("SELECT * FROM u WHERE id = 1", Code::DatatypeMismatch, 27),
-        ("SELECT * FROM t WHERE w = 1", Code::UndefinedColumn, 22),
-        (
-            "SELECT * FROM t WHERE v BETWEEN 1 AND 'x'",
-            Code::DatatypeMismatch,
-            38,
-        ),
-        ("UPDATE t SET id = 1", Code::SyntaxError, 13),
-        ("UPDATE t SET v = 1, v = 'a'", Code::SyntaxError, 20),
-        ("UPDATE t SET v = 1 - 1", Code::SyntaxError, 19),
-        ("UPDATE t SET w = 'a'", Code::UndefinedColumn, 13),
-        ("UPDATE t SET v = w + 1", Code::UndefinedColumn, 17),
-        ("UPDATE u SET b = b + 1", Code::DatatypeMismatch, 13),
-        ("UPDATE u SET n = b + 1", Code::DatatypeMismatch, 17),
-        (
-            "UPDATE t SET v = v - 9223372036854775808",
-            Code::NumericValueOutOfRange,
-            21,
-        ),
-        ("UPDATE t SET v = v - - 1", Code::SyntaxError, 21),
-        (
-            "INSERT INTO u VALUES ('a', '00', 1)",
-            Code::InvalidTextRepresentation,
-            27,
-        ),
-        (
-            "INSERT INTO u VALUES ('\0', '\\x', 1)",
-            Code::CharacterNotInRepertoire,
-            22,
-        ),
-        ("INSERT INTO t VALUES ()", Code::SyntaxError, 22),
-        ("DELETE t", Code::SyntaxError, 7),
-    ] {
-        assert_eq!(rt;
-            refusal(rt.alloc(), &catalog, text),
-            Some((code, Place::Byte(byte))),
-            "{text}"
-        );
+    let mut rest = REFUSED;
+    for _ in 0..REFUSED.len() {
+        let Some((line, after)) = rest.split_once('\n') else {
+            return Ok(());
+        };
+        let (want, text) = line.split_once(": ").ok_or("a line has both")?;
+        let found = refusal(rt.alloc(), &catalog, text)?;
+        assert_eq!(rt; found.as_str(), want, "{text}");
+        rest = after;
     }
     Ok(())
 }
 
+// Between blanks, each a word that names nothing.
+const RESERVED: &str =
+    "and between bigint bytea count create delete FROM insert into is key not null primary \
+    references select Set table text update values where ";
+
 #[test]
-fn words_and_lengths(rt: HostRuntime) -> Result<(), Fail> {
+fn reserved_words_are_no_names(rt: HostRuntime) -> Result<(), Fail> {
     let catalog = tables(rt.alloc())?;
-    for word in [
-        "and",
-        "between",
-        "bigint",
-        "bytea",
-        "count",
-        "create",
-        "delete",
-        "FROM",
-        "insert",
-        "into",
-        "is",
-        "key",
-        "not",
-        "null",
-        "primary",
-        "references",
-        "select",
-        "Set",
-        "table",
-        "text",
-        "update",
-        "values",
-        "where",
-    ] {
+    let mut rest = RESERVED;
+    for _ in 0..RESERVED.len() {
+        let Some((word, after)) = rest.split_once(' ') else {
+            return Ok(());
+        };
         let text = format!(in rt.alloc(); "SELECT * FROM {word}")?;
-        assert_eq!(rt;
-            refusal(rt.alloc(), &catalog, text.as_str()),
-            Some((Code::SyntaxError, Place::Byte(14))),
-            "{word}"
-        );
+        let found = refusal(rt.alloc(), &catalog, text.as_str())?;
+        assert_eq!(rt; found.as_str(), "42601 byte 14", "{word}");
+        rest = after;
     }
-    for (length, code) in [(63, Code::UndefinedTable), (64, Code::SyntaxError)] {
-        let mut text = String::from_str(rt.alloc(), "SELECT * FROM ")?;
-        for _ in 0..length {
-            text.push('x')?;
-        }
-        assert_eq!(rt;
-            refusal(rt.alloc(), &catalog, text.as_str()),
-            Some((code, Place::Byte(14)))
-        );
+    Ok(())
+}
+
+// A text, and so many times one more character at its end.
+fn longer(alloc: Global, text: &str, more: char, count: usize) -> Result<String, Refusal> {
+    let mut text = String::from_str(alloc, text)?;
+    for _ in 0..count {
+        text.push(more)?;
     }
-    for (length, want) in [
-        (65536, None),
-        (65537, Some((Code::ProgramLimitExceeded, Place::None))),
+    Ok(text)
+}
+
+#[test]
+fn lengths_of_names_and_texts(rt: HostRuntime) -> Result<(), Fail> {
+    let catalog = tables(rt.alloc())?;
+    for (start, more, count, want) in [
+        ("SELECT * FROM ", 'x', 63, "42P01 byte 14"),
+        ("SELECT * FROM ", 'x', 64, "42601 byte 14"),
+        ("DELETE FROM t", ' ', 65536 - 13, "taken"),
+        ("DELETE FROM t", ' ', 65537 - 13, "54000"),
     ] {
-        let mut text = String::from_str(rt.alloc(), "DELETE FROM t")?;
-        for _ in text.len()..length {
-            text.push(' ')?;
-        }
-        assert_eq!(rt; refusal(rt.alloc(), &catalog, text.as_str()), want);
+        let text = longer(rt.alloc(), start, more, count)?;
+        let found = refusal(rt.alloc(), &catalog, text.as_str())?;
+        assert_eq!(rt; found.as_str(), want, "{start}{more} {count}");
     }
     Ok(())
 }
@@ -179,18 +150,9 @@ fn int(value: &Value) -> Option<i64> {
 #[test]
 fn a_select(rt: HostRuntime) -> Result<(), Fail> {
     let catalog = tables(rt.alloc())?;
-    let text = "seLECT V,id,_v FROM T wHERE id between -1 AND + 5 AND v<>null AND v IS not NULL\n;";
-    assert_eq!(rt;
-        refusal(rt.alloc(), &catalog, text),
-        Some((Code::UndefinedColumn, Place::Byte(12)))
-    );
     let text = "seLECT V,id FROM T wHERE id between -1 AND + 5 AND v<>null AND v IS not NULL\n;";
-    let Statement::Select(table, projection, conditions) = parse_statement(
-        rt.alloc(),
-        &catalog,
-        text,
-    )?
-    else {
+    let statement = parse_statement(rt.alloc(), &catalog, text)?;
+    let Statement::Select(table, projection, conditions) = statement else {
         return Err(Fail::from("another statement"));
     };
     let Projection::Columns(columns) = projection else {
@@ -207,16 +169,27 @@ fn a_select(rt: HostRuntime) -> Result<(), Fail> {
         return Err(Fail::from("other conditions"));
     };
     assert_eq!(rt; (int(low), int(high)), (Some(-1), Some(5)));
-    for (text, is_count) in [
-        ("SELECT*FROM t", false),
-        ("SELECT count ( * ) FROM t", true),
+    Ok(())
+}
+
+fn counts(alloc: Global, catalog: &Catalog, text: &str) -> Result<Option<bool>, Refusal> {
+    let statement = parse_statement(alloc, catalog, text)?;
+    Ok(match statement {
+        Statement::Select(_, Projection::All, _) => Some(false),
+        Statement::Select(_, Projection::Count, _) => Some(true),
+        _ => None,
+    })
+}
+
+#[test]
+fn all_columns_and_a_count(rt: HostRuntime) -> Result<(), Fail> {
+    let catalog = tables(rt.alloc())?;
+    for (text, want) in [
+        ("SELECT*FROM t", Some(false)),
+        ("SELECT count ( * ) FROM t", Some(true)),
+        ("DELETE FROM t WHERE v IS NULL;", None),
     ] {
-        let Statement::Select(_, projection, _) = parse_statement(rt.alloc(), &catalog, text)?
-        else {
-            return Err(Fail::from("another statement"));
-        };
-        assert_eq!(rt; matches!(projection, Projection::Count), is_count, "{text}");
-        assert_eq!(rt; matches!(projection, Projection::All), !is_count, "{text}");
+        assert_eq!(rt; counts(rt.alloc(), &catalog, text)?, want, "{text}");
     }
     Ok(())
 }
@@ -238,7 +211,7 @@ fn an_insert(rt: HostRuntime) -> Result<(), Fail> {
 }
 
 #[test]
-fn an_update_and_a_delete(rt: HostRuntime) -> Result<(), Fail> {
+fn an_update(rt: HostRuntime) -> Result<(), Fail> {
     let catalog = tables(rt.alloc())?;
     let text = "UPDATE u SET n = n - 9223372036854775807, b = '\\x' WHERE n>=1";
     let Statement::Update(_, assignments, conditions) = parse_statement(rt.alloc(), &catalog, text)?
@@ -248,46 +221,58 @@ fn an_update_and_a_delete(rt: HostRuntime) -> Result<(), Fail> {
     let [sum, bytes] = assignments.as_slice() else {
         return Err(Fail::from("other assignments"));
     };
+    assert_eq!(rt; (sum.column, bytes.column), (2, 1));
     assert!(rt; matches!(sum.source, Source::Sum(2, -9223372036854775807)));
     assert!(rt; matches!(&bytes.source, Source::Literal(Value::Bytes(_))));
-    assert_eq!(rt; (sum.column, bytes.column), (2, 1));
-    assert!(rt;
-        matches!(
-            conditions.as_slice(),
-            [Condition::Compare(2, Comparison::GreaterOrEqual, _)]
-        )
-    );
-    let delete = parse_statement(rt.alloc(), &catalog, "DELETE FROM t WHERE v IS NULL;")?;
-    assert!(rt; matches!(delete, Statement::Delete(..)));
+    let [Condition::Compare(2, Comparison::GreaterOrEqual, least)] = conditions.as_slice() else {
+        return Err(Fail::from("other conditions"));
+    };
+    assert_eq!(rt; int(least), Some(1));
+    Ok(())
+}
+
+// A line for each text that is no table.
+const NO_TABLES: &str = "\n\
+CREATE TABLE t (id bigint PRIMARY KEY)
+CREATE TABLE t (id bigint PRIMARY KEY);;
+CREATE TABLE t (id bigint);
+CREATE TABLE t (id bigint PRIMARY KEY NOT NULL);
+CREATE TABLE t (id bigint PRIMARY KEY, id text);
+CREATE TABLE t (id bigint PRIMARY KEY, v integer);
+CREATE TABLE t (id bigint PRIMARY KEY, v text REFERENCES p NOT NULL);
+CREATE TABLE text (id bigint PRIMARY KEY);
+CREATE TABLE t ();
+SELECT * FROM t;
+";
+
+#[test]
+fn tables_that_are_none(rt: HostRuntime) -> Result<(), Fail> {
+    let mut rest = NO_TABLES;
+    for _ in 0..NO_TABLES.len() {
+        let Some((text, after)) = rest.split_once('\n') else {
+            return Ok(());
+        };
+        let found = parse_create(rt.alloc(), text).err();
+        assert_eq!(rt; found, Some(Refusal::of_code(Code::SyntaxError)), "{text}");
+        rest = after;
+    }
     Ok(())
 }
 
 #[test]
-fn tables_that_are_none(rt: HostRuntime) -> Result<(), Fail> {
-    for text in [
-        "",
-        "CREATE TABLE t (id bigint PRIMARY KEY)",
-        "CREATE TABLE t (id bigint PRIMARY KEY);;",
-        "CREATE TABLE t (id bigint);",
-        "CREATE TABLE t (id bigint PRIMARY KEY NOT NULL);",
-        "CREATE TABLE t (id bigint PRIMARY KEY, id text);",
-        "CREATE TABLE t (id bigint PRIMARY KEY, v integer);",
-        "CREATE TABLE t (id bigint PRIMARY KEY, v text REFERENCES p NOT NULL);",
-        "CREATE TABLE text (id bigint PRIMARY KEY);",
-        "CREATE TABLE t ();",
-        "SELECT * FROM t;",
-    ] {
-        let want = Refusal {
-            code: Code::SyntaxError,
-            place: Place::None,
-        };
-        assert_eq!(rt; parse_create(rt.alloc(), text).err(), Some(want), "{text}");
-    }
-    let table = parse_create(
-        rt.alloc(),
-        "CREATE TABLE c(ID text PRIMARY KEY REFERENCES P,v bytea NOT NULL REFERENCES q);",
-    )?;
+fn a_table(rt: HostRuntime) -> Result<(), Fail> {
+    let text = "CREATE TABLE c(ID text PRIMARY KEY REFERENCES P,v bytea NOT NULL REFERENCES q);";
+    let table = parse_create(rt.alloc(), text)?;
     assert_eq!(rt; table.name(), "c");
     assert_eq!(rt; table.columns().len(), 2);
     Ok(())
+}
+
+#[test]
+fn laws_have_no_premise() {
+    laws::reserved_words_are_no_names();
+    laws::what_is_spelled_is_read::<Global>();
+    laws::the_first_fault_is_refused::<Global>();
+    laws::texts_are_parsed_as_spelled::<Global>();
+    laws::spelled_tables_are_read();
 }

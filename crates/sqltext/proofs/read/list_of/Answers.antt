@@ -1,7 +1,7 @@
 use Rattle.std.proofs.Common.{length}
 use Rattle.std.proofs.lemmas.Result.{err_from_is_err_and}
 use Rattle.sqltext.specs.Reading.{list_of}
-use Rattle.sqltext.proofs.ListLemmas.{begins, goes_on, fails, ends, is_done}
+use Rattle.sqltext.proofs.ListLemmas.{goes_on, fails, ends, is_done}
 use Rattle.sqltext.proofs.read.list_of.Goals as goal
 
 pub returns-in_default : goal.returns-in_default

@@ -1,6 +1,4 @@
-use Rattle.std.proofs.Common.{subst}
 use Rattle.std.proofs.lemmas.Result.{err_from_is_err_and}
-use Rattle.sqltext.specs.Resolving.{assignment}
 use Rattle.sqltext.proofs.EachLemmas.{goes_on, fails, assignments_next, assignments_fail}
 use Rattle.sqltext.proofs.resolve.assignments.Goals as goal
 

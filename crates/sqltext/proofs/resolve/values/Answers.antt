@@ -1,4 +1,3 @@
-use Rattle.std.proofs.Common.{◌∙◌}
 use Rattle.std.proofs.lemmas.Result.{err_from_is_err_and}
 use Rattle.sqltext.proofs.EachLemmas.{goes_on, fails, is_done, values_next, values_fail, values_end, values_done}
 use Rattle.sqltext.proofs.resolve.values.Goals as goal
