@@ -129,23 +129,79 @@ fn many_tabs_are_refused_and_the_law_is_there(rt: HostRuntime) -> Result<(), Fai
     Ok(())
 }
 
+// Whether a value that is written as the one field of a line reads as that value.
+fn comes_back(alloc: Global, kind: Kind, value: &Value) -> Result<bool, Refusal> {
+    let line = written(alloc, value)?;
+    let values = read_row(alloc, &[kind], line.as_slice())?;
+    Ok(values.len() == 1 && values.first() == Some(value))
+}
+
 #[test]
-fn each_byte_comes_back(rt: HostRuntime) -> Result<(), Fail> {
+fn each_byte_of_a_bytea_comes_back(rt: HostRuntime) -> Result<(), Fail> {
     for byte in 0..=255u8 {
-        let line = written(rt.alloc(), &bytes(rt.alloc(), &[byte])?)?;
-        let mut want = Vec::from_slice(rt.alloc(), line.as_slice())?;
-        want.push(b'\n')?;
-        assert_eq!(rt;
-            again(rt.alloc(), Kind::Bytea, line.as_slice())?.as_slice(),
-            want.as_slice()
+        let value = bytes(rt.alloc(), &[byte])?;
+        assert!(rt; comes_back(rt.alloc(), Kind::Bytea, &value)?, "{byte}");
+    }
+    Ok(())
+}
+
+// Whether the text of one character comes back. Marks the bytes that stand in it.
+fn character_comes_back(
+    alloc: Global,
+    number: u32,
+    seen: &mut [bool; 256],
+) -> Result<bool, Refusal> {
+    let Some(character) = char::from_u32(number) else {
+        return Ok(true);
+    };
+    let mut buffer = [0; 4];
+    let encoded = character.encode_utf8(&mut buffer);
+    for byte in encoded.as_bytes() {
+        seen[usize::from(*byte)] = true;
+    }
+    comes_back(alloc, Kind::Text, &text(alloc, encoded)?)
+}
+
+#[test]
+fn each_byte_of_a_text_comes_back(rt: HostRuntime) -> Result<(), Fail> {
+    let mut seen = [false; 256];
+    for number in 1..0x800 {
+        assert!(rt;
+            character_comes_back(rt.alloc(), number, &mut seen)?,
+            "{number}"
         );
-        let raw = [byte];
-        let Ok(one) = std::str::from_utf8(&raw) else {
-            continue;
-        };
-        let line = written(rt.alloc(), &text(rt.alloc(), one)?)?;
-        let found = again(rt.alloc(), Kind::Text, line.as_slice());
-        assert_eq!(rt; found.is_ok(), byte > 0, "{byte}");
+        assert!(rt;
+            character_comes_back(rt.alloc(), 0x400 * number, &mut seen)?,
+            "{number}"
+        );
+    }
+    // UTF-8 never has the bytes C0, C1 and F5 to FF, and a text never the byte 0.
+    let missing = seen.iter().filter(|is_seen| !**is_seen).count();
+    assert_eq!(rt; missing, 14);
+    for byte in [0, 0xc0, 0xc1, 0xf5, 0xff] {
+        let found = read_row(rt.alloc(), &[Kind::Text], &[byte]).err();
+        let want = Refusal::of_code(Code::CharacterNotInRepertoire);
+        assert_eq!(rt; found, Some(want), "{byte}");
+    }
+    Ok(())
+}
+
+#[test]
+fn no_line_holds_a_break(rt: HostRuntime) -> Result<(), Fail> {
+    let line = b"1\t\\\\x00";
+    for place in 0..=line.len() {
+        let (front, back) = line.split_at(place);
+        for byte in [b'\n', b'\r'] {
+            let mut broken = Vec::from_slice(rt.alloc(), front)?;
+            broken.push(byte)?;
+            broken.extend_from_slice(back)?;
+            let found = read_row(rt.alloc(), &[Kind::Bigint, Kind::Bytea], broken.as_slice()).err();
+            assert_eq!(rt;
+                found,
+                Some(Refusal::of_code(Code::BadCopyFileFormat)),
+                "{place}"
+            );
+        }
     }
     Ok(())
 }

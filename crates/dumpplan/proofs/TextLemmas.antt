@@ -1,15 +1,15 @@
 -- The parts of a dump, written piece by piece.
-use Rattle.std.proofs.Common.{◌≡◌, ℕ, ◌+◌, ◌<◌, true, List, [], ◌∷◌, ◌++◌, length, take, get_or, map, Option, Some, None, refl, sym, ap, subst, ◌∙◌, append_assoc, arith}
+use Rattle.std.proofs.Common.{◌≡◌, ℕ, ◌+◌, ◌<◌, List, [], ◌∷◌, ◌++◌, length, take, map, Some, sym, ap, ◌∙◌, append_assoc}
 use Rattle.std.specs.Prelude.{codes}
 use Rattle.std.specs.List.{flat_map, join_with_byte, slice_get}
 use Rattle.std.proofs.lemmas.List.{append-nil, take_more, map-append}
 use Rattle.std.proofs.lemmas.List.Concat.{flat_map-append}
 use Rattle.std.proofs.lemmas.List.Folds.{flat_map-map}
 use Rattle.std.proofs.lemmas.Option.{get_or_from_slice_get}
-use Rattle.schema.specs.Definition.{ColumnDef, Column, TableSchema, Catalog}
+use Rattle.schema.specs.Definition.{Column, TableSchema, Catalog}
 use Rattle.schema.specs.declared.row.Row.{Row}
 use Rattle.copytext.specs.Writing.{row_text}
-use Rattle.dumpplan.specs.Lines.{written, written_column, key_text, column_text, column_texts, comma_separated, create_line, copy_line, row_line, end_of_rows, rows_line, table_lines}
+use Rattle.dumpplan.specs.Lines.{written_column, key_text, column_text, column_texts, comma_separated, copy_line, row_line, end_of_rows, rows_line}
 use Rattle.dumpplan.specs.Parts.{ended, table_text}
 
 -- a table's columns: the key's, and the others behind a comma and a space

@@ -1,7 +1,7 @@
 -- The lines of a dump: its first and last line, each table's CREATE TABLE and COPY line, its rows, and their number.
 -- Source: PostgreSQL manual, CREATE TABLE and COPY's text format; the first line, the row counts and the last line are this project's own.
-use Rattle.std.specs.Prelude.{ℕ, Bool, true, false, if◌then◌else◌, Option, Some, None, option_and_then, slice_get, List, [], ◌∷◌, ◌++◌, length, map, codes}
-use Rattle.std.specs.Fmt.{decimal}
+use Rattle.std.specs.Prelude.{ℕ, zero, suc, ◌+◌, Bool, true, false, if◌then◌else◌, Option, Some, None, option_and_then, slice_get, List, [], ◌∷◌, ◌++◌, length, map, codes}
+use Rattle.std.specs.Int.Digits.{digits_of}
 use Rattle.std.specs.List.{flat_map, join_with_byte}
 use Rattle.std.specs.Option.{option_map}
 use Rattle.value.specs.declared.kind.Kind.{Kind}
@@ -81,9 +81,14 @@ copy_line d = codes "COPY " ++ d.name ++ codes " (" ++ comma_separated (map (λ 
 abbrev pub end_of_rows : List ℕ
 end_of_rows = codes "\\."
 
+-- a number in decimal, without leading zeros
+abbrev pub number_text : ℕ → List ℕ
+number_text zero = codes "0"
+number_text (suc n) = map (λ d. 48 + d) (digits_of 10 (suc n))
+
 -- behind that line in version 2: how many rows the table has
 abbrev pub rows_line : ℕ → List ℕ
-rows_line n = codes "-- rows " ++ decimal n
+rows_line n = codes "-- rows " ++ number_text n
 
 -- version 2 counts the rows, version 1 doesn't
 abbrev pub first_line : Bool → List ℕ

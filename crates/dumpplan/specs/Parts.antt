@@ -1,5 +1,5 @@
 -- The parts of a dump: what stands before the tables, each table, and what stands after them.
-use Rattle.std.specs.Prelude.{ℕ, zero, suc, Bool, true, List, [], ◌∷◌, ◌++◌, map}
+use Rattle.std.specs.Prelude.{ℕ, zero, suc, true, List, [], ◌∷◌, ◌++◌, map}
 use Rattle.std.specs.List.{flat_map}
 use Rattle.schema.specs.Definition.{TableSchema, Catalog}
 use Rattle.schema.specs.declared.row.Row.{Row}

@@ -45,7 +45,7 @@ impl Jobs {
 /// How many rows a piece of a dump has at most: 1 to 1000000.
 #[derive(Clone, Copy, Debug, PartialEq, Eq)]
 pub struct PieceRows {
-    count: u32,
+    most: u32,
 }
 
 impl Model for PieceRows {
@@ -53,31 +53,31 @@ impl Model for PieceRows {
 
     ghost Value = { ℕ };
 
-    ghost view = { λ p. p.count };
+    ghost view = { λ p. p.most };
 
-    ghost invariant = { λ p. (1 ≤ p.count) × (p.count ≤ 1000000) };
+    ghost invariant = { λ p. (1 ≤ p.most) × (p.most ≤ 1000000) };
 
-    ghost inverse = { λ n. record { count = n } };
+    ghost inverse = { λ n. record { most = n } };
 }
 
 impl PieceRows {
     /// None where the number isn't 1 to 1000000.
-    pub fn new(count: u32) -> Option<PieceRows>
-        ensures rows { IfSome result (λ p. p ≡ count) }
-        ensures some { IsSome result ↔ ((1 ≤ count) × (count ≤ 1000000)) }
+    pub fn new(most: u32) -> Option<PieceRows>
+        ensures rows { IfSome result (λ p. p ≡ most) }
+        ensures some { IsSome result ↔ ((1 ≤ most) × (most ≤ 1000000)) }
     {
-        if (1..=1_000_000).contains(&count) {
-            Some(PieceRows { count })
+        if (1..=1_000_000).contains(&most) {
+            Some(PieceRows { most })
         } else {
             None
         }
     }
 
     pub fn get(self) -> u32
-        ensures count { result ≡ self }
+        ensures most { result ≡ self }
         ensures low { 1 ≤ result }
         ensures high { result ≤ 1000000 }
     {
-        self.count
+        self.most
     }
 }

@@ -1,13 +1,13 @@
 -- A text that is written in parts.
-use Rattle.std.proofs.Common.{◌≡◌, ℕ, zero, suc, ◌+◌, ◌<◌, ◌≤◌, true, List, [], ◌∷◌, ◌++◌, length, take, drop, map, Option, Some, None, Result, Ok, Err, refl, sym, ap, subst, ◌∙◌, append_assoc, arith}
-use Rattle.std.specs.List.{slice_get, slice_index_or, flat_map}
+use Rattle.std.proofs.Common.{◌≡◌, ℕ, zero, suc, ◌+◌, ◌<◌, true, List, [], ◌∷◌, ◌++◌, length, take, map, Some, Result, Ok, Err, sym, ap, subst, ◌∙◌, append_assoc, arith}
+use Rattle.std.specs.List.{slice_get, slice_index_or}
 use Rattle.std.proofs.lemmas.List.{append-nil}
 use Rattle.std.proofs.lemmas.List.Concat.{flat_map-append}
 use Rattle.schema.specs.Definition.{TableSchema, Catalog}
 use Rattle.schema.specs.declared.row.Row.{Row}
-use Rattle.dumpplan.specs.Lines.{written, create_line, first_line, table_lines, data_lines, dump_lines, dump_text, last_line}
+use Rattle.dumpplan.specs.Lines.{written, create_line, first_line, table_lines, data_lines, dump_text, last_line}
 use Rattle.dumpplan.specs.Parts.{ended, head_text, table_text, table_of, end_text}
-use Rattle.collector.specs.Written.{BeginsWith, Began, WroteAll, WroteSome}
+use Rattle.collector.specs.Written.{Began, WroteAll}
 use Rattle.dumpworker.specs.declared.fault.DumpFault.{DumpFault}
 use Rattle.dumpworker.specs.declared.fault.DumpFault.TheVariants.{Device, Memory}
 use Rattle.dumpworker.specs.Dumped.{Dumped}

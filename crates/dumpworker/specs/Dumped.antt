@@ -1,5 +1,5 @@
 -- What a dump leaves on its device.
-use Rattle.std.specs.Prelude.{ℕ, ◌+◌, ◌≡◌, List, Result, Ok, Err}
+use Rattle.std.specs.Prelude.{ℕ, ◌≡◌, List, Result, Ok, Err}
 use Rattle.collector.specs.Written.{Began, WroteAll, WroteSome}
 use Rattle.dumpworker.specs.declared.fault.DumpFault.{DumpFault}
 use Rattle.dumpworker.specs.declared.fault.DumpFault.TheVariants.{Device, Memory}

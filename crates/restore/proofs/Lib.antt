@@ -1,0 +1,14 @@
+pub mod CatalogLemmas
+pub mod CreateLemmas
+pub mod DumpAgain
+pub mod LinesAgain
+pub mod LiteralLemmas
+pub mod ReadingLemmas
+pub mod RowLemmas
+pub mod RowLines
+pub mod RowsAgain
+pub mod SoundReading
+pub mod SpellingLemmas
+pub mod StepLemmas
+pub mod TablesAgain
+pub mod TextLemmas

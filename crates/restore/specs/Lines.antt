@@ -1,0 +1,38 @@
+-- The next line of a dump, as the code finds it.
+use Rattle.std.specs.Prelude.{◌≡◌, ℕ, ◌+◌, ◌^◌, ◌<◌, ◌≤◌, length, ◌==◌, true, false, List, Some, None, Result, Ok, Err}
+use Rattle.std.specs.Borrow.{Bor}
+use Rattle.std.specs.Str.{bytes_eq}
+use Rattle.value.specs.declared.refusal.Code.TheVariants.{BadCopyFileFormat}
+use Rattle.restore.specs.declared.error.ReadError.{ReadError}
+use Rattle.restore.specs.declared.error.ReadError.TheVariants as read
+use Rattle.restore.specs.declared.lines.Lines.{Lines}
+use Rattle.restore.specs.CreateLine.{parted}
+use Rattle.restore.specs.Steps.{fault}
+
+-- there is none, unless its number is past those of 64 bits
+abbrev pub IsNoLine : ℕ → List ℕ → ReadError → Type 0
+IsNoLine number text read.Memory = 2 ^ 64 ≤ number + 1
+IsNoLine number text (read.Faulty f) = (parted 10 text ≡ None) × (f ≡ fault number BadCopyFileFormat)
+
+-- a line up to the first newline, and the lines after it, or there is none
+abbrev pub IsNextLine : ℕ → List ℕ → Result (Bor (List ℕ) × Lines) ReadError → Type 0
+IsNextLine number text (Ok (line, rest)) = (parted 10 text ≡ Some (line.now, rest.text.now)) × (rest.number ≡ number + 1) × (length rest.text.now < length text)
+IsNextLine number text (Err e) = IsNoLine number text e
+
+abbrev pub IsOtherLine : List ℕ → ℕ → List ℕ → ReadError → Type 0
+IsOtherLine wanted number text read.Memory = 2 ^ 64 ≤ number + 1
+IsOtherLine wanted number text (read.Faulty f) = ((line rest : List ℕ) → parted 10 text ≡ Some (line, rest) → bytes_eq line wanted ≡ false) × (f ≡ fault number BadCopyFileFormat)
+
+-- the next line is this one, and there are the lines after it; or it is another, or there is none
+abbrev pub IsWantedLine : List ℕ → ℕ → List ℕ → Result Lines ReadError → Type 0
+IsWantedLine wanted number text (Ok rest) = (parted 10 text ≡ Some (wanted, rest.text.now)) × (rest.number ≡ number + 1)
+IsWantedLine wanted number text (Err e) = IsOtherLine wanted number text e
+
+abbrev pub IsBehind : ℕ → List ℕ → ReadError → Type 0
+IsBehind number text read.Memory = ⊥
+IsBehind number text (read.Faulty f) = ((length text == 0) ≡ false) × (f ≡ fault number BadCopyFileFormat)
+
+-- nothing is left, or something stands behind the last line
+abbrev pub IsEnd : ℕ → List ℕ → Result (Unit {0}) ReadError → Type 0
+IsEnd number text (Ok u) = (length text == 0) ≡ true
+IsEnd number text (Err e) = IsBehind number text e

@@ -1,0 +1,18 @@
+//! Reading a dump back.
+#![tactic(auto)]
+
+mod create;
+mod error;
+mod law;
+mod lines;
+mod reading;
+mod rows;
+mod sound;
+#[cfg(test)]
+mod tests;
+mod text;
+
+pub use error::RestoreFault;
+pub use law::reads_what_is_dumped;
+pub use reading::restore_one;
+pub use sound::reads_sound_tables;

@@ -1,0 +1,101 @@
+//! The rows of a table.
+ghost use Rattle.std.specs.Prelude.{◌≡◌, ◌<◌, [], ◌∷◌, length, map, true, MatchOption, IfOk, IfErr, OnErr};
+ghost use Rattle.schema.specs.Definition.{columns_of};
+ghost use Rattle.schema.specs.Plain.{is_sound};
+ghost use Rattle.restore.specs.Reading.{kinds_of, with_values, with_row};
+ghost use Rattle.restore.specs.Steps.{Gives};
+ghost use Rattle.restore.specs.declared.error.ReadError.TheVariants as error;
+ghost use Rattle.copytext.specs.Reading.{line_values};
+
+use crate::error::{LineError, ReadError};
+use copytext::read_row;
+use schema::catalog::{Catalog, Column, TableNo};
+use schema::row::Row;
+use schema::tables::Tables;
+use std::alloc::Allocator;
+use value::key::Key;
+use value::kind::Kind;
+use value::refusal::Code;
+use value::value::Value;
+
+/// The kinds of columns.
+pub fn kinds_of<A: Allocator>(alloc: A, columns: &[Column<A>]) -> Result<Vec<Kind, A>, ReadError>
+    ensures ok { IfOk result (λ kinds. kinds.items ≡ map (λ d. d.kind) columns.now) }
+    ensures memory { IfErr result (λ e. e ≡ error.Memory) }
+{
+    let mut kinds = Vec::with_capacity(alloc, columns.len())?;
+    for column in columns {
+        kinds.push(column.kind())?;
+    }
+    Ok(kinds)
+}
+
+// The values of a line.
+fn values_of<A: Allocator + Copy>(
+    alloc: A,
+    kinds: &[Kind],
+    line: &[u8],
+) -> Result<Vec<Value<A>, A>, LineError>
+    ensures { Gives (λ values. values.items) result (line_values kinds.now line.now) }
+{
+    Ok(read_row(alloc, kinds, line)?)
+}
+
+// The first of some values, and the others.
+fn first_value<A: Allocator>(mut values: Vec<Value<A>, A>) -> Option<(Value<A>, Vec<Value<A>, A>)>
+    ensures { MatchOption result (values.items ≡ []) (λ p. values.items ≡ p.0 ∷ p.1.items) }
+{
+    if values.is_empty() {
+        return None;
+    }
+    let first = values.remove(0);
+    Some((first, values))
+}
+
+// Inserts the row of some values, of which the first is the key.
+fn insert_values<A: Allocator + Copy>(
+    alloc: A,
+    catalog: &Catalog<A>,
+    tables: &mut Tables<A>,
+    table: TableNo,
+    values: Vec<Value<A>, A>,
+) -> Result<(), LineError>
+    requires has { table < length catalog.now }
+    requires same_tables { length tables.old ≡ length catalog.now }
+    ensures row { Gives (λ _. tables.new) result (with_values catalog.now tables.old table values.items) }
+    ensures err { OnErr result (tables.new ≡ tables.old) }
+    ensures same_tables { length tables.new ≡ length catalog.now }
+    ensures sound { is_sound catalog.now tables.old ≡ true → is_sound catalog.now tables.new ≡ true }
+{
+    let Some((first, fields)) = first_value(values) else {
+        return Err(LineError::Refused(Code::BadCopyFileFormat));
+    };
+    let Some(key) = Key::new(first) else {
+        return Err(LineError::Refused(Code::NotNullViolation));
+    };
+    match tables.insert(alloc, catalog, table, Row::new(key, fields)) {
+        Ok(()) => Ok(()),
+        Err(refusal) => Err(LineError::from(refusal)),
+    }
+}
+
+/// Inserts the row of a line into a table, whose columns have the kinds.
+pub fn insert_line<A: Allocator + Copy>(
+    alloc: A,
+    catalog: &Catalog<A>,
+    tables: &mut Tables<A>,
+    table: TableNo,
+    kinds: &[Kind],
+    line: &[u8],
+) -> Result<(), LineError>
+    requires has { table < length catalog.now }
+    requires same_tables { length tables.old ≡ length catalog.now }
+    requires kinds { kinds.now ≡ kinds_of catalog.now table }
+    ensures row { Gives (λ _. tables.new) result (with_row catalog.now tables.old table line.now) }
+    ensures err { OnErr result (tables.new ≡ tables.old) }
+    ensures same_tables { length tables.new ≡ length catalog.now }
+    ensures sound { is_sound catalog.now tables.old ≡ true → is_sound catalog.now tables.new ≡ true }
+{
+    let values = values_of(alloc, kinds, line)?;
+    insert_values(alloc, catalog, tables, table, values)
+}
