@@ -1,3 +1,4 @@
+pub mod Answer
 pub mod Checkpoint
 pub mod Events
 pub mod Opening

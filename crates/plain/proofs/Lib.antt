@@ -1,2 +1,6 @@
+pub mod CauseLemmas
 pub mod ExtentLemmas
 pub mod WalkLemmas
+pub mod LedgerLemmas
+pub mod CommitLemmas
+pub mod RunLemmas

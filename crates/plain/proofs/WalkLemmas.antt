@@ -1,6 +1,10 @@
 -- Walks over a list from its front.
-use Rattle.std.proofs.Common.{◌≡◌, refl, sym, ap, ◌∙◌, ℕ, ◌+◌, ◌-◌, ◌<◌, ◌≤◌, Bool, true, false, cond, ◌&&◌, List, [], ◌∷◌, length, take, drop, get_or, min, ltb, suc, arith}
-use Rattle.std.proofs.lemmas.List.{take_all}
+use Rattle.std.proofs.Common.{◌≡◌, sym, ap, ◌∙◌, ℕ, ◌-◌, ◌<◌, ◌≤◌, Bool, true, false, cond, ◌&&◌, List, [], ◌∷◌, length, take, drop, get_or, min, ltb, arith, suc, ◌+◌, ◌++◌, Some, None, drop-cons, map}
+use Rattle.std.proofs.lemmas.List.Folds.{find-append}
+use Rattle.std.specs.List.{filter, find}
+use Rattle.std.specs.Option.{option_or}
+use Rattle.std.proofs.lemmas.List.{take_all, take_more, take-append-drop, map-append}
+use Rattle.std.proofs.lemmas.List.Elements.{filter-append}
 use Rattle.value.specs.Isolation.{Node, first_part}
 
 -- a list that isn't empty is its first element and the rest
@@ -9,6 +13,39 @@ first_and_rest [] x long first = absurd (omega arith)
 first_and_rest (y ∷ ys) x long first =
     let e : length (y ∷ ys) - 1 ≡ length ys = omega arith in
     ap (λ z. z ∷ ys) (sym first) ∙ ap (λ zs. x ∷ zs) (sym (ap (λ n. take n ys) e ∙ take_all (length ys) ys (omega arith)))
+
+-- one more element
+pub take_next : {X : Type 0} (xs : List X) (i : ℕ) (x : X) → i < length xs → x ≡ get_or xs i x → take (i + 1) xs ≡ take i xs ++ x ∷ []
+take_next xs i x lt at = take_more xs i x lt ∙ ap (λ y. take i xs ++ y ∷ []) (sym at)
+
+-- an element, with those before and those after it
+pub split_at : {X : Type 0} (xs : List X) (i : ℕ) (x : X) → i < length xs → x ≡ get_or xs i x → xs ≡ take i xs ++ x ∷ drop (suc i) xs
+split_at xs i x lt at = sym (take-append-drop i xs) ∙ ap (λ ys. take i xs ++ ys) (drop-cons xs i x lt ∙ ap (λ y. y ∷ drop (suc i) xs) (sym at))
+
+-- what is made of those that pass, with one more element
+pub chosen-next : {X Y : Type 0} (p : X → Bool) (f : X → Y) (xs : List X) (i : ℕ) (x : X) (made new : List Y) → i < length xs → x ≡ get_or xs i x → made ≡ map f (filter p (take i xs)) → new ≡ made ++ cond (p x) (f x ∷ []) []
+    → new ≡ map f (filter p (take (i + 1) xs))
+chosen-next {X} {Y} p f xs i x made new lt at e step =
+    step ∙ ap (λ ys. ys ++ cond (p x) (f x ∷ []) []) e ∙ go (p x)
+    ∙ ap (map f) (sym (ap (filter p) (take_next xs i x lt at) ∙ filter-append p (take i xs) (x ∷ [])))
+  where
+    go : (b : Bool) → map f (filter p (take i xs)) ++ cond b (f x ∷ []) [] ≡ map f (filter p (take i xs) ++ cond b (x ∷ []) [])
+    go true = sym (map-append f (filter p (take i xs)) (x ∷ []))
+    go false = sym (map-append f (filter p (take i xs)) [])
+
+-- nothing is found before, and this element is what is sought
+pub find-here : {X : Type 0} (p : X → Bool) (xs : List X) (i : ℕ) (x : X) → i < length xs → x ≡ get_or xs i x → find p (take i xs) ≡ None → p x ≡ true → find p xs ≡ Some x
+find-here p xs i x lt at none e =
+    ap (find p) (split_at xs i x lt at) ∙ find-append p (take i xs) (x ∷ drop (suc i) xs)
+    ∙ ap (λ o. option_or o (find p (x ∷ drop (suc i) xs))) none
+    ∙ ap (λ b. cond b (Some x) (find p (drop (suc i) xs))) e
+
+-- this element isn't what is sought either
+pub find-next : {X : Type 0} (p : X → Bool) (xs : List X) (i : ℕ) (x : X) → i < length xs → x ≡ get_or xs i x → find p (take i xs) ≡ None → p x ≡ false → find p (take (i + 1) xs) ≡ None
+find-next p xs i x lt at none e =
+    ap (find p) (take_next xs i x lt at) ∙ find-append p (take i xs) (x ∷ [])
+    ∙ ap (λ o. option_or o (find p (x ∷ []))) none
+    ∙ ap (λ b. cond b (Some x) None) e
 
 module _ {T : Type 0} (node : T → Node) (edge : T → T → Bool) where
   at_most_own : (t : T) (us : List T) → first_part node edge t us ≤ (node t).commit
@@ -47,3 +84,30 @@ module _ {T : Type 0} (node : T → Node) (edge : T → T → Bool) where
   pub first_part-end : (t : T) (us : List T) (least : ℕ) → length us < 1 → least ≤ (node t).commit → least ≡ min least (first_part node edge t us)
   first_part-end t [] least none h = omega arith
   first_part-end t (u ∷ us) least none h = absurd (omega arith)
+
+  -- ---- the same, of those that pass a test
+
+  pub passing_part-least : (p : T → Bool) (t u : T) (least new : ℕ) → new ≡ cond (p u) (cond (edge t u && ltb (node u).commit (node t).commit) (min (node u).commit least) least) least → least ≤ (node t).commit → new ≤ (node t).commit
+  passing_part-least p t u least new = go (p u)
+    where
+      go : (b : Bool) → new ≡ cond b (cond (edge t u && ltb (node u).commit (node t).commit) (min (node u).commit least) least) least → least ≤ (node t).commit → new ≤ (node t).commit
+      go true e h = lesser-least t u least new e h
+      go false e h = omega arith
+
+  pub passing_part-step : (p : T → Bool) (t : T) (us : List T) (u : T) → 1 ≤ length us → u ≡ get_or us 0 u → (least new : ℕ)
+      → new ≡ cond (p u) (cond (edge t u && ltb (node u).commit (node t).commit) (min (node u).commit least) least) least
+      → min new (first_part node edge t (filter p (take (length us - 1) (drop 1 us)))) ≡ min least (first_part node edge t (filter p us))
+  passing_part-step p t us u long first least new e =
+      go (p u) e ∙ ap (λ vs. min least (first_part node edge t (filter p vs))) (sym (first_and_rest us u long first))
+    where
+      rest : List T
+      rest = filter p (take (length us - 1) (drop 1 us))
+
+      go : (b : Bool) → new ≡ cond b (cond (edge t u && ltb (node u).commit (node t).commit) (min (node u).commit least) least) least
+          → min new (first_part node edge t rest) ≡ min least (first_part node edge t (cond b (u ∷ rest) rest))
+      go true q = part_of_first t u rest least new q
+      go false q = ap (λ n. min n (first_part node edge t rest)) q
+
+  pub passing_part-end : (p : T → Bool) (t : T) (us : List T) (least : ℕ) → length us < 1 → least ≤ (node t).commit → least ≡ min least (first_part node edge t (filter p us))
+  passing_part-end p t [] least none h = omega arith
+  passing_part-end p t (u ∷ us) least none h = absurd (omega arith)

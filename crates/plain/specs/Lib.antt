@@ -1,1 +1,9 @@
+pub mod Answers
+pub mod Courses
+pub mod Earliest
 pub mod Extents
+pub mod Keys
+pub mod Ledger
+pub mod Runs
+pub mod Standings
+pub mod Views

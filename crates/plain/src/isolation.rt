@@ -1,8 +1,13 @@
-// Conflicts between transactions, and where they stand in the serial order, over a list of them.
-ghost use Rattle.std.specs.Prelude.{◌≡◌, ◌&&◌, if◌then◌else◌, min, nat_lt};
-ghost use Rattle.value.specs.Isolation.{bound, edge_of, first_part, is_dangerous, serial_key, write_key};
+// Conflicts between transactions, dangerous structures among them, and where they stand in the
+// serial order, over a list of them.
+ghost use Rattle.std.specs.Prelude.{◌≡◌, ◌&&◌, if◌then◌else◌, min, nat_lt, None};
+ghost use Rattle.std.specs.List.{filter};
+ghost use Rattle.std.specs.Option.{option_map};
+ghost use Rattle.value.specs.Isolation.{bound, caused, earliest, edge_of, first_cause, first_part, first_some, is_dangerous, serial_key, structure, write_key};
+ghost use Rattle.plain.specs.Earliest.{first_of};
 
-use crate::party::Party;
+use crate::party::{Facts, Party};
+use value::refusal::{Cause, TxnNo};
 
 /// Whether another transaction wrote what this one has covered, and committed after its snapshot.
 pub fn has_edge<T: Party>(reader: &T, writer: &T) -> bool
@@ -39,15 +44,93 @@ pub fn is_dangerous<T: Party>(first: &T, pivot: &T, last: &T) -> bool
         && end.commit <= bound(first)
 }
 
-// The number of a transaction's commit.
-fn commit_of<T: Party>(transaction: &T) -> u64
+/// A structure, by the numbers of its transactions.
+pub(crate) fn structure(first: Facts, pivot: Facts, last: Facts) -> Cause
+    ensures { result ≡ structure first pivot last }
+{
+    Cause {
+        a: TxnNo(first.number),
+        b: TxnNo(pivot.number),
+        c: TxnNo(last.number),
+    }
+}
+
+// The first to commit of those before and the next one.
+fn first_of(before: Option<Facts>, next: Facts) -> Facts
+    ensures { result ≡ first_of before next }
+{
+    match before {
+        Some(facts) if next.commit >= facts.commit => facts,
+        _ => next,
+    }
+}
+
+// Of the transactions that close a structure on two others, the first to commit.
+fn last_of<T: Party>(first: &T, pivot: &T, transactions: &[T]) -> Option<Facts>
+    ensures { result
+        ≡ option_map T.node (earliest T.node (edge_of T.node T.reads) (filter (is_dangerous T.node (edge_of T.node T.reads) first.now pivot.now) transactions.now)) }
+{
+    let mut last = None;
+    for candidate in transactions {
+        if is_dangerous(first, pivot, candidate) {
+            last = Some(first_of(last, candidate.facts()));
+        }
+    }
+    last
+}
+
+// The structure of two transactions and the first to commit that closes it, if there is one.
+fn cause_between<T: Party>(first: &T, pivot: &T, transactions: &[T]) -> Option<Cause>
+    ensures { result
+        ≡ caused T.node (edge_of T.node T.reads) first.now pivot.now (earliest T.node (edge_of T.node T.reads) (filter (is_dangerous T.node (edge_of T.node T.reads) first.now pivot.now) transactions.now)) }
+{
+    if !has_edge(first, pivot) {
+        return None;
+    }
+    match last_of(first, pivot, transactions) {
+        Some(last) => Some(structure(first.facts(), pivot.facts(), last)),
+        None => None,
+    }
+}
+
+// The structure that begins at a transaction, with the least pivot, if there is one.
+fn cause_from<T: Party>(first: &T, transactions: &[T]) -> Option<Cause>
+    ensures { result
+        ≡ first_some (λ b. caused T.node (edge_of T.node T.reads) first.now b (earliest T.node (edge_of T.node T.reads) (filter (is_dangerous T.node (edge_of T.node T.reads) first.now b) transactions.now))) transactions.now }
+{
+    for pivot in transactions {
+        let cause = cause_between(first, pivot, transactions);
+        if cause.is_some() {
+            return cause;
+        }
+    }
+    None
+}
+
+/// The dangerous structure that is named, of transactions in the order of their numbers: the one
+/// of the least first transaction, then of the least pivot, then of the first to commit. It takes
+/// no memory.
+pub fn first_cause<T: Party>(transactions: &[T]) -> Option<Cause>
+    ensures { result ≡ first_cause T.node (edge_of T.node T.reads) transactions.now }
+{
+    for first in transactions {
+        let cause = cause_from(first, transactions);
+        if cause.is_some() {
+            return cause;
+        }
+    }
+    None
+}
+
+/// The number of a transaction's commit.
+pub(crate) fn commit_of<T: Party>(transaction: &T) -> u64
     ensures { result ≡ (T.node transaction.now).commit }
 {
     transaction.facts().commit
 }
 
-// The lesser of a number and of a commit, where the transaction has an edge to one before its own.
-fn lesser<T: Party>(least: u64, transaction: &T, other: &T) -> u64
+/// The lesser of a number and of a commit, where the transaction has an edge to one before its own.
+pub(crate) fn lesser<T: Party>(least: u64, transaction: &T, other: &T) -> u64
     ensures { result
         ≡ (if edge_of T.node T.reads transaction.now other.now && nat_lt (T.node other.now).commit (T.node transaction.now).commit
         then min (T.node other.now).commit least
@@ -74,8 +157,8 @@ pub fn first_part<T: Party>(transaction: &T, transactions: &[T]) -> u64
     least
 }
 
-// The key of a read-write commit.
-fn write_key(first_part: u64, commit: u64) -> (u64, u8, u64)
+/// The key of a read-write commit.
+pub(crate) fn write_key(first_part: u64, commit: u64) -> (u64, u8, u64)
     ensures { result ≡ write_key first_part commit }
 {
     let rank = if first_part < commit { 0 } else { 1 };

@@ -27,9 +27,11 @@ use Rattle.history.specs.Transactions.{Txn, World, Exported_snapshot, node, edge
 use Rattle.history.specs.Events.{numbered, start, follows, run, world_of}
 use Rattle.history.specs.Serial.{committed, key, serial_order, prefix, Alone, RunsTo}
 use Rattle.history.proofs.Alone.{Along, IsIsolatedWorld, In-filter, prefix_runs}
-use Rattle.session.specs.Answer.{reply_in, Legal, IsAnswered}
+use Rattle.history.specs.Answer.{reply_in, Legal, IsAnswered}
 use Rattle.session.proofs.Legal.{Move, Stays, Fails, Aborts, Commits, Runs, Asks, Polls, Learns, Imports, Step, Nothing, Begins, Moves, Settles, Dooms, Steps, One, Two, legal_steps}
-use Rattle.session.proofs.SerialTheorem.{IsGood, good_step, good_steps, good_start, isolated_world, sound_proper}
+use Rattle.session.proofs.SerialTheorem.{IsGood, good_step, good_steps, good_start, good_world, isolated_world, sound_proper}
+use Rattle.session.proofs.Faithful.{IsFaithful}
+use Rattle.session.proofs.DoneFromSnapshot.{along_replies}
 
 of_T : (b : Bool) → T b → b ≡ true
 of_T true t = refl
@@ -193,9 +195,9 @@ module _ {A : Type 0} where
   take_nil zero = refl
   take_nil (suc n) = refl
 
-  pub always_sound : (o : Opening A) (es : List (Record A)) → Legal o es → (n : ℕ) → n ≤ commits (world_of o es) → is_sound (world_of o es).catalog (tables_at (world_of o es) n) ≡ true
+  all_sounds : (o : Opening A) (es : List (Record A)) → Legal o es → AllSound (world_of o es)
   unfolding Legal
-  always_sound o es l n m = sound_to (world_of o es).catalog (tables_at (world_of o es) n) ((all_sound_run (start o) es (good_start o proper) first l.1).each n m)
+  all_sounds o es l = all_sound_run (start o) es (good_start o proper) first l.1
     where
       proper : Rattle.history.proofs.Alone.Proper o.tables
       proper = sound_proper o.catalog o.tables l.0
@@ -205,3 +207,23 @@ module _ {A : Type 0} where
 
       first : AllSound (start o)
       first = record { opening = opened; each = λ k e. subst (λ ts. Sound o.catalog (with_all ts o.tables)) (sym (take_nil (k - o.base.commits))) opened }
+
+  pub always_sound : (o : Opening A) (es : List (Record A)) → Legal o es → (n : ℕ) → n ≤ commits (world_of o es) → is_sound (world_of o es).catalog (tables_at (world_of o es) n) ≡ true
+  always_sound o es l n m = sound_to (world_of o es).catalog (tables_at (world_of o es) n) ((all_sounds o es l).each n m)
+
+  -- A transaction's own tables are sound.
+  pub own_sound : (o : Opening A) (es : List (Record A)) → Legal o es → (t : Txn A) → In t (world_of o es).txns → is_sound (world_of o es).catalog t.own ≡ true
+  own_sound o es l t i = sound_to w.catalog t.own (alone_sound w.catalog t.statements B t.own (all_fit w.catalog t.statements B t.reads t.changes t.marks a.along)
+      (subst (Alone w.catalog t.statements B) (sym a.own) (along_replies w.catalog t.statements B t.reads t.changes t.marks a.along)) ((all_sounds o es l).each t.snapshot (g.numbered.shown t i).1))
+    where
+      w : World A
+      w = world_of o es
+
+      g : IsGood w
+      g = good_world o es l
+
+      B : Tables A
+      B = tables_at w t.snapshot
+
+      a : IsFaithful w.catalog B t
+      a = g.faithful.each t i

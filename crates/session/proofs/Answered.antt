@@ -6,7 +6,7 @@ use Rattle.value.specs.declared.refusal.Code.TheVariants as code
 use Rattle.history.specs.declared.event.Action.TheVariants.{Poll}
 use Rattle.history.specs.Transactions.{Standing, Open, Doomed, Failed, Aborted, Done, Txn, World, current, is_of, is_open, is_deferrable, commits, is_spoilt, is_pending}
 use Rattle.history.specs.Events.{polled, with_snapshot, followed, follows, replaced, doomed_by, doomed_with, turned_from}
-use Rattle.session.specs.Answer.{reply_in, reply_of, reply_from, poll_reply, refuses}
+use Rattle.history.specs.Answer.{reply_in, reply_of, reply_from, poll_reply, refuses}
 use Rattle.std.proofs.lemmas.Bool.{eq-eqb}
 use Rattle.std.specs.List.{find}
 use Rattle.session.proofs.Legal.{current_in}

@@ -12,7 +12,7 @@ use Rattle.history.specs.Events.{start, run, world_of}
 use Rattle.history.specs.Checkpoint.{opening_after}
 use Rattle.history.specs.Serial.{committed, key, serial_order, Stays, ContinuesOn}
 use Rattle.history.proofs.Alone.{In-filter, in_order}
-use Rattle.session.specs.Answer.{Legal, IsAnswered}
+use Rattle.history.specs.Answer.{Legal, IsAnswered}
 use Rattle.session.proofs.SafePrefix.{all_by, by_all}
 use Rattle.session.proofs.SerialTheorem.{IsGood, good_start, good_world, isolated_world, edge_parts, sound_proper}
 use Rattle.session.proofs.Later.{legal_stays, run-append}

@@ -6,7 +6,7 @@ use Rattle.history.specs.Opening.{Opening}
 use Rattle.history.specs.declared.event.Record.{Record}
 use Rattle.history.specs.Transactions.{Done, Txn, World, Exported_snapshot, commits, is_read_write}
 use Rattle.history.specs.Events.{ended, begun, start, follows, run}
-use Rattle.session.specs.Answer.{reply_in, IsAnswered}
+use Rattle.history.specs.Answer.{reply_in, IsAnswered}
 use Rattle.session.proofs.Legal.{Move, Stays, Fails, Aborts, Commits, Runs, Asks, Polls, Learns, Imports, Step, Nothing, Begins, Moves, Settles, Dooms, Steps, One, Two, current_in, found, legal_steps}
 use Rattle.session.proofs.Dooms.{Fate, Spared, Over, In-doomed, length-doomed}
 use Rattle.session.proofs.Numbers.{IsNumbered, In-replaced, length-replaced, polled_keeps}

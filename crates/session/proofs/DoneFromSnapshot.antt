@@ -17,13 +17,13 @@ use Rattle.history.specs.Transactions.{World, tables_at}
 use Rattle.history.specs.Events.{world_of}
 use Rattle.history.specs.Serial.{Alone, read_by, changed_by, marked_by, AllDoneFromSnapshots}
 use Rattle.history.proofs.Alone.{Along}
-use Rattle.session.specs.Answer.{Legal}
+use Rattle.history.specs.Answer.{Legal}
 use Rattle.session.proofs.Faithful.{IsFaithful}
 use Rattle.session.proofs.SafePrefix.{all_by}
 use Rattle.session.proofs.SerialTheorem.{good_world}
 
 module _ {A : Type 0} (c : Catalog) where
-  along_replies : (qs : List (Statement A × Reply A)) (B : Tables A) (rs : List (Reading A)) (xs : List (Change A)) (ms : List (Mark A)) → Along c qs B rs xs ms → Alone c qs B (put_all xs B)
+  pub along_replies : (qs : List (Statement A × Reply A)) (B : Tables A) (rs : List (Reading A)) (xs : List (Change A)) (ms : List (Mark A)) → Along c qs B rs xs ms → Alone c qs B (put_all xs B)
   along_replies [] B rs xs ms a = ap (λ ys. put_all ys B) a.1
   along_replies (q ∷ qs) B rs xs ms a = (a.4, subst (Alone c qs (after c q.0 B)) (sym (ap (λ ys. put_all ys B) a.6 ∙ put_all-append (outcome c q.0 B).changes a.1 B)) (along_replies qs (after c q.0 B) a.0 a.1 a.2 a.8))
 

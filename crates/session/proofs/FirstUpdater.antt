@@ -15,7 +15,7 @@ use Rattle.std.proofs.lemmas.Cmp.{tied_itself}
 use Rattle.statement.specs.Evaluation.{outcome}
 use Rattle.history.specs.Transactions.{Done, Txn, World, Exported_snapshot, commits, tables_at, is_open, is_done, is_read_write}
 use Rattle.history.specs.Events.{ended, ran, begun}
-use Rattle.session.specs.Answer.{is_taken}
+use Rattle.history.specs.Answer.{is_taken}
 use Rattle.session.proofs.Legal.{Move, Stays, Fails, Aborts, Commits, Runs, Asks, Polls, Learns, Imports, Step, Nothing, Begins, Moves, Settles, Dooms, current_in}
 use Rattle.session.proofs.Dooms.{Fate, Spared, Over, In-doomed}
 use Rattle.session.proofs.Numbers.{IsNumbered, adds, In-replaced, polled_keeps, not_done}

@@ -12,7 +12,7 @@ use Rattle.history.specs.declared.event.Action.TheVariants.{Begin, Run, Poll, Ex
 use Rattle.history.specs.declared.event.Record.{Record}
 use Rattle.history.specs.Transactions.{Standing, Open, Failed, Done, Txn, World, Exported_snapshot, is_read_write, is_deferrable, is_read_only, is_quiet, is_pending, must_wait, commits, tables_at, current, exported}
 use Rattle.history.specs.Events.{begun, numbered, polled, import, moved, turned_from, turned, causes, doomed_by, replaced, txns_after, log_after, exports_after, next_identifier, without_transaction, followed, follows, run}
-use Rattle.session.specs.Answer.{reply_in, reply_of, reply_from, open_reply, commit_reply, is_refused, refuses, refuses_row, IsAnswered}
+use Rattle.history.specs.Answer.{reply_in, reply_of, reply_from, open_reply, commit_reply, is_refused, refuses, refuses_row, IsAnswered}
 use Rattle.session.proofs.Legal.{current_in, found}
 use Rattle.session.proofs.SerialTheorem.{IsGood}
 use Rattle.session.proofs.Based.{next_good}

@@ -9,7 +9,7 @@ use Rattle.history.specs.declared.event.Record.{Record}
 use Rattle.history.specs.Opening.{Opening}
 use Rattle.history.specs.Transactions.{Txn, World, current}
 use Rattle.history.specs.Events.{without_transaction, followed, follows, start, run}
-use Rattle.session.specs.Answer.{Allowed, IsAnswered, Legal, answer, of_session}
+use Rattle.history.specs.Answer.{Allowed, IsAnswered, Legal, answer, of_session}
 
 module _ {A : Type 0} where
   -- ---- the catalog stays

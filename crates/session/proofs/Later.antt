@@ -14,7 +14,7 @@ use Rattle.history.specs.Events.{begun, replaced, start, follows, run, world_of}
 use Rattle.history.specs.declared.base.Base.{Base}
 use Rattle.history.specs.Serial.{committed, key, serial_order, precedes, HasEarlier, Stays}
 use Rattle.history.proofs.Alone.{In-filter, filter-In, in_order}
-use Rattle.session.specs.Answer.{reply_in, Legal, IsAnswered}
+use Rattle.history.specs.Answer.{reply_in, Legal, IsAnswered}
 use Rattle.session.proofs.Legal.{Step, Nothing, Begins, Moves, Settles, Dooms, Steps, One, Two, current_in, legal_steps}
 use Rattle.session.proofs.Dooms.{Fate, Spared, Over, In-doomed, done-In}
 use Rattle.session.proofs.Numbers.{IsNumbered, Adds, adds, In-replaced, replaced-In, not_done}

@@ -14,7 +14,7 @@ use Rattle.history.specs.declared.event.Action.{Action}
 use Rattle.history.specs.declared.event.Action.TheVariants.{Begin, Run, Broken, Poll, Export, Import, Commit, Rollback, Prune}
 use Rattle.history.specs.Transactions.{Standing, Open, Doomed, Failed, Aborted, Done, Txn, World, Exported_snapshot, commits, is_open, is_done, is_owed, is_read_write, is_read_only, is_deferrable, is_of, is_spoilt, is_pending, must_wait, exported, current}
 use Rattle.history.specs.Events.{goes_on, fails, moved, told, settled, turned_from, ended, numbered, ran, polled, import, begun, causes, doomed_by, log_after, exports_after, next_identifier, with_snapshot, replaced, followed, follows}
-use Rattle.session.specs.Answer.{reply_in, reply_of, reply_from, open_reply, run_reply, poll_reply, export_reply, import_reply, commit_reply, cause_of, is_refused, is_taken, refuses, failed, doomed, Allowed}
+use Rattle.history.specs.Answer.{reply_in, reply_of, reply_from, open_reply, run_reply, poll_reply, export_reply, import_reply, commit_reply, cause_of, is_refused, is_taken, refuses, failed, doomed, Allowed}
 use Rattle.statement.specs.Fits.{Fits}
 
 pub found : {A : Type 0} (p : A → Bool) (xs : List A) (x : A) → find p xs ≡ Some x → In x xs × (p x ≡ true)

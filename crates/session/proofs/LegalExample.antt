@@ -21,7 +21,7 @@ use Rattle.history.specs.Opening.{Opening, zero_base}
 use Rattle.history.specs.Serial.{serial_order, IsSerial}
 use Rattle.history.specs.Transactions.{World}
 use Rattle.history.specs.Events.{world_of}
-use Rattle.session.specs.Answer.{Legal}
+use Rattle.history.specs.Answer.{Legal}
 use Rattle.session.proofs.Play.{Anywhere, bigint, table, n, put, gone, fault, replies, opened}
 use Rattle.session.proofs.SerialTheorem.{legal_serial}
 

@@ -9,16 +9,20 @@ pub mod Stamps
 pub mod SerialTheorem
 pub mod SafePrefix
 pub mod Later
-pub mod AlwaysSound
 pub mod Answered
 pub mod SafeReply
 pub mod DoneFromSnapshot
+pub mod AlwaysSound
 pub mod Based
 pub mod OnBase
 pub mod FollowsBase
 pub mod BaseOrder
 pub mod Histories
+pub mod Kept
+pub mod KeptKeys
+pub mod CoreLemmas
 pub mod Play
 mod Examples
 mod LegalExample
 mod PivotExamples
+pub mod ViewSound

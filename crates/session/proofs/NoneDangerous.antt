@@ -6,7 +6,7 @@ use Rattle.value.proofs.IsolationLemmas.{In}
 use Rattle.value.proofs.SerialLemmas.{In-append}
 use Rattle.history.specs.Transactions.{Standing, Open, Doomed, Failed, Aborted, Done, Txn, World, Exported_snapshot, node, edge, is_open, is_done, is_read_write}
 use Rattle.history.specs.Events.{numbered, begun, replaced}
-use Rattle.session.specs.Answer.{cause_of}
+use Rattle.history.specs.Answer.{cause_of}
 use Rattle.session.proofs.Legal.{Move, Stays, Fails, Aborts, Commits, Runs, Asks, Polls, Learns, Imports, Step, Nothing, Begins, Moves, Settles, Dooms}
 use Rattle.session.proofs.Dooms.{Fate, Spared, Over, In-doomed}
 use Rattle.session.proofs.Numbers.{In-replaced, polled_keeps}

@@ -14,7 +14,7 @@ use Rattle.history.specs.declared.base.Base.{Base}
 use Rattle.history.specs.Transactions.{Standing, Open, Doomed, Failed, Aborted, Done, Txn, World, Exported_snapshot, node, edge, reads_from, is_open, is_done, is_owed, is_of, is_read_write, is_quiet, is_spoilt, is_pending, is_living, was_active, spoils, commits, tables_at, with_all, current, exported}
 use Rattle.history.specs.Events.{numbered, ended, polled, with_snapshot, replaced, doomed_by, doomed_with}
 use Rattle.history.specs.Checkpoint.{base_after}
-use Rattle.session.specs.Answer.{cause_of, is_taken, is_unseen, meets_another}
+use Rattle.history.specs.Answer.{cause_of, is_taken, is_unseen, meets_another}
 use Rattle.session.proofs.Numbers.{In-replaced}
 use Rattle.session.proofs.SerialTheorem.{IsGood, edge_parts}
 use Rattle.session.proofs.Based.{IsBased}

@@ -14,7 +14,7 @@ use Rattle.history.specs.declared.event.Action.TheVariants.{Begin, Run, Broken, 
 use Rattle.history.specs.Transactions.{World, current}
 use Rattle.history.specs.Events.{start}
 use Rattle.history.specs.Checkpoint.{opening_after}
-use Rattle.session.specs.Answer.{of_cause, view_of, reader_of, checkpoint_from}
+use Rattle.history.specs.Answer.{of_cause, view_of, reader_of, checkpoint_from}
 use Rattle.session.proofs.Play.{Anywhere, bigint, table, pairs, n, pair, all, id_is, one, put, set_v, gone, refused, caused, replies, world_after, opened, keys}
 
 abbrev u : Catalog

@@ -26,7 +26,7 @@ use Rattle.history.specs.Opening.{zero_base}
 use Rattle.history.specs.Transactions.{World}
 use Rattle.history.specs.Events.{start, follows}
 use Rattle.history.specs.Serial.{key, serial_order}
-use Rattle.session.specs.Answer.{reply_in, of_cause}
+use Rattle.history.specs.Answer.{reply_in, of_cause}
 
 -- The definitions do not look at the allocator, so any type serves for it.
 abbrev pub Anywhere : Type 0

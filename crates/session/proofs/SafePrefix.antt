@@ -9,7 +9,7 @@ use Rattle.history.specs.Transactions.{Txn, World, node, edge, is_done, is_read_
 use Rattle.history.specs.Events.{world_of}
 use Rattle.history.specs.Serial.{committed, key, is_safe_at, IsSafe, HasCommits, HasEarlier, SafeAreSafe}
 use Rattle.history.proofs.Alone.{IsIsolatedWorld, In-filter, prefix_begins, prefix_runs}
-use Rattle.session.specs.Answer.{Legal}
+use Rattle.history.specs.Answer.{Legal}
 use Rattle.session.proofs.InTime.{Shows}
 use Rattle.session.proofs.Stamps.{Stamp, Stands, stamp}
 use Rattle.session.proofs.SerialTheorem.{IsGood, good_world, isolated_world}

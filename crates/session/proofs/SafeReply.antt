@@ -9,7 +9,7 @@ use Rattle.history.specs.Transactions.{World}
 use Rattle.history.specs.Serial.{IsSafe, HasEarlier, Stays, IsSafeReply}
 use Rattle.session.proofs.Legal.{current_in}
 use Rattle.session.proofs.SafePrefix.{by_all}
-use Rattle.session.specs.Answer.{Legal}
+use Rattle.history.specs.Answer.{Legal}
 use Rattle.session.proofs.Answered.{Known, answered}
 use Rattle.session.proofs.Later.{legal_stays, legal_begins, legal_rest, run-append}
 

@@ -26,7 +26,7 @@ use Rattle.value.specs.Order.{value_cmp}
 use Rattle.statement.specs.Evaluation.{outcome}
 use Rattle.statement.proofs.RowsLemmas.{HasKeys}
 use Rattle.statement.proofs.Suffices.{WithKeys, outcome_keys, put_all-keys}
-use Rattle.session.specs.Answer.{reply_in, IsAnswered, Legal}
+use Rattle.history.specs.Answer.{reply_in, IsAnswered, Legal}
 use Rattle.session.proofs.Dooms.{Fate, Spared, Over, In-doomed, In-made, number-doomed}
 use Rattle.session.proofs.Legal.{Move, Stays, Fails, Aborts, Commits, Runs, Asks, Polls, Learns, Imports, Step, Nothing, Begins, Moves, Settles, Dooms, Steps, One, Two, legal_steps, current_in}
 use Rattle.session.proofs.Numbers.{IsNumbered, numbers_step, In-replaced, polled_keeps}

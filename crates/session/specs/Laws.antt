@@ -7,7 +7,7 @@ use Rattle.history.specs.Opening.{Opening}
 use Rattle.history.specs.Transactions.{World, is_quiet}
 use Rattle.history.specs.Checkpoint.{opening_after}
 use Rattle.history.specs.Events.{world_of}
-use Rattle.session.specs.Answer.{Legal}
+use Rattle.history.specs.Answer.{Legal}
 
 module _ {A : Type 0} where
   -- It holds of what every legal history has come to.

@@ -1,6 +1,7 @@
 // What holds of every history in which each reply is the answer.
-ghost use Rattle.std.specs.Prelude.{◌≡◌, ◌≤◌, ◌==◌, [], ◌∷◌, ◌++◌, ℕ, IsTrue, List, if◌then◌else◌};
+ghost use Rattle.std.specs.Prelude.{◌≡◌, ◌≤◌, ◌==◌, [], ◌∷◌, ◌++◌, ℕ, IsTrue, List, Ok, if◌then◌else◌};
 ghost use Rattle.schema.specs.Plain.{is_sound};
+ghost use Rattle.schema.specs.declared.tables.Tables.{Tables as AnyTables};
 ghost use Rattle.statement.specs.declared.reply.Reply.{Reply as AnyReply};
 ghost use Rattle.history.specs.declared.event.Action.{Action as AnyAction};
 ghost use Rattle.history.specs.declared.event.Record.{Record as AnyRecord};
@@ -9,7 +10,7 @@ ghost use Rattle.history.specs.Transactions.{World, commits, tables_at};
 ghost use Rattle.history.specs.Checkpoint.{opening_after};
 ghost use Rattle.history.specs.Events.{world_of};
 ghost use Rattle.history.specs.Serial.{AllDoneFromSnapshots, ContinuesOn, IsSafeReply, IsSerial, SafeAreSafe, Stays, serial_order};
-ghost use Rattle.session.specs.Answer.{Allowed, Legal, answer, of_session};
+ghost use Rattle.history.specs.Answer.{Allowed, Legal, answer, of_session, view_answer};
 ghost use Rattle.session.specs.Laws.{AfterCheckpoint, AfterLegal, AfterMore, AfterSafe};
 
 use std::alloc::Allocator;
@@ -80,4 +81,9 @@ pub fn continues_on_a_base<A: Allocator>()
     ensures legal { AfterCheckpoint (λ (o : Opening A) (es more : List (AnyRecord A)). Legal o (es ++ more)) }
     ensures order { AfterCheckpoint (λ (o : Opening A) (es more : List (AnyRecord A)).
         ContinuesOn (world_of o es) (world_of (opening_after (world_of o es)) more) (world_of o (es ++ more))) }
+{}
+
+/// The tables that a view shows are sound.
+pub fn views_are_sound<A: Allocator>()
+    ensures { (o : Opening A) → (es : List (AnyRecord A)) → (s : ℕ) → (X : AnyTables A) → Legal o es → view_answer o es s ≡ Ok X → IsTrue (is_sound o.catalog X) }
 {}

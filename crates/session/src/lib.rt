@@ -1,7 +1,5 @@
-//! The answers of a database to its sessions, and the laws of every history that has them.
+//! The core, and the laws of every history in which each reply is the answer.
 #![tactic(auto)]
 
 pub mod laws;
-pub mod reply;
-#[cfg(test)]
-mod tests;
+pub mod sessions;

@@ -1,6 +1,7 @@
 // What a session is answered that has no transaction, or whose transaction is over.
 ghost use Rattle.std.specs.Prelude.{◌≡◌};
-ghost use Rattle.session.specs.Answer as spec;
+ghost use Rattle.history.specs.Answer as spec;
+ghost use Rattle.plain.specs.Courses.{IsBrief};
 
 use history::event::Action;
 use statement::reply::Reply;
@@ -25,7 +26,8 @@ pub fn of_cause(cause: Cause) -> Refusal
 
 /// The reply where the session has no transaction.
 pub fn idle<A: Allocator>(action: &Action<A>) -> Reply<A>
-    ensures { result ≡ spec.idle action.now }
+    ensures answer { result ≡ spec.idle action.now }
+    ensures brief { IsBrief result }
 {
     match action {
         Action::Begin(_) => Reply::Begun,
@@ -36,7 +38,8 @@ pub fn idle<A: Allocator>(action: &Action<A>) -> Reply<A>
 
 /// The reply where the session's transaction has failed.
 pub fn failed<A: Allocator>(action: &Action<A>) -> Reply<A>
-    ensures { result ≡ spec.failed action.now }
+    ensures answer { result ≡ spec.failed action.now }
+    ensures brief { IsBrief result }
 {
     match action {
         Action::Commit | Action::Rollback => Reply::RolledBack,
@@ -48,7 +51,8 @@ pub fn failed<A: Allocator>(action: &Action<A>) -> Reply<A>
 /// The reply where the session's transaction was doomed by another's commit, for this cause, and
 /// the session hasn't been told yet.
 pub fn doomed<A: Allocator>(cause: Cause, action: &Action<A>) -> Reply<A>
-    ensures { result ≡ spec.doomed cause action.now }
+    ensures answer { result ≡ spec.doomed cause action.now }
+    ensures brief { IsBrief result }
 {
     match action {
         Action::Begin(_) => refuses(Code::ActiveSqlTransaction),

@@ -1,0 +1,6 @@
+//! Versions of rows: views of the tables at a snapshot, which never change.
+#![tactic(auto)]
+
+#[cfg(test)]
+mod tests;
+pub mod view;

@@ -1,0 +1,10 @@
+use Rattle.std.proofs.Common.{◌∙◌, sym}
+use Rattle.value.specs.Isolation.{edge_of}
+use Rattle.plain.proofs.CauseLemmas.{caused-none}
+use Rattle.plain.proofs.isolation.cause_between.Goals as goal
+
+pub returns-then-not-has_edge : goal.returns-then-not-has_edge
+returns-then-not-has_edge g c =
+    let node = g.T.Party.node in
+    let edge = edge_of g.T.Party.node g.T.Party.reads in
+    caused-none node edge c.args.first.now c.args.pivot.now c.args.transactions.now (sym c.has_edge.ensures ∙ c.if-not-has_edge.true)

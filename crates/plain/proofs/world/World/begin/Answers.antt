@@ -1,0 +1,11 @@
+use Rattle.std.proofs.Common.{arith, ap}
+use Rattle.history.specs.Transactions.{Txn}
+use Rattle.plain.specs.Ledger.{Ledger}
+use Rattle.plain.proofs.LedgerLemmas.{counted-begun}
+use Rattle.plain.proofs.world.World.begin.Goals as goal
+
+pub invariant_of-self-2 : goal.invariant_of-self-2
+invariant_of-self-2 g c =
+    let same_place = ap (λ (l : Ledger _). l.place) c.self.view_is in
+    let number = ap (λ (t : Txn _). t.number) c.begun.ensures in
+    rw (c.push_reserved.ensures.items, c.in_ok-reserve.ensures.items) (counted-begun _ c.begun.result c.self.invariant (omega (arith, number, c.len.ensures)) (omega (arith, same_place, c.requires)))

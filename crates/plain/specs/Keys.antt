@@ -1,0 +1,19 @@
+-- Serial keys, part by part.
+use Rattle.std.specs.Prelude.{ℕ, List, map}
+use Rattle.std.specs.List.{filter}
+use Rattle.value.specs.Isolation.{serial_key}
+use Rattle.value.specs.declared.refusal.TxnNo.{TxnNo}
+use Rattle.history.specs.Transactions.{Txn, edge, is_done, node}
+use Rattle.history.specs.declared.key.SerialKey.{SerialKey}
+
+-- the parts of a key
+abbrev pub parts : SerialKey → ℕ × ℕ × ℕ
+parts k = (k.0, k.1, k.2)
+
+-- a transaction's number with its key
+abbrev pub keyed : TxnNo × SerialKey → ℕ × (ℕ × ℕ × ℕ)
+keyed e = (e.0.0, parts e.1)
+
+-- the committed transactions of a list with their keys among them
+abbrev pub committed_keys : {A : Type 0} → List (Txn A) → List (ℕ × (ℕ × ℕ × ℕ))
+committed_keys ts = map (λ t. (t.number, serial_key node edge (filter (λ u. is_done u.standing) ts) t)) (filter (λ u. is_done u.standing) ts)

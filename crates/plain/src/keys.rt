@@ -1,0 +1,112 @@
+// Serial keys of committed transactions, among all transactions.
+ghost use Rattle.std.specs.Prelude.{◌≡◌, if◌then◌else◌, ◌&&◌, ◌++◌, [], ◌∷◌, map, min, nat_lt, IfOk, IfErr, OnOk};
+ghost use Rattle.value.specs.Refusals.{out_of_memory};
+ghost use Rattle.std.specs.List.{filter};
+ghost use Rattle.value.specs.Isolation.{edge_of, first_part, serial_key};
+ghost use Rattle.history.specs.Transactions.{edge, is_done, node};
+ghost use Rattle.plain.specs.Keys.{committed_keys, keyed, parts};
+
+use crate::isolation::{commit_of, lesser, write_key};
+use crate::party::Party;
+use crate::transaction::Transaction;
+use crate::world::World;
+use history::key::SerialKey;
+use std::alloc::Allocator;
+use value::refusal::{Refusal, TxnNo};
+
+// The lesser of a number and of a commit, where the other committed and the transaction has an edge
+// to it, before its own.
+fn lesser_committed<T: Party>(least: u64, transaction: &T, other: &T) -> u64
+    ensures { result
+        ≡ (if (T.node other.now).committed
+        then (if edge_of T.node T.reads transaction.now other.now && nat_lt (T.node other.now).commit (T.node transaction.now).commit
+        then min (T.node other.now).commit least
+        else least)
+        else least) }
+{
+    if other.facts().committed {
+        lesser(least, transaction, other)
+    } else {
+        least
+    }
+}
+
+// The least of a transaction's commit number and of those of committed ones below it to which it has
+// an edge.
+fn first_committed<T: Party>(transaction: &T, transactions: &[T]) -> u64
+    ensures { result
+        ≡ first_part T.node (edge_of T.node T.reads) transaction.now (filter (λ t. (T.node t).committed) transactions.now) }
+{
+    let mut least = commit_of(transaction);
+    let mut left = transactions;
+    while let [other, rest @ ..] = left {
+        least = lesser_committed(least, transaction, other);
+        left = rest;
+    }
+    least
+}
+
+// Where a committed transaction stands in the serial order of the committed ones of these.
+fn key_among<T: Party>(transaction: &T, transactions: &[T]) -> (u64, u8, u64)
+    ensures { result
+        ≡ serial_key T.node (edge_of T.node T.reads) (filter (λ t. (T.node t).committed) transactions.now) transaction.now }
+{
+    let facts = transaction.facts();
+    if facts.read_write {
+        write_key(first_committed(transaction, transactions), facts.commit)
+    } else {
+        (facts.snapshot, 2, facts.place)
+    }
+}
+
+/// The serial key of a committed transaction, among those of these that committed. It takes no
+/// memory.
+pub fn key<A: Allocator>(transactions: &[Transaction<A>], transaction: &Transaction<A>) -> SerialKey
+    ensures { parts result ≡ serial_key node edge (filter (λ t. is_done t.standing) transactions.now) transaction.now }
+{
+    let (first, rank, last) = key_among(transaction, transactions);
+    SerialKey(first, rank, last)
+}
+
+// Adds a transaction's number with its key, if it committed.
+fn push_key<A: Allocator>(
+    keys: &mut Vec<(TxnNo, SerialKey), A>,
+    transactions: &[Transaction<A>],
+    transaction: &Transaction<A>,
+) -> Result<(), Refusal>
+    ensures ok { OnOk result (map keyed keys.new.items
+        ≡ map keyed keys.old.items ++ (if is_done transaction.now.standing
+        then (transaction.now.number, serial_key node edge (filter (λ t. is_done t.standing) transactions.now) transaction.now) ∷ []
+        else [])) }
+    ensures memory { IfErr result (λ e. e ≡ out_of_memory) }
+{
+    if transaction.standing.is_done() {
+        keys.push((TxnNo(transaction.number), key(transactions, transaction)))?;
+    }
+    Ok(())
+}
+
+/// The committed transactions of these, by their numbers in their order, each with its key.
+pub fn committed_keys<A: Allocator>(
+    alloc: A,
+    transactions: &[Transaction<A>],
+) -> Result<Vec<(TxnNo, SerialKey), A>, Refusal>
+    ensures ok { IfOk result (λ keys. map keyed keys.items ≡ committed_keys transactions.now) }
+    ensures memory { IfErr result (λ e. e ≡ out_of_memory) }
+{
+    let mut keys = Vec::new(alloc);
+    for transaction in transactions {
+        push_key(&mut keys, transactions, transaction)?;
+    }
+    Ok(keys)
+}
+
+impl<A: Allocator> World<A> {
+    /// The committed transactions, by their numbers in their order, each with its serial key.
+    pub fn committed_keys(&self, alloc: A) -> Result<Vec<(TxnNo, SerialKey), A>, Refusal>
+        ensures ok { IfOk result (λ keys. map keyed keys.items ≡ committed_keys self.now.txns) }
+        ensures memory { IfErr result (λ e. e ≡ out_of_memory) }
+    {
+        committed_keys(alloc, self.transactions.as_slice())
+    }
+}

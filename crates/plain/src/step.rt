@@ -1,0 +1,89 @@
+// One event of a session.
+ghost use Rattle.std.specs.Prelude.{◌≡◌, ◌+◌, ◌^◌, ◌<◌, length, true, Some, IfOk, IfErr, OnErr};
+ghost use Rattle.value.specs.Refusals.{out_of_memory};
+ghost use Rattle.history.specs.Transactions.{is_open};
+ghost use Rattle.history.specs.Answer.{Allowed, reply_of};
+ghost use Rattle.plain.specs.Answers.{both};
+ghost use Rattle.plain.specs.Courses.{takes_memory};
+ghost use Rattle.plain.specs.Ledger.{after_owned, kept_after, kept_current, ready, ready_for, txn_at, world_on};
+ghost use Rattle.plain.specs.Runs.{HoldsCurrent, HoldsOwn};
+
+use crate::answered::Answered;
+use crate::snapshots::find_current;
+use crate::transaction::Transaction;
+use crate::world::World;
+use history::event::Action;
+use history::session_id::SessionId;
+use schema::catalog::Catalog;
+use schema::tables::Tables;
+use std::alloc::Allocator;
+use value::refusal::Refusal;
+
+// Whether a transaction hasn't ended.
+fn is_active<A: Allocator>(transaction: &Transaction<A>) -> bool
+    ensures { result ≡ is_open transaction.now.standing }
+{
+    transaction.standing.is_open()
+}
+
+impl<A: Allocator> World<A> {
+    // An event of the session whose transaction is at a place.
+    fn step_owned(
+        &mut self,
+        alloc: A,
+        catalog: &Catalog<A>,
+        opening: &Tables<A>,
+        at: usize,
+        action: &Action<A>,
+    ) -> Result<Answered<A>, Refusal>
+    where
+        A: Copy,
+        requires within { at < length self.old.txns }
+        requires room { self.old.place + 1 < 2 ^ 64 }
+        requires allowed { Allowed catalog.now action.now }
+        requires held { HoldsOwn catalog.now opening.now self.old (txn_at self.old.txns at) }
+        ensures reply { IfOk result (λ r. r ≡ both (reply_of (world_on catalog.now opening.now self.old) (Some (ready (world_on catalog.now opening.now self.old) action.now (txn_at self.old.txns at))) action.now)) }
+        ensures world { IfOk result (λ r. self.new ≡ after_owned (world_on catalog.now opening.now self.old) action.now r.reply (ready (world_on catalog.now opening.now self.old) action.now (txn_at self.old.txns at))) }
+        ensures err { OnErr result (self.new ≡ self.old) }
+        ensures memory { IfErr result (λ e. e ≡ out_of_memory) }
+        ensures taken { OnErr result (takes_memory action.now ≡ true) }
+    {
+        if is_active(&self.transactions[at]) {
+            match action {
+                Action::Run(statement) => self.run(alloc, catalog, opening, at, statement),
+                Action::Export => self.export(at),
+                Action::Commit => self.commit(alloc, at),
+                _ => Ok(self.settle(at, action)),
+            }
+        } else {
+            Ok(self.settle(at, action))
+        }
+    }
+
+    /// One event of a session, over the catalog and the tables that the history opened with: its
+    /// reply, and what is kept after it.
+    pub fn step(
+        &mut self,
+        alloc: A,
+        catalog: &Catalog<A>,
+        opening: &Tables<A>,
+        session: SessionId,
+        action: &Action<A>,
+    ) -> Result<Answered<A>, Refusal>
+    where
+        A: Copy,
+        requires room { self.old.place + 1 < 2 ^ 64 }
+        requires allowed { Allowed catalog.now action.now }
+        requires held { HoldsCurrent catalog.now opening.now self.old (kept_current catalog.now opening.now self.old session) }
+        ensures reply { IfOk result (λ r. r ≡ both (reply_of (world_on catalog.now opening.now self.old) (ready_for (world_on catalog.now opening.now self.old) action.now (kept_current catalog.now opening.now self.old session)) action.now)) }
+        ensures world { IfOk result (λ r. self.new ≡ kept_after (world_on catalog.now opening.now self.old) session action.now r.reply (ready_for (world_on catalog.now opening.now self.old) action.now (kept_current catalog.now opening.now self.old session))) }
+        ensures err { OnErr result (self.new ≡ self.old) }
+        ensures memory { IfErr result (λ e. e ≡ out_of_memory) }
+        ensures taken { OnErr result (takes_memory action.now ≡ true) }
+    {
+        match find_current(self.transactions.as_slice(), session) {
+            Some(at) => self.step_owned(alloc, catalog, opening, at, action),
+            None => self.join(alloc, session, action),
+        }
+    }
+}

@@ -1,0 +1,94 @@
+// What is asked of the world beside its events.
+ghost use Rattle.std.specs.Prelude.{◌≡◌, ◌+◌, ◌≤◌, ◌<◌, ◌^◌, length, not, Some, Err};
+ghost use Rattle.value.specs.Refusals.{AnswersOrNoMemory};
+ghost use Rattle.schema.specs.Definition.{Catalog};
+ghost use Rattle.history.specs.Transactions.{is_owed, is_quiet};
+ghost use Rattle.history.specs.Answer.{view_of};
+ghost use Rattle.plain.specs.Ledger.{kept_current, world_on};
+ghost use Rattle.plain.specs.Views.{is_failed, are_quiet};
+ghost use Rattle.plain.specs.Standings.{standing_of};
+
+use crate::snapshots::find_current;
+use crate::transaction::{Standing, Transaction};
+use crate::world::World;
+use history::base::Base;
+use history::session_id::SessionId;
+use schema::tables::Tables;
+use std::alloc::Allocator;
+use value::refusal::{Code, Refusal};
+
+// Whether a transaction has failed.
+fn is_failed(standing: Standing) -> bool
+    ensures { result ≡ is_failed (standing_of standing) }
+{
+    matches!(standing, Standing::Failed)
+}
+
+// Whether a transaction's session hasn't to end it any more.
+fn is_settled<A: Allocator>(transaction: &Transaction<A>) -> bool
+    ensures { result ≡ not (is_owed transaction.now.standing) }
+{
+    !transaction.standing.is_owed()
+}
+
+impl<A: Allocator> World<A> {
+    // The tables at a transaction's snapshot, where that is known to be safe.
+    fn view_owned(
+        &self,
+        alloc: A,
+        opening: &Tables<A>,
+        transaction: &Transaction<A>,
+    ) -> Result<Tables<A>, Refusal>
+    where
+        A: Copy,
+        ensures { (c : Catalog) → AnswersOrNoMemory result (view_of (world_on c opening.now self.now) (Some transaction.now)) }
+    {
+        if is_failed(transaction.standing) {
+            return Err(Refusal::of_code(Code::InFailedSqlTransaction));
+        }
+        if !transaction.known {
+            return Err(Refusal::of_code(Code::ObjectNotInPrerequisiteState));
+        }
+        self.shown(alloc, opening, transaction.snapshot)
+    }
+
+    /// The tables at the snapshot of a session's transaction, where that is known to be safe, over
+    /// the opening ones.
+    pub fn view(
+        &self,
+        alloc: A,
+        opening: &Tables<A>,
+        session: SessionId,
+    ) -> Result<Tables<A>, Refusal>
+    where
+        A: Copy,
+        ensures { (c : Catalog) → AnswersOrNoMemory result (view_of (world_on c opening.now self.now) (kept_current c opening.now self.now session)) }
+    {
+        match find_current(self.transactions.as_slice(), session) {
+            Some(at) => self.view_owned(alloc, opening, &self.transactions[at]),
+            None => Err(Refusal::of_code(Code::NoActiveSqlTransaction)),
+        }
+    }
+
+    /// Whether no session has a transaction. It takes no memory.
+    pub fn is_quiet(&self) -> bool
+        ensures { result ≡ are_quiet self.now.txns }
+    {
+        self.transactions
+            .iter()
+            .all(|transaction| is_settled(transaction))
+    }
+
+    /// The numbers of transactions, commits, identifiers and events so far.
+    pub fn counted(&self) -> Base
+        ensures value { result ≡ record { transactions = self.now.base.transactions + length self.now.txns; commits = self.now.base.commits + length self.now.log; identifiers = self.now.base.identifiers + length self.now.exports; events = self.now.place } }
+        ensures within { (result.transactions ≤ result.events) × (result.commits ≤ result.events) × (result.identifiers ≤ result.events) }
+    {
+        Base {
+            transactions: self.base.transactions + self.transactions.len() as u64,
+            commits: self.commits(),
+            identifiers: self.base.identifiers + self.exports.len() as u64,
+            events: self.place,
+        }
+    }
+}

@@ -1,0 +1,339 @@
+-- What is kept of a world answers as the world does, and comes to what is kept of what the world comes to.
+use Rattle.std.proofs.Common.{◌≡◌, refl, sym, ap, subst, ◌∙◌, ℕ, suc, ◌+◌, ◌-◌, ◌<◌, ◌≤◌, Bool, true, false, cond, not, ◌&&◌, ◌||◌, inl, inr, List, [], ◌∷◌, ◌++◌, length, map, filter, fold, take, Option, Some, None, is_some, eqb, nat_lt, nat_le, arith}
+use Rattle.std.specs.List.{list_any, find}
+use Rattle.std.specs.Option.{option_map, option_to_list}
+use Rattle.value.specs.declared.refusal.Mode.{Mode}
+use Rattle.value.specs.declared.refusal.Cause.{Cause}
+use Rattle.value.specs.declared.refusal.Code.TheVariants as code
+use Rattle.value.specs.Isolation.{is_dangerous, earliest, earlier, caused, first_some, first_cause, dooms, with_doom, doom_of, is_live, is_first, cause_from}
+use Rattle.schema.specs.declared.changes.Change.{Change}
+use Rattle.schema.specs.declared.tables.Tables.{Tables}
+use Rattle.schema.specs.Plain.{put_all}
+use Rattle.statement.specs.declared.reply.Reply.{Reply}
+use Rattle.statement.specs.declared.reply.Reply.TheVariants.{Begun, Committed, Imported, Safe, Wait, Exported, Refused}
+use Rattle.statement.specs.Evaluation.{outcome, writes}
+use Rattle.history.specs.declared.event.Action.{Action}
+use Rattle.history.specs.declared.event.Action.TheVariants.{Begin, Run, Poll, Export, Import, Commit}
+use Rattle.history.specs.Transactions.{Standing, Open, Doomed, Failed, Aborted, Done, Txn, World, Exported_snapshot, node, edge, reads_from, is_of, is_open, is_done, is_read_write, is_read_only, is_deferrable, was_active, spoils, is_spoilt, is_pending, is_living, must_wait, commits, tables_at, with_all, current, exported}
+use Rattle.history.specs.Events.{begun, ended, numbered, polled, with_snapshot, import, moved, turned_from, turned, causes, doomed_by, doomed_with, replaced, txns_after, log_after, exports_after, without_transaction, followed, follows}
+use Rattle.history.specs.Answer.{reply_in, reply_of, reply_from, open_reply, run_reply, commit_reply, meets_another, is_taken, is_refused, refuses, refuses_row}
+use Rattle.plain.specs.Ledger.{kept, written, ledger, world_on, with_own, ready, ready_for, logged, turned_all, kept_after}
+use Rattle.session.proofs.Legal.{current_in}
+use Rattle.session.proofs.SerialTheorem.{IsGood}
+
+-- ---- lists whose members are seen through a function
+
+module _ {T U : Type 0} (f : T → U) where
+  any_map : (p : U → Bool) (ts : List T) → list_any p (map f ts) ≡ list_any (λ t. p (f t)) ts
+  any_map p [] = refl
+  any_map p (t ∷ ts) = ap (λ b. p (f t) || b) (any_map p ts)
+
+  find_map : (p : U → Bool) (ts : List T) → find p (map f ts) ≡ option_map f (find (λ t. p (f t)) ts)
+  find_map p [] = refl
+  find_map p (t ∷ ts) = go (p (f t)) (find_map p ts)
+    where
+      go : (b : Bool) → find p (map f ts) ≡ option_map f (find (λ t. p (f t)) ts) → cond b (Some (f t)) (find p (map f ts)) ≡ option_map f (cond b (Some t) (find (λ t. p (f t)) ts))
+      go true e = refl
+      go false e = e
+
+  filter_map : (p : U → Bool) (ts : List T) → filter p (map f ts) ≡ map f (filter (λ t. p (f t)) ts)
+  filter_map p [] = refl
+  filter_map p (t ∷ ts) = go (p (f t)) (filter_map p ts)
+    where
+      go : (b : Bool) → filter p (map f ts) ≡ map f (filter (λ t. p (f t)) ts) → cond b (f t ∷ filter p (map f ts)) (filter p (map f ts)) ≡ map f (cond b (t ∷ filter (λ t. p (f t)) ts) (filter (λ t. p (f t)) ts))
+      go true e = ap (λ us. f t ∷ us) e
+      go false e = e
+
+  first_map : {B : Type 0} (g : U → Option B) (ts : List T) → first_some g (map f ts) ≡ first_some (λ t. g (f t)) ts
+  first_map g [] = refl
+  first_map g (t ∷ ts) = ap (λ o. cond (is_some (g (f t))) (g (f t)) o) (first_map g ts)
+
+  fold_map : {B : Type 0} (g : B → U → B) (b : B) (ts : List T) → fold g b (map f ts) ≡ fold (λ c t. g c (f t)) b ts
+  fold_map g b [] = refl
+  fold_map g b (t ∷ ts) = fold_map g (g b (f t)) ts
+
+  map_append : (ts us : List T) → map f (ts ++ us) ≡ map f ts ++ map f us
+  map_append [] us = refl
+  map_append (t ∷ ts) us = ap (λ ys. f t ∷ ys) (map_append ts us)
+
+  pub length_map : (ts : List T) → length (map f ts) ≡ length ts
+  length_map [] = refl
+  length_map (t ∷ ts) = ap suc (length_map ts)
+
+module _ {T : Type 0} where
+  any_same : (p q : T → Bool) → ((t : T) → p t ≡ q t) → (ts : List T) → list_any p ts ≡ list_any q ts
+  any_same p q h [] = refl
+  any_same p q h (t ∷ ts) = ap (λ b. b || list_any p ts) (h t) ∙ ap (λ b. q t || b) (any_same p q h ts)
+
+  find_same : (p q : T → Bool) → ((t : T) → p t ≡ q t) → (ts : List T) → find p ts ≡ find q ts
+  find_same p q h [] = refl
+  find_same p q h (t ∷ ts) = ap (λ b. cond b (Some t) (find p ts)) (h t) ∙ ap (λ o. cond (q t) (Some t) o) (find_same p q h ts)
+
+  first_same : {B : Type 0} (g k : T → Option B) → ((t : T) → g t ≡ k t) → (ts : List T) → first_some g ts ≡ first_some k ts
+  first_same g k h [] = refl
+  first_same g k h (t ∷ ts) = ap (λ o. cond (is_some o) o (first_some g ts)) (h t) ∙ ap (λ o. cond (is_some (k t)) (k t) o) (first_same g k h ts)
+
+  fold_same : {B : Type 0} (g k : B → T → B) → ((b : B) (t : T) → g b t ≡ k b t) → (b : B) (ts : List T) → fold g b ts ≡ fold k b ts
+  fold_same g k h b [] = refl
+  fold_same g k h b (t ∷ ts) = ap (λ c. fold g c ts) (h b t) ∙ fold_same g k h (k b t) ts
+
+module _ {A : Type 0} where
+  -- ---- isolation of what is kept
+
+  abbrev all_kept : List (Txn A) → List (Txn A)
+  all_kept ts = map kept ts
+
+  earliest_kept : (ts : List (Txn A)) → earliest node edge (all_kept ts) ≡ option_map kept (earliest node edge ts)
+  earliest_kept [] = refl
+  earliest_kept (t ∷ ts) = ap (λ o. Some (earlier node edge (kept t) o)) (earliest_kept ts) ∙ go (earliest node edge ts)
+    where
+      by_test : (u : Txn A) (b : Bool) → Some (cond b (kept u) (kept t)) ≡ Some (kept (cond b u t))
+      by_test u true = refl
+      by_test u false = refl
+
+      go : (o : Option (Txn A)) → Some (earlier node edge (kept t) (option_map kept o)) ≡ Some (kept (earlier node edge t o))
+      go None = refl
+      go (Some u) = by_test u (nat_lt u.commit t.commit)
+
+  caused_kept : (a b : Txn A) (o : Option (Txn A)) → caused node edge (kept a) (kept b) (option_map kept o) ≡ caused node edge a b o
+  caused_kept a b None = refl
+  caused_kept a b (Some c) = refl
+
+  first_kept : (ts : List (Txn A)) → first_cause node edge (all_kept ts) ≡ first_cause node edge ts
+  first_kept ts =
+      first_map kept (λ a. first_some (λ b. caused node edge a b (earliest node edge (filter (is_dangerous node edge a b) (all_kept ts)))) (all_kept ts)) ts
+      ∙ first_same _ _ (λ a.
+      first_map kept (λ b. caused node edge (kept a) b (earliest node edge (filter (is_dangerous node edge (kept a) b) (all_kept ts)))) ts
+      ∙ first_same _ _ (λ b.
+      ap (λ us. caused node edge (kept a) (kept b) (earliest node edge us)) (filter_map kept (is_dangerous node edge (kept a) (kept b)) ts)
+      ∙ ap (caused node edge (kept a) (kept b)) (earliest_kept (filter (is_dangerous node edge a b) ts))
+      ∙ caused_kept a b (earliest node edge (filter (is_dangerous node edge a b) ts))) ts) ts
+
+  from_kept : (b c : Txn A) (o : Option (Txn A)) → cause_from node reads_from (kept b) (kept c) (option_map kept o) ≡ cause_from node reads_from b c o
+  from_kept b c None = refl
+  from_kept b c (Some a) = refl
+
+  dooms_kept : (ts : List (Txn A)) (c : Txn A) → dooms node reads_from (all_kept ts) (kept c) ≡ dooms node reads_from ts c
+  dooms_kept ts c =
+      fold_map kept (with_doom node reads_from (all_kept ts) (kept c)) [] ts
+      ∙ fold_same (λ cs b. with_doom node reads_from (all_kept ts) (kept c) cs (kept b)) (with_doom node reads_from ts c) (λ cs b. ap (λ o. cs ++ option_to_list o) (doom cs b)) [] ts
+    where
+      doom : (cs : List Cause) (b : Txn A) → doom_of node reads_from (all_kept ts) (kept c) cs (kept b) ≡ doom_of node reads_from ts c cs b
+      doom cs b = ap (λ o. cond (is_live node reads_from c b && reads_from b c) o None)
+          (ap (cause_from node reads_from (kept b) (kept c)) (find_map kept (is_first node reads_from (kept c) cs (kept b)) ts) ∙ from_kept b c (find (is_first node reads_from c cs b) ts))
+
+  -- ---- snapshots of what is kept
+
+  spoilt_kept : (ts : List (Txn A)) (t : Txn A) → is_spoilt (all_kept ts) t ≡ is_spoilt ts t
+  spoilt_kept ts t =
+      any_map kept (λ u. was_active t u && spoils (all_kept ts) t u) ts
+      ∙ any_same _ _ (λ u. ap (λ b. was_active t u && (is_done u.standing && b)) (any_map kept (λ v. edge (kept u) v && nat_le v.commit t.snapshot) ts)) ts
+
+  pending_kept : (ts : List (Txn A)) (t : Txn A) → is_pending (all_kept ts) t ≡ is_pending ts t
+  pending_kept ts t = any_map kept (λ u. was_active t u && is_open u.standing) ts
+
+  living_kept : (ts : List (Txn A)) (x : Exported_snapshot) → is_living (all_kept ts) x ≡ is_living ts x
+  living_kept ts x = any_map kept (λ t. eqb t.number x.exporter && is_open t.standing) ts
+
+  replaced_kept : (x : Txn A) (ts : List (Txn A)) → replaced (kept x) (all_kept ts) ≡ all_kept (replaced x ts)
+  replaced_kept x [] = refl
+  replaced_kept x (t ∷ ts) = ap (λ us. cond (eqb t.number x.number) (kept x) (kept t) ∷ us) (replaced_kept x ts) ∙ ap (λ u. u ∷ all_kept (replaced x ts)) (go (eqb t.number x.number))
+    where
+      go : (b : Bool) → cond b (kept x) (kept t) ≡ kept (cond b x t)
+      go true = refl
+      go false = refl
+
+  doomed_kept : (place : ℕ) (cs : List Cause) (ts : List (Txn A)) → map (doomed_by place cs) (all_kept ts) ≡ all_kept (map (doomed_by place cs) ts)
+  doomed_kept place cs [] = refl
+  doomed_kept place cs (t ∷ ts) = ap (λ us. doomed_by place cs (kept t) ∷ us) (doomed_kept place cs ts) ∙ ap (λ u. u ∷ all_kept (map (doomed_by place cs) ts)) (go (is_open t.standing) (find (λ c. eqb c.b.0 t.number) cs))
+    where
+      with_cause : (o : Option Cause) → doomed_with place o (kept t) ≡ kept (doomed_with place o t)
+      with_cause None = refl
+      with_cause (Some c) = refl
+
+      go : (b : Bool) (o : Option Cause) → doomed_with place (cond b o None) (kept t) ≡ kept (doomed_with place (cond b o None) t)
+      go true o = with_cause o
+      go false o = refl
+
+  -- without causes none is doomed
+  spared : (place : ℕ) (ts : List (Txn A)) → map (doomed_by place []) ts ≡ ts
+  spared place [] = refl
+  spared place (t ∷ ts) = ap (λ us. doomed_by place [] t ∷ us) (spared place ts) ∙ ap (λ u. u ∷ ts) (go (is_open t.standing))
+    where
+      go : (b : Bool) → doomed_with place (cond b None None) t ≡ t
+      go true = refl
+      go false = refl
+
+  -- ---- the tables at a snapshot
+
+  abbrev logs : List (Txn A) → List (Txn A)
+  logs ts = map (λ (t : Txn A). written t.changes) ts
+
+  shown_kept : (ts : List (Txn A)) (n : ℕ) (X : Tables A) → with_all (take n (logs ts)) X ≡ with_all (take n ts) X
+  shown_kept ts Rattle.std.proofs.Common.zero X = refl
+  shown_kept [] (suc n) X = refl
+  shown_kept (t ∷ ts) (suc n) X = shown_kept ts n (put_all t.changes X)
+
+  -- ---- replies
+
+  module _ (w : World A) where
+    abbrev pub kept_world : World A
+    kept_world = world_on w.catalog w.opening (ledger w)
+
+    pub same_commits : commits kept_world ≡ commits w
+    same_commits = ap (λ n. w.base.commits + n) (length_map (λ (t : Txn A). written t.changes) w.log)
+
+    pub same_current : (s : ℕ) → current kept_world s ≡ option_map kept (current w s)
+    same_current s = find_map kept (is_of s) w.txns
+
+    same_exported : (n : ℕ) → exported kept_world n ≡ exported w n
+    same_exported n = find_same _ _ (λ x. ap (λ b. eqb x.id n && b) (living_kept w.txns x)) w.exports
+
+    same_meets : (t : Txn A) (xs : List (Change A)) → meets_another kept_world t xs ≡ meets_another w t xs
+    same_meets t xs = any_same _ _ (λ x. any_map kept (λ u. is_taken t u x) w.txns) xs
+
+    same_numbered : (t : Txn A) → numbered kept_world (kept t) ≡ kept (numbered w t)
+    same_numbered t = ap (λ n. cond (is_read_write t.mode) (record (ended w Done (kept t)) { commit = n + 1 }) (ended w Done (kept t))) same_commits ∙ go (is_read_write t.mode)
+      where
+        go : (b : Bool) → cond b (record (ended w Done (kept t)) { commit = commits w + 1 }) (ended w Done (kept t)) ≡ kept (cond b (record (ended w Done t) { commit = commits w + 1 }) (ended w Done t))
+        go true = refl
+        go false = refl
+
+    same_polled : (t : Txn A) → kept (polled kept_world (kept t)) ≡ kept (polled w t)
+    same_polled t =
+        ap (λ b. kept (cond (not t.known && b) (with_snapshot kept_world (commits kept_world) (w.place + 1) (kept t)) (kept t))) (spoilt_kept w.txns t)
+        ∙ go (not t.known && is_spoilt w.txns t)
+      where
+        go : (b : Bool) → kept (cond b (with_snapshot kept_world (commits kept_world) (w.place + 1) (kept t)) (kept t)) ≡ kept (cond b (with_snapshot w (commits w) (w.place + 1) t) t)
+        go true = ap (λ n. record (kept t) { snapshot = n; taken = w.place + 1 }) same_commits
+        go false = refl
+
+    pub same_tables : (n : ℕ) → tables_at kept_world n ≡ tables_at w n
+    same_tables n = shown_kept w.log (n - w.base.commits) w.opening
+
+    -- A transaction's own tables are its changes put into the tables at its snapshot.
+    abbrev pub HasOwn : Txn A → Type 0
+    HasOwn t = t.own ≡ put_all t.changes (tables_at w t.snapshot)
+
+    pub same_ready : (t : Txn A) → HasOwn t → with_own kept_world (kept t) ≡ record t { statements = [] }
+    same_ready t own = ap (λ X. record t { statements = []; own = X }) (ap (put_all t.changes) (shown_kept w.log (t.snapshot - w.base.commits) w.opening) ∙ sym own)
+
+    ready_standing : (a : Action A) (t : Txn A) → (ready kept_world a (kept t)).standing ≡ t.standing
+    ready_standing (Run q) t = refl
+    ready_standing _ t = refl
+
+    ready_kept : (a : Action A) (t : Txn A) → kept (ready kept_world a (kept t)) ≡ kept t
+    ready_kept (Run q) t = refl
+    ready_kept _ t = refl
+
+    same_open : (t : Txn A) → HasOwn t → (a : Action A) → open_reply kept_world (ready kept_world a (kept t)) a ≡ open_reply w t a
+    same_open t own (Run q) =
+        ap (λ (x : Txn A). run_reply kept_world x q) (same_ready t own)
+        ∙ ap (λ b. cond (must_wait t) (refuses code.ObjectNotInPrerequisiteState) (cond (writes q && not (is_read_write t.mode)) (refuses code.ReadOnlySqlTransaction)
+        (cond (is_refused (outcome w.catalog q t.own).reply) (outcome w.catalog q t.own).reply (cond b refuses_row (outcome w.catalog q t.own).reply)))) (same_meets t (outcome w.catalog q t.own).changes)
+    same_open t own Poll =
+        ap (λ (x : Txn A). cond (not (is_deferrable t.mode)) (refuses code.ObjectNotInPrerequisiteState) (cond t.known (Safe t.snapshot) (cond {A = Reply A} (is_pending (all_kept w.txns) x) Wait (Safe x.snapshot)))) (same_polled t)
+        ∙ ap (λ b. cond (not (is_deferrable t.mode)) (refuses code.ObjectNotInPrerequisiteState) (cond t.known (Safe t.snapshot) (cond {A = Reply A} b Wait (Safe (polled w t).snapshot)))) (pending_kept w.txns (polled w t))
+    same_open t own (Import n) =
+        ap (λ o. cond {A = Reply A} (not (is_read_only t.mode)) (refuses code.ObjectNotInPrerequisiteState) (cond t.asked (refuses code.ActiveSqlTransaction) (cond (is_some o) Imported (refuses code.ObjectNotInPrerequisiteState)))) (same_exported n)
+    same_open t own Commit =
+        ap commit_reply (ap (λ x. first_cause node edge (replaced x (all_kept w.txns))) (same_numbered t) ∙ ap (first_cause node edge) (replaced_kept (numbered w t) w.txns) ∙ first_kept (replaced (numbered w t) w.txns))
+    same_open t own _ = refl
+
+    same_from : (t : Txn A) → HasOwn t → (a : Action A) (st : Standing) → reply_from st kept_world (ready kept_world a (kept t)) a ≡ reply_from st w t a
+    same_from t own a Open = same_open t own a
+    same_from t own a _ = refl
+
+    same_of : (a : Action A) (o : Option (Txn A)) → ((t : Txn A) → o ≡ Some t → HasOwn t) → reply_of kept_world (ready_for kept_world a (option_map kept o)) a ≡ reply_of w o a
+    same_of a None own = refl
+    same_of a (Some t) own = ap (λ st. reply_from st kept_world (ready kept_world a (kept t)) a) (ready_standing a t) ∙ same_from t (own t refl) a t.standing
+
+    pub same_reply : (s : ℕ) (a : Action A) → ((t : Txn A) → current w s ≡ Some t → HasOwn t) → reply_of kept_world (ready_for kept_world a (current kept_world s)) a ≡ reply_in w s a
+    same_reply s a own = ap (λ o. reply_of kept_world (ready_for kept_world a o) a) (same_current s) ∙ same_of a (current w s) own
+
+    -- ---- what an event makes
+
+    same_moved : (t : Txn A) → HasOwn t → (a : Action A) (r : Reply A) → kept (moved kept_world a r (ready kept_world a (kept t))) ≡ kept (moved w a r t)
+    same_moved t own (Run q) (Refused r) = go (Rattle.history.specs.Events.goes_on r.code)
+      where
+        go : (b : Bool) → kept (cond b (with_own kept_world (kept t)) (ended w Failed (with_own kept_world (kept t)))) ≡ kept (cond b t (ended w Failed t))
+        go true = refl
+        go false = refl
+    same_moved t own (Run q) r = ap (λ (x : Txn A). kept (Rattle.history.specs.Events.ran kept_world q r x)) (same_ready t own)
+    same_moved t own Poll (Safe s) = ap (λ (x : Txn A). record x { known = true }) (same_polled t)
+    same_moved t own Poll Wait = same_polled t
+    same_moved t own (Import n) Imported = ap (λ o. kept (import o kept_world (kept t))) (same_exported n) ∙ go (exported w n)
+      where
+        go : (o : Option Exported_snapshot) → kept (import o kept_world (kept t)) ≡ kept (import o w t)
+        go None = refl
+        go (Some x) = refl
+    same_moved t own Export (Exported i) = refl
+    same_moved t own Commit Committed = ap kept (same_numbered t)
+    same_moved t own _ _ = refl
+
+    same_turned_from : (t : Txn A) → HasOwn t → (a : Action A) (r : Reply A) (st : Standing) → kept (turned_from st kept_world a r (ready kept_world a (kept t))) ≡ kept (turned_from st w a r t)
+    same_turned_from t own a r Open = same_moved t own a r
+    same_turned_from t own a r (Doomed c) = ap (λ (x : Txn A). record x { standing = Rattle.history.specs.Events.told a x.standing }) (ready_kept a t)
+    same_turned_from t own a r Failed = ap (λ (x : Txn A). record x { standing = Rattle.history.specs.Events.settled a x.standing }) (ready_kept a t)
+    same_turned_from t own a r Aborted = ready_kept a t
+    same_turned_from t own a r Done = ready_kept a t
+
+    same_turned : (t : Txn A) → HasOwn t → (a : Action A) (r : Reply A) → kept (turned kept_world a r (ready kept_world a (kept t))) ≡ kept (turned w a r t)
+    same_turned t own a r = ap (λ st. kept (turned_from st kept_world a r (ready kept_world a (kept t)))) (ready_standing a t) ∙ same_turned_from t own a r t.standing
+
+    numbered_changes : (t : Txn A) → (numbered w t).changes ≡ t.changes
+    numbered_changes t = go (is_read_write t.mode)
+      where
+        go : (b : Bool) → (cond b (record (ended w Done t) { commit = commits w + 1 }) (ended w Done t)).changes ≡ t.changes
+        go true = refl
+        go false = refl
+
+    same_log : (t : Txn A) (a : Action A) (r : Reply A) → logged kept_world a r (ready kept_world a (kept t)) ≡ logs (log_after w a r t)
+    same_log t Commit Committed = go (is_read_write t.mode)
+      where
+        go : (b : Bool) → cond b (logs w.log ++ written t.changes ∷ []) (logs w.log) ≡ logs (cond b (w.log ++ numbered w t ∷ []) w.log)
+        go true = ap (λ xs. logs w.log ++ written xs ∷ []) (sym (numbered_changes t)) ∙ sym (map_append (λ (u : Txn A). written u.changes) w.log (numbered w t ∷ []))
+        go false = refl
+    same_log t _ _ = refl
+
+    same_exports : (t : Txn A) (a : Action A) (r : Reply A) → exports_after kept_world a r (ready kept_world a (kept t)) ≡ exports_after w a r t
+    same_exports t Export (Exported i) = refl
+    same_exports t _ _ = refl
+
+    same_replaced : (t : Txn A) → HasOwn t → (a : Action A) (r : Reply A) → replaced (kept (turned kept_world a r (ready kept_world a (kept t)))) (all_kept w.txns) ≡ all_kept (replaced (turned w a r t) w.txns)
+    same_replaced t own a r = ap (λ x. replaced x (all_kept w.txns)) (same_turned t own a r) ∙ replaced_kept (turned w a r t) w.txns
+
+    same_turned_all : (t : Txn A) → HasOwn t → (a : Action A) (r : Reply A) → turned_all kept_world a r (ready kept_world a (kept t)) ≡ all_kept (txns_after w a r t)
+    same_turned_all t own Commit Committed =
+        ap (map (doomed_by (w.place + 1) (causes kept_world Commit Committed (kept t)))) (same_replaced t own Commit Committed)
+        ∙ ap (λ cs. map (doomed_by (w.place + 1) (cond (is_read_write t.mode) cs [])) (all_kept (replaced (turned w Commit Committed t) w.txns))) (dooms_kept w.txns t)
+        ∙ doomed_kept (w.place + 1) (causes w Commit Committed t) (replaced (turned w Commit Committed t) w.txns)
+    same_turned_all t own a r = same_replaced t own a r ∙ ap all_kept (sym (spared (w.place + 1) (replaced (turned w a r t) w.txns)))
+
+    same_begun : (s : ℕ) (m : Mode) → kept (begun kept_world s m) ≡ kept (begun w s m)
+    same_begun s m =
+        ap (λ n. record (kept (begun w s m)) { number = w.base.transactions + n + 1; snapshot = commits kept_world }) (length_map kept w.txns)
+        ∙ ap (λ n. record (kept (begun w s m)) { snapshot = n }) same_commits
+
+    same_joined : (s : ℕ) (a : Action A) (r : Reply A) → kept_after kept_world s a r None ≡ ledger (without_transaction w s a r)
+    same_joined s (Begin m) Begun =
+        ap (λ ts. record (ledger w) { txns = ts; place = w.place + 1 }) (ap (λ x. all_kept w.txns ++ x ∷ []) (same_begun s m) ∙ sym (map_append kept w.txns (begun w s m ∷ [])))
+    same_joined s _ _ = refl
+
+    same_after : (s : ℕ) (a : Action A) (r : Reply A) (o : Option (Txn A)) → ((t : Txn A) → o ≡ Some t → HasOwn t)
+        → kept_after kept_world s a r (ready_for kept_world a (option_map kept o)) ≡ ledger (followed w (record { session = s; action = a; reply = r }) o)
+    same_after s a r None own = same_joined s a r
+    same_after s a r (Some t) own =
+        let h = own t refl in
+        ap (λ ts. record { base = w.base; log = logged kept_world a r (ready kept_world a (kept t)); txns = ts; exports = exports_after kept_world a r (ready kept_world a (kept t)); place = w.place + 1 }) (same_turned_all t h a r)
+        ∙ ap (λ ts. record { base = w.base; log = ts; txns = all_kept (txns_after w a r t); exports = exports_after kept_world a r (ready kept_world a (kept t)); place = w.place + 1 }) (same_log t a r)
+        ∙ ap (λ xs. record { base = w.base; log = logs (log_after w a r t); txns = all_kept (txns_after w a r t); exports = xs; place = w.place + 1 }) (same_exports t a r)
+
+    pub same_follows : (s : ℕ) (a : Action A) (r : Reply A) → ((t : Txn A) → current w s ≡ Some t → HasOwn t)
+        → kept_after kept_world s a r (ready_for kept_world a (current kept_world s)) ≡ ledger (follows w (record { session = s; action = a; reply = r }))
+    same_follows s a r own = ap (λ o. kept_after kept_world s a r (ready_for kept_world a o)) (same_current s) ∙ same_after s a r (current w s) own
+
+  -- ---- after a legal history
+
+  pub has_own : (w : World A) → IsGood w → (s : ℕ) (t : Txn A) → current w s ≡ Some t → HasOwn w t
+  has_own w g s t e = (g.faithful.each t (current_in w s t e).0).own

@@ -1,0 +1,45 @@
+-- What a core keeps, and what a step does to its history.
+use Rattle.std.specs.Prelude.{◌≡◌, ◌⊎◌, ◌+◌, ◌^◌, ◌<◌, true, Result, Ok, Err, length, [], ◌∷◌, ◌++◌, ℕ}
+use Rattle.value.specs.Refusals.{AnswersOrNoMemory, of_code, out_of_memory}
+use Rattle.value.specs.declared.refusal.Refusal.{Refusal}
+use Rattle.value.specs.declared.refusal.Code.TheVariants.{ProgramLimitExceeded}
+use Rattle.statement.specs.declared.reply.Reply.{Reply}
+use Rattle.statement.specs.declared.reply.Reply.TheVariants.{Refused}
+use Rattle.history.specs.declared.event.Action.{Action}
+use Rattle.history.specs.Opening.{Opening, Recorded}
+use Rattle.history.specs.Events.{world}
+use Rattle.history.specs.Answer.{IsLegal, answer, checkpoint_answer}
+use Rattle.plain.specs.Courses.{takes_memory}
+use Rattle.plain.specs.Ledger.{Ledger, ledger}
+
+module _ {A : Type 0} where
+  -- The history is legal, what is kept is what is kept of its world, and its events can be counted.
+  pub record IsKept (h : Recorded A) (l : Ledger A) : Type 0 where
+    pub legal : IsLegal h
+    pub world : l ≡ ledger (world h)
+    pub room : h.opening.base.events + h.most < 2 ^ 64
+
+  -- the history with one more event
+  abbrev pub recorded : Recorded A → ℕ → Action A → Reply A → Recorded A
+  recorded h s a r = record h { records = h.records ++ record { session = s; action = a; reply = r } ∷ [] }
+
+  -- the history has room for a further event
+  abbrev pub HasRoom : Recorded A → Type 0
+  HasRoom h = length h.records < h.most
+
+  -- The action of session s was answered with r, and the history h has become k: the answer of the definitions, recorded;
+  -- or a full history or, where the action takes memory, want of memory, and nothing has changed.
+  abbrev pub IsStep : Recorded A → Recorded A → ℕ → Action A → Reply A → Type 0
+  IsStep h k s a r =
+      HasRoom h × (r ≡ answer h.opening h.records s a) × (k ≡ recorded h s a r)
+      ⊎ ((length h.records ≡ h.most) × (r ≡ Refused (of_code ProgramLimitExceeded)) × (k ≡ h) ⊎ HasRoom h × (takes_memory a ≡ true) × (r ≡ Refused out_of_memory) × (k ≡ h))
+
+  -- the history of nothing yet from an opening, or the refusal to open it
+  abbrev pub from_opening : ℕ → Result (Opening A) Refusal → Result (Recorded A) Refusal
+  from_opening most (Ok o) = Ok (record { opening = o; records = []; most = most })
+  from_opening most (Err e) = Err e
+
+  -- The history goes on from the opening that it has come to; or it is refused, and is as it was.
+  abbrev pub IsCheckpoint : Recorded A → ℕ → Result (Recorded A) (Recorded A × Refusal) → Type 0
+  IsCheckpoint h most (Ok next) = from_opening most (checkpoint_answer h.opening h.records most) ≡ Ok next
+  IsCheckpoint h most (Err back) = (back.0 ≡ h) × AnswersOrNoMemory (Err back.1) (from_opening most (checkpoint_answer h.opening h.records most))

@@ -1,0 +1,226 @@
+// The core: a history, and what is kept of its world.
+ghost use Rattle.std.specs.Prelude.{◌≡◌, ◌<◌, ◌≤◌, ◌+◌, ◌^◌, ◌==◌, ◌||◌, nat_le, [], true, length, IsTrue, Ok, Err, IfOk, IfErr, OnErr, if◌then◌else◌};
+ghost use Rattle.value.specs.Refusals.{AnswersOrNoMemory, of_code, out_of_memory};
+ghost use Rattle.schema.specs.Plain.{is_sound};
+ghost use Rattle.history.specs.Opening.{zero_base};
+ghost use Rattle.history.specs.Answer.{Allowed, answer, checkpoint_answer, view_answer};
+ghost use Rattle.plain.specs.Courses.{takes_memory};
+ghost use Rattle.plain.specs.Views.{are_quiet};
+ghost use Rattle.session.specs.Core.{HasRoom, IsCheckpoint, IsKept, IsStep, from_opening, recorded};
+
+mod committed;
+
+use history::base::Base;
+use history::event::{Event, Record};
+use history::list::History;
+use history::session_id::SessionId;
+use mvrows::view::View;
+use plain::world::World;
+use schema::catalog::Catalog;
+use schema::tables::Tables;
+use statement::reply::Reply;
+use std::alloc::{Allocator, Global};
+use std::marker::Model;
+use value::refusal::{Code, Refusal};
+
+/// A server of transactions that are serializable, one event at a time. It is its history: each
+/// reply is the one that the definitions give after the events before it.
+#[derive(Drop)]
+pub struct Core<A: Allocator = Global> {
+    history: History<A>,
+    world: World<A>,
+}
+
+impl<A: Allocator> Model for Core<A> {
+    ghost use Rattle.history.specs.Opening.{Recorded};
+
+    ghost Value = { Recorded A };
+
+    ghost use Rattle.session.specs.Core.{IsKept};
+
+    ghost view = { λ c. c.history };
+
+    ghost invariant = { λ c. IsKept c.history c.world };
+}
+
+// A core of nothing yet, whose numbers go on from a base.
+fn open_on<A: Allocator + Copy>(
+    alloc: A,
+    catalog: Catalog<A>,
+    tables: Tables<A>,
+    base: Base,
+    max_events: u32,
+) -> Result<Core<A>, Refusal>
+    requires sound { IsTrue (is_sound catalog tables) }
+    requires within { (base.transactions ≤ base.events) × (base.commits ≤ base.events) × (base.identifiers ≤ base.events) }
+    requires room { base.events + max_events < 2 ^ 64 }
+    ensures { AnswersOrNoMemory result
+        (if max_events == 0
+        then Err (of_code Code.ProgramLimitExceeded)
+        else Ok (record { opening = record { catalog = catalog; tables = tables; base = base }; records = []; most = max_events })) }
+{
+    match History::open(alloc, catalog, tables, base, max_events) {
+        Ok(history) => Ok(Core {
+            history,
+            world: World::open(alloc, base),
+        }),
+        Err(refusal) => Err(refusal),
+    }
+}
+
+// Whether a history may not go on from a place for so many events: for none, or for more than can
+// be counted.
+fn exceeds(place: u64, max_events: u32) -> bool
+    ensures { result ≡ (max_events == 0 || nat_le (2 ^ 64) (place + max_events)) }
+{
+    max_events == 0 || place > u64::MAX - u64::from(max_events)
+}
+
+// A core that goes on from the tables and the numbers of a history in which no session has a
+// transaction.
+fn go_on_quiet<A: Allocator + Copy>(
+    alloc: A,
+    history: &History<A>,
+    world: &World<A>,
+    max_events: u32,
+) -> Result<Core<A>, Refusal>
+    requires kept { IsKept history.now world.now }
+    requires quiet { are_quiet world.now.txns ≡ true }
+    ensures { AnswersOrNoMemory result (from_opening max_events (checkpoint_answer history.now.opening history.now.records max_events)) }
+{
+    let base = world.counted();
+    if exceeds(base.events, max_events) {
+        return Err(Refusal::of_code(Code::ProgramLimitExceeded));
+    }
+    let catalog = history.catalog().copy(alloc)?;
+    let tables = world.shown(alloc, history.tables(), base.commits)?;
+    open_on(alloc, catalog, tables, base, max_events)
+}
+
+// A core that goes on from the tables and the numbers of a history.
+fn go_on<A: Allocator + Copy>(
+    alloc: A,
+    history: &History<A>,
+    world: &World<A>,
+    max_events: u32,
+) -> Result<Core<A>, Refusal>
+    requires { IsKept history.now world.now }
+    ensures { AnswersOrNoMemory result (from_opening max_events (checkpoint_answer history.now.opening history.now.records max_events)) }
+{
+    if world.is_quiet() {
+        go_on_quiet(alloc, history, world, max_events)
+    } else {
+        Err(Refusal::of_code(Code::ObjectNotInPrerequisiteState))
+    }
+}
+
+impl<A: Allocator> Core<A> {
+    /// A core on a catalog and its tables, with room for `max_events` events; refused with 54000
+    /// where that is none.
+    pub fn open(
+        alloc: A,
+        catalog: Catalog<A>,
+        tables: Tables<A>,
+        max_events: u32,
+    ) -> Result<Core<A>, Refusal>
+    where
+        A: Copy,
+        requires { IsTrue (is_sound catalog tables) }
+        ensures { AnswersOrNoMemory result
+            (if max_events == 0
+            then Err (of_code Code.ProgramLimitExceeded)
+            else Ok (record { opening = record { catalog = catalog; tables = tables; base = zero_base }; records = []; most = max_events })) }
+    {
+        open_on(alloc, catalog, tables, Base::zero(), max_events)
+    }
+
+    /// Its history.
+    pub fn history(&self) -> &History<A>
+        ensures { result.now ≡ self.now }
+    {
+        &self.history
+    }
+
+    // The answer to an event where the history has room.
+    fn advance(&mut self, alloc: A, event: Event<A>) -> Result<Reply<A>, Refusal>
+    where
+        A: Copy,
+        requires room { HasRoom self.old }
+        requires allowed { Allowed self.old.opening.catalog event.action }
+        ensures reply { IfOk result (λ r. r ≡ answer self.old.opening self.old.records event.session event.action) }
+        ensures history { IfOk result (λ r. self.new ≡ recorded self.old event.session event.action r) }
+        ensures err { OnErr result (self.new ≡ self.old) }
+        ensures memory { IfErr result (λ e. e ≡ out_of_memory) }
+        ensures taken { OnErr result (takes_memory event.action ≡ true) }
+    {
+        let Event { session, action } = event;
+        let answered = self.world.step(
+            alloc,
+            self.history.catalog(),
+            self.history.tables(),
+            session,
+            &action,
+        )?;
+        self.history.push(Record {
+            session,
+            action,
+            reply: answered.recorded,
+        });
+        Ok(answered.reply)
+    }
+
+    /// One event: answered and recorded; or refused with 54000 where the history is full, or with
+    /// 53200 where a growth was refused (POLL and ROLLBACK take no memory), and then nothing has
+    /// changed.
+    pub fn step(&mut self, alloc: A, event: Event<A>) -> Reply<A>
+    where
+        A: Copy,
+        requires { Allowed self.old.opening.catalog event.action }
+        ensures { IsStep self.old self.new event.session event.action result }
+    {
+        if self.history.is_full() {
+            return Reply::Refused(Refusal::of_code(Code::ProgramLimitExceeded));
+        }
+        match self.advance(alloc, event) {
+            Ok(reply) => reply,
+            Err(refusal) => Reply::Refused(refusal),
+        }
+    }
+
+    /// The tables at the snapshot of a session's transaction, where that is known to be safe. They
+    /// are the view's own, so the core may go on.
+    pub fn view(&self, alloc: A, session: SessionId) -> Result<View<A>, Refusal>
+    where
+        A: Copy,
+        ensures { AnswersOrNoMemory result (view_answer self.now.opening self.now.records session) }
+    {
+        match self.world.view(alloc, self.history.tables(), session) {
+            Ok(tables) => Ok(View::of(tables)),
+            Err(refusal) => Err(refusal),
+        }
+    }
+
+    // A core that goes on from the tables and the numbers of this one.
+    fn next(&self, alloc: A, max_events: u32) -> Result<Core<A>, Refusal>
+    where
+        A: Copy,
+        ensures { AnswersOrNoMemory result (from_opening max_events (checkpoint_answer self.now.opening self.now.records max_events)) }
+    {
+        go_on(alloc, &self.history, &self.world, max_events)
+    }
+
+    /// A core that goes on, for `max_events` events, from the tables and the numbers that this one
+    /// has come to: the history before is given up. Refused while a session has a transaction
+    /// (55000), for no events or more than can be counted (54000), or for want of memory; then the
+    /// core comes back as it was.
+    pub fn checkpoint(self, alloc: A, max_events: u32) -> Result<Core<A>, (Core<A>, Refusal)>
+    where
+        A: Copy,
+        ensures { IsCheckpoint self max_events result }
+    {
+        match self.next(alloc, max_events) {
+            Ok(next) => Ok(next),
+            Err(refusal) => Err((self, refusal)),
+        }
+    }
+}

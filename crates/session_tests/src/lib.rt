@@ -1,0 +1,15 @@
+//! Tests alone: scripts of sessions on a core, against their printed replies.
+#![tactic(auto)]
+
+#[cfg(test)]
+mod conflicts;
+#[cfg(test)]
+mod core_calls;
+#[cfg(test)]
+mod fixture;
+#[cfg(test)]
+mod pivots;
+#[cfg(test)]
+mod snapshots;
+#[cfg(test)]
+mod states;
