@@ -1,0 +1,4 @@
+pub mod Course
+pub mod Replay
+pub mod Same
+pub mod Sorting

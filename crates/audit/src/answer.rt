@@ -1,0 +1,54 @@
+// Answers of statements, compared.
+ghost use Rattle.std.specs.Prelude.{◌≡◌, zip};
+ghost use Rattle.std.specs.List.{list_all};
+ghost use Rattle.schema.specs.Plain.{same};
+ghost use Rattle.audit.specs.Same.{same_answer, same_rows, same_values};
+
+use statement::reply::Reply;
+use statement::values::Values;
+use std::alloc::Allocator;
+use value::value::Value;
+
+// Whether values are the same, one by one, as far as both go.
+fn match_values<A: Allocator>(left: &[Value<A>], right: &[Value<A>]) -> bool
+    ensures { result ≡ list_all (λ p. same p.0 p.1) (zip left.now right.now) }
+{
+    left.iter().zip(right).all(|(value, other)| value == other)
+}
+
+// Whether they are the same values in the same order.
+fn are_same_values<A: Allocator>(left: &[Value<A>], right: &[Value<A>]) -> bool
+    ensures { result ≡ same_values left.now right.now }
+{
+    left.len() == right.len() && match_values(left, right)
+}
+
+// Whether rows are the same, one by one, as far as both go.
+fn match_rows<A: Allocator>(left: &[Values<A>], right: &[Values<A>]) -> bool
+    ensures { result ≡ list_all (λ p. same_values p.0 p.1) (zip left.now right.now) }
+{
+    left.iter().zip(right).all(|(row, other)| are_same_values(row.as_slice(), other.as_slice()))
+}
+
+// Whether they are the same rows in the same order.
+fn are_same_rows<A: Allocator>(left: &[Values<A>], right: &[Values<A>]) -> bool
+    ensures { result ≡ same_rows left.now right.now }
+{
+    left.len() == right.len() && match_rows(left, right)
+}
+
+/// Whether they are the same answer of a statement, and no refusal.
+pub fn is_same_answer<A: Allocator>(left: &Reply<A>, right: &Reply<A>) -> bool
+    ensures { result ≡ same_answer left.now right.now }
+{
+    match (left, right) {
+        (Reply::Inserted, Reply::Inserted) => true,
+        (Reply::Updated(rows), Reply::Updated(others)) => rows == others,
+        (Reply::Deleted(rows), Reply::Deleted(others)) => rows == others,
+        (Reply::Rows(rows), Reply::Rows(others)) => are_same_rows(
+            rows.as_slice(),
+            others.as_slice(),
+        ),
+        _ => false,
+    }
+}
