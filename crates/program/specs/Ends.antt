@@ -1,0 +1,23 @@
+-- How the program ends (this project's own choice).
+use Rattle.std.specs.Prelude.{ℕ, Result, Ok, Err}
+use Rattle.program.specs.declared.fault.Fault.{Fault}
+use Rattle.program.specs.declared.fault.Fault.TheVariants as fault
+use Rattle.program.specs.declared.fault.Status.{Status}
+use Rattle.program.specs.declared.fault.Status.TheVariants.{Done, Refused, Usage, Device}
+
+-- the exit status
+abbrev pub code : Status → ℕ
+code Done = 0
+code Refused = 1
+code Usage = 2
+code Device = 3
+
+-- what was read is refused, or a file failed
+abbrev pub status : Fault → Status
+status (fault.Script line) = Refused
+status (fault.Dump line c) = Refused
+status (fault.Device path) = Device
+
+abbrev pub end : Result (Unit {0}) Fault → Status
+end (Ok done) = Done
+end (Err f) = status f

@@ -1,0 +1,79 @@
+//! Why the program ends before its time, and how.
+
+ghost use Rattle.std.specs.Prelude.{◌≡◌};
+ghost use Rattle.program.specs.Ends as spec;
+
+use std::io::Write;
+use thiserror::Error;
+use value::refusal::Code;
+
+/// Why the program ends before its time, as it is told on standard error.
+#[derive(Debug, Drop, Error)]
+pub enum Fault<'p> {
+    /// A line of the script, 0 for want of memory.
+    #[error("script line {line}")]
+    Script { line: u64 },
+    /// A line of a dump, 0 for want of memory, and its code.
+    #[error("dump line {line}: {code}")]
+    Dump { line: u64, code: Code },
+    /// A file or a standard stream that couldn't be read or written.
+    #[error("device: {path}")]
+    Device { path: &'p str },
+}
+
+/// How the program ended.
+#[derive(Clone, Copy, Debug, PartialEq, Eq)]
+pub enum Status {
+    /// All was done, refused statements included.
+    Done,
+    /// What it was given to read is refused.
+    Refused,
+    /// The words are no command.
+    Usage,
+    /// A file couldn't be read or written.
+    Device,
+}
+
+impl Status {
+    /// The exit status.
+    pub fn code(self) -> u8
+        ensures { result ≡ spec.code self }
+    {
+        match self {
+            Status::Done => 0,
+            Status::Refused => 1,
+            Status::Usage => 2,
+            Status::Device => 3,
+        }
+    }
+}
+
+impl<'p> Fault<'p> {
+    /// How the program ends for it.
+    pub fn status(&self) -> Status
+        ensures { result ≡ spec.status self.now }
+    {
+        match self {
+            Fault::Script { .. } | Fault::Dump { .. } => Status::Refused,
+            Fault::Device { .. } => Status::Device,
+        }
+    }
+}
+
+/// Tells a fault in a line, and how the program ends for it.
+pub(crate) fn tell<E: Write>(fault: &Fault<'_>, err: &mut E) -> Status
+    ensures { result ≡ spec.status fault.now }
+{
+    let _ = writeln!(err, "{fault}");
+    fault.status()
+}
+
+/// How the program ends, with its fault told where there is one.
+pub(crate) fn end<E: Write>(done: Result<(), Fault<'_>>, err: &mut E) -> Status
+    ensures { result ≡ spec.end done.entry }
+{
+    match done {
+        Ok(()) => Status::Done,
+        Err(fault) => tell(&fault, err),
+    }
+}

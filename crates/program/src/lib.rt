@@ -1,0 +1,19 @@
+//! The program `pgserial`: scripts of sessions, and dumps, over files.
+#![tactic(auto)]
+
+mod fault;
+pub mod files;
+pub mod host;
+#[cfg(test)]
+mod memory;
+mod ordering;
+mod output;
+mod request;
+#[cfg(test)]
+mod request_tests;
+mod restoring;
+mod run;
+mod sessions;
+pub mod words;
+#[cfg(test)]
+mod words_tests;

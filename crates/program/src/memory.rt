@@ -1,0 +1,100 @@
+//! Files in memory, for tests.
+ghost use Rattle.std.specs.Prelude.{◌≡◌, ◌+◌, ◌++◌, length, map};
+
+use crate::files::{Files, ReadError};
+use collector::{Device, DeviceError};
+use http_server::Log;
+use std::alloc::Global;
+use std::sync::atomic::{AtomicBool, Ordering};
+
+// Files with their bytes, what standard input has, what is expected to be written to any file, and
+// whether all of it was.
+#[derive(Drop)]
+pub struct MemoryFiles<'f> {
+    pub files: &'f [(&'f str, &'f [u8])],
+    pub input: &'f [u8],
+    pub expected: &'f [u8],
+    pub is_whole: &'f AtomicBool,
+}
+
+// A file that fails where it is given another byte than is expected.
+#[derive(Drop)]
+pub struct MemoryFile<'f> {
+    left: &'f [u8],
+    is_whole: &'f AtomicBool,
+    taken: Log<u8, ()>,
+    failed: Log<(), ()>,
+}
+
+impl<'f> MemoryFile<'f> {
+    // Notes bytes that were taken.
+    fn note(&mut self, bytes: &[u8])
+        ensures taken { map (λ p. p.0) self.new.taken.items ≡ map (λ p. p.0) self.old.taken.items ++ bytes.now }
+        ensures failed { self.new.failed ≡ self.old.failed }
+    {
+        for byte in bytes {
+            self.taken = self.taken.and(byte, &());
+        }
+    }
+
+    // Notes a failure.
+    fn fail(&mut self)
+        ensures taken { self.new.taken ≡ self.old.taken }
+        ensures failed { length self.new.failed.items ≡ length self.old.failed.items + 1 }
+    {
+        self.failed = self.failed.and(&(), &());
+    }
+}
+
+impl<'f> Device for MemoryFile<'f> {
+    ghost taken = { λ f. map (λ p. p.0) f.taken.items };
+
+    ghost failures = { λ f. length f.failed.items };
+
+    fn write(&mut self, bytes: &[u8]) -> Result<usize, DeviceError> {
+        match self.left.strip_prefix(bytes) {
+            Some(left) => {
+                self.left = left;
+                self.is_whole.store(left.is_empty(), Ordering::SeqCst);
+                self.note(bytes);
+                Ok(bytes.len())
+            }
+            None => {
+                self.fail();
+                Err(DeviceError)
+            }
+        }
+    }
+}
+
+impl<'f> Files<Global> for MemoryFiles<'f> {
+    type Out = MemoryFile<'f>;
+
+    fn read(&self, alloc: Global, path: &str) -> Result<Vec<u8>, ReadError> {
+        for (name, bytes) in self.files {
+            if *name == path {
+                return match Vec::from_slice(alloc, bytes) {
+                    Ok(bytes) => Ok(bytes),
+                    Err(_) => Err(ReadError::Memory),
+                };
+            }
+        }
+        Err(ReadError::Device)
+    }
+
+    fn read_input(&self, alloc: Global) -> Result<Vec<u8>, ReadError> {
+        match Vec::from_slice(alloc, self.input) {
+            Ok(bytes) => Ok(bytes),
+            Err(_) => Err(ReadError::Memory),
+        }
+    }
+
+    fn create(&self, _alloc: Global, _path: &str) -> Result<MemoryFile<'f>, ReadError> {
+        Ok(MemoryFile {
+            left: self.expected,
+            is_whole: self.is_whole,
+            taken: Log::new(),
+            failed: Log::new(),
+        })
+    }
+}

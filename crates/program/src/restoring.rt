@@ -1,0 +1,140 @@
+//! A dump read, and written again.
+
+ghost use Rattle.std.specs.Prelude.{◌≡◌, IfOk, length, true};
+ghost use Rattle.schema.specs.Plain.{is_sound};
+
+use crate::fault::Fault;
+use crate::files::{Files, ReadError};
+use crate::output::{Printer, fault_of_print};
+use crate::run::read_path;
+use dumpplan::{Jobs, NoGate, PieceRows};
+use dumpworker::{DumpFault, dump};
+use itoa::Buffer;
+use restore::restore_one;
+use schema::catalog::{Catalog, TableNo};
+use schema::tables::Tables;
+use std::alloc::Allocator;
+use std::io::Write;
+use std::sync::Wait;
+use std::thread::Threads;
+use value::refusal::{Code, Refusal};
+
+// How many rows a piece has.
+const ROWS: u32 = 1000;
+
+const NO_MEMORY: Fault<'static> = Fault::Dump {
+    line: 0,
+    code: Code::OutOfMemory,
+};
+
+// How many rows there are in all tables.
+fn rows_of<A: Allocator>(catalog: &Catalog<A>, tables: &Tables<A>) -> u64
+    requires { length tables.now ≡ length catalog.now }
+{
+    let mut rows = 0u64;
+    for table in 0..catalog.len() as u32 {
+        rows = rows.saturating_add(tables.len(TableNo::at(table)) as u64);
+    }
+    rows
+}
+
+// What is printed of a restored dump.
+fn told<A: Allocator>(
+    alloc: A,
+    catalog: &Catalog<A>,
+    tables: &Tables<A>,
+) -> Result<Vec<u8, A>, Refusal>
+    requires { length tables.now ≡ length catalog.now }
+{
+    let mut digits = Buffer::new();
+    let mut text = Vec::new(alloc);
+    text.extend_from_slice(b"RESTORE ")?;
+    text.extend_from_slice(digits.format(catalog.len()).as_bytes())?;
+    text.extend_from_slice(b" tables ")?;
+    text.extend_from_slice(digits.format(rows_of(catalog, tables)).as_bytes())?;
+    text.extend_from_slice(b" rows\n")?;
+    Ok(text)
+}
+
+// Sound tables are as many as the catalog's. It does nothing.
+fn sound_tables_are_counted<A: Allocator>(_catalog: &Catalog<A>, _tables: &Tables<A>)
+    requires { is_sound _catalog.now _tables.now ≡ true }
+    ensures { length _tables.now ≡ length _catalog.now }
+{}
+
+/// The catalog and the tables that a dump reads as.
+pub(crate) fn read_dump<'p, A: Allocator + Copy>(
+    alloc: A,
+    dump: &[u8],
+) -> Result<(Catalog<A>, Tables<A>), Fault<'p>>
+    ensures { IfOk result (λ x. is_sound x.0 x.1 ≡ true) }
+{
+    match restore_one(alloc, dump) {
+        Ok(found) => Ok(found),
+        Err(fault) => Err(Fault::Dump {
+            line: fault.line,
+            code: fault.code,
+        }),
+    }
+}
+
+// Writes tables to a file.
+fn write_again<'p, A, F, T>(
+    rt: &T,
+    alloc: A,
+    files: &F,
+    catalog: &Catalog<A>,
+    tables: &Tables<A>,
+    jobs: u32,
+    out: &'p str,
+) -> Result<(), Fault<'p>>
+where
+    A: Allocator + Copy + Sync,
+    F: Files<A>,
+    T: Threads + Wait + Sync,
+    requires { length tables.now ≡ length catalog.now }
+{
+    let mut file = match files.create(alloc, out) {
+        Ok(file) => file,
+        Err(ReadError::Memory) => return Err(NO_MEMORY),
+        Err(ReadError::Device) => return Err(Fault::Device { path: out }),
+    };
+    let (Some(jobs), Some(rows)) = (Jobs::new(jobs), PieceRows::new(ROWS)) else {
+        return Err(Fault::Device { path: out });
+    };
+    match dump(rt, alloc, tables, catalog, jobs, rows, &mut file, &NoGate) {
+        Ok(()) => Ok(()),
+        Err(DumpFault::Memory) => Err(NO_MEMORY),
+        Err(DumpFault::Device) => Err(Fault::Device { path: out }),
+    }
+}
+
+/// Loads a dump, writes its text to a file, and tells its tables and rows.
+pub(crate) fn restore_file<'p, A, F, W, T>(
+    rt: &T,
+    alloc: A,
+    files: &F,
+    path: &'p str,
+    jobs: u32,
+    out: &'p str,
+    printer: &mut Printer<'_, W, A>,
+) -> Result<(), Fault<'p>>
+where
+    A: Allocator + Copy + Sync,
+    F: Files<A>,
+    W: Write,
+    T: Threads + Wait + Sync,
+{
+    let bytes = read_path(alloc, files, path, NO_MEMORY)?;
+    let (catalog, tables) = read_dump(alloc, bytes.as_slice())?;
+    sound_tables_are_counted(&catalog, &tables);
+    write_again(rt, alloc, files, &catalog, &tables, jobs, out)?;
+    let Ok(text) = told(alloc, &catalog, &tables) else {
+        return Err(NO_MEMORY);
+    };
+    let printed = printer.print(text.as_slice());
+    match printed.and(printer.flush()) {
+        Ok(()) => Ok(()),
+        Err(error) => Err(fault_of_print(error)),
+    }
+}

@@ -1,0 +1,272 @@
+//! Scripts: their reading, their lines, their audit.
+
+ghost use Rattle.std.specs.Prelude.{◌≡◌, IfOk, true};
+ghost use Rattle.schema.specs.Plain.{is_sound};
+
+use crate::fault::{Fault, Status, end, tell};
+use crate::files::{Files, ReadError};
+use crate::ordering::order_text;
+use crate::output::{Printer, fault_of_print, show_refusal};
+use crate::restoring::read_dump;
+use crate::sessions::{MOST_EVENTS, checkpoint, do_command};
+use schema::catalog::Catalog;
+use schema::tables::Tables;
+use script::script::{Line, Script, Step, read_script};
+use session::sessions::Core;
+use std::alloc::Allocator;
+use std::io::Write;
+use std::sync::Wait;
+use std::thread::Threads;
+use value::refusal::Code;
+use value::text::Text;
+
+/// Whether replies are printed, or the serial order.
+#[derive(Clone, Copy, Debug, PartialEq, Eq)]
+pub(crate) enum Shown {
+    Replies,
+    Order,
+}
+
+/// The bytes of a path, where `-` is standard input.
+pub(crate) fn read_path<'p, A, F>(
+    alloc: A,
+    files: &F,
+    path: &'p str,
+    memory: Fault<'p>,
+) -> Result<Vec<u8, A>, Fault<'p>>
+where
+    A: Allocator + Copy,
+    F: Files<A>,
+{
+    let read = if path == "-" {
+        files.read_input(alloc)
+    } else {
+        files.read(alloc, path)
+    };
+    match read {
+        Ok(bytes) => Ok(bytes),
+        Err(ReadError::Device) => Err(Fault::Device { path }),
+        Err(ReadError::Memory) => Err(memory),
+    }
+}
+
+// The tables of a dump that a script opens.
+fn open_dump<'p, A, F>(
+    alloc: A,
+    files: &F,
+    path: &'p str,
+) -> Result<(Catalog<A>, Tables<A>), Fault<'p>>
+where
+    A: Allocator + Copy,
+    F: Files<A>,
+    ensures { IfOk result (λ x. is_sound x.0 x.1 ≡ true) }
+{
+    let dump = match files.read(alloc, path) {
+        Ok(dump) => dump,
+        Err(ReadError::Device) => return Err(Fault::Device { path }),
+        Err(ReadError::Memory) => {
+            return Err(Fault::Dump {
+                line: 0,
+                code: Code::OutOfMemory,
+            });
+        }
+    };
+    read_dump(alloc, dump.as_slice())
+}
+
+// The tables of a catalog, without rows.
+fn empty_tables<'p, A: Allocator + Copy>(
+    alloc: A,
+    catalog: Catalog<A>,
+) -> Result<(Catalog<A>, Tables<A>), Fault<'p>>
+    ensures { IfOk result (λ x. is_sound x.0 x.1 ≡ true) }
+{
+    match Tables::new(alloc, &catalog) {
+        Ok(tables) => Ok((catalog, tables)),
+        Err(_) => Err(Fault::Script { line: 0 }),
+    }
+}
+
+// The core that a script begins with.
+fn open_core<'p, A, F>(
+    alloc: A,
+    files: &F,
+    opens: Option<&'p Text<A>>,
+    catalog: Catalog<A>,
+) -> Result<Core<A>, Fault<'p>>
+where
+    A: Allocator + Copy,
+    F: Files<A>,
+{
+    let (catalog, tables) = match opens {
+        Some(path) => open_dump(alloc, files, path.as_str())?,
+        None => empty_tables(alloc, catalog)?,
+    };
+    match Core::open(alloc, catalog, tables, MOST_EVENTS) {
+        Ok(core) => Ok(core),
+        Err(_) => Err(Fault::Script { line: 0 }),
+    }
+}
+
+// The serial order as it is printed, or nothing where replies are.
+fn order_of<'p, A>(alloc: A, shown: Shown, core: &Core<A>) -> Result<Vec<u8, A>, Fault<'p>>
+where
+    A: Allocator + Copy,
+{
+    if shown == Shown::Replies {
+        return Ok(Vec::new(alloc));
+    }
+    match order_text(alloc, core) {
+        Ok(text) => Ok(text),
+        Err(_) => Err(Fault::Script { line: 0 }),
+    }
+}
+
+// Prints a text, whatever else is shown.
+fn show<'p, A, W>(text: &[u8], printer: &mut Printer<'_, W, A>) -> Result<(), Fault<'p>>
+where
+    A: Allocator,
+    W: Write,
+{
+    match printer.print(text) {
+        Ok(()) => Ok(()),
+        Err(error) => Err(fault_of_print(error)),
+    }
+}
+
+// A checkpoint: the serial order so far, where it is asked for and the checkpoint is done.
+fn pass_checkpoint<'p, A, W>(
+    alloc: A,
+    core: Core<A>,
+    shown: Shown,
+    printer: &mut Printer<'_, W, A>,
+) -> Result<Core<A>, Fault<'p>>
+where
+    A: Allocator + Copy,
+    W: Write,
+{
+    let order = order_of(alloc, shown, &core)?;
+    let (core, refusal) = checkpoint(alloc, core);
+    match (shown, refusal) {
+        (Shown::Replies, None) => show(b"CHECKPOINT\n", printer)?,
+        (Shown::Replies, Some(refusal)) => show_refusal(refusal, printer)?,
+        (Shown::Order, None) => show(order.as_slice(), printer)?,
+        (Shown::Order, Some(_)) => {}
+    }
+    Ok(core)
+}
+
+// Does the lines of a script, one after the other.
+fn do_lines<'p, A, F, W, T>(
+    rt: &T,
+    alloc: A,
+    files: &F,
+    mut core: Core<A>,
+    lines: &'p [Line<A>],
+    shown: Shown,
+    printer: &mut Printer<'_, W, A>,
+) -> Result<(), Fault<'p>>
+where
+    A: Allocator + Copy + Sync,
+    F: Files<A>,
+    W: Write,
+    T: Threads + Wait + Sync,
+{
+    for line in lines {
+        match &line.step {
+            Step::Session(session, command) => {
+                let text = do_command(rt, alloc, files, &mut core, *session, command)?;
+                if shown == Shown::Replies {
+                    show(text.as_slice(), printer)?;
+                }
+            }
+            Step::Checkpoint => core = pass_checkpoint(alloc, core, shown, printer)?,
+        }
+    }
+    let order = order_of(alloc, shown, &core)?;
+    show(order.as_slice(), printer)
+}
+
+// Does the lines of a script that was read, from the tables of its dump or of its own.
+fn do_script<'p, A, F, W, T>(
+    rt: &T,
+    alloc: A,
+    files: &F,
+    catalog: Catalog<A>,
+    opens: Option<&'p Text<A>>,
+    lines: &'p [Line<A>],
+    shown: Shown,
+    printer: &mut Printer<'_, W, A>,
+) -> Result<(), Fault<'p>>
+where
+    A: Allocator + Copy + Sync,
+    F: Files<A>,
+    W: Write,
+    T: Threads + Wait + Sync,
+{
+    let core = open_core(alloc, files, opens, catalog)?;
+    let done = do_lines(rt, alloc, files, core, lines, shown, printer);
+    match printer.flush() {
+        Ok(()) => done,
+        Err(error) => Err(fault_of_print(error)),
+    }
+}
+
+// Does a script that was read, and tells why it isn't done where it isn't.
+fn do_read<A, F, W, E, T>(
+    rt: &T,
+    alloc: A,
+    files: &F,
+    script: Script<A>,
+    shown: Shown,
+    printer: &mut Printer<'_, W, A>,
+    err: &mut E,
+) -> Status
+where
+    A: Allocator + Copy + Sync,
+    F: Files<A>,
+    W: Write,
+    E: Write,
+    T: Threads + Wait + Sync,
+{
+    let (catalog, opens, lines) = script.into_parts();
+    let done = do_script(
+        rt,
+        alloc,
+        files,
+        catalog,
+        opens.as_ref(),
+        lines.as_slice(),
+        shown,
+        printer,
+    );
+    end(done, err)
+}
+
+/// Does the script of a path, or of standard input, prints what is shown of it, and tells on `err`
+/// why it isn't done where it isn't.
+pub(crate) fn run_file<A, F, W, E, T>(
+    rt: &T,
+    alloc: A,
+    files: &F,
+    path: &str,
+    shown: Shown,
+    printer: &mut Printer<'_, W, A>,
+    err: &mut E,
+) -> Status
+where
+    A: Allocator + Copy + Sync,
+    F: Files<A>,
+    W: Write,
+    E: Write,
+    T: Threads + Wait + Sync,
+{
+    let bytes = match read_path(alloc, files, path, Fault::Script { line: 0 }) {
+        Ok(bytes) => bytes,
+        Err(fault) => return tell(&fault, err),
+    };
+    match read_script(alloc, bytes.as_slice()) {
+        Ok(script) => do_read(rt, alloc, files, script, shown, printer, err),
+        Err(fault) => tell(&Fault::Script { line: fault.line }, err),
+    }
+}

@@ -1,0 +1,86 @@
+//! The program, over any files.
+
+ghost use Rattle.std.specs.Prelude.{◌≤◌};
+
+use crate::fault::{Status, end};
+use crate::files::Files;
+use crate::output::Printer;
+use crate::request::{Request, read_words};
+use crate::restoring::restore_file;
+use crate::run::{Shown, run_file};
+use clap::Error;
+use std::alloc::{Allocator, Global};
+use std::io::Write;
+use std::sync::Wait;
+use std::thread::Threads;
+
+// Does what the words ask for.
+fn do_request<A, F, W, E, T>(
+    rt: &T,
+    alloc: A,
+    request: Request<'_>,
+    files: &F,
+    out: &mut W,
+    err: &mut E,
+) -> Status
+where
+    A: Allocator + Copy + Sync,
+    F: Files<A>,
+    W: Write,
+    E: Write,
+    T: Threads + Wait + Sync,
+{
+    let mut printer = Printer::new(alloc, out);
+    match request {
+        Request::Run { script } => {
+            run_file(rt, alloc, files, script, Shown::Replies, &mut printer, err)
+        }
+        Request::Audit { script } => {
+            run_file(rt, alloc, files, script, Shown::Order, &mut printer, err)
+        }
+        Request::Restore { dump, jobs, out } => {
+            let done = restore_file(rt, alloc, files, dump, jobs, out, &mut printer);
+            end(done, err)
+        }
+    }
+}
+
+// Tells the text of a mistake in the words, or the help that they ask for.
+fn tell_words<W: Write, E: Write>(error: &Error, out: &mut W, err: &mut E) -> Status {
+    if error.use_stderr() {
+        let _ = write!(err, "{error}");
+        return Status::Usage;
+    }
+    match write!(out, "{error}") {
+        Ok(()) => Status::Done,
+        Err(_) => Status::Device,
+    }
+}
+
+/// Does what the words behind the program's name ask for, over these files, and gives the exit
+/// status: 0 where it was done, refused statements included; 1 where a script or a dump is refused;
+/// 2 for words that are no command; 3 where a file or standard output failed. Why it wasn't 0 is told
+/// in a line on `err`.
+pub fn run_words<A, F, W, E, T>(
+    rt: &T,
+    words_memory: Global,
+    alloc: A,
+    words: &[&str],
+    files: &F,
+    out: &mut W,
+    err: &mut E,
+) -> u8
+where
+    A: Allocator + Copy + Sync,
+    F: Files<A>,
+    W: Write,
+    E: Write,
+    T: Threads + Wait + Sync,
+    ensures { result ≤ 3 }
+{
+    let status = match read_words(words_memory, words) {
+        Err(error) => tell_words(&error, out, err),
+        Ok(request) => do_request(rt, alloc, request, files, out, err),
+    };
+    status.code()
+}
