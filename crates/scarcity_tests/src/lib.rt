@@ -3,6 +3,18 @@
 #![tactic(auto)]
 
 #[cfg(test)]
+mod copied;
+#[cfg(test)]
 mod driver;
+#[cfg(test)]
+mod dumps;
+#[cfg(test)]
+mod fixture;
+#[cfg(test)]
+mod statements;
+#[cfg(test)]
+mod steps;
+#[cfg(test)]
+mod tables;
 #[cfg(test)]
 mod values;

@@ -1,0 +1,95 @@
+//! Tables made of texts.
+use schema::catalog::{Catalog, TableNo};
+use schema::row::Row;
+use schema::tables::Tables;
+use sqltext::create::parse_create;
+use sqltext::parse::parse_statement;
+use statement::statement::Statement;
+use std::alloc::Allocator;
+use value::key::Key;
+use value::refusal::{Code, Refusal};
+use value::value::Value;
+
+/// A table, and another whose rows reference the first one's.
+pub const CREATES: [&str; 2] = [
+    "CREATE TABLE p (id bigint PRIMARY KEY, name text NOT NULL);",
+    "CREATE TABLE c (id bigint PRIMARY KEY, p bigint REFERENCES p, raw bytea);",
+];
+
+const INSERTS: [&str; 4] = [
+    "INSERT INTO p VALUES (1, 'a name')",
+    "INSERT INTO p VALUES (2, 'another')",
+    "INSERT INTO c VALUES (5, 2, '\\x00ff')",
+    "INSERT INTO c VALUES (6, NULL, NULL)",
+];
+
+/// A catalog and its tables.
+#[derive(Drop)]
+#[derive_where(Debug)]
+pub struct Database<A: Allocator> {
+    pub catalog: Catalog<A>,
+    pub tables: Tables<A>,
+}
+
+/// The refusal of a call that a test has no condition for. No tried call answers it.
+pub fn not_asked() -> Refusal {
+    Refusal::of_code(Code::SyntaxError)
+}
+
+/// The catalog of the two tables.
+pub fn catalog<A: Allocator + Copy>(alloc: A) -> Result<Catalog<A>, Refusal> {
+    let mut catalog = Catalog::new(alloc);
+    for text in CREATES {
+        catalog.add(alloc, parse_create(alloc, text)?)?;
+    }
+    Ok(catalog)
+}
+
+// The row of its values, of which the first is the key.
+fn row_of<A: Allocator + Copy>(alloc: A, values: &[Value<A>]) -> Result<Row<A>, Refusal> {
+    let [key, rest @ ..] = values else {
+        return Err(not_asked());
+    };
+    let key = Key::new(key.copy(alloc)?).ok_or(not_asked())?;
+    let mut fields = Vec::new(alloc);
+    for value in rest {
+        fields.push(value.copy(alloc)?)?;
+    }
+    Ok(Row::new(key, fields))
+}
+
+/// The row of an INSERT, and its table.
+pub fn row<A: Allocator + Copy>(
+    alloc: A,
+    catalog: &Catalog<A>,
+    text: &str,
+) -> Result<(TableNo, Row<A>), Refusal> {
+    match parse_statement(alloc, catalog, text)? {
+        Statement::Insert(table, values) => Ok((table, row_of(alloc, values.as_slice())?)),
+        _ => Err(not_asked()),
+    }
+}
+
+/// Puts in the row of an INSERT.
+pub fn insert<A: Allocator + Copy>(
+    alloc: A,
+    database: &mut Database<A>,
+    text: &str,
+) -> Result<(), Refusal> {
+    let (table, row) = row(alloc, &database.catalog, text)?;
+    if !database.catalog.has(table) || database.tables.count() != database.catalog.len() {
+        return Err(not_asked());
+    }
+    database.tables.insert(alloc, &database.catalog, table, row)
+}
+
+/// The two tables with two rows each.
+pub fn two_tables<A: Allocator + Copy>(alloc: A) -> Result<Database<A>, Refusal> {
+    let catalog = catalog(alloc)?;
+    let tables = Tables::new(alloc, &catalog)?;
+    let mut database = Database { catalog, tables };
+    for text in INSERTS {
+        insert(alloc, &mut database, text)?;
+    }
+    Ok(database)
+}
