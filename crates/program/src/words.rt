@@ -2,7 +2,7 @@
 
 ghost use Rattle.std.specs.Prelude.{◌≤◌};
 
-use crate::fault::{Status, end};
+use crate::fault::{Fault, Status, end, tell};
 use crate::files::Files;
 use crate::output::Printer;
 use crate::request::{Request, read_words};
@@ -53,14 +53,14 @@ fn tell_words<W: Write, E: Write>(error: &Error, out: &mut W, err: &mut E) -> St
     }
     match write!(out, "{error}") {
         Ok(()) => Status::Done,
-        Err(_) => Status::Device,
+        Err(_) => tell(&Fault::Device { path: "-" }, err),
     }
 }
 
 /// Does what the words behind the program's name ask for, over these files, and gives the exit
 /// status: 0 where it was done, refused statements included; 1 where a script or a dump is refused;
 /// 2 for words that are no command; 3 where a file or standard output failed. Why it wasn't 0 is told
-/// in a line on `err`.
+/// in a line on `err`. The parser of words takes its memory of `words_memory`, all else of `alloc`.
 pub fn run_words<A, F, W, E, T>(
     rt: &T,
     words_memory: Global,
