@@ -17,7 +17,13 @@ fn words(rt: &HostRuntime) -> io::Result<Vec<String>> {
 }
 
 fn main(rt: HostRuntime) -> io::Result<ExitCode> {
-    let words = words(&rt)?;
+    let words = match words(&rt) {
+        Ok(words) => words,
+        Err(error) => {
+            eprintln!(rt; "{error}")?;
+            return Ok(ExitCode::from(2));
+        }
+    };
     let mut lent = Vec::new(rt.alloc());
     for word in &words {
         lent.push(word.as_str())?;
