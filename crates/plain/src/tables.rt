@@ -1,48 +1,15 @@
 // The tables that a snapshot shows, and those of a transaction's own.
 ghost use Rattle.std.specs.Prelude.{◌≡◌, ◌-◌, take, OnOk, IfOk, IfErr};
 ghost use Rattle.value.specs.Refusals.{out_of_memory};
-ghost use Rattle.schema.specs.Plain.{put_all, put_in};
+ghost use Rattle.schema.specs.Plain.{put_all};
 ghost use Rattle.history.specs.Transactions.{with_all};
 ghost use Rattle.plain.specs.Ledger.{shown_tables};
 
 use crate::transaction::Transaction;
 use crate::world::{Logged, World};
-use schema::changes::Change;
 use schema::tables::Tables;
 use std::alloc::Allocator;
 use value::refusal::Refusal;
-
-// Puts in a change. One of a table that isn't there changes nothing.
-fn put_change<A: Allocator + Copy>(
-    alloc: A,
-    tables: &mut Tables<A>,
-    change: &Change<A>,
-) -> Result<(), Refusal>
-    ensures ok { OnOk result (tables.new ≡ put_in change.now tables.old) }
-    ensures memory { IfErr result (λ e. e ≡ out_of_memory) }
-{
-    if tables.has(change.table()) {
-        tables.apply(alloc, change)?;
-    }
-    Ok(())
-}
-
-// Puts in changes, one after another.
-fn put_changes<A: Allocator + Copy>(
-    alloc: A,
-    tables: &mut Tables<A>,
-    changes: &[Change<A>],
-) -> Result<(), Refusal>
-    ensures ok { OnOk result (tables.new ≡ put_all changes.now tables.old) }
-    ensures memory { IfErr result (λ e. e ≡ out_of_memory) }
-{
-    let mut left = changes;
-    while let [change, rest @ ..] = left {
-        put_change(alloc, tables, change)?;
-        left = rest;
-    }
-    Ok(())
-}
 
 // Puts in commits, one after another.
 fn put_commits<A: Allocator + Copy>(
@@ -55,7 +22,7 @@ fn put_commits<A: Allocator + Copy>(
 {
     let mut left = commits;
     while let [commit, rest @ ..] = left {
-        put_changes(alloc, tables, commit.changes())?;
+        tables.apply_all(alloc, commit.changes())?;
         left = rest;
     }
     Ok(())
@@ -103,7 +70,7 @@ impl<A: Allocator> World<A> {
         ensures memory { IfErr result (λ e. e ≡ out_of_memory) }
     {
         let mut tables = self.shown(alloc, opening, transaction.snapshot)?;
-        put_changes(alloc, &mut tables, transaction.changes.as_slice())?;
+        tables.apply_all(alloc, transaction.changes.as_slice())?;
         Ok(tables)
     }
 }

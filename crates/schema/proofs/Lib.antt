@@ -2,6 +2,7 @@ mod AddingLemmas
 pub mod ChangingLemmas
 pub mod InsertingLemmas
 mod KeyedLemmas
+mod LevelsLemmas
 mod MadeLemmas
 mod NamedLemmas
 pub mod RowsInOrder

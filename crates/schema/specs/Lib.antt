@@ -6,6 +6,7 @@ pub mod Inserting
 pub mod Keyed
 pub mod KeyedChange
 pub mod Left
+pub mod Levels
 pub mod Named
 pub mod Names
 pub mod Plain

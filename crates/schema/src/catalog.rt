@@ -4,6 +4,7 @@ ghost use Rattle.schema.specs.Definition.{columns_of, table_named, column_named}
 ghost use Rattle.schema.specs.WellFormed.{is_catalog};
 
 mod add;
+mod levels;
 
 use indexmap::IndexMap;
 use std::alloc::{Allocator, Global};

@@ -143,6 +143,19 @@ impl<A: Allocator> Table<A> {
         }
     }
 
+    /// The rows in the order of their keys, moved out.
+    pub fn into_rows(self, alloc: A) -> Result<Vec<Row<A>, A>, Refusal>
+        ensures ok { IfOk result (λ rows. rows.items ≡ self) }
+        ensures err { IfErr result (λ e. e ≡ out_of_memory) }
+    {
+        let Table { rows } = self;
+        let mut moved = Vec::with_capacity(alloc, rows.len())?;
+        for (_, row) in rows {
+            moved.push(row)?;
+        }
+        Ok(moved)
+    }
+
     /// Equal rows.
     pub fn copy(&self, alloc: A) -> Result<Table<A>, Refusal>
     where

@@ -1,7 +1,7 @@
-ghost use Rattle.std.specs.Prelude.{◌≡◌, [], ◌∷◌, length, slice_set, ◌↔◌, IsTrue, OnOk, OnErr, IfOk, IfErr};
+ghost use Rattle.std.specs.Prelude.{◌≡◌, ℕ, [], ◌∷◌, length, map, take, slice_set, ◌↔◌, IsTrue, OnOk, OnErr, IfOk, IfErr};
 ghost use Rattle.value.specs.Refusals.{out_of_memory};
 ghost use Rattle.schema.specs.Rows.{HasTable, put_row};
-ghost use Rattle.schema.specs.Plain.{rows_of, put_all};
+ghost use Rattle.schema.specs.Plain.{rows_of, put_in, put_all};
 ghost use Rattle.schema.specs.Inserting.{empty_tables};
 
 mod insert;
@@ -94,6 +94,50 @@ impl<A: Allocator> Tables<A> {
     {
         let table = &mut self.tables[change.table().place() as usize];
         table.apply(alloc, change.key(), change.fields())
+    }
+
+    // Puts in a change. One of a table that isn't there changes nothing.
+    fn put_in(&mut self, alloc: A, change: &Change<A>) -> Result<(), Refusal>
+    where
+        A: Copy,
+        ensures ok { OnOk result (self.new ≡ put_in change.now self.old) }
+        ensures err { OnErr result (self.new ≡ self.old) }
+        ensures memory { IfErr result (λ e. e ≡ out_of_memory) }
+    {
+        if self.has(change.table()) {
+            self.apply(alloc, change)?;
+        }
+        Ok(())
+    }
+
+    /// Puts in changes, one after another. One of a table that isn't there changes nothing. After want of memory those before
+    /// some change are put in.
+    pub fn apply_all(&mut self, alloc: A, changes: &[Change<A>]) -> Result<(), Refusal>
+    where
+        A: Copy,
+        ensures ok { OnOk result (self.new ≡ put_all changes.now self.old) }
+        ensures err { OnErr result ((n : ℕ) × (self.new ≡ put_all (take n changes.now) self.old)) }
+        ensures memory { IfErr result (λ e. e ≡ out_of_memory) }
+    {
+        for change in changes {
+            self.put_in(alloc, change)?;
+        }
+        Ok(())
+    }
+
+    /// Each table's rows in the order of their keys, moved out.
+    pub fn into_rows(self, alloc: A) -> Result<Vec<Vec<Row<A>, A>, A>, Refusal>
+    where
+        A: Copy,
+        ensures ok { IfOk result (λ tables. map (λ rows. rows.items) tables.items ≡ self) }
+        ensures err { IfErr result (λ e. e ≡ out_of_memory) }
+    {
+        let Tables { tables } = self;
+        let mut moved = Vec::with_capacity(alloc, tables.len())?;
+        for table in tables {
+            moved.push(table.into_rows(alloc)?)?;
+        }
+        Ok(moved)
     }
 
     /// Equal tables.

@@ -354,6 +354,71 @@ fn changes_one_after_another(rt: HostRuntime) -> Result<(), Fail> {
     Ok(())
 }
 
+// The key of each row and how many fields stand beside it.
+fn keys_and_counts(alloc: Global, rows: &[Row]) -> Result<Vec<(i64, usize)>, Fail> {
+    let mut counted = Vec::new(alloc);
+    for row in rows {
+        if let Value::Int(key) = row.key().value() {
+            counted.push((*key, row.fields().len()))?;
+        }
+    }
+    Ok(counted)
+}
+
+#[test]
+fn all_changes_at_once(rt: HostRuntime) -> Result<(), Fail> {
+    let alloc = rt.alloc();
+    let mut tables = Tables::new(alloc, &parent_and_child(alloc)?)?;
+    let (parent, child, nowhere) = (TableNo::at(0), TableNo::at(1), TableNo::at(2));
+    assert!(rt; tables.has(parent));
+    tables.put(alloc, parent, row(alloc, 1, "-", 0, 0)?)?;
+    let mut changes = Changes::new(alloc);
+    changes.put_row(alloc, child, row(alloc, 7, "a", 3, 2)?)?;
+    changes.put_row(alloc, nowhere, row(alloc, 8, "-", 0, 0)?)?;
+    changes.put_row(alloc, parent, row(alloc, 3, "-", 0, 0)?)?;
+    changes.put_row(alloc, parent, row(alloc, -2, "-", 0, 0)?)?;
+    let one = Key::new(Value::Int(1)).ok_or("a null key")?;
+    changes.put_absence(alloc, parent, one)?;
+    let changes = changes.into_list(alloc)?;
+    tables.apply_all(alloc, changes.as_slice())?;
+    let mut rows = Vec::new(alloc);
+    for table in &tables.into_rows(alloc)? {
+        rows.push(keys_and_counts(alloc, table.as_slice())?)?;
+    }
+    assert_eq!(rt;
+        format!(in alloc; "{rows:?}")?.as_str(),
+        "[[(-2, 0), (3, 0)], [(7, 2)]]"
+    );
+    Ok(())
+}
+
+#[test]
+fn levels_of_references(rt: HostRuntime) -> Result<(), Fail> {
+    let alloc = rt.alloc();
+    let mut catalog = Catalog::new(alloc);
+    for (name, references) in [
+        ("p", ""),
+        ("q", ""),
+        ("c", "p"),
+        ("d", "c"),
+        ("e", "q"),
+        ("f", "d"),
+    ] {
+        catalog.add(alloc, table(alloc, name, 2, Kind::Bigint, references)?)?;
+    }
+    let mut columns = Vec::new(alloc);
+    columns.push(column(alloc, "id", Kind::Bigint, false, "e")?)?;
+    columns.push(column(alloc, "c", Kind::Bigint, false, "c")?)?;
+    columns.push(column(alloc, "p", Kind::Bigint, false, "p")?)?;
+    let name = Text::from_str(alloc, "g")?;
+    catalog.add(alloc, TableDef::new(alloc, name, columns)?)?;
+    assert_eq!(rt;
+        catalog.levels(alloc)?.as_slice(),
+        [0, 0, 1, 2, 1, 3, 2].as_slice()
+    );
+    Ok(())
+}
+
 #[test]
 fn a_copied_catalog(rt: HostRuntime) -> Result<(), Fail> {
     let alloc = rt.alloc();
