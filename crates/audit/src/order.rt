@@ -3,7 +3,7 @@ ghost use Rattle.std.specs.Prelude.{◌≡◌, ◌↔◌, ◌-◌, ◌==◌, ◌
 ghost use Rattle.std.specs.List.{filter, find, list_all};
 ghost use Rattle.std.specs.Option.{option_copied};
 ghost use Rattle.value.specs.Refusals.{out_of_memory};
-ghost use Rattle.schema.specs.Plain.{is_sound, put_all};
+ghost use Rattle.schema.specs.Plain.{is_sound};
 ghost use Rattle.statement.specs.Evaluation.{after, outcome};
 ghost use Rattle.statement.specs.Fits.{fits};
 ghost use Rattle.history.specs.Answer.{IsLegal};
@@ -18,42 +18,11 @@ use crate::answer::is_same_answer;
 use crate::course::{Answered, Course, courses};
 use history::list::History;
 use schema::catalog::Catalog;
-use schema::changes::Change;
 use schema::tables::Tables;
 use statement::evaluate::evaluate;
 use std::alloc::Allocator;
 use std::mem;
 use value::refusal::{Refusal, TxnNo};
-
-// Puts a change into tables; one of a table that isn't there changes nothing.
-fn apply<A: Allocator + Copy>(
-    alloc: A,
-    tables: &mut Tables<A>,
-    change: &Change<A>,
-) -> Result<(), Refusal>
-    ensures ok { OnOk result (tables.new ≡ put_all (change.now ∷ []) tables.old) }
-    ensures memory { IfErr result (λ e. e ≡ out_of_memory) }
-{
-    if tables.has(change.table()) {
-        tables.apply(alloc, change)?;
-    }
-    Ok(())
-}
-
-// Puts changes into tables, in their order.
-fn apply_all<A: Allocator + Copy>(
-    alloc: A,
-    tables: &mut Tables<A>,
-    changes: &[Change<A>],
-) -> Result<(), Refusal>
-    ensures ok { OnOk result (tables.new ≡ put_all changes.now tables.old) }
-    ensures memory { IfErr result (λ e. e ≡ out_of_memory) }
-{
-    for change in changes {
-        apply(alloc, tables, change)?;
-    }
-    Ok(())
-}
 
 // Does a statement again, which may change the tables: whether it gets the same answer.
 fn answers_so<A: Allocator + Copy>(
@@ -70,7 +39,7 @@ fn answers_so<A: Allocator + Copy>(
 {
     let outcome = evaluate(alloc, catalog, &answered.statement, &*tables)?;
     let changes = outcome.changes.into_list(alloc)?;
-    apply_all(alloc, tables, changes.as_slice())?;
+    tables.apply_all(alloc, changes.as_slice())?;
     Ok(is_same_answer(&outcome.reply, &answered.reply))
 }
 
