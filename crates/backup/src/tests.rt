@@ -39,49 +39,62 @@ impl<'r, R: Abort> Device for Tape<'r, R> {
     }
 }
 
-// Dumps a session's snapshot to a device, which fails or doesn't: what came of it, and what the device took.
-fn dump_to<R: Abort + Threads + Wait + Sync>(
-    rt: &R,
-    alloc: Global,
-    core: &Core,
-    session: SessionId,
-    fails: bool,
-) -> Result<(Result<(), BackupFault>, Vec<u8>), Fail> {
-    let jobs = Jobs::new(2).ok_or("2 jobs")?;
-    let rows = PieceRows::new(1000).ok_or("1000 rows a piece")?;
-    let mut tape = Tape {
-        rt,
-        taken: Vec::new(alloc),
-        failures: 0,
-        fails,
-    };
-    let done = dump_session(rt, alloc, core, session, jobs, rows, &mut tape, &NoGate);
-    Ok((done, tape.taken))
-}
-
-#[test]
-fn a_safe_snapshot_is_dumped(rt: HostRuntime) -> Result<(), Fail> {
-    let alloc = rt.alloc();
-    let session = SessionId::new(1).ok_or("session 1")?;
+// A core of no tables, in which session 1 has begun a deferrable transaction.
+fn begun(alloc: Global, session: SessionId) -> Result<Core, Fail> {
     let catalog = Catalog::new(alloc);
     let tables = Tables::new(alloc, &catalog)?;
     if !tables.sound(&catalog) {
         return Err("the tables aren't sound".into());
     }
     let mut core = Core::open(alloc, catalog, tables, 9)?;
-    let idle = Refusal::of_code(Code::NoActiveSqlTransaction);
-    let (done, taken) = dump_to(&rt, alloc, &core, session, false)?;
-    assert!(&rt; done == Err(BackupFault::View(idle)) && taken.is_empty());
     let action = Action::Begin(Mode::Deferrable);
-    assert!(&rt; matches!(core.step(alloc, Event { session, action }), Reply::Begun));
-    let unsafe_yet = Refusal::of_code(Code::ObjectNotInPrerequisiteState);
-    let (done, taken) = dump_to(&rt, alloc, &core, session, false)?;
-    assert!(&rt; done == Err(BackupFault::View(unsafe_yet)) && taken.is_empty());
+    core.step(alloc, Event { session, action });
+    Ok(core)
+}
+
+// Whether a dump of a session's snapshot to a device, which fails or doesn't, comes to this, and the
+// device has taken the text.
+fn is_dumped<R: Abort + Threads + Wait + Sync>(
+    rt: &R,
+    alloc: Global,
+    core: &Core,
+    session: SessionId,
+    fails: bool,
+    (wanted, text): (Result<(), BackupFault>, &[u8]),
+) -> Result<bool, Fail> {
+    let jobs = Jobs::new(2).ok_or("2 jobs")?;
+    let rows = PieceRows::new(1000).ok_or("1000 rows a piece")?;
+    let taken = Vec::new(alloc);
+    let mut tape = Tape {
+        rt,
+        taken,
+        failures: 0,
+        fails,
+    };
+    let done = dump_session(rt, alloc, core, session, jobs, rows, &mut tape, &NoGate);
+    Ok(done == wanted && tape.taken.as_slice() == text)
+}
+
+#[test]
+fn unsafe_snapshots_are_not_dumped(rt: HostRuntime) -> Result<(), Fail> {
+    let session = SessionId::new(1).ok_or("session 1")?;
+    let core = begun(rt.alloc(), session)?;
+    let refusal = Refusal::of_code(Code::ObjectNotInPrerequisiteState);
+    let wanted = (Err(BackupFault::View(refusal)), b"".as_slice());
+    assert!(&rt; is_dumped(&rt, rt.alloc(), &core, session, false, wanted)?);
+    Ok(())
+}
+
+#[test]
+fn safe_snapshots_are_dumped(rt: HostRuntime) -> Result<(), Fail> {
+    let session = SessionId::new(1).ok_or("session 1")?;
+    let mut core = begun(rt.alloc(), session)?;
     let action = Action::Poll;
-    assert!(&rt; matches!(core.step(alloc, Event { session, action }), Reply::Safe(0)));
-    let (done, taken) = dump_to(&rt, alloc, &core, session, false)?;
-    assert!(&rt; done == Ok(()) && taken.as_slice() == b"-- dump 2\n-- end\n".as_slice());
-    let (done, taken) = dump_to(&rt, alloc, &core, session, true)?;
-    assert!(&rt; done == Err(BackupFault::Dump(DumpFault::Device)) && taken.is_empty());
+    let reply = core.step(rt.alloc(), Event { session, action });
+    assert!(&rt; matches!(reply, Reply::Safe(0)));
+    let wanted = (Ok(()), b"-- dump 2\n-- end\n".as_slice());
+    assert!(&rt; is_dumped(&rt, rt.alloc(), &core, session, false, wanted)?);
+    let wanted = (Err(BackupFault::Dump(DumpFault::Device)), b"".as_slice());
+    assert!(&rt; is_dumped(&rt, rt.alloc(), &core, session, true, wanted)?);
     Ok(())
 }
