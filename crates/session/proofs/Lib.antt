@@ -26,3 +26,5 @@ mod Examples
 mod LegalExample
 mod PivotExamples
 pub mod ViewSound
+pub mod Sourced
+pub mod ViewSafe

@@ -1,2 +1,3 @@
 pub mod Laws
 pub mod Core
+pub mod Backups

@@ -11,6 +11,7 @@ ghost use Rattle.history.specs.Checkpoint.{opening_after};
 ghost use Rattle.history.specs.Events.{world_of};
 ghost use Rattle.history.specs.Serial.{AllDoneFromSnapshots, ContinuesOn, IsSafeReply, IsSerial, SafeAreSafe, Stays, serial_order};
 ghost use Rattle.history.specs.Answer.{Allowed, Legal, answer, of_session, view_answer};
+ghost use Rattle.session.specs.Backups.{IsBackup};
 ghost use Rattle.session.specs.Laws.{AfterCheckpoint, AfterLegal, AfterMore, AfterSafe};
 
 use std::alloc::Allocator;
@@ -86,4 +87,11 @@ pub fn continues_on_a_base<A: Allocator>()
 /// The tables that a view shows are sound.
 pub fn views_are_sound<A: Allocator>()
     ensures { (o : Opening A) → (es : List (AnyRecord A)) → (s : ℕ) → (X : AnyTables A) → Legal o es → view_answer o es s ≡ Ok X → IsTrue (is_sound o.catalog X) }
+{}
+
+/// The tables that a session may view are a state of the serial order, that of the prefix at its
+/// transaction's snapshot, which holds each transaction that had committed before the deferrable one
+/// began that found it safe; and they stay one, whatever is done later.
+pub fn views_are_backups<A: Allocator>()
+    ensures { (o : Opening A) → (es : List (AnyRecord A)) → (s : ℕ) → (X : AnyTables A) → Legal o es → view_answer o es s ≡ Ok X → IsBackup o es s X }
 {}

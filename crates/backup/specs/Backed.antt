@@ -1,0 +1,33 @@
+-- What a dump of a session's safe snapshot is.
+-- PostgreSQL manual, pg_dump (--serializable-deferrable); Ports and Grittner, "Serializable Snapshot Isolation in PostgreSQL" (VLDB 2012), section 4.3.
+use Rattle.std.specs.Prelude.{◌≡◌, ℕ, List, ◌++◌, Result, Ok, Err}
+use Rattle.value.specs.declared.refusal.Refusal.{Refusal}
+use Rattle.value.specs.Refusals.{AnswersOrNoMemory}
+use Rattle.schema.specs.declared.tables.Tables.{Tables}
+use Rattle.history.specs.Opening.{Recorded}
+use Rattle.history.specs.Answer.{IsLegal, view_answer}
+use Rattle.dumpplan.specs.Lines.{dump_text}
+use Rattle.dumpworker.specs.Dumped.{Dumped}
+use Rattle.restore.specs.Reading.{read_dump}
+use Rattle.session.specs.Backups.{IsBackup}
+use Rattle.backup.specs.declared.fault.BackupFault.{BackupFault}
+use Rattle.backup.specs.declared.fault.BackupFault.TheVariants.{View, Dump}
+
+module _ {A : Type 0} where
+  -- the tables that the session may view after the history
+  abbrev pub viewed : Recorded A → ℕ → Result (Tables A) Refusal
+  viewed h session = view_answer h.opening h.records session
+
+  -- What was written is the dump text of tables that are a state of the serial order of the history, and of each legal one that goes on from it; and it reads as these tables.
+  pub record IsWhole (h : Recorded A) (session : ℕ) (taken taken_now : List ℕ) : Type 0 where
+    pub tables : Tables A
+    pub legal : IsLegal h
+    pub backup : IsBackup h.opening h.records session tables
+    pub written : taken_now ≡ taken ++ dump_text h.opening.catalog tables
+    pub reads_back : read_dump (dump_text h.opening.catalog tables) ≡ Ok (h.opening.catalog, tables)
+
+  -- Nothing was written, since the session may view no tables, or memory was refused; or a beginning of the dump text was, and the dump says why.
+  abbrev pub IsNone : Recorded A → ℕ → List ℕ → ℕ → BackupFault → List ℕ → ℕ → Type 0
+  IsNone h session taken failures (View e) taken_now failures_now = AnswersOrNoMemory (Err e) (viewed h session) × (taken_now ≡ taken) × (failures_now ≡ failures)
+  IsNone h session taken failures (Dump f) taken_now failures_now =
+      (X : Tables A) × (viewed h session ≡ Ok X) × Dumped (dump_text h.opening.catalog X) taken failures (Err f) taken_now failures_now

@@ -1,0 +1,11 @@
+use dumpworker::DumpFault;
+use value::refusal::Refusal;
+
+/// Why there is no whole dump.
+#[derive(Clone, Copy, Debug, PartialEq, Eq)]
+pub enum BackupFault {
+    /// The session has no snapshot that is known to be safe, or memory for its view was refused.
+    View(Refusal),
+    /// The dump was begun, and not ended.
+    Dump(DumpFault),
+}

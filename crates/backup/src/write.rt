@@ -1,0 +1,79 @@
+ghost use Rattle.std.specs.Prelude.{◌≡◌, ◌++◌, length, true, Ok, Err, IfOk, IfErr, OnOk};
+ghost use Rattle.value.specs.Refusals.{AnswersOrNoMemory};
+ghost use Rattle.schema.specs.Plain.{is_sound};
+ghost use Rattle.schema.specs.WellFormed.{is_catalog};
+ghost use Rattle.schema.specs.Definition.{Catalog as AnyCatalog};
+ghost use Rattle.dumpplan.specs.Lines.{dump_text};
+ghost use Rattle.dumpworker.specs.Dumped.{Dumped};
+ghost use Rattle.history.specs.Answer.{view_answer};
+ghost use Rattle.restore.specs.Reading.{read_dump};
+ghost use Rattle.session.specs.Backups.{IsBackup};
+ghost use Rattle.backup.specs.Backed.{IsNone, IsWhole, viewed};
+
+use crate::fault::BackupFault;
+use collector::Device;
+use dumpplan::{Gate, Jobs, PieceRows};
+use dumpworker::dump;
+use history::session_id::SessionId;
+use mvrows::view::View;
+use restore::reads_what_is_dumped;
+use session::laws::{views_are_backups, views_are_sound};
+use session::sessions::Core;
+use std::alloc::Allocator;
+use std::sync::Wait;
+use std::thread::Threads;
+use value::refusal::Refusal;
+
+// The tables that a session may view: as many as the catalog's, a state of the serial order, and
+// dumped so that they are read back.
+fn view_session<A: Allocator + Copy>(
+    alloc: A,
+    core: &Core<A>,
+    session: SessionId,
+) -> Result<View<A>, Refusal>
+    ensures answer { AnswersOrNoMemory result (viewed core.now session) }
+    ensures backup { IfOk result (λ view. IsBackup core.now.opening core.now.records session view) }
+    ensures counted { IfOk result (λ view. length view ≡ length core.now.opening.catalog) }
+    ensures reads_back { IfOk result (λ view. read_dump (dump_text core.now.opening.catalog view) ≡ Ok (core.now.opening.catalog, view)) }
+{
+    core.is_legal();
+    core.history().catalog().well_formed();
+    views_are_backups::<A>();
+    views_are_sound::<A>();
+    reads_what_is_dumped::<A>();
+    core.view(alloc, session)
+}
+
+/// Dumps the safe snapshot of a session's transaction to a device, by as many workers as there are
+/// jobs, while other threads may read the core. The text is that of a state of the serial order;
+/// restoring it gives that state's tables.
+pub fn dump_session<A, W, G, T>(
+    rt: &T,
+    alloc: A,
+    core: &Core<A>,
+    session: SessionId,
+    jobs: Jobs,
+    piece_rows: PieceRows,
+    device: &mut W,
+    gate: &G,
+) -> Result<(), BackupFault>
+where
+    A: Allocator + Copy + Sync,
+    W: Device + Send,
+    G: Gate,
+    T: Threads + Wait + Sync,
+    ensures whole { OnOk result (IsWhole core.now session (W.taken device.old) (W.taken device.new)) }
+    ensures same { OnOk result (W.failures device.new ≡ W.failures device.old) }
+    ensures none { IfErr result (λ fault. IsNone core.now session (W.taken device.old) (W.failures device.old) fault (W.taken device.new) (W.failures device.new)) }
+{
+    let view = match view_session(alloc, core, session) {
+        Ok(view) => view,
+        Err(refusal) => return Err(BackupFault::View(refusal)),
+    };
+    core.is_legal();
+    let catalog = core.history().catalog();
+    match dump(rt, alloc, &view, catalog, jobs, piece_rows, device, gate) {
+        Ok(()) => Ok(()),
+        Err(fault) => Err(BackupFault::Dump(fault)),
+    }
+}
