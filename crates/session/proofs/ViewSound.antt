@@ -1,5 +1,5 @@
 -- The tables that a view shows are sound.
-use Rattle.std.proofs.Common.{◌≡◌, sym, ap, subst, ◌∙◌, ℕ, Bool, true, false, List, Option, Some, None, Result, Ok, Err, if◌then◌else◌, refl}
+use Rattle.std.proofs.Common.{◌≡◌, ap, subst, ℕ, Bool, true, false, List, Option, Some, None, Result, Ok, Err, if◌then◌else◌, refl}
 use mathlib.Core.Bool.{false≢true}
 use Rattle.std.specs.Result.{is_ok}
 use Rattle.value.specs.declared.refusal.Code.TheVariants as code
@@ -10,7 +10,7 @@ use Rattle.schema.specs.declared.tables.Tables.{Tables}
 use Rattle.schema.specs.Plain.{is_sound}
 use Rattle.history.specs.declared.event.Record.{Record}
 use Rattle.history.specs.Opening.{Opening}
-use Rattle.history.specs.Transactions.{Standing, Open, Doomed, Failed, Aborted, Done, Txn, World, current, tables_at}
+use Rattle.history.specs.Transactions.{Standing, Failed, Txn, World, current, tables_at}
 use Rattle.history.specs.Events.{start, world_of}
 use Rattle.history.specs.Answer.{Legal, view_answer, view_from, view_of}
 use Rattle.session.proofs.AlwaysSound.{always_sound}
