@@ -1,10 +1,11 @@
 // Serial keys of committed transactions, among all transactions.
-ghost use Rattle.std.specs.Prelude.{◌≡◌, if◌then◌else◌, ◌&&◌, ◌++◌, [], ◌∷◌, map, min, nat_lt, IfOk, IfErr, OnOk};
+ghost use Rattle.std.specs.Prelude.{◌≡◌, if◌then◌else◌, ◌&&◌, ◌==◌, ◌++◌, [], ◌∷◌, map, min, nat_lt, IfOk, IfErr, OnOk};
 ghost use Rattle.value.specs.Refusals.{out_of_memory};
 ghost use Rattle.std.specs.List.{filter};
+ghost use Rattle.std.specs.Option.{option_map};
 ghost use Rattle.value.specs.Isolation.{edge_of, first_part, serial_key};
 ghost use Rattle.history.specs.Transactions.{edge, is_done, node};
-ghost use Rattle.plain.specs.Keys.{committed_keys, keyed, parts};
+ghost use Rattle.plain.specs.Keys.{committed_at, committed_keys, keyed, parts};
 
 use crate::isolation::{commit_of, lesser, write_key};
 use crate::party::Party;
@@ -68,6 +69,16 @@ pub fn key<A: Allocator>(transactions: &[Transaction<A>], transaction: &Transact
     SerialKey(first, rank, last)
 }
 
+// A transaction's number, with its key among these.
+fn with_key<A: Allocator>(
+    transactions: &[Transaction<A>],
+    transaction: &Transaction<A>,
+) -> (TxnNo, SerialKey)
+    ensures { keyed result ≡ (transaction.now.number, serial_key node edge (filter (λ t. is_done t.standing) transactions.now) transaction.now) }
+{
+    (TxnNo(transaction.number), key(transactions, transaction))
+}
+
 // Adds a transaction's number with its key, if it committed.
 fn push_key<A: Allocator>(
     keys: &mut Vec<(TxnNo, SerialKey), A>,
@@ -81,7 +92,7 @@ fn push_key<A: Allocator>(
     ensures memory { IfErr result (λ e. e ≡ out_of_memory) }
 {
     if transaction.standing.is_done() {
-        keys.push((TxnNo(transaction.number), key(transactions, transaction)))?;
+        keys.push(with_key(transactions, transaction))?;
     }
     Ok(())
 }
@@ -101,7 +112,38 @@ pub fn committed_keys<A: Allocator>(
     Ok(keys)
 }
 
+// Whether a transaction committed as the event at a place.
+fn is_commit_at<A: Allocator>(transaction: &Transaction<A>, place: u64) -> bool
+    ensures { result ≡ (is_done transaction.now.standing && transaction.now.end == place) }
+{
+    transaction.standing.is_done() && transaction.end == place
+}
+
+/// The transaction of these that committed as the event at a place, with its key among them. It
+/// takes no memory.
+pub fn find_commit<A: Allocator>(
+    transactions: &[Transaction<A>],
+    place: u64,
+) -> Option<(TxnNo, SerialKey)>
+    ensures { option_map keyed result ≡ committed_at place transactions.now }
+{
+    for transaction in transactions {
+        if is_commit_at(transaction, place) {
+            return Some(with_key(transactions, transaction));
+        }
+    }
+    None
+}
+
 impl<A: Allocator> World<A> {
+    /// The transaction that the last event committed, with its serial key; none where it committed
+    /// none. It takes no memory.
+    pub fn last_commit(&self) -> Option<(TxnNo, SerialKey)>
+        ensures { option_map keyed result ≡ committed_at self.now.place self.now.txns }
+    {
+        find_commit(self.transactions.as_slice(), self.place)
+    }
+
     /// The committed transactions, by their numbers in their order, each with its serial key.
     pub fn committed_keys(&self, alloc: A) -> Result<Vec<(TxnNo, SerialKey), A>, Refusal>
         ensures ok { IfOk result (λ keys. map keyed keys.items ≡ committed_keys self.now.txns) }

@@ -1,11 +1,13 @@
 -- A step of the core, from what it keeps.
-use Rattle.std.proofs.Common.{◌≡◌, ◌==◌, refl, sym, ap, subst, ◌∙◌, ℕ, ◌+◌, ◌^◌, ◌<◌, true, Bool, false, cond, not, ◌||◌, nat_le, true≢false, inl, inr, Result, Ok, Err, List, [], ◌∷◌, ◌++◌, length, Option, Some, None, arith}
-use Rattle.std.specs.Option.{option_map}
+use Rattle.std.proofs.Common.{◌≡◌, ◌==◌, refl, sym, ap, subst, ◌∙◌, ℕ, ◌+◌, ◌^◌, ◌<◌, ◌≤◌, true, Bool, false, cond, not, ◌||◌, nat_le, true≢false, inl, inr, Result, Ok, Err, List, [], ◌∷◌, ◌++◌, length, map, Option, Some, None, arith}
+use Rattle.std.specs.Option.{option_map, option_to_list}
 use Rattle.value.specs.declared.refusal.Refusal.{Refusal}
+use Rattle.value.specs.declared.refusal.TxnNo.{TxnNo}
 use Rattle.value.specs.declared.refusal.Code.TheVariants as code
 use Rattle.value.specs.Refusals.{AnswersOrNoMemory, of_code}
 use Rattle.std.proofs.lemmas.List.Folds.{list_all-map}
 use Rattle.std.proofs.lemmas.Bool.Decides.{nat_tests}
+use Rattle.std.proofs.lemmas.List.{length_push}
 use Rattle.schema.specs.Plain.{is_sound}
 use Rattle.schema.specs.Definition.{Catalog}
 use Rattle.schema.specs.declared.tables.Tables.{Tables}
@@ -17,17 +19,22 @@ use Rattle.history.specs.declared.base.Base.{Base}
 use Rattle.history.specs.declared.event.Action.{Action}
 use Rattle.history.specs.declared.event.Action.TheVariants.{Begin}
 use Rattle.history.specs.declared.event.Record.{Record}
+use Rattle.history.specs.declared.key.SerialKey.{SerialKey}
 use Rattle.history.specs.Opening.{Opening, Recorded}
 use Rattle.history.specs.Transactions.{Standing, Failed, Txn, World, commits, current, is_owed, is_quiet, tables_at}
 use Rattle.history.specs.Events.{without_transaction, followed, follows, run, start, world}
 use Rattle.history.specs.Checkpoint.{base_after, opening_after}
+use Rattle.history.specs.Serial.{keys_by_commit}
 use Rattle.history.specs.Answer.{Allowed, answer, checkpoint_answer, reply_of, view_answer, view_from, view_of}
 use Rattle.plain.specs.Ledger.{Ledger, kept, ledger, with_own, world_on, ready_for, kept_after, kept_current, shown_tables}
+use Rattle.plain.specs.Keys.{committed_at, keyed}
 use Rattle.plain.specs.Views.{are_quiet}
 use Rattle.plain.specs.declared.answered.Answered.{Answered}
 use Rattle.plain.specs.Answers.{both}
 use Rattle.plain.specs.Runs.{HoldsCurrent}
-use Rattle.session.specs.Core.{IsKept, recorded}
+use Rattle.session.specs.Core.{HoldsKeys, IsKept, recorded}
+use Rattle.session.proofs.CommitOrder.{keys_push}
+use Rattle.session.proofs.KeptKeys.{at-kept}
 use Rattle.session.proofs.Legal.{current_in}
 use Rattle.session.proofs.Histories.{Legal-push, Legal-start, run-catalog}
 use Rattle.session.proofs.SerialTheorem.{good_world}
@@ -148,6 +155,40 @@ module _ {A : Type 0} where
                   (subst (λ (r : Reply A). IsKept (recorded h s a r) (kept_after lent s a given.reply (ready_for lent a (current lent s)))) same (step_kept s a given.reply fits replied)),
             )
 
+    -- the keys with that of what the last event committed are those of the history with it
+    pub keys_kept : (s : ℕ) (a : Action A) (r : Reply A) (m : Ledger A) → IsKept (recorded h s a r) m → (ks more : List (TxnNo × SerialKey)) (room capacity : ℕ) → HoldsKeys h ks room → length h.records < h.most
+        → map keyed more ≡ map keyed ks ++ option_to_list (committed_at m.place m.txns) → length more ≤ length ks + 1 → capacity ≡ room → HoldsKeys (recorded h s a r) more capacity
+    keys_kept s a r m i ks more room capacity held few e l c = record {
+      keys = e ∙ ap (λ xs. xs ++ option_to_list (committed_at m.place m.txns)) held.keys ∙ ap (λ o. keys_by_commit w ++ option_to_list o) last ∙ sym (keys_push h.opening h.records event i.legal place);
+      few = let q : length (h.records ++ event ∷ []) ≡ length h.records + 1 = length_push h.records event in let p = held.few in omega arith;
+      room = let p = held.room in omega arith;
+    }
+      where
+        event : Record A
+        event = record { session = s; action = a; reply = r }
+
+        v : World A
+        v = world (recorded h s a r)
+
+        place : v.place ≡ w.place + 1
+        place = ap (λ (x : World A). x.place) (run_push (start h.opening) h.records event) ∙ (follows_kept w event).1
+
+        last : committed_at m.place m.txns ≡ committed_at v.place v.txns
+        last = ap (λ (n : Ledger A). committed_at n.place n.txns) i.world ∙ at-kept v.place v.txns
+
+    -- a step of the world, and the keys with that of what it has committed, are what a core keeps of the history with it
+    pub stepped_holding : (s : ℕ) (a : Action A) (c : Catalog) (X : Tables A) → c ≡ h.opening.catalog → X ≡ h.opening.tables → (given : Answered A) (m : Ledger A)
+        → given ≡ both (reply_of (world_on c X l) (ready_for (world_on c X l) a (kept_current c X l s)) a) → m ≡ kept_after (world_on c X l) s a given.reply (ready_for (world_on c X l) a (kept_current c X l s)) → Allowed h.opening.catalog a
+        → (ks more : List (TxnNo × SerialKey)) (room capacity : ℕ) → HoldsKeys h ks room → length h.records < h.most
+        → map keyed more ≡ map keyed ks ++ option_to_list (committed_at m.place m.txns) → length more ≤ length ks + 1 → capacity ≡ room
+        → IsKept (recorded h s a given.recorded) m × HoldsKeys (recorded h s a given.recorded) more capacity
+    stepped_holding s a c X p q given m e f fits ks more room capacity held few g n r =
+        let i : IsKept (recorded h s a given.recorded) m = (stepped s a c X p q given m e f fits).1 in
+        (i, keys_kept s a given.recorded m i ks more room capacity held few g n r)
+
+    pub keys_room : (ks : List (TxnNo × SerialKey)) (room : ℕ) → HoldsKeys h ks room → length h.records < h.most → length ks < room
+    keys_room ks room held few = let p = held.few in let q = held.room in omega arith
+
     -- ---- views and checkpoints
 
     view_kept : (o : Option (Txn A)) → view_of (kept_world w) (option_map kept o) ≡ view_of w o
@@ -214,6 +255,11 @@ module _ {A : Type 0} where
     checkpoint_sound c X b p q r = subst (λ (o : Opening A). is_sound o.catalog o.tables ≡ true) (opening_is c X b p q r) (always_sound h.opening h.records k.legal (commits w) (omega arith))
 
   -- ---- an opening
+
+  pub holds_none : (h : Recorded A) (b : Base) (c : Catalog) (X : Tables A) (most : ℕ) → h ≡ record { opening = record { catalog = c; tables = X; base = b }; records = []; most = most }
+      → (ks : List (TxnNo × SerialKey)) → ks ≡ [] → (capacity : ℕ) → most ≤ capacity → HoldsKeys h ks capacity
+  holds_none h b c X most e ks none capacity room = subst (λ (v : Recorded A). HoldsKeys v ks capacity) (sym e)
+      (subst (λ (xs : List (TxnNo × SerialKey)). HoldsKeys (record { opening = record { catalog = c; tables = X; base = b }; records = []; most = most }) xs capacity) (sym none) (record { keys = refl; few = omega arith; room = room }))
 
   pub kept_on : (h : Recorded A) (l : Ledger A) (b : Base) (c : Catalog) (X : Tables A) (most : ℕ) → h ≡ record { opening = record { catalog = c; tables = X; base = b }; records = []; most = most }
       → l ≡ record { base = b; log = []; txns = []; exports = []; place = b.events } → is_sound c X ≡ true → b.events + most < 2 ^ 64 → IsKept h l

@@ -1,12 +1,13 @@
 -- The keys of what is kept of transactions are their keys.
-use Rattle.std.proofs.Common.{◌≡◌, refl, ap, ◌∙◌, ℕ, Bool, true, false, cond, ◌&&◌, min, nat_lt, List, [], ◌∷◌, map, IfOk, Result, Ok, Err}
-use Rattle.std.specs.List.{filter}
+use Rattle.std.proofs.Common.{◌≡◌, refl, ap, ◌∙◌, ℕ, Bool, true, false, cond, ◌&&◌, ◌==◌, min, nat_lt, List, [], ◌∷◌, map, IfOk, Result, Ok, Err, Option, Some, None}
+use Rattle.std.specs.List.{filter, find}
+use Rattle.std.specs.Option.{option_map}
 use Rattle.value.specs.Isolation.{first_part, serial_key, write_key}
 use Rattle.history.specs.Opening.{Recorded}
 use Rattle.history.specs.Transactions.{Txn, edge, is_done, is_read_write, node}
 use Rattle.history.specs.Events.{world}
 use Rattle.history.specs.Serial.{committed, with_keys}
-use Rattle.plain.specs.Keys.{committed_keys}
+use Rattle.plain.specs.Keys.{committed_at, committed_keys}
 use Rattle.plain.specs.Ledger.{Ledger, kept}
 use Rattle.session.specs.Core.{IsKept}
 
@@ -48,3 +49,26 @@ module _ {A : Type 0} where
   -- of a core's world
   pub keys-of : (h k : Recorded A) (l : Ledger A) → IsKept h l → h ≡ k → committed_keys l.txns ≡ with_keys (world k) (committed (world k))
   keys-of h k l i e = ap (λ (m : Ledger A). committed_keys m.txns) i.world ∙ committed-kept (world h).txns ∙ ap (λ (g : Recorded A). committed_keys (world g).txns) e
+
+  found-kept : (place : ℕ) (ts : List (Txn A)) → find (λ t. is_done t.standing && t.end == place) (map kept ts) ≡ option_map kept (find (λ t. is_done t.standing && t.end == place) ts)
+  found-kept place [] = refl
+  found-kept place (t ∷ ts) = go (is_done t.standing && t.end == place) (found-kept place ts)
+    where
+      go : (b : Bool) → find (λ u. is_done u.standing && u.end == place) (map kept ts) ≡ option_map kept (find (λ u. is_done u.standing && u.end == place) ts)
+          → cond b (Some (kept t)) (find (λ u. is_done u.standing && u.end == place) (map kept ts)) ≡ option_map kept (cond b (Some t) (find (λ u. is_done u.standing && u.end == place) ts))
+      go true e = refl
+      go false e = e
+
+  -- what committed at a place, of what is kept of transactions
+  pub at-kept : (place : ℕ) (ts : List (Txn A)) → committed_at place (map kept ts) ≡ committed_at place ts
+  at-kept place ts =
+      ap (λ us. option_map (λ t. entry t.number (serial_key node edge us t)) (find (λ t. is_done t.standing && t.end == place) (map kept ts))) (done-kept ts)
+      ∙ ap (option_map (λ t. entry t.number (serial_key node edge (map kept done) t))) (found-kept place ts)
+      ∙ go (find (λ t. is_done t.standing && t.end == place) ts)
+    where
+      done : List (Txn A)
+      done = filter (λ u. is_done u.standing) ts
+
+      go : (o : Option (Txn A)) → option_map (λ t. entry t.number (serial_key node edge (map kept done) t)) (option_map kept o) ≡ option_map (λ t. entry t.number (serial_key node edge done t)) o
+      go None = refl
+      go (Some t) = ap (λ k. Some (entry t.number k)) (key-kept done t)

@@ -20,6 +20,7 @@ pub mod BaseOrder
 pub mod Histories
 pub mod Kept
 pub mod KeptKeys
+pub mod CommitOrder
 pub mod CoreLemmas
 pub mod Play
 mod Examples

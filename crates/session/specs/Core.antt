@@ -1,15 +1,19 @@
 -- What a core keeps, and what a step does to its history.
-use Rattle.std.specs.Prelude.{◌≡◌, ◌⊎◌, ◌+◌, ◌^◌, ◌<◌, true, Result, Ok, Err, length, [], ◌∷◌, ◌++◌, ℕ}
+use Rattle.std.specs.Prelude.{◌≡◌, ◌⊎◌, ◌+◌, ◌^◌, ◌<◌, ◌≤◌, true, Result, Ok, Err, length, map, List, [], ◌∷◌, ◌++◌, ℕ}
 use Rattle.value.specs.Refusals.{AnswersOrNoMemory, of_code, out_of_memory}
 use Rattle.value.specs.declared.refusal.Refusal.{Refusal}
+use Rattle.value.specs.declared.refusal.TxnNo.{TxnNo}
 use Rattle.value.specs.declared.refusal.Code.TheVariants.{ProgramLimitExceeded}
 use Rattle.statement.specs.declared.reply.Reply.{Reply}
 use Rattle.statement.specs.declared.reply.Reply.TheVariants.{Refused}
 use Rattle.history.specs.declared.event.Action.{Action}
+use Rattle.history.specs.declared.key.SerialKey.{SerialKey}
 use Rattle.history.specs.Opening.{Opening, Recorded}
 use Rattle.history.specs.Events.{world}
 use Rattle.history.specs.Answer.{IsLegal, answer, checkpoint_answer}
+use Rattle.history.specs.Serial.{keys_by_commit}
 use Rattle.plain.specs.Courses.{takes_memory}
+use Rattle.plain.specs.Keys.{keyed}
 use Rattle.plain.specs.Ledger.{Ledger, ledger}
 
 module _ {A : Type 0} where
@@ -18,6 +22,12 @@ module _ {A : Type 0} where
     pub legal : IsLegal h
     pub world : l ≡ ledger (world h)
     pub room : h.opening.base.events + h.most < 2 ^ 64
+
+  -- The list has the committed transactions with their keys, in the order of their commits, and there is room for as many as there may be events.
+  pub record HoldsKeys (h : Recorded A) (ks : List (TxnNo × SerialKey)) (capacity : ℕ) : Type 0 where
+    pub keys : map keyed ks ≡ keys_by_commit (world h)
+    pub few : length ks ≤ length h.records
+    pub room : h.most ≤ capacity
 
   -- the history with one more event
   abbrev pub recorded : Recorded A → ℕ → Action A → Reply A → Recorded A

@@ -1,10 +1,12 @@
-// The core: a history, and what is kept of its world.
-ghost use Rattle.std.specs.Prelude.{◌≡◌, ◌<◌, ◌≤◌, ◌+◌, ◌^◌, ◌==◌, ◌||◌, nat_le, [], true, length, IsTrue, Ok, Err, IfOk, IfErr, OnErr, if◌then◌else◌};
+// The core: a history, what is kept of its world, and the keys of what has committed.
+ghost use Rattle.std.specs.Prelude.{◌≡◌, ◌<◌, ◌≤◌, ◌+◌, ◌^◌, ◌==◌, ◌||◌, ◌++◌, nat_le, [], true, length, map, vec_capacity, IsTrue, Ok, Err, IfOk, IfErr, OnErr, if◌then◌else◌};
+ghost use Rattle.std.specs.Option.{option_to_list};
 ghost use Rattle.value.specs.Refusals.{AnswersOrNoMemory, of_code, out_of_memory};
 ghost use Rattle.schema.specs.Plain.{is_sound};
 ghost use Rattle.history.specs.Opening.{zero_base};
 ghost use Rattle.history.specs.Answer.{Allowed, answer, checkpoint_answer, view_answer};
 ghost use Rattle.plain.specs.Courses.{takes_memory};
+ghost use Rattle.plain.specs.Keys.{committed_at, keyed};
 ghost use Rattle.plain.specs.Views.{are_quiet};
 ghost use Rattle.session.specs.Core.{HasRoom, IsCheckpoint, IsKept, IsStep, from_opening, recorded};
 
@@ -12,6 +14,7 @@ mod committed;
 
 use history::base::Base;
 use history::event::{Event, Record};
+use history::key::SerialKey;
 use history::list::History;
 use history::session_id::SessionId;
 use mvrows::view::View;
@@ -21,7 +24,7 @@ use schema::tables::Tables;
 use statement::reply::Reply;
 use std::alloc::{Allocator, Global};
 use std::marker::Model;
-use value::refusal::{Code, Refusal};
+use value::refusal::{Code, Refusal, TxnNo};
 
 /// A server of transactions that are serializable, one event at a time. It is its history: each
 /// reply is the one that the definitions give after the events before it.
@@ -29,6 +32,8 @@ use value::refusal::{Code, Refusal};
 pub struct Core<A: Allocator = Global> {
     history: History<A>,
     world: World<A>,
+    // The committed transactions with their keys, in the order of their commits.
+    keys: Vec<(TxnNo, SerialKey), A>,
 }
 
 impl<A: Allocator> Model for Core<A> {
@@ -36,11 +41,12 @@ impl<A: Allocator> Model for Core<A> {
 
     ghost Value = { Recorded A };
 
-    ghost use Rattle.session.specs.Core.{IsKept};
+    ghost use Rattle.std.specs.Prelude.{vec_capacity};
+    ghost use Rattle.session.specs.Core.{HoldsKeys, IsKept};
 
     ghost view = { λ c. c.history };
 
-    ghost invariant = { λ c. IsKept c.history c.world };
+    ghost invariant = { λ c. IsKept c.history c.world × HoldsKeys c.history c.keys.items (vec_capacity c.keys) };
 }
 
 // A core of nothing yet, whose numbers go on from a base.
@@ -59,12 +65,26 @@ fn open_on<A: Allocator + Copy>(
         then Err (of_code Code.ProgramLimitExceeded)
         else Ok (record { opening = record { catalog = catalog; tables = tables; base = base }; records = []; most = max_events })) }
 {
+    let keys = Vec::with_capacity(alloc, max_events as usize)?;
     match History::open(alloc, catalog, tables, base, max_events) {
         Ok(history) => Ok(Core {
             history,
             world: World::open(alloc, base),
+            keys,
         }),
         Err(refusal) => Err(refusal),
+    }
+}
+
+// Adds the transaction that the last event committed, with its key, if it committed one.
+fn add_last<A: Allocator>(keys: &mut Vec<(TxnNo, SerialKey), A>, world: &World<A>)
+    requires { length keys.old.items < vec_capacity keys.old }
+    ensures keys { map keyed keys.new.items ≡ map keyed keys.old.items ++ option_to_list (committed_at world.now.place world.now.txns) }
+    ensures few { length keys.new.items ≤ length keys.old.items + 1 }
+    ensures room { vec_capacity keys.new ≡ vec_capacity keys.old }
+{
+    if let Some(key) = world.last_commit() {
+        keys.push_reserved(key);
     }
 }
 
@@ -161,6 +181,7 @@ impl<A: Allocator> Core<A> {
             session,
             &action,
         )?;
+        add_last(&mut self.keys, &self.world);
         self.history.push(Record {
             session,
             action,

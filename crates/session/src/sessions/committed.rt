@@ -3,7 +3,7 @@ ghost use Rattle.std.specs.Prelude.{◌≡◌, map, IfOk, IfErr};
 ghost use Rattle.value.specs.Refusals.{out_of_memory};
 ghost use Rattle.history.specs.Answer.{IsLegal};
 ghost use Rattle.history.specs.Events.{world};
-ghost use Rattle.history.specs.Serial.{committed, with_keys};
+ghost use Rattle.history.specs.Serial.{committed, keys_by_commit, with_keys};
 ghost use Rattle.plain.specs.Keys.{keyed};
 
 use crate::sessions::Core;
@@ -18,6 +18,14 @@ impl<A: Allocator> Core<A> {
         ensures { IsLegal self.now }
     {
         let _history = &self.history;
+    }
+
+    /// The committed transactions, each with its serial key, in the order of their commits. It takes
+    /// no memory.
+    pub fn keys(&self) -> &[(TxnNo, SerialKey)]
+        ensures { map keyed result.now ≡ keys_by_commit (world self.now) }
+    {
+        self.keys.as_slice()
     }
 
     /// The committed transactions, by their numbers in their order, each with its serial key.

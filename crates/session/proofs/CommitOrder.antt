@@ -1,0 +1,192 @@
+-- The committed transactions in the order of their commits: a further event only adds at the end.
+use Rattle.std.proofs.Common.{◌≡◌, ◌==◌, refl, sym, ap, subst, ◌∙◌, ℕ, ◌+◌, ◌<◌, ◌≤◌, Bool, true, false, true≢false, cond, ◌&&◌, ◌⊎◌, inl, inr, List, [], ◌∷◌, ◌++◌, map, Option, Some, None, nat_le, eq-eqb, arith}
+use Rattle.std.specs.List.{find}
+use Rattle.std.specs.Option.{option_map, option_to_list}
+use Rattle.std.proofs.lemmas.Bool.{eqb-true}
+use Rattle.std.proofs.lemmas.Bool.Decides.{nat_tests}
+use Rattle.std.proofs.lemmas.List.{map-append}
+use Rattle.value.proofs.IsolationLemmas.{In, Below}
+use Rattle.value.proofs.SortLemmas.{Apart, InOrder, Tied, In-sorted, same_order, sorted-In, sorted-InOrder}
+use Rattle.value.proofs.SerialLemmas.{In-append, In-left, In-right}
+use Rattle.history.specs.declared.event.Record.{Record}
+use Rattle.history.specs.Opening.{Opening}
+use Rattle.history.specs.Transactions.{Txn, World, is_done}
+use Rattle.history.specs.Events.{world_of}
+use Rattle.history.specs.Serial.{Stays, committed, in_commit_order, key, keys_by_commit, serial_order}
+use Rattle.history.specs.Answer.{Legal}
+use Rattle.history.proofs.Alone.{In-filter, filter-In}
+use Rattle.plain.specs.Keys.{committed_at}
+use Rattle.session.proofs.Legal.{found}
+use Rattle.session.proofs.Later.{legal_begins, legal_stays}
+use Rattle.session.proofs.SafePrefix.{by_all}
+use Rattle.session.proofs.SerialTheorem.{IsGood, good_world, isolated_world}
+
+is_least : (a b : ℕ) → nat_le a b ≡ true → a ≤ b
+is_least a b e = grind (arith, nat_tests)
+
+least_so : (a b : ℕ) → a ≤ b → nat_le a b ≡ true
+least_so a b h = grind (arith, nat_tests)
+
+both_so : (a b : Bool) → a ≡ true → b ≡ true → (a && b) ≡ true
+both_so a b p q = cc
+
+two_of : (a b : Bool) → (a && b) ≡ true → (a ≡ true) × (b ≡ true)
+two_of true b e = (refl, e)
+two_of false b e = absurd (true≢false (sym e))
+
+nil_right : {T : Type 0} (xs : List T) → xs ++ [] ≡ xs
+nil_right [] = refl
+nil_right (y ∷ ys) = ap (λ zs. y ∷ zs) (nil_right ys)
+
+list_of : {T U : Type 0} (f : T → U) (o : Option T) → map f (option_to_list o) ≡ option_to_list (option_map f o)
+list_of f None = refl
+list_of f (Some x) = refl
+
+none_found : {T : Type 0} (p : T → Bool) (xs : List T) → find p xs ≡ None → (x : T) → In x xs → p x ≡ true → ⊥
+none_found p [] e x i q = absurd i
+none_found {T} p (y ∷ ys) e x i q = go (p y) refl (none_found p ys) e i
+  where
+    go : (b : Bool) → p y ≡ b → (find p ys ≡ None → (z : T) → In z ys → p z ≡ true → ⊥) → cond b (Some y) (find p ys) ≡ None → (x ≡ y) ⊎ In x ys → ⊥
+    go true h rest f j = absurd (some_none f)
+      where
+        some_none : Some y ≡ None → ⊥
+        some_none g = cc
+    go false h rest f (inl r) = true≢false (sym q ∙ ap p r ∙ h)
+    go false h rest f (inr j) = rest f x j q
+
+-- a number with a key
+abbrev entry : ℕ → ℕ × ℕ × ℕ → ℕ × (ℕ × ℕ × ℕ)
+entry n k = (n, k)
+
+module _ {A : Type 0} where
+  abbrev by_end : Txn A → ℕ × ℕ × ℕ
+  by_end t = (t.end, 0, 0)
+
+  abbrev done : Txn A → Bool
+  done t = is_done t.standing
+
+  -- it committed as the event at this place
+  abbrev pub is_at : ℕ → Txn A → Bool
+  is_at place t = is_done t.standing && t.end == place
+
+  members : (x : World A) (t : Txn A) → In t (committed x) → In t x.txns × (done t ≡ true)
+  members x t i = In-filter done x.txns t i
+
+  -- no two committed at one place
+  ends_apart : (x : World A) → IsGood x → (ts : List (Txn A)) → ((t : Txn A) → In t ts → In t (committed x)) → Apart (key x) ts → Apart by_end ts
+  ends_apart x g [] sub a = tt
+  ends_apart x g (t ∷ ts) sub a = (λ u i e. a.0 u i (same u (one u i e)), ends_apart x g ts (λ u i. sub u (inr i)) a.1)
+    where
+      one : (u : Txn A) → In u ts → Tied (by_end t) (by_end u) → t ≡ u
+      one u i e = let p = members x t (sub t (inl refl)) in let q = members x u (sub u (inr i)) in g.time.ends_apart t u p.0 q.0 p.1 q.1 e.0
+
+      same : (u : Txn A) → t ≡ u → Tied (key x t) (key x u)
+      same u p = (ap (λ (y : Txn A). (key x y).0) p, ap (λ (y : Txn A). (key x y).1) p, ap (λ (y : Txn A). (key x y).2) p)
+
+  ordered : (x : World A) → IsGood x → InOrder by_end (in_commit_order x)
+  ordered x g = sorted-InOrder by_end (committed x) (ends_apart x g (committed x) (λ t i. i) (isolated_world x g).keys_apart)
+
+  InOrder-push : (xs : List (Txn A)) (t : Txn A) → InOrder by_end xs → ((x : Txn A) → In x xs → x.end < t.end) → InOrder by_end (xs ++ t ∷ [])
+  InOrder-push [] t o h = (λ y i. absurd i, tt)
+  InOrder-push (x ∷ xs) t o h = (λ y i. side y (In-append by_end y xs (t ∷ []) i), InOrder-push xs t o.1 (λ y i. h y (inr i)))
+    where
+      side : (y : Txn A) → In y xs ⊎ ((y ≡ t) ⊎ ⊥) → Below (by_end x) (by_end y)
+      side y (inl i) = o.0 y i
+      side y (inr (inl p)) = inl (subst (λ (z : Txn A). x.end < z.end) (sym p) (h x (inl refl)))
+      side y (inr (inr z)) = absurd z
+
+  -- v is what one more event has made of w
+  module _ (w v : World A) (gw : IsGood w) (gv : IsGood v) (stays : Stays w v) (next : v.place ≡ w.place + 1) where
+    was : (t : Txn A) → In t (committed w) → In t (committed v) × (t.end ≤ w.place)
+    was t i = (In-sorted (key v) t (committed v) both.0, is_least t.end w.place both.1)
+      where
+        both : In t (serial_order v) × (nat_le t.end w.place ≡ true)
+        both = In-filter (λ y. nat_le y.end w.place) (serial_order v) t (subst (In t) stays.order (sorted-In (key w) t (committed w) i))
+
+    still : (t : Txn A) → In t (committed v) → t.end ≤ w.place → In t (committed w)
+    still t i h = In-sorted (key w) t (committed w) (subst (In t) (sym stays.order) (filter-In (λ y. nat_le y.end w.place) (serial_order v) t (sorted-In (key v) t (committed v) i) (least_so t.end w.place h)))
+
+    two : (m n : ℕ) → m ≤ n + 1 → (m ≤ n) ⊎ (m ≡ n + 1)
+    two m n h = grind arith
+
+    -- a committed one had committed before, or has done so by the last event
+    split : (t : Txn A) → In t (committed v) → In t (committed w) ⊎ (is_at v.place t ≡ true)
+    split t i = go (two t.end w.place (let l = gv.time.ended_by t m.0 in omega (arith, l, next)))
+      where
+        m : In t v.txns × (done t ≡ true)
+        m = members v t i
+
+        go : (t.end ≤ w.place) ⊎ (t.end ≡ w.place + 1) → In t (committed w) ⊎ (is_at v.place t ≡ true)
+        go (inl h) = inl (still t i h)
+        go (inr e) = inr (both_so (done t) (t.end == v.place) m.1 (eq-eqb t.end v.place (e ∙ sym next)))
+
+    old : (t : Txn A) → In t (in_commit_order w) → In t (committed w)
+    old t i = In-sorted by_end t (committed w) i
+
+    pushed : (o : Option (Txn A)) → find (is_at v.place) v.txns ≡ o → in_commit_order v ≡ in_commit_order w ++ option_to_list o
+    pushed None e = same_order by_end (in_commit_order v) (in_commit_order w) (ordered v gv) (ordered w gw) there (λ t i. sorted-In by_end t (committed v) (was t (old t i)).0) ∙ sym (nil_right (in_commit_order w))
+      where
+        there : (t : Txn A) → In t (in_commit_order v) → In t (in_commit_order w)
+        there t i = go (split t j)
+          where
+            j : In t (committed v)
+            j = In-sorted by_end t (committed v) i
+
+            go : In t (committed w) ⊎ (is_at v.place t ≡ true) → In t (in_commit_order w)
+            go (inl k) = sorted-In by_end t (committed w) k
+            go (inr q) = absurd (none_found (is_at v.place) v.txns e t (members v t j).0 q)
+    pushed (Some x) e =
+        same_order by_end (in_commit_order v) (in_commit_order w ++ x ∷ []) (ordered v gv)
+        (InOrder-push (in_commit_order w) x (ordered w gw) (λ y i. let l = (was y (old y i)).1 in omega (arith, l, next, x_end))) there back
+      where
+        x_in : In x v.txns × (is_at v.place x ≡ true)
+        x_in = found (is_at v.place) v.txns x e
+
+        x_parts : (done x ≡ true) × ((x.end == v.place) ≡ true)
+        x_parts = two_of (done x) (x.end == v.place) x_in.1
+
+        x_end : x.end ≡ v.place
+        x_end = eqb-true x.end v.place x_parts.1
+
+        there : (t : Txn A) → In t (in_commit_order v) → In t (in_commit_order w ++ x ∷ [])
+        there t i = go (split t j)
+          where
+            j : In t (committed v)
+            j = In-sorted by_end t (committed v) i
+
+            go : In t (committed w) ⊎ (is_at v.place t ≡ true) → In t (in_commit_order w ++ x ∷ [])
+            go (inl k) = In-left by_end t (in_commit_order w) (x ∷ []) (sorted-In by_end t (committed w) k)
+            go (inr q) =
+                let p = two_of (done t) (t.end == v.place) q in
+                In-right by_end t (in_commit_order w) (x ∷ []) (inl (gv.time.ends_apart t x (members v t j).0 x_in.0 p.0 x_parts.0 (eqb-true t.end v.place p.1 ∙ sym x_end)))
+
+        back : (t : Txn A) → In t (in_commit_order w ++ x ∷ []) → In t (in_commit_order v)
+        back t i = sorted-In by_end t (committed v) (go (In-append by_end t (in_commit_order w) (x ∷ []) i))
+          where
+            go : In t (in_commit_order w) ⊎ ((t ≡ x) ⊎ ⊥) → In t (committed v)
+            go (inl k) = (was t (old t k)).0
+            go (inr (inl p)) = subst (λ (y : Txn A). In y (committed v)) (sym p) (filter-In done v.txns x x_in.0 x_parts.0)
+            go (inr (inr z)) = absurd z
+
+    same_keys : (ts : List (Txn A)) → ((t : Txn A) → In t ts → In t (committed w)) → map (λ t. entry t.number (key v t)) ts ≡ map (λ t. entry t.number (key w t)) ts
+    same_keys [] sub = refl
+    same_keys (t ∷ ts) sub =
+        ap (λ k. entry t.number k ∷ map (λ u. entry u.number (key v u)) ts) (by_all (λ y. key v y ≡ key w y) (committed w) t stays.keys (sub t (inl refl)))
+        ∙ ap (λ ks. entry t.number (key w t) ∷ ks) (same_keys ts (λ u i. sub u (inr i)))
+
+    more_keys : keys_by_commit v ≡ keys_by_commit w ++ option_to_list (committed_at v.place v.txns)
+    more_keys =
+        ap (map new) (pushed last refl) ∙ map-append new (in_commit_order w) (option_to_list last)
+        ∙ ap (λ ks. ks ++ map new (option_to_list last)) (same_keys (in_commit_order w) old)
+        ∙ ap (λ ks. keys_by_commit w ++ ks) (list_of new last)
+      where
+        new : Txn A → ℕ × (ℕ × ℕ × ℕ)
+        new t = entry t.number (key v t)
+
+        last : Option (Txn A)
+        last = find (is_at v.place) v.txns
+
+  -- One more event of a legal history adds the transaction that it commits, with its key, at the end, and changes no other.
+  pub keys_push : (o : Opening A) (es : List (Record A)) (e : Record A) → Legal o (es ++ e ∷ []) → (world_of o (es ++ e ∷ [])).place ≡ (world_of o es).place + 1
+      → keys_by_commit (world_of o (es ++ e ∷ [])) ≡ keys_by_commit (world_of o es) ++ option_to_list (committed_at (world_of o (es ++ e ∷ [])).place (world_of o (es ++ e ∷ [])).txns)
+  keys_push o es e l next = more_keys (world_of o es) (world_of o (es ++ e ∷ [])) (good_world o es (legal_begins o es (e ∷ []) l)) (good_world o (es ++ e ∷ []) l) (legal_stays o es (e ∷ []) l) next
