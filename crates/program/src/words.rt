@@ -9,6 +9,7 @@ use crate::request::{Request, read_words};
 use crate::restoring::restore_file;
 use crate::run::{Shown, run_file};
 use clap::Error;
+use clap::error::ErrorKind;
 use std::alloc::{Allocator, Global};
 use std::io::Write;
 use std::sync::Wait;
@@ -45,15 +46,23 @@ where
     }
 }
 
-// Tells the text of a mistake in the words, or the help that they ask for.
-fn tell_words<W: Write, E: Write>(error: &Error, out: &mut W, err: &mut E) -> Status {
-    if error.use_stderr() {
-        let _ = write!(err, "{error}");
-        return Status::Usage;
-    }
-    match write!(out, "{error}") {
+// Prints the help that the words ask for.
+fn show_help<W: Write, E: Write>(help: &Error, out: &mut W, err: &mut E) -> Status {
+    match write!(out, "{help}") {
         Ok(()) => Status::Done,
         Err(_) => tell(&Fault::Device { path: "-" }, err),
+    }
+}
+
+// Tells a mistake in the words, or that memory was wanting for them; or shows the help that they ask for.
+fn tell_words<W: Write, E: Write>(error: &Error, out: &mut W, err: &mut E) -> Status {
+    match error.kind() {
+        ErrorKind::OutOfMemory => tell(&Fault::Script { line: 0 }, err),
+        ErrorKind::DisplayHelp | ErrorKind::DisplayVersion => show_help(error, out, err),
+        _ => {
+            let _ = write!(err, "{error}");
+            Status::Usage
+        }
     }
 }
 

@@ -10,6 +10,6 @@ loop-start-preserved g c =
     let text = c.args.text.now in (
       goes_on c.loop-start.tokens _ c.loop-start.after_number at text _ _ _ (tokens text) (take_rest text at) c.loop-start-test.true
           c.first_token-kind.ensures.value (rw (take_rest text at, get_or-drop at text 0 0, add-zero) (sym c.is_blank.ensures ∙ c.if-is_blank.false)) c.first_token-kind.ensures.within.0 c.first_token-kind.ensures.within.1
-          c.same_kind-after_number.ensures c.in_ok-push.ensures c.loop-start.invariant.0,
+          c.same_kind-after_number.ensures c.in_ok-push.ensures.ok c.loop-start.invariant.0,
       omega arith,
     )

@@ -17,7 +17,7 @@ returns-in_err-item g c =
 
 pub loop-preserved : goal.loop-preserved
 loop-preserved g c =
-    rw c.in_ok-push-2.ensures (goes_on c.args.separator g.T.Item.reads c.loop.items (length c.in_ok-first.after_first.now) c.loop.counter c.loop.rest.now c.in-Some.after.now c.in_ok-item.item c.in_ok-item.after.now
+    rw c.in_ok-push-2.ensures.ok (goes_on c.args.separator g.T.Item.reads c.loop.items (length c.in_ok-first.after_first.now) c.loop.counter c.loop.rest.now c.in-Some.after.now c.in_ok-item.item c.in_ok-item.after.now
     (list_of c.args.separator g.T.Item.reads c.args.tokens.now) c.loop-test.true c.in-Some.ensures c.in_ok-item.ensures c.loop.invariant)
 
 pub returns : goal.returns
