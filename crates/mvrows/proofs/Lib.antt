@@ -1,0 +1,2 @@
+pub mod PruningLemmas
+pub mod VersionLemmas

@@ -1,0 +1,4 @@
+pub mod Installing
+pub mod Laws
+pub mod Pruning
+pub mod Versions
