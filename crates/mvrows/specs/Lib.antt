@@ -1,4 +1,6 @@
 pub mod Installing
 pub mod Laws
 pub mod Pruning
+pub mod Stored
+pub mod TakenBack
 pub mod Versions

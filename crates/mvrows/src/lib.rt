@@ -3,5 +3,6 @@
 
 #[cfg(test)]
 mod tests;
+mod chain;
 pub mod laws;
 pub mod view;
