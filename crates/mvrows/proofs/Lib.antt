@@ -1,3 +1,4 @@
 pub mod ChainLemmas
+pub mod PageLemmas
 pub mod PruningLemmas
 pub mod VersionLemmas

@@ -125,7 +125,7 @@ module _ {A : Type 0} where
 
   -- ---- the last commit
 
-  not_above : (k : Value A) (rows : VersionedRows A) → IsLeast k rows → newest_in rows k ≡ None
+  pub not_above : (k : Value A) (rows : VersionedRows A) → IsLeast k rows → newest_in rows k ≡ None
   not_above k [] least = refl
   not_above k (r ∷ rs) least = rw least.0 (not_above k rs least.1)
 

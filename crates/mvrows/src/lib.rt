@@ -5,4 +5,5 @@
 mod tests;
 mod chain;
 pub mod laws;
+mod page;
 pub mod view;
