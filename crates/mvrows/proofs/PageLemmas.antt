@@ -1,13 +1,13 @@
 -- Keys in key order: where one stands, and what is changed there.
-use Rattle.std.proofs.Common.{suc, zero, ◌≡◌, refl, sym, ap, subst, ◌∙◌, ℕ, ◌+◌, ◌<◌, ◌≤◌, Bool, true, false, true≢false, not, cond, List, [], ◌∷◌, ◌++◌, take, drop, map, length, Option, Some, None, is_some, get_or, set, arith, append_assoc, Bor, add-one}
-use Rattle.std.specs.Prelude.{nat_le, find, slice_get, filter, Result, Ok, Err, OnOk, OnErr}
-use Rattle.std.specs.List.{AllByRecursion, AllWithin, filter_map, cons_option}
+use Rattle.std.proofs.Common.{suc, zero, ◌≡◌, refl, sym, ap, subst, ◌∙◌, ℕ, ◌+◌, ◌<◌, ◌≤◌, Bool, true, false, true≢false, not, cond, List, [], ◌∷◌, ◌++◌, take, drop, map, length, Option, Some, None, get_or, set, arith, Bor, add-one}
+use Rattle.std.specs.Prelude.{slice_get, filter, Result, Ok, Err, OnOk, OnErr}
+use Rattle.std.specs.List.{AllByRecursion, AllWithin, cons_option}
 use Rattle.std.specs.List.Sorted.{IsStrictlySortedBy, IsPartitionedBy, IsPartitionPoint}
-use Rattle.std.specs.Option.{option_map, option_map_or, option_and_then}
-use Rattle.std.specs.Ordering.{is_eq, is_le, is_lt, match_ordering}
+use Rattle.std.specs.Option.{option_map, option_map_or}
+use Rattle.std.specs.Ordering.{is_eq, is_le}
 use Rattle.std.specs.declared.cmp.Ordering.{Ordering}
 use Rattle.std.specs.declared.cmp.Ordering.TheVariants.{Less, Equal, Greater}
-use Rattle.std.proofs.lemmas.List.{append-nil, set_split, take-append-drop, map-append, take_more, drop_more, drop_all}
+use Rattle.std.proofs.lemmas.List.{set_split, map-append, take_more, drop_more, drop_all}
 use Rattle.std.proofs.lemmas.List.Elements.{filter-append}
 use Rattle.value.specs.Order.{value_cmp, value_cmp-total}
 use Rattle.value.specs.declared.key.Key.{Key}
@@ -20,7 +20,6 @@ use Rattle.schema.proofs.RowsInOrder.{later_within}
 use Rattle.mvrows.specs.Versions.{Version, KeyVersions, VersionedRows, IsInOrder, shown_fields, shown_row, shown_rows, newest_version, newest_in}
 use Rattle.mvrows.specs.Installing.{first_version, newer, put_version}
 use Rattle.mvrows.specs.Pruning.{pruned_key, has_version, pruned_rows}
-use Rattle.mvrows.specs.TakenBack.{versions_before, key_before, rows_before}
 use Rattle.mvrows.proofs.VersionLemmas.{IsLeast, put_version-in_order}
 use Rattle.mvrows.proofs.PruningLemmas.{not_above}
 

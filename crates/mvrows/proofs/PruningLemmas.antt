@@ -1,18 +1,14 @@
 -- What snapshots show after a pruning, and what it leaves.
-use Rattle.std.proofs.Common.{suc, zero, ◌≡◌, refl, sym, ap, subst, ◌∙◌, ℕ, ◌<◌, ◌≤◌, Bool, true, false, cond, List, [], ◌∷◌, map, length, Option, Some, None, is_some, get_or, arith}
-use Rattle.std.specs.Prelude.{nat_le, find, slice_get, filter, IfSome}
-use Rattle.std.specs.List.{AllByRecursion, filter_map, cons_option}
+use Rattle.std.proofs.Common.{◌≡◌, refl, sym, ap, subst, ◌∙◌, ℕ, ◌≤◌, Bool, true, false, cond, List, [], ◌∷◌, map, length, Option, Some, None, is_some, arith}
+use Rattle.std.specs.Prelude.{nat_le, find, slice_get, filter}
+use Rattle.std.specs.List.{AllByRecursion, cons_option}
 use Rattle.std.specs.List.Sorted.{IsStrictlySortedBy}
 use Rattle.std.specs.Option.{option_map, option_and_then}
-use Rattle.std.specs.Ordering.{is_eq}
-use Rattle.std.specs.declared.cmp.Ordering.{Ordering}
-use Rattle.std.specs.declared.cmp.Ordering.TheVariants.{Less, Equal, Greater}
 use Rattle.std.proofs.lemmas.Bool.{le-leb, leb-true}
-use Rattle.value.specs.Order.{value_cmp, value_cmp-exact}
 use Rattle.value.specs.declared.value.Value.{Value}
 use Rattle.schema.specs.Plain.{same}
 use Rattle.schema.proofs.PlainLemmas.{same_value}
-use Rattle.mvrows.specs.Versions.{Version, KeyVersions, VersionedRows, versions_of, IsInOrder, AreInOrder, shown_fields, shown_row, shown_rows, shown, newest_version, newest_in, newest, AreBelow, RowsAreBelow, TablesAreBelow}
+use Rattle.mvrows.specs.Versions.{Version, VersionedRows, versions_of, IsInOrder, AreInOrder, shown_fields, shown_rows, shown, newest_version, newest_in, newest, AreBelow, RowsAreBelow, TablesAreBelow}
 use Rattle.mvrows.specs.Pruning.{if_row, pruned_versions, pruned_key, are_some, has_version, pruned_rows, pruned, IsPruned, ArePruned, KeepsNewest}
 use Rattle.mvrows.proofs.VersionLemmas.{IsLeast, all-map, all-filter, get_or-map, table_in_order}
 

@@ -1,27 +1,22 @@
 -- What snapshots show of versions, before and after an install and a pruning.
-use Rattle.std.proofs.Common.{suc, zero, ◌≡◌, refl, sym, ap, subst, ◌∙◌, ℕ, ◌<◌, ◌≤◌, Bool, true, false, cond, not, List, [], ◌∷◌, map, length, Option, Some, None, is_some, get_or, set, arith, T}
-use Rattle.std.specs.Prelude.{nat_le, find, slice_get, filter, IfSome}
-use Rattle.std.specs.Cmp.{eq_by_cmp_equiv}
-use Rattle.std.specs.FinMap.Entries.{where_key, put}
-use Rattle.std.specs.List.{AllByRecursion, filter_map, cons_option}
+use Rattle.std.proofs.Common.{suc, zero, ◌≡◌, refl, sym, ap, subst, ◌∙◌, ℕ, ◌<◌, Bool, true, false, cond, List, [], ◌∷◌, map, Option, Some, None, get_or, set}
+use Rattle.std.specs.Prelude.{nat_le, filter}
+use Rattle.std.specs.List.{AllByRecursion, cons_option}
 use Rattle.std.specs.List.Sorted.{IsStrictlySortedBy}
-use Rattle.std.specs.Option.{option_map, option_and_then}
-use Rattle.std.specs.Ordering.{is_eq, match_ordering, ordering_reverse}
+use Rattle.std.specs.Option.{option_map}
+use Rattle.std.specs.Ordering.{match_ordering, ordering_reverse}
 use Rattle.std.specs.declared.cmp.Ordering.{Ordering}
 use Rattle.std.specs.declared.cmp.Ordering.TheVariants.{Less, Equal, Greater}
 use Rattle.std.proofs.lemmas.List.{map-set, set-get_or}
 use Rattle.std.proofs.Math.Dec.{leb-zero}
 use Rattle.value.specs.Order.{value_cmp, value_cmp-total, value_cmp-exact}
 use Rattle.value.specs.declared.value.Value.{Value}
-use Rattle.schema.specs.declared.row.Row.{Row}
 use Rattle.schema.specs.declared.changes.Change.{Change}
 use Rattle.schema.specs.declared.tables.Tables.{Tables}
-use Rattle.schema.specs.Plain.{same, changed, put_in, put_all, rows_of}
+use Rattle.schema.specs.Plain.{changed, put_in, put_all, rows_of}
 use Rattle.schema.specs.Rows.{Rows}
-use Rattle.mvrows.specs.Versions.{Version, KeyVersions, VersionedRows, versions_of, IsInOrder, AreInOrder, version_at, shown_fields, shown_row, shown_rows, shown, newest_version, newest_in, newest, AreBelow, RowsAreBelow, TablesAreBelow}
+use Rattle.mvrows.specs.Versions.{Version, VersionedRows, versions_of, IsInOrder, AreInOrder, shown_fields, shown_row, shown_rows, shown, RowsAreBelow, TablesAreBelow}
 use Rattle.mvrows.specs.Installing.{opened_row, opened, first_version, newer, put_version, install_change, installed}
-use Rattle.mvrows.specs.Pruning.{if_row, pruned_versions, pruned_key, has_version, pruned_rows, pruned, IsPruned, ArePruned, KeepsNewest}
-use Rattle.mvrows.specs.Laws.{OpeningIsShown, ShowsInstalled, HidesInstalled, PruningIsHidden, PruningLeavesOne, PruningKeepsNewest, StaysInOrder, StaysBelow}
 
 -- a map, and what is read of it
 pub get_or-map : {X Y : Type 0} (f : X → Y) (xs : List X) (i : ℕ) (d : X) → get_or (map f xs) i (f d) ≡ f (get_or xs i d)
@@ -91,7 +86,7 @@ module _ {A : Type 0} where
   abbrev pub AreAbove : Value A → Rows A → Type 0
   AreAbove k rows = AllByRecursion (λ l. value_cmp k l ≡ Less) (map (λ r. r.0) rows)
 
-  shown-above : (n : ℕ) (k : Value A) (rows : VersionedRows A) → IsLeast k rows → AreAbove k (shown_rows n rows)
+  pub shown-above : (n : ℕ) (k : Value A) (rows : VersionedRows A) → IsLeast k rows → AreAbove k (shown_rows n rows)
   shown-above n k [] least = tt
   shown-above n k (r ∷ rs) least = go (shown_fields n r.versions) (shown-above n k rs least.1)
     where

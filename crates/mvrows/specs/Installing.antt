@@ -1,13 +1,12 @@
 -- The opening, and what a commit installs.
 -- Source: Ports and Grittner, Serializable Snapshot Isolation in PostgreSQL, on snapshot isolation.
-use Rattle.std.specs.Prelude.{ℕ, Option, Some, List, [], ◌∷◌, map, slice_set}
+use Rattle.std.specs.Prelude.{ℕ, Some, List, [], ◌∷◌, map, slice_set}
 use Rattle.std.specs.Ordering.{match_ordering}
 use Rattle.value.specs.Order.{value_cmp}
 use Rattle.value.specs.declared.value.Value.{Value}
 use Rattle.schema.specs.declared.row.Row.{Row}
 use Rattle.schema.specs.declared.changes.Change.{Change}
 use Rattle.schema.specs.declared.tables.Tables.{Tables}
-use Rattle.schema.specs.Rows.{Rows}
 use Rattle.mvrows.specs.Versions.{Version, KeyVersions, VersionedRows, versions_of}
 
 module _ {A : Type 0} where

@@ -1,9 +1,11 @@
 -- What installing and pruning come to for snapshots.
 -- Source: Ports and Grittner, Serializable Snapshot Isolation in PostgreSQL, on snapshot isolation; PostgreSQL manual, Routine Vacuuming, on recovering disk space.
 use Rattle.std.specs.Prelude.{ℕ, ◌≡◌, ◌<◌, ◌≤◌, List}
+use Rattle.std.specs.List.{AllByRecursion}
 use Rattle.value.specs.declared.value.Value.{Value}
 use Rattle.schema.specs.declared.changes.Change.{Change}
 use Rattle.schema.specs.declared.tables.Tables.{Tables}
+use Rattle.schema.specs.Rows.{IsInKeyOrder}
 use Rattle.schema.specs.Plain.{put_all}
 use Rattle.mvrows.specs.Versions.{VersionedRows, AreInOrder, TablesAreBelow, shown, newest}
 use Rattle.mvrows.specs.Installing.{opened, installed}
@@ -12,6 +14,10 @@ use Rattle.mvrows.specs.Pruning.{ArePruned, KeepsNewest, pruned}
 -- every snapshot shows the opening
 abbrev pub OpeningIsShown : Type 0 → Type 0
 OpeningIsShown A = (tables : Tables A) (snapshot : ℕ) → shown snapshot (opened tables) ≡ tables
+
+-- its keys are in order, and its versions below each commit
+abbrev pub OpeningIsFirst : Type 0 → Type 0
+OpeningIsFirst A = (tables : Tables A) (commit : ℕ) → AllByRecursion IsInKeyOrder tables → 0 < commit → AreInOrder (opened tables) × TablesAreBelow commit (opened tables)
 
 -- a snapshot from a commit on shows its changes put into what it showed
 abbrev pub ShowsInstalled : Type 0 → Type 0

@@ -2,7 +2,6 @@
 -- Source: PostgreSQL manual, Routine Vacuuming, on recovering disk space.
 use Rattle.std.specs.Prelude.{ℕ, ◌≤◌, ◌≡◌, nat_le, Bool, true, false, is_some, if◌then◌else◌, Option, Some, None, IfSome, List, [], ◌∷◌, length, map, filter}
 use Rattle.std.specs.List.{AllByRecursion}
-
 use Rattle.mvrows.specs.Versions.{Version, KeyVersions, VersionedRows}
 
 -- the last commit of a key is as before, or was not above the number and is forgotten

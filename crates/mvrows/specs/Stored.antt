@@ -1,5 +1,4 @@
 -- How the code keeps the versions of a key: each row with its key.
-use Rattle.std.specs.Prelude.{ℕ, nat_lt, if◌then◌else◌, List, [], ◌∷◌, map}
 use Rattle.std.specs.Option.{option_map}
 use Rattle.value.specs.declared.value.Value.{Value}
 use Rattle.mvrows.specs.declared.chain.Stored.{Stored}

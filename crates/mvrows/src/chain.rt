@@ -3,7 +3,7 @@ ghost use Rattle.std.specs.Prelude.{◌≡◌, nat_le, false, take, drop, OnOk, 
 ghost use Rattle.std.specs.Option.{option_map, option_map_or, option_copied};
 ghost use Rattle.value.specs.Refusals.{out_of_memory};
 ghost use Rattle.mvrows.specs.Versions.{shown_row, newest_version};
-ghost use Rattle.mvrows.specs.Installing.{first_version, newer};
+ghost use Rattle.mvrows.specs.Installing.{first_version, newer, opened_row};
 ghost use Rattle.mvrows.specs.Pruning.{pruned_key, pruned_versions, has_version};
 ghost use Rattle.mvrows.specs.TakenBack.{key_before};
 
@@ -76,10 +76,7 @@ fn row_of<A: Allocator + Copy>(
 }
 
 // An equal row, where there is one.
-fn copy_row<A: Allocator + Copy>(
-    alloc: A,
-    row: &Option<Row<A>>,
-) -> Result<Option<Row<A>>, Refusal>
+fn copy_row<A: Allocator + Copy>(alloc: A, row: &Option<Row<A>>) -> Result<Option<Row<A>>, Refusal>
     ensures ok { IfOk result (λ copy. copy ≡ row.now) }
     ensures err { IfErr result (λ e. e ≡ out_of_memory) }
 {
@@ -101,6 +98,23 @@ impl<A: Allocator> Chain<A> {
         let row = row_of(alloc, &key, change.fields())?;
         let mut versions = VecDeque::new(alloc);
         versions.push_front(Stored { number, row })?;
+        Ok(Chain { key, versions })
+    }
+
+    /// The key of a row, with the version of the opening alone.
+    pub fn opened(alloc: A, row: &Row<A>) -> Result<Chain<A>, Refusal>
+    where
+        A: Copy,
+        ensures ok { IfOk result (λ c. c ≡ opened_row row.now) }
+        ensures err { IfErr result (λ e. e ≡ out_of_memory) }
+    {
+        let key = row.key().copy(alloc)?;
+        let kept = row_of(alloc, &key, Some(row.fields()))?;
+        let mut versions = VecDeque::new(alloc);
+        versions.push_front(Stored {
+            number: 0,
+            row: kept,
+        })?;
         Ok(Chain { key, versions })
     }
 
@@ -161,7 +175,11 @@ impl<A: Allocator> Chain<A> {
         let mut kept: usize = 0;
         while let Some(version) = self.versions.get(kept) {
             if version.number <= oldest {
-                return if version.row.is_some() { kept + 1 } else { kept };
+                return if version.row.is_some() {
+                    kept + 1
+                } else {
+                    kept
+                };
             }
             kept += 1;
         }

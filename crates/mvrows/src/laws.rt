@@ -1,11 +1,12 @@
 //! What holds of versions, whatever was installed and pruned.
-ghost use Rattle.mvrows.specs.Laws.{OpeningIsShown, ShowsInstalled, HidesInstalled, PruningIsHidden, PruningLeavesOne, PruningKeepsNewest, StaysInOrder, StaysBelow};
+ghost use Rattle.mvrows.specs.Laws.{OpeningIsShown, OpeningIsFirst, ShowsInstalled, HidesInstalled, PruningIsHidden, PruningLeavesOne, PruningKeepsNewest, StaysInOrder, StaysBelow};
 
 use std::alloc::Allocator;
 
-/// Every snapshot shows the opening.
+/// Every snapshot shows the opening. Its keys are in order, and its versions below each commit.
 pub fn opening_is_shown<A: Allocator>()
-    ensures { OpeningIsShown A }
+    ensures shown { OpeningIsShown A }
+    ensures first { OpeningIsFirst A }
 {}
 
 /// A snapshot from a commit on shows its changes put into what it showed before.

@@ -1,5 +1,5 @@
 // Keys with their versions, side by side.
-ghost use Rattle.std.specs.Prelude.{◌≡◌, ◌≤◌, [], true, false, not, length, take, drop, slice_get, map, filter, OnOk, OnErr, IfOk, IfErr, IsTrue};
+ghost use Rattle.std.specs.Prelude.{◌≡◌, ◌≤◌, ◌++◌, ◌∷◌, [], true, false, not, length, take, drop, slice_get, map, filter, OnOk, OnErr, IfOk, IfErr, IsTrue};
 ghost use Rattle.std.specs.List.{AllByRecursion};
 ghost use Rattle.std.specs.Option.{option_copied, option_map_or};
 ghost use Rattle.std.specs.Ordering.{is_le};
@@ -8,7 +8,7 @@ ghost use Rattle.value.specs.Refusals.{out_of_memory};
 ghost use Rattle.schema.specs.Plain.{same};
 ghost use Rattle.schema.specs.Rows.{is_within, next_row};
 ghost use Rattle.mvrows.specs.Versions.{IsInOrder, shown_rows, newest_in};
-ghost use Rattle.mvrows.specs.Installing.{put_version};
+ghost use Rattle.mvrows.specs.Installing.{put_version, opened_row};
 ghost use Rattle.mvrows.specs.Pruning.{pruned_key, has_version, pruned_rows};
 ghost use Rattle.mvrows.specs.TakenBack.{key_before, rows_before};
 
@@ -158,6 +158,13 @@ impl<A: Allocator> Page<A> {
         }
     }
 
+    /// The keys rise. Nothing is done.
+    pub fn in_order(&self)
+        ensures { IsInOrder self.now }
+    {
+        let _chains = &self.chains;
+    }
+
     /// The row of the least key within a bound that a snapshot shows.
     pub fn next_row(&self, snapshot: u64, bound: Bound<&Key<A>>) -> Option<&Row<A>>
         ensures { option_copied result ≡ next_row (shown_rows snapshot self.now) bound.entry }
@@ -184,6 +191,19 @@ impl<A: Allocator> Page<A> {
             }
             None => None,
         }
+    }
+
+    /// Puts in a row of the opening, whose key is above all.
+    pub fn open(&mut self, alloc: A, row: &Row<A>) -> Result<(), Refusal>
+    where
+        A: Copy,
+        requires { IsInOrder (self.old ++ opened_row row.now ∷ []) }
+        ensures ok { OnOk result (self.new ≡ self.old ++ opened_row row.now ∷ []) }
+        ensures memory { IfErr result (λ e. e ≡ out_of_memory) }
+    {
+        let chain = Chain::opened(alloc, row)?;
+        self.chains.push(chain)?;
+        Ok(())
     }
 
     /// Puts in a newer version of a change's key.

@@ -1,4 +1,4 @@
-use Rattle.std.proofs.Common.{ap, sym, arith, None, ◌≡◌, ◌∙◌}
+use Rattle.std.proofs.Common.{ap, sym, arith, ◌∙◌}
 use Rattle.std.specs.Option.{option_copied}
 use Rattle.mvrows.proofs.PageLemmas.{first-here, first-later, first-none}
 use Rattle.mvrows.proofs.page.first_shown.Goals as goal

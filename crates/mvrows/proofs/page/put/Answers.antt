@@ -1,10 +1,10 @@
-use Rattle.std.proofs.Common.{ap, sym, subst, ◌≡◌, ◌∙◌}
+use Rattle.std.proofs.Common.{ap, sym, ◌∙◌}
 use Rattle.mvrows.proofs.PageLemmas.{on_ok, put-at, put-inserted}
-use Rattle.std.specs.Prelude.{slice_get, false, slice_set}
-use Rattle.std.specs.Option.{option_map_or, option_copied}
+use Rattle.std.specs.Prelude.{slice_get, false}
+use Rattle.std.specs.Option.{option_map_or}
 use Rattle.schema.specs.Plain.{same}
-use Rattle.mvrows.specs.Versions.{Version, KeyVersions}
-use Rattle.mvrows.specs.Installing.{put_version, newer}
+use Rattle.mvrows.specs.Versions.{KeyVersions}
+use Rattle.mvrows.specs.Installing.{newer}
 use Rattle.mvrows.proofs.page.put.Goals as goal
 
 pub returns-then-is_at-clause-ok : goal.returns-then-is_at-clause-ok

@@ -1,5 +1,5 @@
-use Rattle.std.proofs.Common.{refl, ◌<◌, ◌≤◌, ◌≡◌, is_some, true, false, sym, length, arith, ◌∙◌}
-use Rattle.mvrows.proofs.ChainLemmas.{Shows, more_are_kept, row_is_kept, absence_is_dropped, all_are_kept}
+use Rattle.std.proofs.Common.{refl, ◌<◌, sym, length, arith, ◌∙◌}
+use Rattle.mvrows.proofs.ChainLemmas.{more_are_kept, row_is_kept, absence_is_dropped}
 use Rattle.mvrows.proofs.chain.Chain.kept.Goals as goal
 
 pub returns-then-is_some : goal.returns-then-is_some

@@ -1,4 +1,4 @@
-use Rattle.std.proofs.Common.{ap, sym, subst, ◌≡◌, true, false, take, drop, ◌∙◌}
+use Rattle.std.proofs.Common.{sym, subst, ◌≡◌, true, false, take, drop}
 use Rattle.std.specs.List.{AllByRecursion}
 use Rattle.std.specs.Ordering.{is_le}
 use Rattle.value.specs.Order.{value_cmp}
