@@ -1,0 +1,5 @@
+use Rattle.mvrows.proofs.ViewLemmas.{shown-in_order}
+use Rattle.mvrows.proofs.view.next_row.Goals as goal
+
+pub returns-clause-ordered : goal.returns-clause-ordered
+returns-clause-ordered g c = shown-in_order c.args.snapshot c.args.page.now c.in_order.ensures

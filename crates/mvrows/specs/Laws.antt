@@ -1,0 +1,48 @@
+-- What installing and pruning come to for snapshots.
+-- Source: Ports and Grittner, Serializable Snapshot Isolation in PostgreSQL, on snapshot isolation; PostgreSQL manual, Routine Vacuuming, on recovering disk space.
+use Rattle.std.specs.Prelude.{ℕ, ◌≡◌, ◌<◌, ◌≤◌, List}
+use Rattle.std.specs.List.{AllByRecursion}
+use Rattle.value.specs.declared.value.Value.{Value}
+use Rattle.schema.specs.declared.changes.Change.{Change}
+use Rattle.schema.specs.declared.tables.Tables.{Tables}
+use Rattle.schema.specs.Rows.{IsInKeyOrder}
+use Rattle.schema.specs.Plain.{put_all}
+use Rattle.mvrows.specs.Versions.{VersionedRows, AreInOrder, TablesAreBelow, shown, newest}
+use Rattle.mvrows.specs.Installing.{opened, installed}
+use Rattle.mvrows.specs.Pruning.{ArePruned, KeepsNewest, pruned}
+
+-- every snapshot shows the opening
+abbrev pub OpeningIsShown : Type 0 → Type 0
+OpeningIsShown A = (tables : Tables A) (snapshot : ℕ) → shown snapshot (opened tables) ≡ tables
+
+-- its keys are in order, and its versions below each commit
+abbrev pub OpeningIsFirst : Type 0 → Type 0
+OpeningIsFirst A = (tables : Tables A) (commit : ℕ) → AllByRecursion IsInKeyOrder tables → 0 < commit → AreInOrder (opened tables) × TablesAreBelow commit (opened tables)
+
+-- a snapshot from a commit on shows its changes put into what it showed
+abbrev pub ShowsInstalled : Type 0 → Type 0
+ShowsInstalled A = (tables : List (VersionedRows A)) (changes : List (Change A)) (commit snapshot : ℕ) → AreInOrder tables → commit ≤ snapshot → shown snapshot (installed commit changes tables) ≡ put_all changes (shown snapshot tables)
+
+-- a lower one shows what it showed
+abbrev pub HidesInstalled : Type 0 → Type 0
+HidesInstalled A = (tables : List (VersionedRows A)) (changes : List (Change A)) (commit snapshot : ℕ) → snapshot < commit → shown snapshot (installed commit changes tables) ≡ shown snapshot tables
+
+-- a snapshot from the number of a pruning on shows what it showed
+abbrev pub PruningIsHidden : Type 0 → Type 0
+PruningIsHidden A = (tables : List (VersionedRows A)) (oldest snapshot : ℕ) → oldest ≤ snapshot → shown snapshot (pruned oldest tables) ≡ shown snapshot tables
+
+-- of each key one version at most isn't above that number
+abbrev pub PruningLeavesOne : Type 0 → Type 0
+PruningLeavesOne A = (tables : List (VersionedRows A)) (oldest : ℕ) → ArePruned oldest (pruned oldest tables)
+
+-- and the number of its last commit is as before, or was not above that number and is forgotten
+abbrev pub PruningKeepsNewest : Type 0 → Type 0
+PruningKeepsNewest A = (tables : List (VersionedRows A)) (oldest t : ℕ) (key : Value A) → AreInOrder tables → KeepsNewest oldest (newest tables t key) (newest (pruned oldest tables) t key)
+
+-- the keys of each table stay in order
+abbrev pub StaysInOrder : Type 0 → Type 0
+StaysInOrder A = (tables : List (VersionedRows A)) (changes : List (Change A)) (commit oldest : ℕ) → AreInOrder tables → AreInOrder (installed commit changes tables) × AreInOrder (pruned oldest tables)
+
+-- versions are of commits below the next
+abbrev pub StaysBelow : Type 0 → Type 0
+StaysBelow A = (tables : List (VersionedRows A)) (changes : List (Change A)) (commit next oldest : ℕ) → commit < next → TablesAreBelow next tables → TablesAreBelow next (installed commit changes tables) × TablesAreBelow next (pruned oldest tables)

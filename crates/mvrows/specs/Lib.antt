@@ -1,0 +1,9 @@
+pub mod Held
+pub mod HeldRows
+pub mod Installing
+pub mod Laws
+pub mod Pruning
+pub mod Sources
+pub mod Stored
+pub mod TakenBack
+pub mod Versions

@@ -1,0 +1,17 @@
+-- Versions without those of a commit that wasn't finished.
+use Rattle.std.specs.Prelude.{ℕ, nat_lt, if◌then◌else◌, List, [], ◌∷◌, map, filter}
+use Rattle.mvrows.specs.Versions.{Version, KeyVersions, VersionedRows}
+use Rattle.mvrows.specs.Pruning.{has_version}
+
+module _ {A : Type 0} where
+  -- the versions from the newest one below a number on
+  abbrev pub versions_before : ℕ → List (Version A) → List (Version A)
+  versions_before commit [] = []
+  versions_before commit (v ∷ vs) = if nat_lt v.number commit then v ∷ vs else versions_before commit vs
+
+  abbrev pub key_before : ℕ → KeyVersions A → KeyVersions A
+  key_before commit k = record k { versions = versions_before commit k.versions }
+
+  -- a table's keys that have such versions
+  abbrev pub rows_before : ℕ → VersionedRows A → VersionedRows A
+  rows_before commit rows = filter has_version (map (key_before commit) rows)

@@ -1,0 +1,35 @@
+//! What holds of versions, whatever was installed and pruned.
+ghost use Rattle.mvrows.specs.Laws.{OpeningIsShown, OpeningIsFirst, ShowsInstalled, HidesInstalled, PruningIsHidden, PruningLeavesOne, PruningKeepsNewest, StaysInOrder, StaysBelow};
+
+use std::alloc::Allocator;
+
+/// Every snapshot shows the opening. Its keys are in order, and its versions below each commit.
+pub fn opening_is_shown<A: Allocator>()
+    ensures shown { OpeningIsShown A }
+    ensures first { OpeningIsFirst A }
+{}
+
+/// A snapshot from a commit on shows its changes put into what it showed before.
+pub fn installed_changes_show<A: Allocator>()
+    ensures { ShowsInstalled A }
+{}
+
+/// A snapshot below a commit shows what it showed before.
+pub fn later_changes_hide<A: Allocator>()
+    ensures { HidesInstalled A }
+{}
+
+/// A snapshot from the number of a pruning on shows what it showed before; of each key one version at
+/// most isn't above that number; and the number of a key's last commit is as before, or was not above
+/// that number and is forgotten.
+pub fn pruning_is_hidden<A: Allocator>()
+    ensures shown { PruningIsHidden A }
+    ensures one { PruningLeavesOne A }
+    ensures newest { PruningKeepsNewest A }
+{}
+
+/// Keys stay in order, and versions below the number of a commit to come.
+pub fn versions_stay_ordered<A: Allocator>()
+    ensures order { StaysInOrder A }
+    ensures below { StaysBelow A }
+{}

@@ -1,0 +1,263 @@
+// Keys with their versions, side by side.
+ghost use Rattle.std.specs.Prelude.{◌≡◌, ◌≤◌, ◌++◌, ◌∷◌, [], true, false, not, length, take, drop, slice_get, map, filter, OnOk, OnErr, IfOk, IfErr, IsTrue};
+ghost use Rattle.std.specs.List.{AllByRecursion};
+ghost use Rattle.std.specs.Option.{option_copied, option_map_or};
+ghost use Rattle.std.specs.Ordering.{is_le};
+ghost use Rattle.value.specs.Order.{value_cmp};
+ghost use Rattle.value.specs.Refusals.{out_of_memory};
+ghost use Rattle.schema.specs.Plain.{same};
+ghost use Rattle.schema.specs.Rows.{is_within, next_row};
+ghost use Rattle.mvrows.specs.Versions.{IsInOrder, shown_rows, newest_in};
+ghost use Rattle.mvrows.specs.Installing.{put_version, opened_row};
+ghost use Rattle.mvrows.specs.Pruning.{pruned_key, has_version, pruned_rows};
+ghost use Rattle.mvrows.specs.TakenBack.{key_before, rows_before};
+
+use crate::chain::Chain;
+use schema::changes::Change;
+use schema::reader::Bound;
+use schema::row::Row;
+use std::alloc::{Allocator, Global};
+use std::marker::Model;
+use value::key::Key;
+use value::refusal::Refusal;
+
+/// Some keys with their versions, in key order.
+#[derive(Drop)]
+#[derive_where(Debug)]
+pub(crate) struct Page<A: Allocator = Global> {
+    chains: Vec<Chain<A>, A>,
+}
+
+impl<A: Allocator> Model for Page<A> {
+    ghost use Rattle.mvrows.specs.Versions.{VersionedRows, IsInOrder};
+
+    ghost Value = { VersionedRows A };
+
+    ghost view = { λ p. p.chains.items };
+
+    ghost invariant = { λ p. IsInOrder p.chains.items };
+}
+
+// Whether a key comes before all that a bound lets in.
+fn is_before<A: Allocator>(key: &Key<A>, bound: Bound<&Key<A>>) -> bool
+    ensures { result ≡ not (is_within bound.entry key.now) }
+{
+    match bound {
+        Bound::Start => false,
+        Bound::From(first) => !first.cmp(key).is_le(),
+        Bound::After(before) => !before.cmp(key).is_lt(),
+    }
+}
+
+// The place of the first key within a bound, of keys in key order.
+fn start<A: Allocator>(chains: &[Chain<A>], bound: Bound<&Key<A>>) -> usize
+    requires { IsInOrder chains.now }
+    ensures within_length { result ≤ length chains.now }
+    ensures before { AllByRecursion (λ k. is_within bound.entry k.key ≡ false) (take result chains.now) }
+    ensures within { AllByRecursion (λ k. is_within bound.entry k.key ≡ true) (drop result chains.now) }
+{
+    chains.partition_point(
+        |chain: &Chain<A>| -> bool
+            ensures { result ≡ not (is_within bound.entry chain.now.key) }
+        { is_before(chain.key(), bound) },
+    )
+}
+
+// What stands at a place.
+fn at<A: Allocator>(chains: &[Chain<A>], place: usize) -> Option<&Chain<A>>
+    ensures { option_copied result ≡ slice_get chains.now place }
+{
+    chains.get(place)
+}
+
+// The first row that a snapshot shows.
+fn first_shown<A: Allocator>(chains: &[Chain<A>], snapshot: u64) -> Option<&Row<A>>
+    ensures { option_copied result ≡ slice_get (shown_rows snapshot chains.now) 0 }
+{
+    for chain in chains {
+        if let Some(row) = chain.row_at(snapshot) {
+            return Some(row);
+        }
+    }
+    None
+}
+
+// Prunes the versions of each key.
+fn prune_all<A: Allocator>(chains: &mut Vec<Chain<A>, A>, oldest: u64)
+    ensures { chains.new.items ≡ map (pruned_key oldest) chains.old.items }
+{
+    for chain in chains.iter_mut() {
+        chain.prune(oldest);
+    }
+}
+
+// Takes back the versions of a commit of each key.
+fn take_all_back<A: Allocator>(chains: &mut Vec<Chain<A>, A>, commit: u64)
+    ensures { chains.new.items ≡ map (key_before commit) chains.old.items }
+{
+    for chain in chains.iter_mut() {
+        chain.take_back(commit);
+    }
+}
+
+// Drops the keys without a version.
+fn drop_empty<A: Allocator>(chains: &mut Vec<Chain<A>, A>)
+    ensures { chains.new.items ≡ filter has_version chains.old.items }
+{
+    chains.retain(|chain| chain.has_version());
+}
+
+// Whether this is the key.
+fn is_of<A: Allocator>(chain: &Chain<A>, key: &Key<A>) -> bool
+    ensures { result ≡ same key.now chain.now.key }
+{
+    key.cmp(chain.key()).is_eq()
+}
+
+// Whether a key stands at a place.
+fn is_at<A: Allocator>(chains: &[Chain<A>], place: usize, key: &Key<A>) -> bool
+    ensures { result ≡ option_map_or (λ k. same key.now k.key) (slice_get chains.now place) false }
+{
+    match at(chains, place) {
+        Some(chain) => is_of(chain, key),
+        None => false,
+    }
+}
+
+// Puts in a newer version of a change's key at its place.
+fn put<A: Allocator + Copy>(
+    alloc: A,
+    chains: &mut Vec<Chain<A>, A>,
+    place: usize,
+    number: u64,
+    change: &Change<A>,
+) -> Result<(), Refusal>
+    requires within_length { place ≤ length chains.old.items }
+    requires before { AllByRecursion (λ k. is_le (value_cmp change.now.key k.key) ≡ false) (take place chains.old.items) }
+    requires within { AllByRecursion (λ k. is_le (value_cmp change.now.key k.key) ≡ true) (drop place chains.old.items) }
+    ensures ok { OnOk result (chains.new.items ≡ put_version change.now.key (record { number = number; fields = change.now.fields }) chains.old.items) }
+    ensures err { OnErr result (chains.new.items ≡ chains.old.items) }
+    ensures memory { IfErr result (λ e. e ≡ out_of_memory) }
+{
+    if is_at(chains.as_slice(), place, change.key()) {
+        let chain = &mut chains[place];
+        chain.put(alloc, number, change.fields())
+    } else {
+        let chain = Chain::of(alloc, number, change)?;
+        chains.insert(place, chain)?;
+        Ok(())
+    }
+}
+
+impl<A: Allocator> Page<A> {
+    pub fn new(alloc: A) -> Page<A>
+        ensures { result ≡ [] }
+    {
+        Page {
+            chains: Vec::new(alloc),
+        }
+    }
+
+    /// The keys rise. Nothing is done.
+    pub fn in_order(&self)
+        ensures { IsInOrder self.now }
+    {
+        let _chains = &self.chains;
+    }
+
+    /// The row of the least key within a bound that a snapshot shows.
+    pub fn next_row(&self, snapshot: u64, bound: Bound<&Key<A>>) -> Option<&Row<A>>
+        ensures { option_copied result ≡ next_row (shown_rows snapshot self.now) bound.entry }
+    {
+        let chains = self.chains.as_slice();
+        let from = start(chains, bound);
+        let (_, within) = chains.split_at(from);
+        first_shown(within, snapshot)
+    }
+
+    /// The number of a key's last commit.
+    pub fn newest(&self, key: &Key<A>) -> Option<u64>
+        ensures { result ≡ newest_in self.now key.now }
+    {
+        let chains = self.chains.as_slice();
+        let place = start(chains, Bound::From(key));
+        match at(chains, place) {
+            Some(chain) => {
+                if is_of(chain, key) {
+                    chain.newest()
+                } else {
+                    None
+                }
+            }
+            None => None,
+        }
+    }
+
+    /// Puts in a row of the opening, whose key is above all.
+    pub fn open(&mut self, alloc: A, row: &Row<A>) -> Result<(), Refusal>
+    where
+        A: Copy,
+        requires { IsInOrder (self.old ++ opened_row row.now ∷ []) }
+        ensures ok { OnOk result (self.new ≡ self.old ++ opened_row row.now ∷ []) }
+        ensures memory { IfErr result (λ e. e ≡ out_of_memory) }
+    {
+        let chain = Chain::opened(alloc, row)?;
+        self.chains.push(chain)?;
+        Ok(())
+    }
+
+    /// Puts in a newer version of a change's key.
+    pub fn put(&mut self, alloc: A, number: u64, change: &Change<A>) -> Result<(), Refusal>
+    where
+        A: Copy,
+        ensures ok { OnOk result (self.new ≡ put_version change.now.key (record { number = number; fields = change.now.fields }) self.old) }
+        ensures err { OnErr result (self.new ≡ self.old) }
+        ensures memory { IfErr result (λ e. e ≡ out_of_memory) }
+    {
+        let place = start(self.chains.as_slice(), Bound::From(change.key()));
+        put(alloc, &mut self.chains, place, number, change)
+    }
+
+    /// Whether a pruning leaves it as it is.
+    pub fn is_pruned(&self, oldest: u64) -> bool
+        ensures { IsTrue result → pruned_rows oldest self.now ≡ self.now }
+    {
+        for chain in &self.chains {
+            if !(chain.has_version() && chain.is_pruned(oldest)) {
+                return false;
+            }
+        }
+        true
+    }
+
+    /// Leaves of each key the versions above a number, and the newest other, unless it is an absence,
+    /// and no key without a version.
+    pub fn prune(&mut self, oldest: u64)
+        ensures { self.new ≡ pruned_rows oldest self.old }
+    {
+        prune_all(&mut self.chains, oldest);
+        drop_empty(&mut self.chains);
+    }
+
+    /// Takes back the versions of a commit that wasn't finished.
+    pub fn take_back(&mut self, commit: u64)
+        ensures { self.new ≡ rows_before commit self.old }
+    {
+        take_all_back(&mut self.chains, commit);
+        drop_empty(&mut self.chains);
+    }
+
+    /// Equal keys with equal versions.
+    pub fn copy(&self, alloc: A) -> Result<Page<A>, Refusal>
+    where
+        A: Copy,
+        ensures ok { IfOk result (λ p. p ≡ self.now) }
+        ensures err { IfErr result (λ e. e ≡ out_of_memory) }
+    {
+        let mut chains = Vec::with_capacity(alloc, self.chains.len())?;
+        for chain in &self.chains {
+            chains.push(chain.copy(alloc)?)?;
+        }
+        Ok(Page { chains })
+    }
+}

@@ -1,0 +1,229 @@
+//! The tables with their versions.
+ghost use Rattle.std.specs.Prelude.{◌≡◌, ◌≤◌, ◌^◌, length, map, OnOk, OnErr, IfOk, IfErr};
+ghost use Rattle.std.specs.List.{AllByRecursion};
+ghost use Rattle.value.specs.Refusals.{out_of_memory};
+ghost use Rattle.schema.specs.Rows.{HasTable};
+ghost use Rattle.schema.specs.Plain.{rows_of};
+ghost use Rattle.mvrows.specs.Versions.{TablesAreBelow, newest as last_commit, shown};
+ghost use Rattle.mvrows.specs.Installing.{opened, opened_row, install_change, installed};
+ghost use Rattle.mvrows.specs.Pruning.{pruned, pruned_rows};
+ghost use Rattle.mvrows.specs.HeldRows.{rows_held, undone, IsUndoable, own_pruned, AreVersioned};
+
+use crate::page::Page;
+use crate::table::Table;
+use crate::view::View;
+use schema::catalog::TableNo;
+use schema::changes::Change;
+use schema::reader::{first_row, row_after};
+use schema::tables::Tables;
+use std::alloc::{Allocator, Global};
+use std::marker::Model;
+use value::key::Key;
+use value::refusal::Refusal;
+
+/// Tables with the versions of their keys: what each commit left of them. Contracts see for each
+/// table the list, in key order, of its keys with their versions.
+#[derive(Drop)]
+#[derive_where(Debug)]
+pub struct Rows<A: Allocator = Global> {
+    tables: Vec<Table<A>, A>,
+}
+
+impl<A: Allocator> Model for Rows<A> {
+    ghost use Rattle.std.specs.Prelude.{List};
+    ghost use Rattle.mvrows.specs.Versions.{VersionedRows};
+    ghost use Rattle.mvrows.specs.HeldRows.{rows_held, AreVersioned};
+
+    ghost Value = { List (VersionedRows A) };
+
+    ghost view = { λ r. rows_held r.tables.items };
+
+    // Each key has a version.
+    ghost invariant = { λ r. AreVersioned (rows_held r.tables.items) };
+}
+
+// The opening of a table.
+fn open_table<A: Allocator + Copy>(
+    alloc: A,
+    tables: &Tables<A>,
+    table: TableNo,
+) -> Result<Page<A>, Refusal>
+    requires { HasTable tables.now table }
+    ensures ok { IfOk result (λ page. page ≡ map opened_row (rows_of tables.now table)) }
+    ensures err { IfErr result (λ e. e ≡ out_of_memory) }
+{
+    let mut page = Page::new(alloc);
+    let mut next = first_row(tables, table);
+    while let Some(row) = next {
+        page.open(alloc, row)?;
+        next = row_after(tables, table, row);
+    }
+    Ok(page)
+}
+
+// Puts in a newer version of a change's key, where its table is there.
+fn put_change<A: Allocator + Copy>(
+    alloc: A,
+    tables: &mut Vec<Table<A>, A>,
+    commit: u64,
+    change: &Change<A>,
+) -> Result<(), Refusal>
+    requires versioned { AreVersioned (rows_held tables.old.items) }
+    requires undoable { AllByRecursion (IsUndoable commit) tables.old.items }
+    ensures ok { OnOk result (rows_held tables.new.items ≡ install_change commit change.now (rows_held tables.old.items)) }
+    ensures undo { map (undone commit) tables.new.items ≡ map (undone commit) tables.old.items }
+    ensures undoable { AllByRecursion (IsUndoable commit) tables.new.items }
+    ensures versioned { AreVersioned (rows_held tables.new.items) }
+    ensures memory { IfErr result (λ e. e ≡ out_of_memory) }
+{
+    let place = change.table().place() as usize;
+    if place < tables.len() {
+        let table = &mut tables[place];
+        table.put(alloc, commit, change)
+    } else {
+        Ok(())
+    }
+}
+
+// Puts in a newer version of each change's key.
+fn put_all<A: Allocator + Copy>(
+    alloc: A,
+    tables: &mut Vec<Table<A>, A>,
+    commit: u64,
+    changes: &[Change<A>],
+) -> Result<(), Refusal>
+    requires versioned { AreVersioned (rows_held tables.old.items) }
+    requires undoable { AllByRecursion (IsUndoable commit) tables.old.items }
+    ensures ok { OnOk result (rows_held tables.new.items ≡ installed commit changes.now (rows_held tables.old.items)) }
+    ensures undo { map (undone commit) tables.new.items ≡ map (undone commit) tables.old.items }
+    ensures memory { IfErr result (λ e. e ≡ out_of_memory) }
+{
+    for change in changes {
+        put_change(alloc, tables, commit, change)?;
+    }
+    Ok(())
+}
+
+// Takes back the versions of a commit that wasn't finished.
+fn take_all_back<A: Allocator>(tables: &mut Vec<Table<A>, A>, commit: u64)
+    ensures { rows_held tables.new.items ≡ map (undone commit) tables.old.items }
+{
+    for table in tables.iter_mut() {
+        table.take_back(commit);
+    }
+}
+
+// Lets views share all pages, where there is memory for that.
+fn share_all<A: Allocator + Copy>(alloc: A, tables: &mut Vec<Table<A>, A>)
+    ensures { rows_held tables.new.items ≡ rows_held tables.old.items }
+{
+    for table in tables.iter_mut() {
+        table.share(alloc);
+    }
+}
+
+// Makes each table's page its own, where a pruning has something to do.
+fn make_all_prunable<A: Allocator + Copy>(
+    alloc: A,
+    tables: &mut Vec<Table<A>, A>,
+    oldest: u64,
+) -> Result<(), Refusal>
+    ensures same { rows_held tables.new.items ≡ rows_held tables.old.items }
+    ensures ok { OnOk result (map (own_pruned oldest) tables.new.items ≡ map (λ h. pruned_rows oldest h.rows) tables.old.items) }
+    ensures memory { IfErr result (λ e. e ≡ out_of_memory) }
+{
+    for table in tables.iter_mut() {
+        table.make_prunable(alloc, oldest)?;
+    }
+    Ok(())
+}
+
+// Prunes what each table has for its own.
+fn prune_all<A: Allocator>(tables: &mut Vec<Table<A>, A>, oldest: u64)
+    ensures { rows_held tables.new.items ≡ map (own_pruned oldest) tables.old.items }
+{
+    for table in tables.iter_mut() {
+        table.prune(oldest);
+    }
+}
+
+impl<A: Allocator> Rows<A> {
+    /// The opening: a version of each row, numbered 0.
+    pub fn of(alloc: A, tables: Tables<A>) -> Result<Rows<A>, Refusal>
+    where
+        A: Copy,
+        requires { length tables ≤ 2 ^ 32 }
+        ensures ok { IfOk result (λ r. r ≡ opened tables) }
+        ensures err { IfErr result (λ e. e ≡ out_of_memory) }
+    {
+        let mut opening = Vec::with_capacity(alloc, tables.count())?;
+        for place in 0..tables.count() {
+            let page = open_table(alloc, &tables, TableNo::at(place as u32))?;
+            opening.push(Table::of(page))?;
+        }
+        share_all(alloc, &mut opening);
+        Ok(Rows { tables: opening })
+    }
+
+    /// Installs the changes of a commit, whose number is above all before. Views stay as they are.
+    pub fn install(&mut self, alloc: A, commit: u64, changes: &[Change<A>]) -> Result<(), Refusal>
+    where
+        A: Copy,
+        requires { TablesAreBelow commit self.old }
+        ensures ok { OnOk result (self.new ≡ installed commit changes.now self.old) }
+        ensures err { OnErr result (self.new ≡ self.old) }
+        ensures memory { IfErr result (λ e. e ≡ out_of_memory) }
+    {
+        match put_all(alloc, &mut self.tables, commit, changes) {
+            Ok(()) => {
+                share_all(alloc, &mut self.tables);
+                Ok(())
+            }
+            Err(refusal) => {
+                take_all_back(&mut self.tables, commit);
+                share_all(alloc, &mut self.tables);
+                Err(refusal)
+            }
+        }
+    }
+
+    /// The number of a key's last commit, 0 for the opening. Nothing where the key was never there,
+    /// or where it went by a commit that a pruning has forgotten.
+    pub fn newest(&self, table: TableNo, key: &Key<A>) -> Option<u64>
+        ensures { result ≡ last_commit self.now table key.now }
+    {
+        match self.tables.get(table.place() as usize) {
+            Some(table) => table.page().newest(key),
+            None => None,
+        }
+    }
+
+    /// Leaves of each key the versions above a number, and the newest other, unless it is an absence.
+    /// Views stay as they are, and so does what a snapshot from the number on shows.
+    pub fn prune(&mut self, alloc: A, oldest: u64) -> Result<(), Refusal>
+    where
+        A: Copy,
+        ensures ok { OnOk result (self.new ≡ pruned oldest self.old) }
+        ensures err { OnErr result (self.new ≡ self.old) }
+        ensures memory { IfErr result (λ e. e ≡ out_of_memory) }
+    {
+        make_all_prunable(alloc, &mut self.tables, oldest)?;
+        prune_all(&mut self.tables, oldest);
+        share_all(alloc, &mut self.tables);
+        Ok(())
+    }
+
+    /// The tables that a snapshot shows, by pages that are shared: no row is copied.
+    pub fn view(&self, alloc: A, snapshot: u64) -> Result<View<A>, Refusal>
+    where
+        A: Copy,
+        ensures ok { IfOk result (λ v. v ≡ shown snapshot self.now) }
+        ensures err { IfErr result (λ e. e ≡ out_of_memory) }
+    {
+        let mut pages = Vec::with_capacity(alloc, self.tables.len())?;
+        for table in &self.tables {
+            pages.push(table.lend(alloc)?)?;
+        }
+        Ok(View::at(pages, snapshot))
+    }
+}
