@@ -32,7 +32,8 @@ use Rattle.plain.specs.Views.{are_quiet}
 use Rattle.plain.specs.declared.answered.Answered.{Answered}
 use Rattle.plain.specs.Answers.{both}
 use Rattle.plain.specs.Runs.{HoldsCurrent}
-use Rattle.session.specs.Core.{HoldsKeys, IsKept, recorded}
+use Rattle.session.specs.Core.{HoldsKeys, IsKept, is_commit, recorded}
+use Rattle.session.proofs.CommitAlone.{none_committed}
 use Rattle.session.proofs.CommitOrder.{keys_push}
 use Rattle.session.proofs.KeptKeys.{at-kept}
 use Rattle.session.proofs.Legal.{current_in}
@@ -176,15 +177,35 @@ module _ {A : Type 0} where
         last : committed_at m.place m.txns ≡ committed_at v.place v.txns
         last = ap (λ (n : Ledger A). committed_at n.place n.txns) i.world ∙ at-kept v.place v.txns
 
+    -- where the last event wasn't a COMMIT, it committed none
+    by_commit : (s : ℕ) (a : Action A) (r : Reply A) (m : Ledger A) → IsKept (recorded h s a r) m → cond (is_commit a) (option_to_list (committed_at m.place m.txns)) [] ≡ option_to_list (committed_at m.place m.txns)
+    by_commit s a r m i = go (is_commit a) refl
+      where
+        event : Record A
+        event = record { session = s; action = a; reply = r }
+
+        v : World A
+        v = world (recorded h s a r)
+
+        after : v ≡ follows w event
+        after = run_push (start h.opening) h.records event
+
+        last : committed_at m.place m.txns ≡ committed_at (w.place + 1) (follows w event).txns
+        last = ap (λ (n : Ledger A). committed_at n.place n.txns) i.world ∙ at-kept v.place v.txns ∙ ap (λ (x : World A). committed_at x.place x.txns) after ∙ ap (λ n. committed_at n (follows w event).txns) (follows_kept w event).1
+
+        go : (b : Bool) → is_commit a ≡ b → cond b (option_to_list (committed_at m.place m.txns)) [] ≡ option_to_list (committed_at m.place m.txns)
+        go true e = refl
+        go false e = sym (ap option_to_list (last ∙ none_committed w (good_world h.opening h.records k.legal) event e))
+
     -- a step of the world, and the keys with that of what it has committed, are what a core keeps of the history with it
     pub stepped_holding : (s : ℕ) (a : Action A) (c : Catalog) (X : Tables A) → c ≡ h.opening.catalog → X ≡ h.opening.tables → (given : Answered A) (m : Ledger A)
         → given ≡ both (reply_of (world_on c X l) (ready_for (world_on c X l) a (kept_current c X l s)) a) → m ≡ kept_after (world_on c X l) s a given.reply (ready_for (world_on c X l) a (kept_current c X l s)) → Allowed h.opening.catalog a
         → (ks more : List (TxnNo × SerialKey)) (room capacity : ℕ) → HoldsKeys h ks room → length h.records < h.most
-        → map keyed more ≡ map keyed ks ++ option_to_list (committed_at m.place m.txns) → length more ≤ length ks + 1 → capacity ≡ room
+        → map keyed more ≡ map keyed ks ++ cond (is_commit a) (option_to_list (committed_at m.place m.txns)) [] → length more ≤ length ks + 1 → capacity ≡ room
         → IsKept (recorded h s a given.recorded) m × HoldsKeys (recorded h s a given.recorded) more capacity
     stepped_holding s a c X p q given m e f fits ks more room capacity held few g n r =
         let i : IsKept (recorded h s a given.recorded) m = (stepped s a c X p q given m e f fits).1 in
-        (i, keys_kept s a given.recorded m i ks more room capacity held few g n r)
+        (i, keys_kept s a given.recorded m i ks more room capacity held few (g ∙ ap (λ xs. map keyed ks ++ xs) (by_commit s a given.recorded m i)) n r)
 
     pub keys_room : (ks : List (TxnNo × SerialKey)) (room : ℕ) → HoldsKeys h ks room → length h.records < h.most → length ks < room
     keys_room ks room held few = let p = held.few in let q = held.room in omega arith

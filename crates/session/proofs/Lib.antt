@@ -21,6 +21,7 @@ pub mod Histories
 pub mod Kept
 pub mod KeptKeys
 pub mod CommitOrder
+pub mod CommitAlone
 pub mod CoreLemmas
 pub mod Play
 mod Examples

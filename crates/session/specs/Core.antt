@@ -1,5 +1,5 @@
 -- What a core keeps, and what a step does to its history.
-use Rattle.std.specs.Prelude.{◌≡◌, ◌⊎◌, ◌+◌, ◌^◌, ◌<◌, ◌≤◌, true, Result, Ok, Err, length, map, List, [], ◌∷◌, ◌++◌, ℕ}
+use Rattle.std.specs.Prelude.{◌≡◌, ◌⊎◌, ◌+◌, ◌^◌, ◌<◌, ◌≤◌, Bool, true, false, Result, Ok, Err, length, map, List, [], ◌∷◌, ◌++◌, ℕ}
 use Rattle.value.specs.Refusals.{AnswersOrNoMemory, of_code, out_of_memory}
 use Rattle.value.specs.declared.refusal.Refusal.{Refusal}
 use Rattle.value.specs.declared.refusal.TxnNo.{TxnNo}
@@ -7,6 +7,7 @@ use Rattle.value.specs.declared.refusal.Code.TheVariants.{ProgramLimitExceeded}
 use Rattle.statement.specs.declared.reply.Reply.{Reply}
 use Rattle.statement.specs.declared.reply.Reply.TheVariants.{Refused}
 use Rattle.history.specs.declared.event.Action.{Action}
+use Rattle.history.specs.declared.event.Action.TheVariants.{Commit}
 use Rattle.history.specs.declared.key.SerialKey.{SerialKey}
 use Rattle.history.specs.Opening.{Opening, Recorded}
 use Rattle.history.specs.Events.{world}
@@ -28,6 +29,11 @@ module _ {A : Type 0} where
     pub keys : map keyed ks ≡ keys_by_commit (world h)
     pub few : length ks ≤ length h.records
     pub room : h.most ≤ capacity
+
+  -- the action by which transactions commit
+  abbrev pub is_commit : Action A → Bool
+  is_commit Commit = true
+  is_commit _ = false
 
   -- the history with one more event
   abbrev pub recorded : Recorded A → ℕ → Action A → Reply A → Recorded A

@@ -8,12 +8,12 @@ ghost use Rattle.history.specs.Answer.{Allowed, answer, checkpoint_answer, view_
 ghost use Rattle.plain.specs.Courses.{takes_memory};
 ghost use Rattle.plain.specs.Keys.{committed_at, keyed};
 ghost use Rattle.plain.specs.Views.{are_quiet};
-ghost use Rattle.session.specs.Core.{HasRoom, IsCheckpoint, IsKept, IsStep, from_opening, recorded};
+ghost use Rattle.session.specs.Core.{HasRoom, IsCheckpoint, IsKept, IsStep, from_opening, is_commit, recorded};
 
 mod committed;
 
 use history::base::Base;
-use history::event::{Event, Record};
+use history::event::{Action, Event, Record};
 use history::key::SerialKey;
 use history::list::History;
 use history::session_id::SessionId;
@@ -76,13 +76,28 @@ fn open_on<A: Allocator + Copy>(
     }
 }
 
-// Adds the transaction that the last event committed, with its key, if it committed one.
-fn add_last<A: Allocator>(keys: &mut Vec<(TxnNo, SerialKey), A>, world: &World<A>)
+// Whether it is the action by which transactions commit.
+fn is_commit<A: Allocator>(action: &Action<A>) -> bool
+    ensures { result ≡ is_commit action.now }
+{
+    matches!(action, Action::Commit)
+}
+
+// Adds the transaction that the last event committed, with its key, if that was a COMMIT and
+// committed one.
+fn add_last<A: Allocator>(
+    keys: &mut Vec<(TxnNo, SerialKey), A>,
+    world: &World<A>,
+    action: &Action<A>,
+)
     requires { length keys.old.items < vec_capacity keys.old }
-    ensures keys { map keyed keys.new.items ≡ map keyed keys.old.items ++ option_to_list (committed_at world.now.place world.now.txns) }
+    ensures keys { map keyed keys.new.items ≡ map keyed keys.old.items ++ (if is_commit action.now then option_to_list (committed_at world.now.place world.now.txns) else []) }
     ensures few { length keys.new.items ≤ length keys.old.items + 1 }
     ensures room { vec_capacity keys.new ≡ vec_capacity keys.old }
 {
+    if !is_commit(action) {
+        return;
+    }
     if let Some(key) = world.last_commit() {
         keys.push_reserved(key);
     }
@@ -181,7 +196,7 @@ impl<A: Allocator> Core<A> {
             session,
             &action,
         )?;
-        add_last(&mut self.keys, &self.world);
+        add_last(&mut self.keys, &self.world, &action);
         self.history.push(Record {
             session,
             action,

@@ -1,144 +1,193 @@
-//! Which commits are refused, and for which structure.
+//! Which commits are refused, and for which structure; and the keys of those that aren't.
 
-use crate::fixture::{NUMBERS, core_of, insert, play};
+use crate::fixture::script;
 use std::test::Fail;
+
+const WRITE_SKEW: &str = "
+CREATE TABLE t (id bigint PRIMARY KEY, v bigint);
+1 BEGIN: BEGIN
+1 INSERT INTO t VALUES (1, 10): INSERT 0 1
+1 INSERT INTO t VALUES (2, 20): INSERT 0 1
+1 COMMIT: COMMIT
+1 BEGIN: BEGIN
+2 BEGIN: BEGIN
+1 SELECT * FROM t: SELECT 2 1|10 2|20
+2 SELECT * FROM t: SELECT 2 1|10 2|20
+1 UPDATE t SET v = 0 WHERE id = 1: UPDATE 1
+2 UPDATE t SET v = 0 WHERE id = 2: UPDATE 1
+1 COMMIT: COMMIT
+2 COMMIT: ERROR 40001 cause 2 3 2
+1 BEGIN: BEGIN
+1 SELECT * FROM t: SELECT 2 1|0 2|20
+KEYS: 1 key 1 1 1, 2 key 2 1 2";
 
 #[test]
 fn write_skew(rt: HostRuntime) -> Result<(), Fail> {
-    let mut core = core_of(rt.alloc(), [NUMBERS].as_slice(), 100)?;
-    let rows = [
-        "INSERT INTO t VALUES (1, 10)",
-        "INSERT INTO t VALUES (2, 20)",
-    ];
-    insert(&rt, rt.alloc(), &mut core, rows.as_slice())?;
-    let lines = [
-        (1, "BEGIN", "BEGIN"),
-        (2, "BEGIN", "BEGIN"),
-        (1, "SELECT * FROM t", "SELECT 2 1|10 2|20"),
-        (2, "SELECT * FROM t", "SELECT 2 1|10 2|20"),
-        (1, "UPDATE t SET v = 0 WHERE id = 1", "UPDATE 1"),
-        (2, "UPDATE t SET v = 0 WHERE id = 2", "UPDATE 1"),
-        (1, "COMMIT", "COMMIT"),
-        (2, "COMMIT", "ERROR 40001 cause 2 3 2"),
-        (1, "BEGIN", "BEGIN"),
-        (1, "SELECT * FROM t", "SELECT 2 1|0 2|20"),
-    ];
-    play(&rt, rt.alloc(), &mut core, lines.as_slice())
+    script(&rt, rt.alloc(), WRITE_SKEW)
 }
+
+const ONE_CONFLICT: &str = "
+CREATE TABLE t (id bigint PRIMARY KEY, v bigint);
+1 BEGIN: BEGIN
+1 INSERT INTO t VALUES (1, 10): INSERT 0 1
+1 INSERT INTO t VALUES (2, 20): INSERT 0 1
+1 COMMIT: COMMIT
+1 BEGIN: BEGIN
+2 BEGIN: BEGIN
+1 SELECT * FROM t WHERE id = 1: SELECT 1 1|10
+2 UPDATE t SET v = 11 WHERE id = 1: UPDATE 1
+2 COMMIT: COMMIT
+1 UPDATE t SET v = 21 WHERE id = 2: UPDATE 1
+1 COMMIT: COMMIT
+KEYS: 1 key 1 1 1, 3 key 2 1 2, 2 key 2 0 3";
 
 #[test]
 fn one_conflict(rt: HostRuntime) -> Result<(), Fail> {
-    let mut core = core_of(rt.alloc(), [NUMBERS].as_slice(), 100)?;
-    let rows = [
-        "INSERT INTO t VALUES (1, 10)",
-        "INSERT INTO t VALUES (2, 20)",
-    ];
-    insert(&rt, rt.alloc(), &mut core, rows.as_slice())?;
-    let lines = [
-        (1, "BEGIN", "BEGIN"),
-        (2, "BEGIN", "BEGIN"),
-        (1, "SELECT * FROM t WHERE id = 1", "SELECT 1 1|10"),
-        (2, "UPDATE t SET v = 11 WHERE id = 1", "UPDATE 1"),
-        (2, "COMMIT", "COMMIT"),
-        (1, "UPDATE t SET v = 21 WHERE id = 2", "UPDATE 1"),
-        (1, "COMMIT", "COMMIT"),
-    ];
-    play(&rt, rt.alloc(), &mut core, lines.as_slice())
+    script(&rt, rt.alloc(), ONE_CONFLICT)
 }
 
-const BATCH: &str = "CREATE TABLE batch (id bigint PRIMARY KEY, n bigint);";
-
-const RECEIPT: &str = "CREATE TABLE receipt (id bigint PRIMARY KEY, n bigint);";
+const READER_AFTER_THE_CLOSE: &str = "
+CREATE TABLE batch (id bigint PRIMARY KEY, n bigint);
+CREATE TABLE receipt (id bigint PRIMARY KEY, n bigint);
+1 BEGIN: BEGIN
+1 INSERT INTO batch VALUES (1, 1): INSERT 0 1
+1 COMMIT: COMMIT
+2 BEGIN: BEGIN
+2 SELECT n FROM batch WHERE id = 1: SELECT 1 1
+3 BEGIN: BEGIN
+3 UPDATE batch SET n = n + 1 WHERE id = 1: UPDATE 1
+3 COMMIT: COMMIT
+1 BEGIN READ ONLY: BEGIN
+1 SELECT * FROM batch: SELECT 1 1|2
+1 SELECT * FROM receipt WHERE id >= 1: SELECT 0
+1 COMMIT: COMMIT
+2 INSERT INTO receipt VALUES (1, 1): INSERT 0 1
+2 COMMIT: ERROR 40001 cause 4 2 3
+KEYS: 1 key 1 1 1, 3 key 2 1 2, 4 key 2 2 12";
 
 #[test]
 fn a_receipt_after_the_batch_was_closed(rt: HostRuntime) -> Result<(), Fail> {
-    let mut core = core_of(rt.alloc(), [BATCH, RECEIPT].as_slice(), 100)?;
-    insert(
-        &rt,
-        rt.alloc(),
-        &mut core,
-        ["INSERT INTO batch VALUES (1, 1)"].as_slice(),
-    )?;
-    let lines = [
-        (2, "BEGIN", "BEGIN"),
-        (2, "SELECT n FROM batch WHERE id = 1", "SELECT 1 1"),
-        (3, "BEGIN", "BEGIN"),
-        (3, "UPDATE batch SET n = n + 1 WHERE id = 1", "UPDATE 1"),
-        (3, "COMMIT", "COMMIT"),
-        (1, "BEGIN READ ONLY", "BEGIN"),
-        (1, "SELECT * FROM batch", "SELECT 1 1|2"),
-        (1, "SELECT * FROM receipt WHERE id >= 1", "SELECT 0"),
-        (1, "COMMIT", "COMMIT"),
-        (2, "INSERT INTO receipt VALUES (1, 1)", "INSERT 0 1"),
-        (2, "COMMIT", "ERROR 40001 cause 4 2 3"),
-    ];
-    play(&rt, rt.alloc(), &mut core, lines.as_slice())
+    script(&rt, rt.alloc(), READER_AFTER_THE_CLOSE)
 }
+
+const READER_BEFORE_THE_CLOSE: &str = "
+CREATE TABLE batch (id bigint PRIMARY KEY, n bigint);
+CREATE TABLE receipt (id bigint PRIMARY KEY, n bigint);
+1 BEGIN: BEGIN
+1 INSERT INTO batch VALUES (1, 1): INSERT 0 1
+1 COMMIT: COMMIT
+2 BEGIN: BEGIN
+2 SELECT n FROM batch WHERE id = 1: SELECT 1 1
+1 BEGIN READ ONLY: BEGIN
+3 BEGIN: BEGIN
+3 UPDATE batch SET n = n + 1 WHERE id = 1: UPDATE 1
+3 COMMIT: COMMIT
+1 SELECT * FROM batch: SELECT 1 1|1
+1 SELECT * FROM receipt WHERE id >= 1: SELECT 0
+1 COMMIT: COMMIT
+2 INSERT INTO receipt VALUES (1, 1): INSERT 0 1
+2 COMMIT: COMMIT
+KEYS: 1 key 1 1 1, 4 key 2 1 2, 3 key 1 2 12, 2 key 2 0 3";
 
 #[test]
 fn a_receipt_with_the_reader_before_the_close(rt: HostRuntime) -> Result<(), Fail> {
-    let mut core = core_of(rt.alloc(), [BATCH, RECEIPT].as_slice(), 100)?;
-    insert(
-        &rt,
-        rt.alloc(),
-        &mut core,
-        ["INSERT INTO batch VALUES (1, 1)"].as_slice(),
-    )?;
-    let lines = [
-        (2, "BEGIN", "BEGIN"),
-        (2, "SELECT n FROM batch WHERE id = 1", "SELECT 1 1"),
-        (1, "BEGIN READ ONLY", "BEGIN"),
-        (3, "BEGIN", "BEGIN"),
-        (3, "UPDATE batch SET n = n + 1 WHERE id = 1", "UPDATE 1"),
-        (3, "COMMIT", "COMMIT"),
-        (1, "SELECT * FROM batch", "SELECT 1 1|1"),
-        (1, "SELECT * FROM receipt WHERE id >= 1", "SELECT 0"),
-        (1, "COMMIT", "COMMIT"),
-        (2, "INSERT INTO receipt VALUES (1, 1)", "INSERT 0 1"),
-        (2, "COMMIT", "COMMIT"),
-    ];
-    play(&rt, rt.alloc(), &mut core, lines.as_slice())
+    script(&rt, rt.alloc(), READER_BEFORE_THE_CLOSE)
 }
+
+const ABSENT_ROW: &str = "
+CREATE TABLE t (id bigint PRIMARY KEY, v bigint);
+1 BEGIN: BEGIN
+1 INSERT INTO t VALUES (1, 0): INSERT 0 1
+1 COMMIT: COMMIT
+1 BEGIN: BEGIN
+2 BEGIN: BEGIN
+1 SELECT * FROM t WHERE id BETWEEN 10 AND 20: SELECT 0
+2 SELECT * FROM t WHERE id = 1: SELECT 1 1|0
+1 UPDATE t SET v = 1 WHERE id = 1: UPDATE 1
+2 INSERT INTO t VALUES (15, 0): INSERT 0 1
+1 COMMIT: COMMIT
+2 COMMIT: ERROR 40001 cause 2 3 2";
 
 #[test]
 fn an_absent_row(rt: HostRuntime) -> Result<(), Fail> {
-    let mut core = core_of(rt.alloc(), [NUMBERS].as_slice(), 100)?;
-    insert(
-        &rt,
-        rt.alloc(),
-        &mut core,
-        ["INSERT INTO t VALUES (1, 0)"].as_slice(),
-    )?;
-    let lines = [
-        (1, "BEGIN", "BEGIN"),
-        (2, "BEGIN", "BEGIN"),
-        (1, "SELECT * FROM t WHERE id BETWEEN 10 AND 20", "SELECT 0"),
-        (2, "SELECT * FROM t WHERE id = 1", "SELECT 1 1|0"),
-        (1, "UPDATE t SET v = 1 WHERE id = 1", "UPDATE 1"),
-        (2, "INSERT INTO t VALUES (15, 0)", "INSERT 0 1"),
-        (1, "COMMIT", "COMMIT"),
-        (2, "COMMIT", "ERROR 40001 cause 2 3 2"),
-    ];
-    play(&rt, rt.alloc(), &mut core, lines.as_slice())
+    script(&rt, rt.alloc(), ABSENT_ROW)
 }
+
+// The structure's first transaction is the last to commit.
+const COMMITTER_AT_THE_FRONT: &str = "
+CREATE TABLE t (id bigint PRIMARY KEY, v bigint);
+1 BEGIN: BEGIN
+1 INSERT INTO t VALUES (1, 0): INSERT 0 1
+1 INSERT INTO t VALUES (2, 0): INSERT 0 1
+1 INSERT INTO t VALUES (3, 0): INSERT 0 1
+1 COMMIT: COMMIT
+1 BEGIN: BEGIN
+2 BEGIN: BEGIN
+3 BEGIN: BEGIN
+1 SELECT v FROM t WHERE id = 1: SELECT 1 0
+2 SELECT v FROM t WHERE id = 2: SELECT 1 0
+3 UPDATE t SET v = 1 WHERE id = 2: UPDATE 1
+3 COMMIT: COMMIT
+2 UPDATE t SET v = 1 WHERE id = 1: UPDATE 1
+2 COMMIT: COMMIT
+1 UPDATE t SET v = 1 WHERE id = 3: UPDATE 1
+1 COMMIT: ERROR 40001 cause 2 3 4
+KEYS: 1 key 1 1 1, 4 key 2 1 2, 3 key 2 0 3";
+
+#[test]
+fn a_committer_at_the_front(rt: HostRuntime) -> Result<(), Fail> {
+    script(&rt, rt.alloc(), COMMITTER_AT_THE_FRONT)
+}
+
+// Where a row was written by another: one that is still open, one that committed an insert, and one
+// that committed a delete, of which evaluation knows nothing and says first that the key is there.
+const FIRST_UPDATER: &str = "
+CREATE TABLE t (id bigint PRIMARY KEY, v bigint);
+1 BEGIN: BEGIN
+1 INSERT INTO t VALUES (1, 0): INSERT 0 1
+1 COMMIT: COMMIT
+1 BEGIN: BEGIN
+2 BEGIN: BEGIN
+1 UPDATE t SET v = 5 WHERE id = 1: UPDATE 1
+2 UPDATE t SET v = 6 WHERE id = 1: ERROR 40001 row
+2 SELECT * FROM t: ERROR 25P02
+2 COMMIT: ROLLBACK
+1 COMMIT: COMMIT
+1 BEGIN: BEGIN
+2 BEGIN: BEGIN
+2 INSERT INTO t VALUES (9, 0): INSERT 0 1
+2 COMMIT: COMMIT
+1 INSERT INTO t VALUES (9, 1): ERROR 40001 row
+1 ROLLBACK: ROLLBACK
+1 BEGIN: BEGIN
+2 BEGIN: BEGIN
+2 DELETE FROM t WHERE id = 1: DELETE 1
+2 COMMIT: COMMIT
+1 INSERT INTO t VALUES (1, 7): ERROR 23505 column 1
+1 COMMIT: ROLLBACK";
 
 #[test]
 fn the_first_updater_wins(rt: HostRuntime) -> Result<(), Fail> {
-    let mut core = core_of(rt.alloc(), [NUMBERS].as_slice(), 100)?;
-    insert(
-        &rt,
-        rt.alloc(),
-        &mut core,
-        ["INSERT INTO t VALUES (1, 0)"].as_slice(),
-    )?;
-    let lines = [
-        (1, "BEGIN", "BEGIN"),
-        (2, "BEGIN", "BEGIN"),
-        (1, "UPDATE t SET v = 5 WHERE id = 1", "UPDATE 1"),
-        (2, "UPDATE t SET v = 6 WHERE id = 1", "ERROR 40001 row"),
-        (2, "SELECT * FROM t", "ERROR 25P02"),
-        (2, "COMMIT", "ROLLBACK"),
-        (1, "COMMIT", "COMMIT"),
-    ];
-    play(&rt, rt.alloc(), &mut core, lines.as_slice())
+    script(&rt, rt.alloc(), FIRST_UPDATER)
+}
+
+const PRUNE: &str = "
+CREATE TABLE t (id bigint PRIMARY KEY, v bigint);
+1 BEGIN: BEGIN
+1 INSERT INTO t VALUES (1, 0): INSERT 0 1
+1 COMMIT: COMMIT
+1 BEGIN READ ONLY: BEGIN
+2 BEGIN: BEGIN
+2 UPDATE t SET v = 5 WHERE id = 1: UPDATE 1
+2 COMMIT: COMMIT
+3 PRUNE: PRUNE
+1 SELECT v FROM t: SELECT 1 0
+1 COMMIT: COMMIT
+1 PRUNE: PRUNE
+1 BEGIN: BEGIN
+1 SELECT v FROM t: SELECT 1 5";
+
+#[test]
+fn prune_under_an_old_snapshot(rt: HostRuntime) -> Result<(), Fail> {
+    script(&rt, rt.alloc(), PRUNE)
 }

@@ -1,5 +1,6 @@
-//! A core on tables of texts, and its printed replies to sessions' texts.
-ghost use Rattle.std.specs.Prelude.{IfOk};
+//! Scripts of sessions: what each says, and the printed reply.
+ghost use Rattle.std.specs.Prelude.{IfOk, IfSome};
+ghost use Rattle.schema.specs.Definition.{Catalog as AnyCatalog};
 ghost use Rattle.history.specs.Answer.{Allowed};
 
 use history::event::{Action, Event};
@@ -13,24 +14,33 @@ use statement::reply::Reply;
 use std::alloc::Global;
 use std::process::Abort;
 use std::test::Fail;
-use value::refusal::{Code, Mode};
+use value::refusal::{Code, Mode, Refusal};
 use value::value::Value;
 
-/// A table of numbers by their ids.
-pub const NUMBERS: &str = "CREATE TABLE t (id bigint PRIMARY KEY, v bigint);";
-
-/// A core on the tables of these texts.
-pub fn core_of(alloc: Global, creates: &[&str], max_events: u32) -> Result<Core, Fail> {
+// The tables of a script's lines that begin with CREATE.
+fn catalog_of(alloc: Global, script: &str) -> Result<Catalog, Fail> {
     let mut catalog = Catalog::new(alloc);
-    for text in creates {
-        let table = parse_create(alloc, text)?;
-        catalog.add(alloc, table)?;
+    for line in script.lines() {
+        if line.starts_with("CREATE") {
+            catalog.add(alloc, parse_create(alloc, line)?)?;
+        }
     }
+    Ok(catalog)
+}
+
+/// What opens on the tables that a script creates, with room for so many events.
+pub fn open(alloc: Global, script: &str, max_events: u32) -> Result<Result<Core, Refusal>, Fail> {
+    let catalog = catalog_of(alloc, script)?;
     let tables = Tables::new(alloc, &catalog)?;
     if !tables.sound(&catalog) {
         return Err("the tables aren't sound".into());
     }
-    let core = Core::open(alloc, catalog, tables, max_events)?;
+    Ok(Core::open(alloc, catalog, tables, max_events))
+}
+
+/// A core on the tables that a script creates, with room for so many events.
+pub fn core_of(alloc: Global, script: &str, max_events: u32) -> Result<Core, Fail> {
+    let core = open(alloc, script, max_events)??;
     Ok(core)
 }
 
@@ -49,48 +59,52 @@ fn statement_of(alloc: Global, catalog: &Catalog, text: &str) -> Result<Action, 
     }
 }
 
+// The mode of a transaction's beginning.
+fn mode_of(text: &str) -> Option<Mode> {
+    if text == "BEGIN" {
+        Some(Mode::ReadWrite)
+    } else if text == "BEGIN READ ONLY" {
+        Some(Mode::ReadOnly)
+    } else if text == "BEGIN READ ONLY DEFERRABLE" {
+        Some(Mode::Deferrable)
+    } else {
+        None
+    }
+}
+
+// What a text asks for that says it by its words alone.
+fn brief_of(text: &str) -> Option<Action>
+    ensures { IfSome result (λ a. (c : AnyCatalog) → Allowed c a) }
+{
+    if text == "POLL" {
+        Some(Action::Poll)
+    } else if text == "EXPORT" {
+        Some(Action::Export)
+    } else if text == "COMMIT" {
+        Some(Action::Commit)
+    } else if text == "ROLLBACK" {
+        Some(Action::Rollback)
+    } else if text == "PRUNE" {
+        Some(Action::Prune)
+    } else {
+        None
+    }
+}
+
 // What a text asks for.
 fn action_of(alloc: Global, catalog: &Catalog, text: &str) -> Result<Action, Fail>
     ensures { IfOk result (Allowed catalog.now) }
 {
-    if text == "BEGIN" {
-        return Ok(Action::Begin(Mode::ReadWrite));
+    if let Some(mode) = mode_of(text) {
+        return Ok(Action::Begin(mode));
     }
-    if text == "BEGIN READ ONLY" {
-        return Ok(Action::Begin(Mode::ReadOnly));
+    if let Some(identifier) = text.strip_prefix("IMPORT ") {
+        return Ok(Action::Import(identifier.parse::<u64>()?));
     }
-    if text == "BEGIN READ ONLY DEFERRABLE" {
-        return Ok(Action::Begin(Mode::Deferrable));
+    match brief_of(text) {
+        Some(action) => Ok(action),
+        None => statement_of(alloc, catalog, text),
     }
-    if text == "POLL" {
-        return Ok(Action::Poll);
-    }
-    if text == "EXPORT" {
-        return Ok(Action::Export);
-    }
-    if text == "IMPORT 1" {
-        return Ok(Action::Import(1));
-    }
-    if text == "IMPORT 2" {
-        return Ok(Action::Import(2));
-    }
-    ending_of(alloc, catalog, text)
-}
-
-// What a text asks for that isn't about a beginning or a snapshot.
-fn ending_of(alloc: Global, catalog: &Catalog, text: &str) -> Result<Action, Fail>
-    ensures { IfOk result (Allowed catalog.now) }
-{
-    if text == "COMMIT" {
-        return Ok(Action::Commit);
-    }
-    if text == "ROLLBACK" {
-        return Ok(Action::Rollback);
-    }
-    if text == "PRUNE" {
-        return Ok(Action::Prune);
-    }
-    statement_of(alloc, catalog, text)
 }
 
 // Values, with a bar between each two.
@@ -144,33 +158,74 @@ fn printed(alloc: Global, reply: &Reply) -> Result<String, Fail> {
     }
 }
 
+// The number of a session.
+fn session_of(text: &str) -> Result<SessionId, Fail> {
+    let number = text.parse::<u32>()?;
+    Ok(SessionId::new(number).ok_or("no session")?)
+}
+
+// A refusal, as it is printed.
+fn refusal_printed(alloc: Global, refusal: Refusal) -> Result<String, Fail> {
+    Ok(format!(in alloc; "ERROR {refusal}")?)
+}
+
+// The committed transactions with their keys, in the order of their commits.
+fn keys_printed(alloc: Global, core: &Core) -> Result<String, Fail> {
+    if core.keys().is_empty() {
+        return Ok(format!(in alloc; "none")?);
+    }
+    let mut printed = String::new(alloc);
+    for (number, key) in core.keys() {
+        if !printed.is_empty() {
+            printed.push_str(", ")?;
+        }
+        let text = format!(in alloc; "{} key {} {} {}", number.0, key.0, key.1, key.2)?;
+        printed.push_str(text.as_str())?;
+    }
+    Ok(printed)
+}
+
+// Whether a session's snapshot may be viewed.
+fn view_printed(alloc: Global, core: &Core, session: &str) -> Result<String, Fail> {
+    match core.view(alloc, session_of(session)?) {
+        Ok(_) => Ok(format!(in alloc; "VIEW")?),
+        Err(refusal) => refusal_printed(alloc, refusal),
+    }
+}
+
 /// The reply to a session's text, as it is printed.
-pub fn say(alloc: Global, core: &mut Core, session: u32, text: &str) -> Result<String, Fail> {
-    let session = SessionId::new(session).ok_or("no session")?;
+pub fn say(alloc: Global, core: &mut Core, session: SessionId, text: &str) -> Result<String, Fail> {
     let action = action_of(alloc, core.history().catalog(), text)?;
     let reply = core.step(alloc, Event { session, action });
     printed(alloc, &reply)
 }
 
-/// Each session's text is answered so, one after the other.
-pub fn play(
-    rt: &impl Abort,
-    alloc: Global,
-    core: &mut Core,
-    lines: &[(u32, &str, &str)],
-) -> Result<(), Fail> {
-    for (session, text, want) in lines {
-        let got = say(alloc, core, *session, text)?;
-        assert_eq!(rt; got.as_str(), *want, "{session} {text}");
+// What is answered to what stands before the colon of a line: to a session's number and its text,
+// to VIEW and a session's number, or to KEYS.
+fn answer(alloc: Global, core: &mut Core, asked: &str) -> Result<String, Fail> {
+    if asked == "KEYS" {
+        return keys_printed(alloc, core);
+    }
+    let (who, text) = asked.split_once(' ').ok_or("no text")?;
+    if who == "VIEW" {
+        return view_printed(alloc, core, text);
+    }
+    say(alloc, core, session_of(who)?, text)
+}
+
+/// Each line of a script that isn't a table's has, after what is asked and a colon, the answer.
+pub fn play(rt: &impl Abort, alloc: Global, core: &mut Core, script: &str) -> Result<(), Fail> {
+    for line in script.lines() {
+        if let Some((asked, want)) = line.split_once(": ") {
+            let got = answer(alloc, core, asked)?;
+            assert_eq!(rt; got.as_str(), want, "{line}");
+        }
     }
     Ok(())
 }
 
-/// Session 1 inserts, by its first transaction.
-pub fn insert(rt: &impl Abort, alloc: Global, core: &mut Core, texts: &[&str]) -> Result<(), Fail> {
-    play(rt, alloc, core, [(1, "BEGIN", "BEGIN")].as_slice())?;
-    for text in texts {
-        play(rt, alloc, core, [(1, *text, "INSERT 0 1")].as_slice())?;
-    }
-    play(rt, alloc, core, [(1, "COMMIT", "COMMIT")].as_slice())
+/// A script on a core on its own tables.
+pub fn script(rt: &impl Abort, alloc: Global, script: &str) -> Result<(), Fail> {
+    let mut core = core_of(alloc, script, 100)?;
+    play(rt, alloc, &mut core, script)
 }

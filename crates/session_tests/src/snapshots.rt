@@ -1,68 +1,159 @@
 //! Deferrable transactions, and exported snapshots.
 
-use crate::fixture::{NUMBERS, core_of, insert, play};
-use history::session_id::SessionId;
+use crate::fixture::script;
 use std::test::Fail;
 
-const BATCH: &str = "CREATE TABLE batch (id bigint PRIMARY KEY, n bigint);";
-
-const RECEIPT: &str = "CREATE TABLE receipt (id bigint PRIMARY KEY, n bigint);";
+const WAITS: &str = "
+CREATE TABLE batch (id bigint PRIMARY KEY, n bigint);
+CREATE TABLE receipt (id bigint PRIMARY KEY, n bigint);
+1 BEGIN: BEGIN
+1 INSERT INTO batch VALUES (1, 1): INSERT 0 1
+1 COMMIT: COMMIT
+2 BEGIN: BEGIN
+2 SELECT n FROM batch WHERE id = 1: SELECT 1 1
+3 BEGIN: BEGIN
+3 UPDATE batch SET n = n + 1 WHERE id = 1: UPDATE 1
+3 COMMIT: COMMIT
+4 BEGIN READ ONLY DEFERRABLE: BEGIN
+4 POLL: WAIT
+4 SELECT * FROM batch: ERROR 55000
+4 EXPORT: ERROR 55000
+VIEW 4: ERROR 55000
+2 INSERT INTO receipt VALUES (1, 1): INSERT 0 1
+2 COMMIT: COMMIT
+4 POLL: SAFE 3
+4 POLL: SAFE 3
+4 SELECT * FROM batch: SELECT 1 1|2
+4 SELECT * FROM receipt: SELECT 1 1|1
+VIEW 4: VIEW";
 
 #[test]
 fn a_deferrable_transaction_waits(rt: HostRuntime) -> Result<(), Fail> {
-    let mut core = core_of(rt.alloc(), [BATCH, RECEIPT].as_slice(), 100)?;
-    insert(
-        &rt,
-        rt.alloc(),
-        &mut core,
-        ["INSERT INTO batch VALUES (1, 1)"].as_slice(),
-    )?;
-    let before = [
-        (2, "BEGIN", "BEGIN"),
-        (2, "SELECT n FROM batch WHERE id = 1", "SELECT 1 1"),
-        (3, "BEGIN", "BEGIN"),
-        (3, "UPDATE batch SET n = n + 1 WHERE id = 1", "UPDATE 1"),
-        (3, "COMMIT", "COMMIT"),
-        (4, "BEGIN READ ONLY DEFERRABLE", "BEGIN"),
-        (4, "POLL", "WAIT"),
-        (4, "SELECT * FROM batch", "ERROR 55000"),
-    ];
-    play(&rt, rt.alloc(), &mut core, before.as_slice())?;
-    let fourth = SessionId::new(4).ok_or("no session")?;
-    assert!(rt; core.view(rt.alloc(), fourth).is_err());
-    let after = [
-        (2, "INSERT INTO receipt VALUES (1, 1)", "INSERT 0 1"),
-        (2, "COMMIT", "COMMIT"),
-        (4, "POLL", "SAFE 3"),
-        (4, "SELECT * FROM batch", "SELECT 1 1|2"),
-        (4, "SELECT * FROM receipt", "SELECT 1 1|1"),
-    ];
-    play(&rt, rt.alloc(), &mut core, after.as_slice())?;
-    assert!(rt; core.view(rt.alloc(), fourth).is_ok());
-    Ok(())
+    script(&rt, rt.alloc(), WAITS)
 }
 
+const FIRST_POLL: &str = "
+CREATE TABLE t (id bigint PRIMARY KEY, v bigint);
+1 BEGIN READ ONLY DEFERRABLE: BEGIN
+1 POLL: SAFE 0
+VIEW 1: VIEW";
+
 #[test]
-fn snapshots_are_imported(rt: HostRuntime) -> Result<(), Fail> {
-    let mut core = core_of(rt.alloc(), [NUMBERS].as_slice(), 100)?;
-    insert(
-        &rt,
-        rt.alloc(),
-        &mut core,
-        ["INSERT INTO t VALUES (1, 0)"].as_slice(),
-    )?;
-    let lines = [
-        (1, "BEGIN READ ONLY", "BEGIN"),
-        (1, "EXPORT", "EXPORT 1"),
-        (1, "EXPORT", "EXPORT 2"),
-        (2, "BEGIN READ ONLY", "BEGIN"),
-        (2, "IMPORT 1", "IMPORT"),
-        (2, "SELECT * FROM t", "SELECT 1 1|0"),
-        (2, "IMPORT 1", "ERROR 25001"),
-        (1, "COMMIT", "COMMIT"),
-        (3, "BEGIN READ ONLY", "BEGIN"),
-        (3, "IMPORT 2", "ERROR 55000"),
-        (3, "SELECT * FROM t", "SELECT 1 1|0"),
-    ];
-    play(&rt, rt.alloc(), &mut core, lines.as_slice())
+fn nothing_spoils_the_first_snapshot(rt: HostRuntime) -> Result<(), Fail> {
+    script(&rt, rt.alloc(), FIRST_POLL)
+}
+
+// An identifier is gone with its exporter's commit, rollback or failure.
+const IDENTIFIERS: &str = "
+CREATE TABLE t (id bigint PRIMARY KEY, v bigint);
+1 BEGIN: BEGIN
+1 INSERT INTO t VALUES (1, 0): INSERT 0 1
+1 COMMIT: COMMIT
+1 BEGIN READ ONLY: BEGIN
+1 EXPORT: EXPORT 1
+1 EXPORT: EXPORT 2
+2 BEGIN READ ONLY: BEGIN
+2 IMPORT 1: IMPORT
+2 SELECT * FROM t: SELECT 1 1|0
+2 IMPORT 1: ERROR 25001
+1 COMMIT: COMMIT
+3 BEGIN READ ONLY: BEGIN
+3 IMPORT 2: ERROR 55000
+3 SELECT * FROM t: SELECT 1 1|0
+3 ROLLBACK: ROLLBACK
+4 BEGIN: BEGIN
+4 EXPORT: EXPORT 3
+4 ROLLBACK: ROLLBACK
+5 BEGIN READ ONLY: BEGIN
+5 EXPORT: EXPORT 4
+5 INSERT INTO t VALUES (2, 0): ERROR 25006
+3 BEGIN READ ONLY: BEGIN
+3 IMPORT 3: ERROR 55000
+3 IMPORT 4: ERROR 55000
+3 IMPORT 5: ERROR 55000
+3 EXPORT: EXPORT 5
+3 IMPORT 5: ERROR 25001";
+
+#[test]
+fn identifiers_end_with_their_exporter(rt: HostRuntime) -> Result<(), Fail> {
+    script(&rt, rt.alloc(), IDENTIFIERS)
+}
+
+// Its exporter is refused at its commit, or doomed.
+const REFUSED_EXPORTERS: &str = "
+CREATE TABLE t (id bigint PRIMARY KEY, v bigint);
+1 BEGIN: BEGIN
+1 INSERT INTO t VALUES (1, 0): INSERT 0 1
+1 INSERT INTO t VALUES (2, 0): INSERT 0 1
+1 INSERT INTO t VALUES (3, 0): INSERT 0 1
+1 COMMIT: COMMIT
+1 BEGIN: BEGIN
+2 BEGIN: BEGIN
+3 BEGIN: BEGIN
+1 EXPORT: EXPORT 1
+2 EXPORT: EXPORT 2
+1 SELECT v FROM t WHERE id = 1: SELECT 1 0
+2 SELECT v FROM t WHERE id = 2: SELECT 1 0
+3 UPDATE t SET v = 1 WHERE id = 2: UPDATE 1
+2 UPDATE t SET v = 1 WHERE id = 1: UPDATE 1
+3 COMMIT: COMMIT
+4 BEGIN READ ONLY: BEGIN
+4 IMPORT 2: ERROR 55000
+4 IMPORT 1: IMPORT
+1 ROLLBACK: ROLLBACK
+2 ROLLBACK: ROLLBACK
+4 COMMIT: COMMIT
+1 BEGIN: BEGIN
+2 BEGIN: BEGIN
+3 BEGIN: BEGIN
+1 EXPORT: EXPORT 3
+1 SELECT v FROM t WHERE id = 1: SELECT 1 0
+2 SELECT v FROM t WHERE id = 2: SELECT 1 1
+3 UPDATE t SET v = 2 WHERE id = 2: UPDATE 1
+3 COMMIT: COMMIT
+2 UPDATE t SET v = 2 WHERE id = 1: UPDATE 1
+2 COMMIT: COMMIT
+1 UPDATE t SET v = 2 WHERE id = 3: UPDATE 1
+1 COMMIT: ERROR 40001 cause 6 7 8
+4 BEGIN READ ONLY: BEGIN
+4 IMPORT 3: ERROR 55000";
+
+#[test]
+fn identifiers_end_with_a_refused_exporter(rt: HostRuntime) -> Result<(), Fail> {
+    script(&rt, rt.alloc(), REFUSED_EXPORTERS)
+}
+
+// An importer knows what its last exporter knew.
+const LATER_IMPORTS: &str = "
+CREATE TABLE t (id bigint PRIMARY KEY, v bigint);
+1 BEGIN: BEGIN
+1 INSERT INTO t VALUES (1, 0): INSERT 0 1
+1 COMMIT: COMMIT
+2 BEGIN READ ONLY DEFERRABLE: BEGIN
+2 EXPORT: ERROR 55000
+2 POLL: SAFE 1
+2 EXPORT: EXPORT 1
+3 BEGIN READ ONLY: BEGIN
+VIEW 3: ERROR 55000
+3 IMPORT 1: IMPORT
+VIEW 3: VIEW
+3 POLL: ERROR 55000
+4 BEGIN: BEGIN
+4 EXPORT: EXPORT 2
+4 IMPORT 1: ERROR 55000
+5 BEGIN READ ONLY: BEGIN
+5 IMPORT 1: IMPORT
+VIEW 5: VIEW
+5 IMPORT 2: IMPORT
+VIEW 5: ERROR 55000
+5 IMPORT 1: IMPORT
+VIEW 5: VIEW
+2 COMMIT: COMMIT
+3 SELECT * FROM t: SELECT 1 1|0
+VIEW 3: VIEW
+VIEW 2: ERROR 25P01";
+
+#[test]
+fn an_importer_knows_what_its_last_exporter_knew(rt: HostRuntime) -> Result<(), Fail> {
+    script(&rt, rt.alloc(), LATER_IMPORTS)
 }

@@ -1,48 +1,154 @@
-//! Each action of a session without a transaction, with an open one, and with a failed one.
+//! Each action of a session without a transaction, with a failed one, an open one and a doomed one.
 
-use crate::fixture::{NUMBERS, core_of, play};
+use crate::fixture::script;
 use std::test::Fail;
 
-#[test]
-fn actions_without_a_transaction(rt: HostRuntime) -> Result<(), Fail> {
-    let mut core = core_of(rt.alloc(), [NUMBERS].as_slice(), 100)?;
-    let lines = [
-        (1, "PRUNE", "PRUNE"),
-        (1, "SELECT * FROM t", "ERROR 25P01"),
-        (1, "nonsense", "ERROR 25P01"),
-        (1, "POLL", "ERROR 25P01"),
-        (1, "EXPORT", "ERROR 25P01"),
-        (1, "IMPORT 1", "ERROR 25P01"),
-        (1, "COMMIT", "ERROR 25P01"),
-        (1, "ROLLBACK", "ERROR 25P01"),
-        (64, "BEGIN", "BEGIN"),
-        (64, "BEGIN", "ERROR 25001"),
-        (64, "PRUNE", "PRUNE"),
-        (64, "POLL", "ERROR 55000"),
-        (64, "IMPORT 1", "ERROR 55000"),
-        (64, "EXPORT", "EXPORT 1"),
-        (64, "ROLLBACK", "ROLLBACK"),
-    ];
-    play(&rt, rt.alloc(), &mut core, lines.as_slice())
-}
+const NONE: &str = "
+CREATE TABLE t (id bigint PRIMARY KEY, v bigint);
+1 SELECT * FROM t: ERROR 25P01
+1 nonsense: ERROR 25P01
+1 POLL: ERROR 25P01
+1 EXPORT: ERROR 25P01
+1 IMPORT 1: ERROR 25P01
+1 COMMIT: ERROR 25P01
+1 ROLLBACK: ERROR 25P01
+1 PRUNE: PRUNE
+VIEW 1: ERROR 25P01
+1 BEGIN: BEGIN
+2 BEGIN READ ONLY: BEGIN
+3 BEGIN READ ONLY DEFERRABLE: BEGIN
+KEYS: none";
 
 #[test]
-fn actions_of_a_failed_transaction(rt: HostRuntime) -> Result<(), Fail> {
-    let mut core = core_of(rt.alloc(), [NUMBERS].as_slice(), 100)?;
-    let lines = [
-        (1, "BEGIN READ ONLY", "BEGIN"),
-        (1, "INSERT INTO t VALUES (1, 1)", "ERROR 25006"),
-        (1, "BEGIN", "ERROR 25P02"),
-        (1, "SELECT * FROM t", "ERROR 25P02"),
-        (1, "POLL", "ERROR 25P02"),
-        (1, "EXPORT", "ERROR 25P02"),
-        (1, "IMPORT 1", "ERROR 25P02"),
-        (1, "PRUNE", "PRUNE"),
-        (1, "COMMIT", "ROLLBACK"),
-        (1, "COMMIT", "ERROR 25P01"),
-        (1, "BEGIN", "BEGIN"),
-        (1, "SELECT w FROM t", "ERROR 42703 byte 7"),
-        (1, "ROLLBACK", "ROLLBACK"),
-    ];
-    play(&rt, rt.alloc(), &mut core, lines.as_slice())
+fn without_a_transaction(rt: HostRuntime) -> Result<(), Fail> {
+    script(&rt, rt.alloc(), NONE)
+}
+
+const FAILED: &str = "
+CREATE TABLE t (id bigint PRIMARY KEY, v bigint);
+1 BEGIN: BEGIN
+1 nonsense: ERROR 42601 byte 0
+1 BEGIN: ERROR 25P02
+1 BEGIN READ ONLY: ERROR 25P02
+1 BEGIN READ ONLY DEFERRABLE: ERROR 25P02
+1 SELECT * FROM t: ERROR 25P02
+1 nonsense: ERROR 25P02
+1 POLL: ERROR 25P02
+1 EXPORT: ERROR 25P02
+1 IMPORT 1: ERROR 25P02
+1 PRUNE: PRUNE
+VIEW 1: ERROR 25P02
+1 COMMIT: ROLLBACK
+1 COMMIT: ERROR 25P01
+1 BEGIN READ ONLY: BEGIN
+1 INSERT INTO t VALUES (1, 1): ERROR 25006
+1 SELECT * FROM t: ERROR 25P02
+1 ROLLBACK: ROLLBACK
+1 ROLLBACK: ERROR 25P01
+1 BEGIN: BEGIN
+1 SELECT w FROM t: ERROR 42703 byte 7
+1 ROLLBACK: ROLLBACK
+1 BEGIN: BEGIN
+1 INSERT INTO t VALUES (1, 9223372036854775807): INSERT 0 1
+1 UPDATE t SET v = v + 1: ERROR 22003 column 2
+1 SELECT * FROM t: ERROR 25P02
+KEYS: none";
+
+#[test]
+fn with_a_failed_one(rt: HostRuntime) -> Result<(), Fail> {
+    script(&rt, rt.alloc(), FAILED)
+}
+
+const OPEN: &str = "
+CREATE TABLE t (id bigint PRIMARY KEY, v bigint);
+1 BEGIN: BEGIN
+1 BEGIN: ERROR 25001
+1 BEGIN READ ONLY: ERROR 25001
+1 BEGIN READ ONLY DEFERRABLE: ERROR 25001
+1 POLL: ERROR 55000
+1 IMPORT 1: ERROR 55000
+1 PRUNE: PRUNE
+VIEW 1: ERROR 55000
+1 EXPORT: EXPORT 1
+1 SELECT * FROM t: SELECT 0
+1 INSERT INTO t VALUES (1, 1): INSERT 0 1
+1 SELECT * FROM t: SELECT 1 1|1
+2 BEGIN READ ONLY: BEGIN
+2 POLL: ERROR 55000
+2 IMPORT 2: ERROR 55000
+2 IMPORT 1: IMPORT
+2 SELECT * FROM t: SELECT 0
+3 BEGIN READ ONLY DEFERRABLE: BEGIN
+3 SELECT * FROM t: ERROR 55000
+3 INSERT INTO t VALUES (2, 2): ERROR 55000
+3 EXPORT: ERROR 55000
+3 IMPORT 1: ERROR 55000
+3 POLL: WAIT
+1 ROLLBACK: ROLLBACK
+3 POLL: SAFE 0
+3 INSERT INTO t VALUES (2, 2): ERROR 25006
+3 COMMIT: ROLLBACK
+2 COMMIT: COMMIT
+1 BEGIN: BEGIN
+1 COMMIT: COMMIT
+KEYS: 2 key 0 2 27, 4 key 1 1 1";
+
+#[test]
+fn with_an_open_one(rt: HostRuntime) -> Result<(), Fail> {
+    script(&rt, rt.alloc(), OPEN)
+}
+
+// Sessions 2 to 5 read what session 1 writes, and write what it has read: its commit dooms each.
+const DOOMED: &str = "
+CREATE TABLE t (id bigint PRIMARY KEY, v bigint);
+1 BEGIN: BEGIN
+2 BEGIN: BEGIN
+3 BEGIN: BEGIN
+4 BEGIN: BEGIN
+5 BEGIN: BEGIN
+6 BEGIN: BEGIN
+7 BEGIN: BEGIN
+8 BEGIN: BEGIN
+1 SELECT * FROM t: SELECT 0
+2 SELECT * FROM t: SELECT 0
+3 SELECT * FROM t: SELECT 0
+4 SELECT * FROM t: SELECT 0
+5 SELECT * FROM t: SELECT 0
+6 SELECT * FROM t: SELECT 0
+7 SELECT * FROM t: SELECT 0
+8 SELECT * FROM t: SELECT 0
+1 INSERT INTO t VALUES (1, 0): INSERT 0 1
+2 INSERT INTO t VALUES (2, 0): INSERT 0 1
+3 INSERT INTO t VALUES (3, 0): INSERT 0 1
+4 INSERT INTO t VALUES (4, 0): INSERT 0 1
+5 INSERT INTO t VALUES (5, 0): INSERT 0 1
+6 INSERT INTO t VALUES (6, 0): INSERT 0 1
+7 INSERT INTO t VALUES (7, 0): INSERT 0 1
+8 INSERT INTO t VALUES (8, 0): INSERT 0 1
+1 COMMIT: COMMIT
+2 BEGIN: ERROR 25001
+2 BEGIN READ ONLY: ERROR 25001
+2 BEGIN READ ONLY DEFERRABLE: ERROR 25001
+2 PRUNE: PRUNE
+VIEW 2: ERROR 55000
+2 SELECT * FROM t: ERROR 40001 cause 1 2 1
+2 SELECT * FROM t: ERROR 25P02
+2 COMMIT: ROLLBACK
+3 nonsense: ERROR 40001 cause 1 3 1
+3 ROLLBACK: ROLLBACK
+4 POLL: ERROR 40001 cause 1 4 1
+4 COMMIT: ROLLBACK
+5 EXPORT: ERROR 40001 cause 1 5 1
+5 COMMIT: ROLLBACK
+6 IMPORT 1: ERROR 40001 cause 1 6 1
+6 COMMIT: ROLLBACK
+7 COMMIT: ERROR 40001 cause 1 7 1
+7 COMMIT: ERROR 25P01
+8 ROLLBACK: ROLLBACK
+8 ROLLBACK: ERROR 25P01
+KEYS: 1 key 1 1 1";
+
+#[test]
+fn with_a_doomed_one(rt: HostRuntime) -> Result<(), Fail> {
+    script(&rt, rt.alloc(), DOOMED)
 }
