@@ -54,7 +54,7 @@ impl<'r> HostFile<'r> {
             self.file = File::create(self.rt, self.path.as_str()).ok();
         }
         let written = match &mut self.file {
-            Some(file) => file.write(bytes).ok(),
+            Some(file) => write_some(file, bytes),
             None => None,
         };
         some_of(bytes, written)
@@ -67,6 +67,18 @@ impl<'r> HostFile<'r> {
     {
         self.failed = self.failed.and(&(), &());
     }
+}
+
+// Writes some of the bytes, and tries again where it was interrupted before it wrote any.
+fn write_some(file: &mut File, bytes: &[u8]) -> Option<usize> {
+    for _ in 0..u64::MAX {
+        match file.write(bytes) {
+            Ok(count) => return Some(count),
+            Err(error) if error.kind() == ErrorKind::Interrupted => {}
+            Err(_) => return None,
+        }
+    }
+    None
 }
 
 // How many bytes were written, where that is at least one of some.

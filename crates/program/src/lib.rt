@@ -4,8 +4,6 @@
 mod fault;
 pub mod files;
 pub mod host;
-#[cfg(test)]
-mod memory;
 mod ordering;
 mod output;
 mod request;
@@ -15,5 +13,3 @@ mod restoring;
 mod run;
 mod sessions;
 pub mod words;
-#[cfg(test)]
-mod words_tests;

@@ -1,5 +1,5 @@
 use Rattle.std.proofs.Common.{◌≡◌, ◌++◌, map, take}
-use Rattle.program.proofs.memory.MemoryFile.note.Given as goal
+use Rattle.program_tests.proofs.memory.MemoryFile.note.Given as goal
 
 -- the bytes so far are noted
 abbrev pub invariant-loop-byte : goal.invariant-loop-byte

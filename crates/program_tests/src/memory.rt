@@ -1,23 +1,23 @@
-//! Files in memory, for tests.
+//! Files in memory.
 ghost use Rattle.std.specs.Prelude.{◌≡◌, ◌+◌, ◌++◌, length, map};
 
-use crate::files::{Files, ReadError};
 use collector::{Device, DeviceError};
 use http_server::Log;
+use program::files::{Files, ReadError};
 use std::alloc::Global;
 use std::sync::atomic::{AtomicBool, Ordering};
 
-// Files with their bytes, what standard input has, what is expected to be written to any file, and
-// whether all of it was.
+/// Files with their bytes, what standard input has, the bytes that any file takes that is written,
+/// and whether one has taken all of these. A path `scarce` is one for which memory is wanting.
 #[derive(Drop)]
 pub struct MemoryFiles<'f> {
     pub files: &'f [(&'f str, &'f [u8])],
     pub input: &'f [u8],
-    pub expected: &'f [u8],
+    pub room: &'f [u8],
     pub is_whole: &'f AtomicBool,
 }
 
-// A file that fails where it is given another byte than is expected.
+/// A file that takes certain bytes, fails at another, and is full behind them.
 #[derive(Drop)]
 pub struct MemoryFile<'f> {
     left: &'f [u8],
@@ -52,18 +52,19 @@ impl<'f> Device for MemoryFile<'f> {
     ghost failures = { λ f. length f.failed.items };
 
     fn write(&mut self, bytes: &[u8]) -> Result<usize, DeviceError> {
-        match self.left.strip_prefix(bytes) {
-            Some(left) => {
+        let count = bytes.len().min(self.left.len());
+        if count > 0 {
+            if let Some(left) = self.left.strip_prefix(&bytes[..count]) {
                 self.left = left;
                 self.is_whole.store(left.is_empty(), Ordering::SeqCst);
-                self.note(bytes);
-                Ok(bytes.len())
+                self.note(&bytes[..count]);
+                return Ok(count);
             }
-            None => {
-                self.fail();
-                Err(DeviceError)
-            }
+        } else if bytes.is_empty() {
+            return Ok(0);
         }
+        self.fail();
+        Err(DeviceError)
     }
 }
 
@@ -71,6 +72,9 @@ impl<'f> Files<Global> for MemoryFiles<'f> {
     type Out = MemoryFile<'f>;
 
     fn read(&self, alloc: Global, path: &str) -> Result<Vec<u8>, ReadError> {
+        if path == "scarce" {
+            return Err(ReadError::Memory);
+        }
         for (name, bytes) in self.files {
             if *name == path {
                 return match Vec::from_slice(alloc, bytes) {
@@ -89,12 +93,16 @@ impl<'f> Files<Global> for MemoryFiles<'f> {
         }
     }
 
-    fn create(&self, _alloc: Global, _path: &str) -> Result<MemoryFile<'f>, ReadError> {
-        Ok(MemoryFile {
-            left: self.expected,
-            is_whole: self.is_whole,
-            taken: Log::new(),
-            failed: Log::new(),
-        })
+    fn create(&self, _alloc: Global, path: &str) -> Result<MemoryFile<'f>, ReadError> {
+        match path {
+            "scarce" => Err(ReadError::Memory),
+            "nowhere" => Err(ReadError::Device),
+            _ => Ok(MemoryFile {
+                left: self.room,
+                is_whole: self.is_whole,
+                taken: Log::new(),
+                failed: Log::new(),
+            }),
+        }
     }
 }

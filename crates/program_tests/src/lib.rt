@@ -1,0 +1,21 @@
+//! Tests alone: the program's words over files in memory, against what it prints and how it ends.
+#![tactic(auto)]
+
+#[cfg(test)]
+mod audits;
+#[cfg(test)]
+mod devices;
+#[cfg(test)]
+mod driver;
+#[cfg(test)]
+mod dumps;
+#[cfg(test)]
+mod examples;
+#[cfg(test)]
+mod faults;
+#[cfg(test)]
+mod machine;
+#[cfg(test)]
+mod memory;
+#[cfg(test)]
+mod replies;
