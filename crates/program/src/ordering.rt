@@ -41,11 +41,16 @@ fn append_key<A: Allocator>(
     Ok(())
 }
 
-// The line that says whether an order is a serial order.
-fn check_line(is_one: bool) -> &'static str
-    ensures { result.now ≡ spec.check_line is_one }
+// Appends the line that says whether an order is a serial order.
+fn append_answer<A: Allocator>(is_one: bool, text: &mut Vec<u8, A>) -> Result<(), Refusal>
+    ensures { OnOk result (text.new.items ≡ text.old.items ++ spec.check_line is_one) }
 {
-    if is_one { "check yes\n" } else { "check no\n" }
+    if is_one {
+        text.extend_from_slice(b"check yes\n")?;
+    } else {
+        text.extend_from_slice(b"check no\n")?;
+    }
+    Ok(())
 }
 
 // Appends whether an order is a serial order of a core's history.
@@ -59,8 +64,7 @@ fn append_check<A: Allocator + Copy>(
 {
     core.is_legal();
     let is_one = check_order(alloc, core.history(), order)?;
-    text.extend_from_slice(check_line(is_one).as_bytes())?;
-    Ok(())
+    append_answer(is_one, text)
 }
 
 // The lines of transactions with their keys.
