@@ -4,40 +4,48 @@
 
 use program::host::HostFiles;
 use program::words::run_words;
+use std::io::ErrorKind;
 use std::process::ExitCode;
 use std::{env, io};
 
-// The words behind the program's name.
-fn words(rt: &HostRuntime) -> io::Result<Vec<String>> {
-    let mut words = Vec::new(rt.alloc());
-    for word in env::args(rt)?.skip(1) {
-        words.push(word)?;
-    }
-    Ok(words)
-}
-
-fn main(rt: HostRuntime) -> io::Result<ExitCode> {
-    let words = match words(&rt) {
-        Ok(words) => words,
-        Err(error) => {
-            eprintln!(rt; "{error}")?;
-            return Ok(ExitCode::from(2));
-        }
-    };
+// Does what the words behind the program's name ask for.
+fn run(rt: &HostRuntime) -> io::Result<ExitCode> {
+    let words = env::args(rt)?;
     let mut lent = Vec::new(rt.alloc());
-    for word in &words {
-        lent.push(word.as_str())?;
+    for word in words.skip(1) {
+        lent.push(word)?;
     }
-    let files = HostFiles { rt: &rt };
+    let mut texts = Vec::new(rt.alloc());
+    for word in &lent {
+        texts.push(word.as_str())?;
+    }
+    let files = HostFiles { rt };
     let (mut out, mut err) = (rt.stdout(), rt.stderr());
     let status = run_words(
-        &rt,
+        rt,
         rt.alloc(),
         rt.alloc(),
-        lent.as_slice(),
+        texts.as_slice(),
         &files,
         &mut out,
         &mut err,
     );
     Ok(ExitCode::from(status))
+}
+
+// How the program ends where its words can't be had: memory was wanting for them, or one isn't text.
+fn end_without_words(rt: &HostRuntime, error: &io::Error) -> ExitCode {
+    if error.kind() == ErrorKind::OutOfMemory {
+        let _ = eprintln!(rt; "script line 0");
+        return ExitCode::from(1);
+    }
+    let _ = eprintln!(rt; "error: a word of the command line is not UTF-8");
+    ExitCode::from(2)
+}
+
+fn main(rt: HostRuntime) -> ExitCode {
+    match run(&rt) {
+        Ok(status) => status,
+        Err(error) => end_without_words(&rt, &error),
+    }
 }

@@ -1,1 +1,4 @@
+pub mod EndLemmas
+pub mod LineLemmas
+pub mod OrderLemmas
 pub mod ViewLemmas

@@ -1,1 +1,4 @@
+pub mod CommandLine
 pub mod Ends
+pub mod Lines
+pub mod Orders

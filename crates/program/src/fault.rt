@@ -1,6 +1,6 @@
 //! Why the program ends before its time, and how.
 
-ghost use Rattle.std.specs.Prelude.{◌≡◌};
+ghost use Rattle.std.specs.Prelude.{◌≡◌, ◌≢◌};
 ghost use Rattle.program.specs.Ends as spec;
 
 use std::io::Write;
@@ -51,7 +51,8 @@ impl Status {
 impl<'p> Fault<'p> {
     /// How the program ends for it.
     pub fn status(&self) -> Status
-        ensures { result ≡ spec.status self.now }
+        ensures kind { result ≡ spec.status self.now }
+        ensures no_usage { result ≢ Status.Usage }
     {
         match self {
             Fault::Script { .. } | Fault::Dump { .. } => Status::Refused,
@@ -62,7 +63,8 @@ impl<'p> Fault<'p> {
 
 /// Tells a fault in a line, and how the program ends for it.
 pub(crate) fn tell<E: Write>(fault: &Fault<'_>, err: &mut E) -> Status
-    ensures { result ≡ spec.status fault.now }
+    ensures kind { result ≡ spec.status fault.now }
+    ensures no_usage { result ≢ Status.Usage }
 {
     let _ = writeln!(err, "{fault}");
     fault.status()
@@ -70,7 +72,8 @@ pub(crate) fn tell<E: Write>(fault: &Fault<'_>, err: &mut E) -> Status
 
 /// How the program ends, with its fault told where there is one.
 pub(crate) fn end<E: Write>(done: Result<(), Fault<'_>>, err: &mut E) -> Status
-    ensures { result ≡ spec.end done.entry }
+    ensures kind { result ≡ spec.end done.entry }
+    ensures no_usage { result ≢ Status.Usage }
 {
     match done {
         Ok(()) => Status::Done,

@@ -1,5 +1,12 @@
 //! The serial order of a core's history, as it is printed.
 
+ghost use Rattle.std.specs.Prelude.{◌≡◌, ◌++◌, map, IfOk, OnOk};
+ghost use Rattle.std.specs.Fmt.{decimal};
+ghost use Rattle.history.specs.Events.{world};
+ghost use Rattle.plain.specs.Keys.{keyed};
+ghost use Rattle.program.specs.Orders as spec;
+ghost use Rattle.program.specs.Orders.{Checks};
+
 use audit::order::check_order;
 use audit::serial::{serial_keys, serial_order};
 use history::key::SerialKey;
@@ -9,7 +16,9 @@ use std::alloc::Allocator;
 use value::refusal::{Refusal, TxnNo};
 
 // Appends a word and a number.
-fn append<A: Allocator>(word: &str, number: u64, text: &mut Vec<u8, A>) -> Result<(), Refusal> {
+fn append<A: Allocator>(word: &str, number: u64, text: &mut Vec<u8, A>) -> Result<(), Refusal>
+    ensures { OnOk result (text.new.items ≡ text.old.items ++ (word.now ++ decimal number)) }
+{
     let mut digits = Buffer::new();
     text.extend_from_slice(word.as_bytes())?;
     text.extend_from_slice(digits.format(number).as_bytes())?;
@@ -21,12 +30,26 @@ fn append_key<A: Allocator>(
     number: TxnNo,
     key: SerialKey,
     text: &mut Vec<u8, A>,
-) -> Result<(), Refusal> {
+) -> Result<(), Refusal>
+    ensures { OnOk result (text.new.items ≡ text.old.items ++ spec.key_line (keyed (number, key))) }
+{
     append("txn ", number.0, text)?;
     append(" key ", key.0, text)?;
     append(" ", u64::from(key.1), text)?;
     append(" ", key.2, text)?;
     text.push(b'\n')?;
+    Ok(())
+}
+
+// Appends the line that says whether an order is a serial order.
+fn append_answer<A: Allocator>(is_one: bool, text: &mut Vec<u8, A>) -> Result<(), Refusal>
+    ensures { OnOk result (text.new.items ≡ text.old.items ++ spec.check_line is_one) }
+{
+    if is_one {
+        text.extend_from_slice(b"check yes\n")?;
+    } else {
+        text.extend_from_slice(b"check no\n")?;
+    }
     Ok(())
 }
 
@@ -36,27 +59,34 @@ fn append_check<A: Allocator + Copy>(
     core: &Core<A>,
     order: &[TxnNo],
     text: &mut Vec<u8, A>,
-) -> Result<(), Refusal> {
+) -> Result<(), Refusal>
+    ensures { OnOk result (Checks text.old.items text.new.items) }
+{
     core.is_legal();
-    let answer: &[u8] = if check_order(alloc, core.history(), order)? {
-        b"check yes\n"
-    } else {
-        b"check no\n"
-    };
-    text.extend_from_slice(answer)?;
-    Ok(())
+    let is_one = check_order(alloc, core.history(), order)?;
+    append_answer(is_one, text)
+}
+
+// The lines of transactions with their keys.
+fn lines_of<A: Allocator>(alloc: A, keys: &[(TxnNo, SerialKey)]) -> Result<Vec<u8, A>, Refusal>
+    ensures { IfOk result (λ text. text.items ≡ spec.key_lines (map keyed keys.now)) }
+{
+    let mut text = Vec::new(alloc);
+    for entry in keys {
+        append_key(entry.0, entry.1, &mut text)?;
+    }
+    Ok(text)
 }
 
 /// A line for each committed transaction in the serial order, with its key, and whether that is one.
 pub(crate) fn order_text<A: Allocator + Copy>(
     alloc: A,
     core: &Core<A>,
-) -> Result<Vec<u8, A>, Refusal> {
+) -> Result<Vec<u8, A>, Refusal>
+    ensures { IfOk result (λ text. Checks (spec.order_lines (world core.now)) text.items) }
+{
     let keys = serial_keys(alloc, core)?;
-    let mut text = Vec::new(alloc);
-    for entry in &keys {
-        append_key(entry.0, entry.1, &mut text)?;
-    }
+    let mut text = lines_of(alloc, keys.as_slice())?;
     let order = serial_order(alloc, core)?;
     append_check(alloc, core, order.as_slice(), &mut text)?;
     Ok(text)

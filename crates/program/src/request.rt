@@ -1,6 +1,11 @@
 //! What the words of the command line ask for.
 
-use clap::{Arg, ArgAction, Command, Error};
+ghost use Rattle.std.specs.Prelude.{◌≡◌, IfOk, false, map, codes};
+ghost use Rattle.clap.specs.Words.{FailsBy, app_of, fault_of, rule_of};
+ghost use Rattle.program.specs.CommandLine as spec;
+
+use clap::builder::ValueParser;
+use clap::{Arg, ArgAction, ArgMatches, Command, Error};
 use std::alloc::{AllocError, Global};
 
 /// What the command line asks for.
@@ -23,75 +28,115 @@ pub(crate) enum Request<'w> {
     },
 }
 
-fn script<'w>(alloc: Global) -> Arg<'w> {
+// The file of a script.
+fn script<'w>(alloc: Global) -> Arg<'w>
+    ensures rule { rule_of result ≡ spec.script }
+    ensures local { result.global ≡ false }
+{
     Arg::new(alloc, "SCRIPT")
         .required(true)
         .action(ArgAction::Set)
         .help("The script's file; - is standard input")
 }
 
-fn restore<'w>(alloc: Global) -> Result<Command<'w>, AllocError> {
-    let dump = Arg::new(alloc, "DUMP")
+// The file of a dump.
+fn dump<'w>(alloc: Global) -> Arg<'w>
+    ensures rule { rule_of result ≡ spec.dump }
+    ensures local { result.global ≡ false }
+{
+    Arg::new(alloc, "DUMP")
         .required(true)
         .action(ArgAction::Set)
-        .help("The dump's file; - is standard input");
-    let jobs = Arg::new(alloc, "jobs")
+        .help("The dump's file; - is standard input")
+}
+
+// How many workers.
+fn jobs<'w>(alloc: Global) -> Arg<'w>
+    ensures rule { rule_of result ≡ spec.jobs }
+    ensures local { result.global ≡ false }
+{
+    Arg::new(alloc, "jobs")
         .long("jobs")
         .value_name("N")
         .action(ArgAction::Set)
-        .value_parser(clap::value_parser!(u32).range(1..=64))
-        .help("How many workers read and write, 1 to 64; 1 where it isn't given");
-    let out = Arg::new(alloc, "out")
+        .value_parser(ValueParser::signed(1, 64))
+        .help("How many workers read and write, 1 to 64; 1 where it isn't given")
+}
+
+// The file that is written.
+fn out<'w>(alloc: Global) -> Arg<'w>
+    ensures rule { rule_of result ≡ spec.out }
+    ensures local { result.global ≡ false }
+{
+    Arg::new(alloc, "out")
         .long("out")
         .value_name("FILE")
         .required(true)
         .action(ArgAction::Set)
-        .help("The file that the dump is written to again");
-    Command::new(alloc, "restore")
-        .about("Load a dump, write its text to a file, and tell its tables and rows")
-        .arg(dump)?
-        .arg(jobs)?
-        .arg(out)
+        .help("The file that the dump is written to again")
 }
 
-fn pgserial<'w>(alloc: Global) -> Result<Command<'w>, AllocError> {
-    let run = Command::new(alloc, "run")
+// The program, with its commands.
+fn pgserial<'w>(alloc: Global) -> Result<Command<'w>, AllocError>
+    ensures { IfOk result (λ c. app_of c ≡ spec.pgserial) }
+{
+    let run_command = Command::new(alloc, "run")
         .about("Do the session lines of a script, and print each reply")
         .arg(script(alloc))?;
-    let audit = Command::new(alloc, "audit")
+    let audit_command = Command::new(alloc, "audit")
         .about(
             "Do a script, then print each committed transaction in the serial order, and whether it is one",
         )
         .arg(script(alloc))?;
-    Command::new(alloc, "pgserial")
+    let restore_command = Command::new(alloc, "restore")
+        .about("Load a dump, write its text to a file, and tell its tables and rows")
+        .arg(dump(alloc))?
+        .arg(jobs(alloc))?
+        .arg(out(alloc))?;
+    let program = Command::new(alloc, "pgserial")
         .about("An in-memory relational server whose transactions are serializable")
         .no_binary_name(true)
-        .subcommand(run)?
-        .subcommand(audit)?
-        .subcommand(restore(alloc)?)
+        .subcommand_required(true)
+        .subcommand(run_command)?
+        .subcommand(audit_command)?
+        .subcommand(restore_command)?;
+    Ok(program)
+}
+
+// What the parser makes of some words.
+fn matches_of<'w>(alloc: Global, words: &'w [&'w str]) -> Result<ArgMatches<'w>, Error>
+    ensures { FailsBy (fault_of spec.pgserial (map (λ w. w.now) words.entry.now)) result }
+{
+    let program = pgserial(alloc)?;
+    program.try_get_matches_from(words)
+}
+
+// What a command with these matches asks for.
+fn request_of<'w>(matches: &ArgMatches<'w>) -> Request<'w> {
+    match matches.subcommand() {
+        Some(("audit", audit)) => Request::Audit {
+            script: audit.get_str("SCRIPT").unwrap_or("-"),
+        },
+        Some(("restore", restore)) => Request::Restore {
+            dump: restore.get_str("DUMP").unwrap_or("-"),
+            jobs: restore.get_one::<u32>("jobs").unwrap_or(1),
+            out: restore.get_str("out").unwrap_or("-"),
+        },
+        Some((_, run)) => Request::Run {
+            script: run.get_str("SCRIPT").unwrap_or("-"),
+        },
+        None => Request::Run { script: "-" },
+    }
 }
 
 /// What the words, behind the program's name, ask for. No word at all asks for the script on
 /// standard input. The error is a mistake in the words, `--help`, or want of memory.
-pub(crate) fn read_words<'w>(alloc: Global, words: &'w [&'w str]) -> Result<Request<'w>, Error> {
+pub(crate) fn read_words<'w>(alloc: Global, words: &'w [&'w str]) -> Result<Request<'w>, Error>
+    ensures { FailsBy (spec.faults (map (λ w. w.now) words.entry.now)) result }
+{
     if words.is_empty() {
         return Ok(Request::Run { script: "-" });
     }
-    let matches = pgserial(alloc)?
-        .subcommand_required(true)
-        .try_get_matches_from(words)?;
-    match matches.subcommand() {
-        Some(("audit", audit)) => Ok(Request::Audit {
-            script: audit.get_str("SCRIPT").unwrap_or("-"),
-        }),
-        Some(("restore", restore)) => Ok(Request::Restore {
-            dump: restore.get_str("DUMP").unwrap_or("-"),
-            jobs: restore.get_one::<u32>("jobs").unwrap_or(1),
-            out: restore.get_str("out").unwrap_or("-"),
-        }),
-        Some((_, run)) => Ok(Request::Run {
-            script: run.get_str("SCRIPT").unwrap_or("-"),
-        }),
-        None => Ok(Request::Run { script: "-" }),
-    }
+    let matches = matches_of(alloc, words)?;
+    Ok(request_of(&matches))
 }

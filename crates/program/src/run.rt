@@ -1,6 +1,6 @@
 //! Scripts: their reading, their lines, their audit.
 
-ghost use Rattle.std.specs.Prelude.{◌≡◌, IfOk, true};
+ghost use Rattle.std.specs.Prelude.{◌≡◌, ◌≢◌, IfOk, true};
 ghost use Rattle.schema.specs.Plain.{is_sound};
 
 use crate::fault::{Fault, Status, end, tell};
@@ -228,6 +228,7 @@ where
     W: Write,
     E: Write,
     T: Threads + Wait + Sync,
+    ensures { result ≢ Status.Usage }
 {
     let (catalog, opens, lines) = script.into_parts();
     let done = do_script(
@@ -260,6 +261,7 @@ where
     W: Write,
     E: Write,
     T: Threads + Wait + Sync,
+    ensures { result ≢ Status.Usage }
 {
     let bytes = match read_path(alloc, files, path, Fault::Script { line: 0 }) {
         Ok(bytes) => bytes,

@@ -2,6 +2,9 @@
 
 ghost use Rattle.std.specs.Prelude.{◌≡◌, IfOk, length};
 ghost use Rattle.history.specs.Answer.{Allowed};
+ghost use Rattle.program.specs.Lines.{Asks, IsRun, Replies, Tells};
+ghost use Rattle.session.specs.Core.{IsStep};
+ghost use Rattle.sqltext.specs.Parsed.{parsed};
 
 use crate::fault::Fault;
 use crate::files::{Files, ReadError};
@@ -33,7 +36,8 @@ fn action_of<A: Allocator + Copy>(
     catalog: &Catalog<A>,
     text: &str,
 ) -> Result<Action<A>, Refusal>
-    ensures { IfOk result (λ a. Allowed catalog.now a) }
+    ensures allowed { IfOk result (λ a. Allowed catalog.now a) }
+    ensures asked { Asks (parsed catalog.now text.now) result }
 {
     match parse_statement(alloc, catalog, text) {
         Ok(statement) => Ok(Action::Run(statement)),
@@ -50,7 +54,9 @@ fn run_text<A: Allocator + Copy>(
     core: &mut Core<A>,
     session: SessionId,
     text: &str,
-) -> Reply<A> {
+) -> Reply<A>
+    ensures { IsRun core.old core.new session text.now result }
+{
     match action_of(alloc, core.history().catalog(), text) {
         Ok(action) => core.step(alloc, Event { session, action }),
         Err(refusal) => Reply::Refused(refusal),
@@ -126,6 +132,7 @@ fn step<A: Allocator + Copy>(
     action: Action<A>,
 ) -> Reply<A>
     requires { Allowed core.old.opening.catalog action }
+    ensures { IsStep core.old core.new session action result }
 {
     core.step(alloc, Event { session, action })
 }
@@ -155,7 +162,9 @@ fn reply_to<A: Allocator + Copy>(
     core: &mut Core<A>,
     session: SessionId,
     command: &Command<A>,
-) -> Reply<A> {
+) -> Reply<A>
+    ensures { Replies core.old core.new session command.now result }
+{
     match command {
         Command::Sql(text) => run_text(alloc, core, session, text.as_str()),
         Command::Begin(mode) => step(alloc, core, session, Action::Begin(*mode)),
@@ -165,6 +174,43 @@ fn reply_to<A: Allocator + Copy>(
         Command::Commit => step(alloc, core, session, Action::Commit),
         Command::Rollback => step(alloc, core, session, Action::Rollback),
         Command::Prune | Command::Dump(_) => step(alloc, core, session, Action::Prune),
+    }
+}
+
+// Does a session's command that is no dump, and gives what is printed of it.
+fn tell_event<A: Allocator + Copy>(
+    alloc: A,
+    core: &mut Core<A>,
+    session: SessionId,
+    command: &Command<A>,
+) -> Result<Vec<u8, A>, Refusal>
+    ensures { IfOk result (λ text. Tells core.old core.new session command.now text.items) }
+{
+    let reply = reply_to(alloc, core, session, command);
+    reply_text(alloc, session, &reply)
+}
+
+// Does a dump of a session's safe snapshot, and gives what is printed of it.
+fn tell_dump<'s, A, F, T>(
+    rt: &T,
+    alloc: A,
+    files: &F,
+    core: &Core<A>,
+    session: SessionId,
+    request: &'s DumpRequest<A>,
+) -> Result<Vec<u8, A>, Fault<'s>>
+where
+    A: Allocator + Copy + Sync,
+    F: Files<A>,
+    T: Threads + Wait + Sync,
+{
+    let dumped = dump_session(rt, alloc, files, core, session, request);
+    match dump_text(alloc, session, dumped) {
+        Ok(Some(text)) => Ok(text),
+        Ok(None) => Err(Fault::Device {
+            path: request.path.as_str(),
+        }),
+        Err(_) => Err(Fault::Script { line: 0 }),
     }
 }
 
@@ -182,27 +228,12 @@ where
     F: Files<A>,
     T: Threads + Wait + Sync,
 {
-    let printed = match command {
-        Command::Dump(request) => {
-            let dumped = dump_session(rt, alloc, files, core, session, request);
-            match dump_text(alloc, session, dumped) {
-                Ok(None) => {
-                    return Err(Fault::Device {
-                        path: request.path.as_str(),
-                    });
-                }
-                Ok(Some(text)) => Ok(text),
-                Err(refusal) => Err(refusal),
-            }
-        }
-        _ => {
-            let reply = reply_to(alloc, core, session, command);
-            reply_text(alloc, session, &reply)
-        }
-    };
-    match printed {
-        Ok(text) => Ok(text),
-        Err(_) => Err(Fault::Script { line: 0 }),
+    match command {
+        Command::Dump(request) => tell_dump(rt, alloc, files, core, session, request),
+        _ => match tell_event(alloc, core, session, command) {
+            Ok(text) => Ok(text),
+            Err(_) => Err(Fault::Script { line: 0 }),
+        },
     }
 }
 

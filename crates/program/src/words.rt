@@ -1,6 +1,8 @@
 //! The program, over any files.
 
-ghost use Rattle.std.specs.Prelude.{◌≤◌};
+ghost use Rattle.std.specs.Prelude.{◌≡◌, ◌≢◌, ◌⊎◌, ◌≤◌, map};
+ghost use Rattle.clap.specs.Words.{kind_of};
+ghost use Rattle.program.specs.CommandLine.{AreMistaken, IsMistake, MayBeMistaken, faults};
 
 use crate::fault::{Fault, Status, end, tell};
 use crate::files::Files;
@@ -30,6 +32,7 @@ where
     W: Write,
     E: Write,
     T: Threads + Wait + Sync,
+    ensures { result ≢ Status.Usage }
 {
     let mut printer = Printer::new(alloc, out);
     match request {
@@ -47,7 +50,9 @@ where
 }
 
 // Prints the help that the words ask for.
-fn show_help<W: Write, E: Write>(help: &Error, out: &mut W, err: &mut E) -> Status {
+fn show_help<W: Write, E: Write>(help: &Error, out: &mut W, err: &mut E) -> Status
+    ensures { result ≢ Status.Usage }
+{
     match write!(out, "{help}") {
         Ok(()) => Status::Done,
         Err(_) => tell(&Fault::Device { path: "-" }, err),
@@ -55,7 +60,11 @@ fn show_help<W: Write, E: Write>(help: &Error, out: &mut W, err: &mut E) -> Stat
 }
 
 // Tells a mistake in the words, or that memory was wanting for them; or shows the help that they ask for.
-fn tell_words<W: Write, E: Write>(error: &Error, out: &mut W, err: &mut E) -> Status {
+fn tell_words<W: Write, E: Write>(error: &Error, out: &mut W, err: &mut E) -> Status
+    ensures mistake { IsMistake (kind_of error.now) → result ≡ Status.Usage }
+    ensures usage { result ≡ Status.Usage → IsMistake (kind_of error.now) }
+    ensures memory { kind_of error.now ≡ ErrorKind.OutOfMemory → result ≡ Status.Refused }
+{
     match error.kind() {
         ErrorKind::OutOfMemory => tell(&Fault::Script { line: 0 }, err),
         ErrorKind::DisplayHelp | ErrorKind::DisplayVersion => show_help(error, out, err),
@@ -63,6 +72,31 @@ fn tell_words<W: Write, E: Write>(error: &Error, out: &mut W, err: &mut E) -> St
             let _ = write!(err, "{error}");
             Status::Usage
         }
+    }
+}
+
+// Does what the words ask for, or tells why it doesn't.
+fn done<A, F, W, E, T>(
+    rt: &T,
+    words_memory: Global,
+    alloc: A,
+    words: &[&str],
+    files: &F,
+    out: &mut W,
+    err: &mut E,
+) -> Status
+where
+    A: Allocator + Copy + Sync,
+    F: Files<A>,
+    W: Write,
+    E: Write,
+    T: Threads + Wait + Sync,
+    ensures usage { result ≡ Status.Usage → MayBeMistaken (faults (map (λ w. w.now) words.entry.now)) }
+    ensures mistake { AreMistaken (faults (map (λ w. w.now) words.entry.now)) → (result ≡ Status.Usage) ⊎ (result ≡ Status.Refused) }
+{
+    match read_words(words_memory, words) {
+        Err(error) => tell_words(&error, out, err),
+        Ok(request) => do_request(rt, alloc, request, files, out, err),
     }
 }
 
@@ -85,11 +119,9 @@ where
     W: Write,
     E: Write,
     T: Threads + Wait + Sync,
-    ensures { result ≤ 3 }
+    ensures within { result ≤ 3 }
+    ensures usage { result ≡ 2 → MayBeMistaken (faults (map (λ w. w.now) words.entry.now)) }
+    ensures mistake { AreMistaken (faults (map (λ w. w.now) words.entry.now)) → (result ≡ 2) ⊎ (result ≡ 1) }
 {
-    let status = match read_words(words_memory, words) {
-        Err(error) => tell_words(&error, out, err),
-        Ok(request) => do_request(rt, alloc, request, files, out, err),
-    };
-    status.code()
+    done(rt, words_memory, alloc, words, files, out, err).code()
 }

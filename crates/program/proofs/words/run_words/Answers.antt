@@ -1,0 +1,13 @@
+use Rattle.std.proofs.Common.{◌∙◌, sym, ap, inl, inr}
+use Rattle.program.specs.Ends.{code}
+use Rattle.program.proofs.EndLemmas.{only_usage}
+use Rattle.program.proofs.words.run_words.Goals as goal
+
+pub returns-clause-usage : goal.returns-clause-usage
+returns-clause-usage g c two = c.done.ensures.usage (only_usage c.done.result (sym c.code.ensures ∙ two))
+
+pub returns-clause-mistake : goal.returns-clause-mistake
+returns-clause-mistake g c mistaken = elim (c.done.ensures.mistake mistaken) [
+  | inl told ↦ inl (c.code.ensures ∙ ap code told)
+  | inr refused ↦ inr (c.code.ensures ∙ ap code refused)
+]
