@@ -58,7 +58,7 @@ pub fn dump_session<A, W, G, T>(
     gate: &G,
 ) -> Result<(), BackupFault>
 where
-    A: Allocator + Copy + Sync,
+    A: Allocator + Copy + Send + Sync,
     W: Device + Send,
     G: Gate,
     T: Threads + Wait + Sync,

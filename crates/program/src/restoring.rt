@@ -89,7 +89,7 @@ fn write_again<'p, A, F, T>(
     out: &'p str,
 ) -> Result<(), Fault<'p>>
 where
-    A: Allocator + Copy + Sync,
+    A: Allocator + Copy + Send + Sync,
     F: Files<A>,
     T: Threads + Wait + Sync,
     requires { length tables.now ≡ length catalog.now }
@@ -120,7 +120,7 @@ pub(crate) fn restore_file<'p, A, F, W, T>(
     printer: &mut Printer<'_, W, A>,
 ) -> Result<(), Fault<'p>>
 where
-    A: Allocator + Copy + Sync,
+    A: Allocator + Copy + Send + Sync,
     F: Files<A>,
     W: Write,
     T: Threads + Wait + Sync,

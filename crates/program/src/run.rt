@@ -167,7 +167,7 @@ fn do_lines<'p, A, F, W, T>(
     printer: &mut Printer<'_, W, A>,
 ) -> Result<(), Fault<'p>>
 where
-    A: Allocator + Copy + Sync,
+    A: Allocator + Copy + Send + Sync,
     F: Files<A>,
     W: Write,
     T: Threads + Wait + Sync,
@@ -199,7 +199,7 @@ fn do_script<'p, A, F, W, T>(
     printer: &mut Printer<'_, W, A>,
 ) -> Result<(), Fault<'p>>
 where
-    A: Allocator + Copy + Sync,
+    A: Allocator + Copy + Send + Sync,
     F: Files<A>,
     W: Write,
     T: Threads + Wait + Sync,
@@ -223,7 +223,7 @@ fn do_read<A, F, W, E, T>(
     err: &mut E,
 ) -> Status
 where
-    A: Allocator + Copy + Sync,
+    A: Allocator + Copy + Send + Sync,
     F: Files<A>,
     W: Write,
     E: Write,
@@ -256,7 +256,7 @@ pub(crate) fn run_file<A, F, W, E, T>(
     err: &mut E,
 ) -> Status
 where
-    A: Allocator + Copy + Sync,
+    A: Allocator + Copy + Send + Sync,
     F: Files<A>,
     W: Write,
     E: Write,

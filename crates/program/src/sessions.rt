@@ -93,7 +93,7 @@ fn dump_session<A, F, T>(
     request: &DumpRequest<A>,
 ) -> Dumped
 where
-    A: Allocator + Copy + Sync,
+    A: Allocator + Copy + Send + Sync,
     F: Files<A>,
     T: Threads + Wait + Sync,
 {
@@ -200,7 +200,7 @@ fn tell_dump<'s, A, F, T>(
     request: &'s DumpRequest<A>,
 ) -> Result<Vec<u8, A>, Fault<'s>>
 where
-    A: Allocator + Copy + Sync,
+    A: Allocator + Copy + Send + Sync,
     F: Files<A>,
     T: Threads + Wait + Sync,
 {
@@ -224,7 +224,7 @@ pub(crate) fn do_command<'s, A, F, T>(
     command: &'s Command<A>,
 ) -> Result<Vec<u8, A>, Fault<'s>>
 where
-    A: Allocator + Copy + Sync,
+    A: Allocator + Copy + Send + Sync,
     F: Files<A>,
     T: Threads + Wait + Sync,
 {

@@ -27,7 +27,7 @@ fn do_request<A, F, W, E, T>(
     err: &mut E,
 ) -> Status
 where
-    A: Allocator + Copy + Sync,
+    A: Allocator + Copy + Send + Sync,
     F: Files<A>,
     W: Write,
     E: Write,
@@ -86,7 +86,7 @@ fn done<A, F, W, E, T>(
     err: &mut E,
 ) -> Status
 where
-    A: Allocator + Copy + Sync,
+    A: Allocator + Copy + Send + Sync,
     F: Files<A>,
     W: Write,
     E: Write,
@@ -114,7 +114,7 @@ pub fn run_words<A, F, W, E, T>(
     err: &mut E,
 ) -> u8
 where
-    A: Allocator + Copy + Sync,
+    A: Allocator + Copy + Send + Sync,
     F: Files<A>,
     W: Write,
     E: Write,
