@@ -1,0 +1,55 @@
+-- What calls of a server leave in a pass.
+use Rattle.std.specs.Prelude.{ℕ, suc, ◌≡◌, ◌≢◌, ◌⊎◌, ◌==◌, nat_lt, Bool, true, false, ◌||◌, if◌then◌else◌, List, [], ◌∷◌, ◌++◌, length, replicate, slice_get, Some}
+use mathlib.Core.List.{IsPrefix}
+use Rattle.value.specs.declared.refusal.Code.TheVariants.{ProgramLimitExceeded}
+use Rattle.value.specs.declared.refusal.Refusal.{Refusal}
+use Rattle.value.specs.Refusals.{of_code, out_of_memory}
+use Rattle.statement.specs.declared.reply.Reply.{Reply}
+use Rattle.statement.specs.declared.reply.Reply.TheVariants.{Wait, Refused}
+use Rattle.history.specs.declared.event.Action.{Action}
+use Rattle.history.specs.declared.event.Action.TheVariants.{Poll}
+use Rattle.history.specs.declared.event.Record.{Record}
+use Rattle.history.specs.Answer.{of_session}
+use Rattle.plain.specs.Courses.{takes_memory}
+use Rattle.pass.specs.Knowing.{Known}
+
+-- there can't be so many sessions: there are 1 to 64
+abbrev pub is_no_count : ℕ → Bool
+is_no_count n = n == 0 || nat_lt 64 n
+
+-- why no server was opened: a number is outside its limits, or else a growth was refused
+abbrev pub opening_refusal : Bool → Refusal
+opening_refusal outside = if outside then of_code ProgramLimitExceeded else out_of_memory
+
+module _ {A : Type 0} where
+  -- the passes of sessions 1, 2, .., which have seen and done nothing
+  abbrev pub AreFresh : List (Known A) → Type 0
+  AreFresh passes = (k : ℕ) (p : Known A) → slice_get passes k ≡ Some p → p ≡ record { session = suc k; seen = []; mine = [] }
+
+  -- The call was recorded: with its reply it is the last of what the pass has seen, and of what it has done.
+  pub record WasRecorded (p : Known A) (a : Action A) (r : Reply A) (before : List (Record A)) (q : Known A) : Type 0 where
+    pub seen : q.seen ≡ before ++ record { session = p.session; action = a; reply = r } ∷ []
+    pub mine : q.mine ≡ p.mine ++ (a, r) ∷ []
+
+  -- It was not, and the pass has done what it had: an action that takes memory got none, or the history that is seen has as many events as it may have.
+  pub record WasLeft (most : ℕ) (p : Known A) (a : Action A) (r : Reply A) (q : Known A) : Type 0 where
+    pub reason : (takes_memory a ≡ true) × (r ≡ Refused out_of_memory) ⊎ (length q.seen ≡ most) × (r ≡ Refused (of_code ProgramLimitExceeded))
+    pub mine : q.mine ≡ p.mine
+
+  -- A call for action a was answered with r, and the pass that knew p knows q.
+  abbrev pub IsCall : ℕ → Known A → Action A → Reply A → Known A → Type 0
+  IsCall most p a r q = (q.session ≡ p.session) × (((before : List (Record A)) × WasRecorded p a r before q) ⊎ WasLeft most p a r q)
+
+  -- So far the session has done n polls more, and each was answered to wait.
+  pub record HasWaited (p q : Known A) (n : ℕ) : Type 0 where
+    pub session : q.session ≡ p.session
+    pub seen : IsPrefix p.seen q.seen
+    pub mine : q.mine ≡ p.mine ++ replicate n (Poll, Wait)
+
+  -- Some polls were answered to wait, and one with r, which isn't to wait.
+  abbrev pub HasPolled : ℕ → Known A → Reply A → Known A → Type 0
+  HasPolled most p r q = (r ≢ Wait) × ((n : ℕ) × (middle : Known A) × HasWaited p middle n × IsCall most middle Poll r q)
+
+  -- What the pass had seen begins the history, which has of its session just what it did.
+  abbrev pub HasClosed : Known A → List (Record A) → Type 0
+  HasClosed p records = IsPrefix p.seen records × (p.mine ≡ of_session p.session records)

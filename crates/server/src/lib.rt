@@ -1,0 +1,6 @@
+//! The core under a lock, for the threads of its sessions.
+#![tactic(auto)]
+
+mod locked;
+pub mod request;
+pub mod shared;

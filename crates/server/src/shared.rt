@@ -1,0 +1,290 @@
+// The server.
+ghost use Rattle.std.specs.Prelude.{◌≡◌, ◌≢◌, ◌≤◌, ◌==◌, ◌||◌, true, false, [], length, All, IsTrue, IfOk, IfErr};
+ghost use mathlib.Core.List.{IsPrefix};
+ghost use Rattle.value.specs.Refusals.{AnswersOrNoMemory, out_of_memory};
+ghost use Rattle.schema.specs.Plain.{is_sound};
+ghost use Rattle.history.specs.Opening.{zero_base};
+ghost use Rattle.history.specs.Answer.{Allowed, IsLegal, Legal, of_session, view_answer};
+ghost use Rattle.server.specs.Requests.{asked};
+ghost use Rattle.server.specs.Calls.{AreFresh, HasClosed, HasPolled, IsCall, is_no_count, opening_refusal};
+
+use crate::locked::Locked;
+use crate::request::Request;
+use history::event::Action;
+use mvrows::view::View;
+use pass::keeper::Keeper;
+use pass::token::Pass;
+use pass::word::{FirstSeat, HistoryWord, Naming};
+use schema::catalog::Catalog;
+use schema::tables::Tables;
+use session::sessions::Core;
+use statement::reply::Reply;
+use std::alloc::{AllocError, Allocator, Global};
+use std::sync::{Condvar, Mutex, Wait};
+use value::refusal::{Code, Refusal};
+
+/// The greatest number of sessions.
+pub const MOST_SESSIONS: u32 = 64;
+
+/// A core under a lock, which the threads of its sessions share. Each session has a pass; no call
+/// lends what lies under the lock.
+#[derive(Drop)]
+pub struct Server<'w, J: Naming<A>, A: Allocator = Global> {
+    locked: Mutex<Locked<'w, J, A>>,
+    ended: Condvar,
+    catalog: Catalog<A>,
+    ghost catalog_is: { catalog ≡ J.opening.catalog },
+}
+
+// Whether there can't be so many sessions.
+fn is_no_count_of_sessions(sessions: u32) -> bool
+    ensures { result ≡ is_no_count sessions }
+{
+    sessions == 0 || sessions > MOST_SESSIONS
+}
+
+// The passes of sessions 1, 2, ..
+fn passes_of<'w, J: Naming<A>, A: Allocator>(
+    alloc: A,
+    keeper: &mut Keeper<'w, J, A>,
+    sessions: u32,
+) -> Result<Vec<Pass<'w, J, A>, A>, AllocError>
+    requires sessions { sessions ≤ 64 }
+    requires keeper { (keeper.old.made ≡ 0) × (keeper.old.records ≡ []) }
+    ensures passes { IfOk result (λ v. AreFresh v.items) }
+    ensures count { IfOk result (λ v. length v.items ≡ sessions) }
+    ensures keeper { keeper.new.records ≡ keeper.old.records }
+{
+    let mut passes = Vec::new(alloc);
+    for _ in 0..sessions {
+        let pass = keeper.pass();
+        passes.push(pass)?;
+    }
+    Ok(passes)
+}
+
+// Whether sessions may wait for this reply's event: it may have ended a transaction.
+fn may_end<A: Allocator>(reply: &Reply<A>) -> bool {
+    matches!(
+        reply,
+        Reply::Committed | Reply::RolledBack | Reply::Refused(_)
+    )
+}
+
+fn is_wait<A: Allocator>(reply: &Reply<A>) -> bool
+    ensures yes { result ≡ true → reply.now ≡ Reply.Wait }
+    ensures no { result ≡ false → reply.now ≢ Reply.Wait }
+{
+    matches!(reply, Reply::Wait)
+}
+
+impl<'w, J: Naming<A>, A: Allocator> Server<'w, J, A> {
+    /// A server that begins with these tables, and the passes of sessions 1, 2, ..; refused with
+    /// 54000 for no events, or sessions outside 1 to 64. The word is made of the same catalog and
+    /// tables, and serves this server alone.
+    pub fn open(
+        alloc: A,
+        word: &'w HistoryWord<A>,
+        first: FirstSeat<A>,
+        catalog: Catalog<A>,
+        tables: Tables<A>,
+        max_events: u32,
+        sessions: u32,
+    ) -> Result<(Server<'w, J, A>, Vec<Pass<'w, J, A>, A>), Refusal>
+    where
+        A: Copy,
+        requires word { word.now ≡ record { table = J.table; opening = J.opening } }
+        requires first { first ≡ J.table }
+        requires opening { J.opening ≡ record { catalog = catalog; tables = tables; base = zero_base } }
+        requires most { J.most ≡ max_events }
+        requires sound { IsTrue (is_sound catalog tables) }
+        ensures passes { IfOk result (λ opened. AreFresh opened.1.items) }
+        ensures count { IfOk result (λ opened. length opened.1.items ≡ sessions) }
+        ensures within { IfOk result (λ opened. (max_events == 0 || is_no_count sessions) ≡ false) }
+        ensures refused { IfErr result (λ e. e ≡ opening_refusal (max_events == 0 || is_no_count sessions)) }
+    {
+        if max_events == 0 || is_no_count_of_sessions(sessions) {
+            return Err(Refusal::of_code(Code::ProgramLimitExceeded));
+        }
+        let core = Core::open(alloc, catalog, tables, max_events)?;
+        match Server::on(alloc, word, first, core, sessions) {
+            Ok(opened) => Ok(opened),
+            Err((_core, refusal)) => Err(refusal),
+        }
+    }
+
+    /// A server that goes on with a core of no events since its opening, and the passes of sessions
+    /// 1, 2, ..; refused with 54000 for sessions outside 1 to 64, and then the core comes back as it
+    /// was. The word is made of the core's opening, and serves this server alone.
+    pub fn resume(
+        alloc: A,
+        word: &'w HistoryWord<A>,
+        first: FirstSeat<A>,
+        core: Core<A>,
+        sessions: u32,
+    ) -> Result<(Server<'w, J, A>, Vec<Pass<'w, J, A>, A>), (Core<A>, Refusal)>
+    where
+        A: Copy,
+        requires word { word.now ≡ record { table = J.table; opening = J.opening } }
+        requires first { first ≡ J.table }
+        requires core { core ≡ record { opening = J.opening; records = []; most = J.most } }
+        ensures passes { IfOk result (λ opened. AreFresh opened.1.items) }
+        ensures count { IfOk result (λ opened. length opened.1.items ≡ sessions) }
+        ensures within { IfOk result (λ opened. is_no_count sessions ≡ false) }
+        ensures back { IfErr result (λ e. e.0 ≡ core) }
+        ensures refused { IfErr result (λ e. e.1 ≡ opening_refusal (is_no_count sessions)) }
+    {
+        if is_no_count_of_sessions(sessions) {
+            return Err((core, Refusal::of_code(Code::ProgramLimitExceeded)));
+        }
+        Server::on(alloc, word, first, core, sessions)
+    }
+
+    // A server on a core of no events since its opening; or want of memory, and the core back.
+    fn on(
+        alloc: A,
+        word: &'w HistoryWord<A>,
+        first: FirstSeat<A>,
+        core: Core<A>,
+        sessions: u32,
+    ) -> Result<(Server<'w, J, A>, Vec<Pass<'w, J, A>, A>), (Core<A>, Refusal)>
+    where
+        A: Copy,
+        requires word { word.now ≡ record { table = J.table; opening = J.opening } }
+        requires first { first ≡ J.table }
+        requires core { core ≡ record { opening = J.opening; records = []; most = J.most } }
+        requires sessions { is_no_count sessions ≡ false }
+        ensures passes { IfOk result (λ opened. AreFresh opened.1.items) }
+        ensures count { IfOk result (λ opened. length opened.1.items ≡ sessions) }
+        ensures back { IfErr result (λ e. e ≡ (core, out_of_memory)) }
+    {
+        let Ok(catalog) = core.history().catalog().copy(alloc) else {
+            return Err((core, Refusal::of_code(Code::OutOfMemory)));
+        };
+        core.is_legal();
+        let mut keeper = Keeper::first(word, first);
+        let Ok(passes) = passes_of(alloc, &mut keeper, sessions) else {
+            return Err((core, Refusal::of_code(Code::OutOfMemory)));
+        };
+        let server = Server {
+            locked: Mutex::new(Locked::new(core, keeper)),
+            ended: Condvar::new(),
+            catalog,
+        };
+        Ok((server, passes))
+    }
+
+    /// Does one event of the pass's session. A text is parsed before the lock is taken. The reply
+    /// is recorded, but for want of memory (53200) and a full history (54000).
+    pub fn call<R: Wait>(
+        &self,
+        rt: &R,
+        alloc: A,
+        pass: &mut Pass<'w, J, A>,
+        request: Request<A>,
+    ) -> Reply<A>
+    where
+        A: Copy,
+        ensures legal { Legal J.opening pass.new.seen }
+        ensures begins { IsPrefix pass.old.seen pass.new.seen }
+        ensures mine { pass.new.mine ≡ of_session pass.new.session pass.new.seen }
+        ensures call { IsCall J.most pass.old (asked J.opening.catalog request) result pass.new }
+    {
+        match request.into_action(alloc, &self.catalog) {
+            Ok(action) => self.act(rt, alloc, pass, action),
+            Err(refusal) => {
+                let _session = pass.session();
+                Reply::Refused(refusal)
+            }
+        }
+    }
+
+    // Does one event, and wakes the sessions that wait for it.
+    fn act<R: Wait>(
+        &self,
+        rt: &R,
+        alloc: A,
+        pass: &mut Pass<'w, J, A>,
+        action: Action<A>,
+    ) -> Reply<A>
+    where
+        A: Copy,
+        requires { Allowed J.opening.catalog action }
+        ensures legal { Legal J.opening pass.new.seen }
+        ensures begins { IsPrefix pass.old.seen pass.new.seen }
+        ensures mine { pass.new.mine ≡ of_session pass.new.session pass.new.seen }
+        ensures call { IsCall J.most pass.old action result pass.new }
+    {
+        let reply = self.locked.lock(rt).call(alloc, pass, action);
+        if may_end(&reply) {
+            self.ended.notify_all();
+        }
+        reply
+    }
+
+    /// Polls until the answer isn't to wait, and sleeps between until another transaction has
+    /// ended. It may never return.
+    #[tactic(auto, using(pass::proofs::Prefixes::prefix_trans))]
+    pub fn wait_safe<R: Wait>(&self, rt: &R, alloc: A, pass: &mut Pass<'w, J, A>) -> Reply<A>
+    where
+        A: Copy,
+        ensures legal { Legal J.opening pass.new.seen }
+        ensures begins { IsPrefix pass.old.seen pass.new.seen }
+        ensures mine { pass.new.mine ≡ of_session pass.new.session pass.new.seen }
+        ensures polls { HasPolled J.most pass.old result pass.new }
+    {
+        let mut locked = self.locked.lock(rt);
+        for _ in rt.forever() {
+            let reply = locked.call(alloc, pass, Action::Poll);
+            if !is_wait(&reply) {
+                return reply;
+            }
+            locked = self.ended.wait(rt, locked);
+        }
+        unreachable!()
+    }
+
+    /// The tables at the snapshot of the transaction of the pass's session, where that is known to
+    /// be safe after the history that the pass then has seen. It is no event, and the lock is free
+    /// again when it returns.
+    pub fn view<R: Wait>(
+        &self,
+        rt: &R,
+        alloc: A,
+        pass: &mut Pass<'w, J, A>,
+    ) -> Result<View<A>, Refusal>
+    where
+        A: Copy,
+        ensures legal { Legal J.opening pass.new.seen }
+        ensures begins { IsPrefix pass.old.seen pass.new.seen }
+        ensures session { pass.new.session ≡ pass.old.session }
+        ensures mine { pass.new.mine ≡ pass.old.mine }
+        ensures exact { pass.new.mine ≡ of_session pass.new.session pass.new.seen }
+        ensures view { AnswersOrNoMemory result (view_answer J.opening pass.new.seen pass.new.session) }
+    {
+        self.locked.lock(rt).view(alloc, pass)
+    }
+
+    /// The catalog of its history. It takes no lock.
+    pub fn catalog(&self) -> &Catalog<A>
+        ensures { result.now ≡ J.opening.catalog }
+    {
+        &self.catalog
+    }
+
+    /// The core, once no session calls any more. Its history begins with what each of the passes
+    /// has seen, and has of its session just what it did.
+    pub fn close(self, passes: Vec<Pass<'w, J, A>, A>) -> Core<A>
+        ensures opening { result.opening ≡ J.opening }
+        ensures most { result.most ≡ J.most }
+        ensures legal { IsLegal result }
+        ensures passes { All (λ pass. HasClosed pass result.records) passes.entry.items }
+    {
+        let Server {
+            locked,
+            ended: _,
+            catalog: _,
+        } = self;
+        locked.into_inner().close(passes)
+    }
+}
