@@ -2,6 +2,5 @@ pub mod ChainLemmas
 pub mod HeldLemmas
 pub mod PageLemmas
 pub mod PruningLemmas
-pub mod TestLemmas
 pub mod VersionLemmas
 pub mod ViewLemmas
