@@ -4,16 +4,21 @@ use Rattle.std.specs.Prelude.{◌≡◌, ℕ, List, ◌++◌, Result, Ok, Err}
 use Rattle.value.specs.declared.refusal.Refusal.{Refusal}
 use Rattle.value.specs.Refusals.{AnswersOrNoMemory}
 use Rattle.schema.specs.declared.tables.Tables.{Tables}
-use Rattle.history.specs.Opening.{Recorded}
+use Rattle.history.specs.Opening.{Opening, Recorded}
 use Rattle.history.specs.Answer.{IsLegal, view_answer}
 use Rattle.dumpplan.specs.Lines.{dump_text}
 use Rattle.dumpworker.specs.Dumped.{Dumped}
+use Rattle.pass.specs.Knowing.{Known}
 use Rattle.restore.specs.Reading.{read_dump}
 use Rattle.session.specs.Backups.{IsBackup}
 use Rattle.backup.specs.declared.fault.BackupFault.{BackupFault}
 use Rattle.backup.specs.declared.fault.BackupFault.TheVariants.{View, Dump}
 
 module _ {A : Type 0} where
+  -- the history that a pass has seen
+  abbrev pub seen_by : Opening A → ℕ → Known A → Recorded A
+  seen_by opening most p = record { opening = opening; records = p.seen; most = most }
+
   -- the tables that the session may view after the history
   abbrev pub viewed : Recorded A → ℕ → Result (Tables A) Refusal
   viewed h session = view_answer h.opening h.records session

@@ -2,9 +2,11 @@
 #![tactic(auto)]
 
 mod fault;
+mod safe;
 #[cfg(test)]
 mod tests;
 mod write;
 
 pub use fault::BackupFault;
+pub use safe::dump_safe;
 pub use write::dump_session;
