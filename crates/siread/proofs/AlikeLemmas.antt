@@ -5,7 +5,6 @@ use Rattle.std.proofs.lemmas.Bool.{eqb-true, eq-eqb}
 use Rattle.std.proofs.lemmas.Bool.Decides.{nat_tests}
 use Rattle.std.proofs.lemmas.List.Folds.{list_any-append}
 use Rattle.std.specs.List.{list_any}
-use Rattle.std.specs.Cmp.{IsTotalOrder}
 use Rattle.std.specs.declared.cmp.Ordering.{Ordering}
 use Rattle.std.specs.declared.cmp.Ordering.TheVariants.{Less, Equal, Greater}
 use Rattle.std.specs.Ordering.{is_le, is_ge, ordering_reverse}
@@ -23,7 +22,7 @@ use Rattle.statement.proofs.CoverSet.{covers_by_set, covers_value_by_set}
 use Rattle.siread.specs.Adding.{is_between, is_told, adds_nothing}
 use Rattle.siread.specs.Extents.{is_read, read_in, IsEachOnce}
 use Rattle.siread.specs.Reads.{CoverAlike}
-use Rattle.siread.proofs.TallyLemmas.{in_table, once, is_found}
+use Rattle.siread.proofs.TallyLemmas.{once, is_found}
 
 -- ---- tests
 

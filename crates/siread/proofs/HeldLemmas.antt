@@ -1,12 +1,12 @@
 -- What is kept of one transaction's reads, as it grows.
-use Rattle.std.proofs.Common.{◌≡◌, refl, sym, ap, ◌∙◌, ℕ, ◌+◌, ◌<◌, true, false, List, [], ◌∷◌, ◌++◌, length, take, drop, get_or, ◌≤◌, arith, length-append, append_assoc, append-nil}
+use Rattle.std.proofs.Common.{◌≡◌, sym, ap, ◌∙◌, ℕ, ◌+◌, ◌<◌, false, List, [], ◌∷◌, ◌++◌, length, take, drop, get_or, ◌≤◌, arith, length-append, append_assoc, append-nil}
 use Rattle.std.proofs.Math.Seq.{take-append_seam}
 use Rattle.std.proofs.lemmas.List.{take-append-drop, take_more}
 use Rattle.statement.specs.declared.reading.Reading.{Reading}
 use Rattle.siread.specs.Adding.{adds_nothing, Keeps, Settles}
 use Rattle.siread.specs.Extents.{IsEachOnce}
 use Rattle.siread.specs.Reads.{Reads, CoverAlike, all_of}
-use Rattle.siread.proofs.AlikeLemmas.{alike-nothing, alike_equal, alike_itself, alike_more, alike_then, not_there, once-push}
+use Rattle.siread.proofs.AlikeLemmas.{alike_equal, alike_more, alike_then, not_there, once-push}
 use Rattle.siread.proofs.InnerLemmas.{settled-alike}
 
 module _ {A : Type 0} where

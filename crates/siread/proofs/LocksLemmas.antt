@@ -1,5 +1,5 @@
 -- Locks of one transaction, and of others.
-use Rattle.std.proofs.Common.{◌≡◌, refl, sym, ap, ◌∙◌, ℕ, Bool, true, false, cond, List, [], ◌++◌, eqb, ltb, Option, Some, Result, Ok, Err}
+use Rattle.std.proofs.Common.{◌≡◌, refl, sym, ap, ℕ, Bool, true, false, cond, List, [], ◌++◌, eqb, ltb, Option, Some, Result, Ok, Err}
 use Rattle.std.proofs.lemmas.Bool.{ne_eqb}
 use Rattle.std.specs.Prelude.{◌≢◌, OnOk, OnErr}
 use Rattle.std.specs.Option.{option_map_or}

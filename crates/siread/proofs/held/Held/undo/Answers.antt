@@ -1,4 +1,4 @@
-use Rattle.std.proofs.Common.{◌≡◌, ◌≤◌, arith, length, take}
+use Rattle.std.proofs.Common.{◌≡◌, arith, length, take}
 use Rattle.std.proofs.lemmas.List.{length-take-le}
 use Rattle.siread.proofs.AlikeLemmas.{once-take}
 use Rattle.siread.proofs.held.Held.undo.Goals as goal

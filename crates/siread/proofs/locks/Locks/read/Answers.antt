@@ -1,8 +1,7 @@
-use Rattle.std.proofs.Common.{◌≡◌, ◌∙◌, ap, sym, subst, Some, ◌++◌}
+use Rattle.std.proofs.Common.{◌∙◌, ap, sym, subst, Some, ◌++◌}
 use Rattle.std.proofs.lemmas.Map.Steps.{set_value_same}
 use Rattle.std.specs.Prelude.{is_some}
-use Rattle.std.specs.Map.{set_value}
-use Rattle.siread.specs.Reads.{CoverAlike, all_of, before_of, held_by, reads_of}
+use Rattle.siread.specs.Reads.{CoverAlike, all_of, held_by}
 use Rattle.siread.proofs.LocksLemmas.{all-read, apart-tie, before-read, on_err_map, on_ok_map, on_ok_of}
 use Rattle.siread.proofs.locks.Locks.read.Goals as goal
 
