@@ -1,0 +1,5 @@
+pub mod AlikeLemmas
+mod HeldLemmas
+mod InnerLemmas
+mod LocksLemmas
+mod TallyLemmas

@@ -1,0 +1,12 @@
+//! The locks of what transactions have read (SIREAD locks).
+#![tactic(auto)]
+
+mod copies;
+mod cover;
+mod extent;
+mod held;
+pub mod laws;
+pub mod locks;
+mod tally;
+#[cfg(test)]
+mod tests;
