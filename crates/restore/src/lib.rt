@@ -12,6 +12,8 @@ mod sound;
 mod tests;
 mod text;
 mod workers;
+#[cfg(test)]
+mod workers_tests;
 
 pub use error::RestoreFault;
 pub use law::reads_what_is_dumped;
