@@ -3,6 +3,7 @@ pub mod CreateLemmas
 pub mod DumpAgain
 pub mod LinesAgain
 pub mod LiteralLemmas
+pub mod PieceLemmas
 pub mod ReadingLemmas
 pub mod RowLemmas
 pub mod RowLines

@@ -27,7 +27,7 @@ onto_some : (b : ℕ) (parts : List (List ℕ)) → onto_first b parts ≡ [] �
 onto_some b [] e = absurd cc
 onto_some b (part ∷ parts) e = absurd cc
 
-split_some : (text : List ℕ) → lines_of text ≡ [] → ⊥
+pub split_some : (text : List ℕ) → lines_of text ≡ [] → ⊥
 split_some [] e = absurd cc
 split_some (b ∷ text) e = go (b == 10) e
   where
@@ -65,6 +65,15 @@ module _ {A : Type 0} where
   more_lines n p line [] some = absurd (some refl)
   more_lines n p [] (next ∷ lines) some = refl
   more_lines n p (b ∷ line) (next ∷ lines) some = refl
+
+  -- a line that is a step, with others behind it
+  pub stepped_on : (n : ℕ) (p q : Progress A) (line : List ℕ) (lines : List (List ℕ)) → (lines ≡ [] → ⊥) → step p line ≡ Ok q → read_lines n p (line ∷ lines) ≡ read_lines (n + 1) q lines
+  stepped_on n p q line lines some h = more_lines n p line lines some ∙ rw h refl
+
+  -- a line that is none, with others behind it
+  pub refused_on : (e : LineError) (n : ℕ) (p : Progress A) (line : List ℕ) (lines : List (List ℕ)) → (lines ≡ [] → ⊥) → Fails e (step p line) → Stops (read_error n e) (read_lines n p (line ∷ lines))
+  refused_on line.Memory n p text lines some h = tt
+  refused_on (line.Refused code) n p text lines some h = more_lines n p text lines some ∙ rw h refl
 
   -- the next line is a step, and the others follow
   pub next-line : (n : ℕ) (p : Progress A) (text line rest : List ℕ) → parted 10 text ≡ Some (line, rest)

@@ -1,4 +1,5 @@
 pub mod CreateLine
 pub mod Lines
 pub mod Reading
+pub mod Rows
 pub mod Steps

@@ -1,12 +1,16 @@
 -- The next line of a dump, as the code finds it.
-use Rattle.std.specs.Prelude.{◌≡◌, ℕ, ◌+◌, ◌^◌, ◌<◌, ◌≤◌, length, ◌==◌, true, false, List, Some, None, Result, Ok, Err}
+use Rattle.std.specs.Prelude.{◌≡◌, ℕ, ◌+◌, ◌^◌, ◌<◌, ◌≤◌, length, ◌==◌, Bool, true, false, not, List, ◌∷◌, ◌++◌, map, Some, None, Result, Ok, Err}
+use Rattle.std.specs.List.{list_all}
 use Rattle.std.specs.Borrow.{Bor}
 use Rattle.std.specs.Str.{bytes_eq}
 use Rattle.value.specs.declared.refusal.Code.TheVariants.{BadCopyFileFormat}
 use Rattle.restore.specs.declared.error.ReadError.{ReadError}
 use Rattle.restore.specs.declared.error.ReadError.TheVariants as read
 use Rattle.restore.specs.declared.lines.Lines.{Lines}
+use Rattle.restore.specs.declared.lines.Line.{Line}
+use Rattle.dumpplan.specs.Lines.{end_of_rows}
 use Rattle.restore.specs.CreateLine.{parted}
+use Rattle.restore.specs.Reading.{lines_of}
 use Rattle.restore.specs.Steps.{fault}
 
 -- there is none, unless its number is past those of 64 bits
@@ -36,3 +40,13 @@ IsBehind number text (read.Faulty f) = ((length text == 0) ≡ false) × (f ≡ 
 abbrev pub IsEnd : ℕ → List ℕ → Result (Unit {0}) ReadError → Type 0
 IsEnd number text (Ok u) = (length text == 0) ≡ true
 IsEnd number text (Err e) = IsBehind number text e
+
+-- a line is a row's: it isn't the line behind the rows
+abbrev pub is_row_line : List ℕ → Bool
+is_row_line line = not (bytes_eq line end_of_rows)
+
+-- a line and those behind it up to the lines that are left, all of them of rows
+pub record AreRowLines (first : Line) (rows : List (Bor (List ℕ))) (left : Lines) : Type 0 where
+  pub lines : first.bytes.now ∷ lines_of first.rest.text.now ≡ map (λ line. line.now) rows ++ lines_of left.text.now
+  pub number : left.number + 1 ≡ first.rest.number + length rows
+  pub rows_alone : list_all is_row_line (map (λ line. line.now) rows) ≡ true

@@ -11,8 +11,12 @@ mod sound;
 #[cfg(test)]
 mod tests;
 mod text;
+mod workers;
+#[cfg(test)]
+mod workers_tests;
 
 pub use error::RestoreFault;
 pub use law::reads_what_is_dumped;
 pub use reading::restore_one;
 pub use sound::reads_sound_tables;
+pub use workers::restore;

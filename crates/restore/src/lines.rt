@@ -1,9 +1,14 @@
 //! The lines of a dump.
-ghost use Rattle.std.specs.Prelude.{◌≡◌, ◌+◌, ◌<◌, length};
-ghost use Rattle.restore.specs.Lines.{IsNextLine, IsEnd};
+ghost use Rattle.std.specs.Prelude.{◌≡◌, ◌+◌, ◌<◌, ◌≤◌, length, Some, false, vec_len, IfOk, IfErr, IfSome};
+ghost use Rattle.std.specs.Str.{bytes_eq};
+ghost use Rattle.dumpplan.specs.Lines.{end_of_rows};
+ghost use Rattle.restore.specs.CreateLine.{parted};
+ghost use Rattle.restore.specs.Lines.{IsNextLine, IsEnd, AreRowLines};
+ghost use Rattle.restore.specs.declared.error.ReadError.TheVariants as error;
 
 use crate::error::{LineError, ReadError};
 use crate::text::parted;
+use std::alloc::Allocator;
 use value::refusal::Code;
 
 /// What is left of a dump, and the number of its next line.
@@ -11,6 +16,14 @@ use value::refusal::Code;
 pub struct Lines<'d> {
     pub number: u64,
     pub text: &'d [u8],
+}
+
+/// A line, its number, and the lines after it.
+#[derive(Clone, Copy)]
+pub struct Line<'d> {
+    pub number: u64,
+    pub bytes: &'d [u8],
+    pub rest: Lines<'d>,
 }
 
 /// The next line, which must be ended by a newline, and the lines after it. A number past those of 64 bits is told as want
@@ -25,6 +38,50 @@ pub fn next_line(lines: Lines<'_>) -> Result<(&[u8], Lines<'_>), ReadError>
         Some(number) => Ok((line, Lines { number, text })),
         None => Err(ReadError::Memory),
     }
+}
+
+// The next line, where it is a row's, and the lines after it.
+fn next_row_line(left: Lines<'_>) -> Result<Option<(&[u8], Lines<'_>)>, ReadError>
+    ensures line { IfOk result (λ found. IfSome found (λ x. parted 10 left.entry.text.now ≡ Some (x.0.now, x.1.text.now))) }
+    ensures number { IfOk result (λ found. IfSome found (λ x. x.1.number ≡ left.entry.number + 1)) }
+    ensures row { IfOk result (λ found. IfSome found (λ x. bytes_eq x.0.now end_of_rows ≡ false)) }
+    ensures shorter { IfOk result (λ found. IfSome found (λ x. length x.1.text.now < length left.entry.text.now)) }
+    ensures memory { IfErr result (λ e. e ≡ error.Memory) }
+{
+    let Some((line, text)) = parted(b'\n', left.text) else {
+        return Ok(None);
+    };
+    if line == b"\\.".as_slice() {
+        return Ok(None);
+    }
+    match left.number.checked_add(1) {
+        Some(number) => Ok(Some((line, Lines { number, text }))),
+        None => Err(ReadError::Memory),
+    }
+}
+
+/// A row's line and those of the rows behind it, at most so many in all, and the lines after them.
+pub fn row_lines<'d, A: Allocator>(
+    alloc: A,
+    first: Line<'d>,
+    most: usize,
+) -> Result<(Vec<&'d [u8], A>, Lines<'d>), ReadError>
+    requires { bytes_eq first.bytes.now end_of_rows ≡ false }
+    ensures rows { IfOk result (λ x. AreRowLines first.entry x.0.items x.1) }
+    ensures shorter { IfOk result (λ x. length x.1.text.now ≤ length first.entry.rest.text.now) }
+    ensures memory { IfErr result (λ e. e ≡ error.Memory) }
+{
+    let mut rows = Vec::new(alloc);
+    rows.push(first.bytes)?;
+    let mut left = first.rest;
+    while rows.len() < most {
+        let Some((line, rest)) = next_row_line(left)? else {
+            return Ok((rows, left));
+        };
+        rows.push(line)?;
+        left = rest;
+    }
+    Ok((rows, left))
 }
 
 /// Refuses what stands behind the last line.

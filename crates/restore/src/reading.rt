@@ -64,8 +64,8 @@ fn read_catalog<A: Allocator + Copy>(
     }
 }
 
-// What stands before the tables: whether the version counts their rows, and the CREATE TABLE lines.
-fn read_head<A: Allocator + Copy>(
+/// What stands before the tables: whether the version counts their rows, and the CREATE TABLE lines.
+pub fn read_head<A: Allocator + Copy>(
     alloc: A,
     lines: Lines<'_>,
 ) -> Result<(bool, Catalog<A>, Lines<'_>), ReadError>
@@ -81,8 +81,8 @@ fn read_head<A: Allocator + Copy>(
     }
 }
 
-// The COPY line of a table.
-fn read_copy_line<'d, A: Allocator + Copy>(
+/// The COPY line of a table.
+pub fn read_copy_line<'d, A: Allocator + Copy>(
     alloc: A,
     lines: Lines<'d>,
     catalog: &Catalog<A>,
@@ -124,8 +124,8 @@ fn read_rows<'d, A: Allocator + Copy>(
     }
 }
 
-// Where the version counts the rows of a table: their number.
-fn read_count<'d, A: Allocator + Copy>(
+/// Where the version counts the rows of a table: their number.
+pub fn read_count<'d, A: Allocator + Copy>(
     alloc: A,
     lines: Lines<'d>,
     counted: bool,
@@ -185,8 +185,8 @@ fn read_tables<'d, A: Allocator + Copy>(
     Ok(lines)
 }
 
-// The last line, behind which nothing stands.
-fn read_end<A: Allocator>(
+/// The last line, behind which nothing stands.
+pub fn read_end<A: Allocator>(
     lines: Lines<'_>,
     catalog: &Catalog<A>,
     tables: &Tables<A>,
@@ -198,8 +198,11 @@ fn read_end<A: Allocator>(
     end_of_lines(rest)
 }
 
-// An empty table for each of the catalog.
-fn empty_tables<A: Allocator + Copy>(alloc: A, catalog: &Catalog<A>) -> Result<Tables<A>, ReadError>
+/// An empty table for each of the catalog.
+pub fn empty_tables<A: Allocator + Copy>(
+    alloc: A,
+    catalog: &Catalog<A>,
+) -> Result<Tables<A>, ReadError>
     ensures { Reads (λ X. Ok X) result (Ok (empty_tables catalog.now)) }
 {
     match Tables::new(alloc, catalog) {

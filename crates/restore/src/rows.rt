@@ -1,9 +1,12 @@
 //! The rows of a table.
-ghost use Rattle.std.specs.Prelude.{◌≡◌, ◌<◌, [], ◌∷◌, length, map, true, MatchOption, IfOk, IfErr, OnErr};
+ghost use Rattle.std.specs.Prelude.{◌≡◌, ◌≢◌, ◌+◌, ◌<◌, ◌^◌, ℕ, Bool, List, [], ◌∷◌, ◌++◌, length, vec_len, map, true, MatchOption, IfOk, IfErr, OnErr};
 ghost use Rattle.schema.specs.Definition.{columns_of};
 ghost use Rattle.schema.specs.Plain.{is_sound};
-ghost use Rattle.restore.specs.Reading.{kinds_of, with_values, with_row};
-ghost use Rattle.restore.specs.Steps.{Gives};
+ghost use Rattle.restore.specs.Reading.{Within, kinds_of, with_values, with_row, read_lines};
+ghost use Rattle.restore.specs.Lines.{is_row_line};
+ghost use Rattle.restore.specs.Rows.{AreRead};
+ghost use Rattle.std.specs.List.{list_all};
+ghost use Rattle.restore.specs.Steps.{Gives, Reads};
 ghost use Rattle.restore.specs.declared.error.ReadError.TheVariants as error;
 ghost use Rattle.copytext.specs.Reading.{line_values};
 
@@ -12,7 +15,7 @@ use copytext::read_row;
 use schema::catalog::{Catalog, Column, TableNo};
 use schema::row::Row;
 use schema::tables::Tables;
-use std::alloc::Allocator;
+use std::alloc::{AllocError, Allocator};
 use value::key::Key;
 use value::kind::Kind;
 use value::refusal::Code;
@@ -30,15 +33,29 @@ pub fn kinds_of<A: Allocator>(alloc: A, columns: &[Column<A>]) -> Result<Vec<Kin
     Ok(kinds)
 }
 
+/// The values of a row's line, or why it isn't taken.
+pub type ReadRow<A> = Result<Vec<Value<A>, A>, LineError>;
+
 // The values of a line.
-fn values_of<A: Allocator + Copy>(
-    alloc: A,
-    kinds: &[Kind],
-    line: &[u8],
-) -> Result<Vec<Value<A>, A>, LineError>
+fn values_of<A: Allocator + Copy>(alloc: A, kinds: &[Kind], line: &[u8]) -> ReadRow<A>
     ensures { Gives (λ values. values.items) result (line_values kinds.now line.now) }
 {
     Ok(read_row(alloc, kinds, line)?)
+}
+
+/// What each of some lines of rows reads as.
+pub fn read_each<A: Allocator + Copy>(
+    alloc: A,
+    kinds: &[Kind],
+    lines: &[&[u8]],
+) -> Result<Vec<ReadRow<A>, A>, AllocError>
+    ensures { IfOk result (λ rows. AreRead (λ values. values.items) kinds.now rows.items (map (λ line. line.now) lines.now)) }
+{
+    let mut rows = Vec::with_capacity(alloc, lines.len())?;
+    for line in lines {
+        rows.push(values_of(alloc, kinds, line))?;
+    }
+    Ok(rows)
 }
 
 // The first of some values, and the others.
@@ -79,6 +96,24 @@ fn insert_values<A: Allocator + Copy>(
     }
 }
 
+// Inserts a row, as its line read.
+fn insert_read<A: Allocator + Copy>(
+    alloc: A,
+    catalog: &Catalog<A>,
+    tables: &mut Tables<A>,
+    table: TableNo,
+    row: ReadRow<A>,
+) -> Result<(), LineError>
+    requires has { table < length catalog.now }
+    requires same_tables { length tables.old ≡ length catalog.now }
+    ensures row { (line : List ℕ) → Gives (λ values. values.items) row (line_values (kinds_of catalog.now table) line) → Gives (λ _. tables.new) result (with_row catalog.now tables.old table line) }
+    ensures same_tables { length tables.new ≡ length catalog.now }
+    ensures sound { is_sound catalog.now tables.old ≡ true → is_sound catalog.now tables.new ≡ true }
+{
+    let values = row?;
+    insert_values(alloc, catalog, tables, table, values)
+}
+
 /// Inserts the row of a line into a table, whose columns have the kinds.
 pub fn insert_line<A: Allocator + Copy>(
     alloc: A,
@@ -98,4 +133,30 @@ pub fn insert_line<A: Allocator + Copy>(
 {
     let values = values_of(alloc, kinds, line)?;
     insert_values(alloc, catalog, tables, table, values)
+}
+
+/// Inserts rows, each as its line read, into a table, up to the first that isn't taken. The first stands in the line of a number.
+pub fn insert_rows<A: Allocator + Copy>(
+    alloc: A,
+    catalog: &Catalog<A>,
+    tables: &mut Tables<A>,
+    table: TableNo,
+    number: u64,
+    rows: Vec<ReadRow<A>, A>,
+) -> Result<(), ReadError>
+    requires has { table < length catalog.now }
+    requires same_tables { length tables.old ≡ length catalog.now }
+    requires numbers { number + vec_len rows < 2 ^ 64 }
+    ensures rows { (counted : Bool) (lines more : List (List ℕ)) → AreRead (λ values. values.items) (kinds_of catalog.now table) rows.items lines → list_all is_row_line lines ≡ true → more ≢ [] → Reads (λ _. read_lines (number + length lines) (Within counted catalog.now tables.new table) more) result (read_lines number (Within counted catalog.now tables.old table) (lines ++ more)) }
+    ensures same_tables { length tables.new ≡ length catalog.now }
+    ensures sound { is_sound catalog.now tables.old ≡ true → is_sound catalog.now tables.new ≡ true }
+{
+    let mut line = number;
+    for row in rows {
+        if let Err(error) = insert_read(alloc, catalog, tables, table, row) {
+            return Err(error.at(line));
+        }
+        line += 1;
+    }
+    Ok(())
 }

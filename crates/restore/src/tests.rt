@@ -1,9 +1,13 @@
 use super::*;
 use dumpplan::text::{end_text, head_text, table_text};
+use dumpplan::{Jobs, NoGate};
 use schema::catalog::{Catalog, TableNo};
 use schema::tables::Tables;
 use std::alloc::Global;
+use std::process::Abort;
+use std::str;
 use std::test::Fail;
+use std::thread::Threads;
 use value::refusal::{Code, Refusal};
 
 const EXAMPLE: &str = "-- dump 1
@@ -51,7 +55,11 @@ COPY c (id, p, raw) FROM stdin;
 ";
 
 // The text of some tables, as a dump of version 2.
-fn written(alloc: Global, catalog: &Catalog, tables: &Tables) -> Result<Vec<u8>, Refusal> {
+pub(crate) fn written(
+    alloc: Global,
+    catalog: &Catalog,
+    tables: &Tables,
+) -> Result<Vec<u8>, Refusal> {
     let mut text = head_text(alloc, catalog)?;
     for place in 0..catalog.len() as u32 {
         let number = TableNo::at(place);
@@ -78,18 +86,30 @@ fn the_example_is_read(rt: HostRuntime) -> Result<(), Fail> {
     Ok(())
 }
 
-// The fault of a dump.
-fn fault_of(alloc: Global, dump: &str) -> Option<(u64, Code)> {
-    match restore_one(alloc, dump.as_bytes()) {
-        Ok(_) => None,
-        Err(fault) => Some((fault.line, fault.code)),
+// The fault of a dump, which is the same by one thread and by several.
+pub(crate) fn fault_of<R: Abort + Threads + Sync>(
+    rt: &R,
+    alloc: Global,
+    dump: &str,
+) -> Result<Option<(u64, Code)>, Fail> {
+    let want = restore_one(alloc, dump.as_bytes()).err();
+    for count in [1, 2, 8] {
+        let jobs = Jobs::new(count).ok_or("a number of jobs")?;
+        let found = restore(rt, alloc, dump.as_bytes(), jobs, &NoGate).err();
+        assert_eq!(rt; found, want, "{count} jobs");
     }
+    Ok(want.map(|fault| (fault.line, fault.code)))
 }
 
 // The fault of a dump of two parts.
-fn fault_behind(alloc: Global, head: &str, more: &str) -> Result<Option<(u64, Code)>, Fail> {
+fn fault_behind<R: Abort + Threads + Sync>(
+    rt: &R,
+    alloc: Global,
+    head: &str,
+    more: &str,
+) -> Result<Option<(u64, Code)>, Fail> {
     let dump = format!(in alloc; "{head}{more}")?;
-    Ok(fault_of(alloc, dump.as_str()))
+    fault_of(rt, alloc, dump.as_str())
 }
 
 // How many newlines a text has.
@@ -104,7 +124,7 @@ fn a_beginning_lacks_its_next_line(rt: HostRuntime) -> Result<(), Fail> {
             continue;
         };
         let want = Some((newlines(start).saturating_add(1), Code::BadCopyFileFormat));
-        assert_eq!(rt; fault_of(rt.alloc(), start), want);
+        assert_eq!(rt; fault_of(&rt, rt.alloc(), start)?, want);
     }
     Ok(())
 }
@@ -118,7 +138,7 @@ fn a_carriage_return_stands_before_no_newline(rt: HostRuntime) -> Result<(), Fai
         if rest.starts_with('\n') {
             let head = format!(in rt.alloc(); "{start}\r")?;
             let want = Some((newlines(start).saturating_add(1), Code::BadCopyFileFormat));
-            assert_eq!(rt; fault_behind(rt.alloc(), head.as_str(), rest)?, want);
+            assert_eq!(rt; fault_behind(&rt, rt.alloc(), head.as_str(), rest)?, want);
         }
     }
     Ok(())
@@ -139,15 +159,15 @@ fn what_is_no_dump(rt: HostRuntime) -> Result<(), Fail> {
         ("-- dump 1\n-- END\n", 2),
     ] {
         assert_eq!(rt;
-            fault_of(rt.alloc(), dump),
+            fault_of(&rt, rt.alloc(), dump)?,
             Some((line, Code::BadCopyFileFormat)),
             "{dump}"
         );
     }
-    assert_eq!(rt; fault_of(rt.alloc(), "-- dump 1\n-- end\n"), None);
-    assert_eq!(rt; fault_of(rt.alloc(), "-- dump 2\n-- end\n"), None);
+    assert_eq!(rt; fault_of(&rt, rt.alloc(), "-- dump 1\n-- end\n")?, None);
+    assert_eq!(rt; fault_of(&rt, rt.alloc(), "-- dump 2\n-- end\n")?, None);
     assert_eq!(rt;
-        fault_behind(rt.alloc(), EXAMPLE, "\n")?,
+        fault_behind(&rt, rt.alloc(), EXAMPLE, "\n")?,
         Some((13, Code::BadCopyFileFormat))
     );
     Ok(())
@@ -155,75 +175,44 @@ fn what_is_no_dump(rt: HostRuntime) -> Result<(), Fail> {
 
 const HEAD: &str = "-- dump 1\nCREATE TABLE p (id bigint PRIMARY KEY);\n";
 
+// A line for each third line of a dump: the code of its refusal, and the line.
+const REFUSED_LINES: &str = "\
+42P07: CREATE TABLE p (id bigint PRIMARY KEY);
+22P04: CREATE TABLE p (id bigint PRIMARY KEY, id text);
+42P01: CREATE TABLE c (id bigint PRIMARY KEY REFERENCES q);
+42804: CREATE TABLE c (id text PRIMARY KEY REFERENCES p);
+22P04: CREATE TABLE c  (id bigint PRIMARY KEY);
+22P04: create table c (id bigint PRIMARY KEY);
+22P04: CREATE TABLE c (id BIGINT PRIMARY KEY);
+22P04: CREATE TABLE C (id bigint PRIMARY KEY);
+22P04: CREATE TABLE c (id bigint PRIMARY KEY,n text);
+22P04: CREATE TABLE c (id bigint PRIMARY KEY) ;
+22P04: CREATE TABLE c (id bigint NOT NULL PRIMARY KEY);
+22P04: CREATE TABLE c (id bigint);
+22P04: CREATE TABLE c (select bigint PRIMARY KEY);
+22P04: CREATE TABLE c (id bigint PRIMARY KEY, n bigint REFERENCES p NOT NULL);
+22P04: COPY c (id) FROM stdin;
+22P04: -- end
+";
+
 #[test]
 fn create_lines_are_refused_so(rt: HostRuntime) -> Result<(), Fail> {
-    for (line, code) in [
-        (
-            "CREATE TABLE p (id bigint PRIMARY KEY);\n",
-            Code::DuplicateTable,
-        ),
-        (
-            "CREATE TABLE p (id bigint PRIMARY KEY, id text);\n",
-            Code::BadCopyFileFormat,
-        ),
-        (
-            "CREATE TABLE c (id bigint PRIMARY KEY REFERENCES q);\n",
-            Code::UndefinedTable,
-        ),
-        (
-            "CREATE TABLE c (id text PRIMARY KEY REFERENCES p);\n",
-            Code::DatatypeMismatch,
-        ),
-        (
-            "CREATE TABLE c (id text PRIMARY KEY REFERENCES p);",
-            Code::BadCopyFileFormat,
-        ),
-        (
-            "CREATE TABLE c  (id bigint PRIMARY KEY);\n",
-            Code::BadCopyFileFormat,
-        ),
-        (
-            "create table c (id bigint PRIMARY KEY);\n",
-            Code::BadCopyFileFormat,
-        ),
-        (
-            "CREATE TABLE c (id BIGINT PRIMARY KEY);\n",
-            Code::BadCopyFileFormat,
-        ),
-        (
-            "CREATE TABLE C (id bigint PRIMARY KEY);\n",
-            Code::BadCopyFileFormat,
-        ),
-        (
-            "CREATE TABLE c (id bigint PRIMARY KEY,n text);\n",
-            Code::BadCopyFileFormat,
-        ),
-        (
-            "CREATE TABLE c (id bigint PRIMARY KEY) ;\n",
-            Code::BadCopyFileFormat,
-        ),
-        (
-            "CREATE TABLE c (id bigint NOT NULL PRIMARY KEY);\n",
-            Code::BadCopyFileFormat,
-        ),
-        ("CREATE TABLE c (id bigint);\n", Code::BadCopyFileFormat),
-        (
-            "CREATE TABLE c (select bigint PRIMARY KEY);\n",
-            Code::BadCopyFileFormat,
-        ),
-        (
-            "CREATE TABLE c (id bigint PRIMARY KEY, n bigint REFERENCES p NOT NULL);\n",
-            Code::BadCopyFileFormat,
-        ),
-        ("COPY c (id) FROM stdin;\n", Code::BadCopyFileFormat),
-        ("-- end\n", Code::BadCopyFileFormat),
-    ] {
-        assert_eq!(rt;
-            fault_behind(rt.alloc(), HEAD, line)?,
-            Some((3, code)),
-            "{line}"
-        );
+    let mut rest = REFUSED_LINES;
+    for _ in 0..16 {
+        let (case, after) = rest.split_once('\n').ok_or("a line ends")?;
+        let (want, line) = case.split_once(": ").ok_or("a line has both")?;
+        let dump = format!(in rt.alloc(); "{HEAD}{line}\n")?;
+        let fault = fault_of(&rt, rt.alloc(), dump.as_str())?;
+        let code = fault.map(|(line, code)| (line, code.sqlstate()));
+        assert_eq!(rt; code, Some((3, want)), "{line}");
+        rest = after;
     }
+    assert_eq!(rt; rest, "");
+    let unended = "CREATE TABLE c (id text PRIMARY KEY REFERENCES p);";
+    assert_eq!(rt;
+        fault_behind(&rt, rt.alloc(), HEAD, unended)?,
+        Some((3, Code::BadCopyFileFormat))
+    );
     Ok(())
 }
 
@@ -253,13 +242,13 @@ fn rows_of_one_table(rt: HostRuntime) -> Result<(), Fail> {
         ),
     ] {
         assert_eq!(rt;
-            fault_behind(rt.alloc(), ONE_TABLE, rows)?,
+            fault_behind(&rt, rt.alloc(), ONE_TABLE, rows)?,
             Some((line, code)),
             "{rows}"
         );
     }
     assert_eq!(rt;
-        fault_behind(rt.alloc(), ONE_TABLE, "2\n1\n\\.\n-- end\n")?,
+        fault_behind(&rt, rt.alloc(), ONE_TABLE, "2\n1\n\\.\n-- end\n")?,
         None
     );
     Ok(())
@@ -278,7 +267,11 @@ fn rows_are_counted(rt: HostRuntime) -> Result<(), Fail> {
         ("-- rows 2", Some((7, Code::BadCopyFileFormat))),
         ("-- rows 2\n", Some((8, Code::BadCopyFileFormat))),
     ] {
-        assert_eq!(rt; fault_behind(rt.alloc(), COUNTED, rest)?, fault, "{rest}");
+        assert_eq!(rt;
+            fault_behind(&rt, rt.alloc(), COUNTED, rest)?,
+            fault,
+            "{rest}"
+        );
     }
     Ok(())
 }
@@ -310,7 +303,7 @@ fn references_are_looked_up(rt: HostRuntime) -> Result<(), Fail> {
         ("2\t\\N\ta\n\\.\n-- end\n", None),
     ] {
         assert_eq!(rt;
-            fault_behind(rt.alloc(), TWO_TABLES, rows)?,
+            fault_behind(&rt, rt.alloc(), TWO_TABLES, rows)?,
             fault,
             "{rows}"
         );
@@ -361,7 +354,7 @@ fn limits(rt: HostRuntime) -> Result<(), Fail> {
         (long_name(rt.alloc(), 64)?, (2, form)),
         (long_name(rt.alloc(), 63)?, (3, form)),
     ] {
-        assert_eq!(rt; fault_of(rt.alloc(), dump.as_str()), Some(fault));
+        assert_eq!(rt; fault_of(&rt, rt.alloc(), dump.as_str())?, Some(fault));
     }
     Ok(())
 }
@@ -371,11 +364,8 @@ fn a_row_of_many_tabs(rt: HostRuntime) -> Result<(), Fail> {
     let mut dump = Vec::from_slice(rt.alloc(), ONE_TABLE.as_bytes())?;
     dump.resize(1_000_000, b'\t')?;
     dump.push(b'\n')?;
-    let found = restore_one(rt.alloc(), dump.as_slice()).err();
-    let want = RestoreFault {
-        line: 4,
-        code: Code::BadCopyFileFormat,
-    };
-    assert_eq!(rt; found, Some(want));
+    let dump = str::from_utf8(dump.as_slice()).ok().ok_or("it is text")?;
+    let want = Some((4, Code::BadCopyFileFormat));
+    assert_eq!(rt; fault_of(&rt, rt.alloc(), dump)?, want);
     Ok(())
 }

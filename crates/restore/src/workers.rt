@@ -1,0 +1,235 @@
+//! Lines of rows read by several threads.
+ghost use Rattle.std.specs.Prelude.{◌≡◌, ◌⊎◌, ◌+◌, ◌<◌, ◌≤◌, ◌^◌, ◌∷◌, Bool, true, false, map, length, vec_len, IfOk, IfErr};
+ghost use Rattle.std.specs.Str.{bytes_eq};
+ghost use Rattle.schema.specs.Plain.{is_sound};
+ghost use Rattle.dumpplan.specs.Lines.{end_of_rows};
+ghost use Rattle.restore.specs.Reading.{Before, Within, ended, kinds_of, lines_of, read_lines, read_dump};
+ghost use Rattle.restore.specs.Rows.{AreRead};
+ghost use Rattle.restore.specs.Steps.{Reads, no_memory};
+ghost use Rattle.restore.specs.declared.error.ReadError.TheVariants as error;
+
+use crate::error::{ReadError, RestoreFault};
+use crate::lines::{Line, Lines, next_line, row_lines};
+use crate::reading::{empty_tables, read_copy_line, read_count, read_end, read_head};
+use crate::rows::{ReadRow, insert_rows, kinds_of, read_each};
+use dumpplan::{Gate, Jobs};
+use schema::catalog::{Catalog, TableNo};
+use schema::tables::Tables;
+use std::alloc::{AllocError, Allocator};
+use std::thread;
+use std::thread::Threads;
+use value::kind::Kind;
+
+/// How many lines of rows a piece has at most.
+pub const PIECE_LINES: usize = 1000;
+
+/// Threads that each read a piece of a table's lines, the pieces being asked about at a gate.
+#[derive(Drop)]
+pub struct Workers<'w, R, G, A: Allocator> {
+    rt: &'w R,
+    alloc: A,
+    jobs: Jobs,
+    gate: &'w G,
+    /// How many pieces were read before.
+    pieces: u64,
+}
+
+impl<'w, R: Threads + Sync, G: Gate, A: Allocator + Copy + Send + Sync> Workers<'w, R, G, A> {
+    /// Workers that have read nothing.
+    pub fn new(rt: &'w R, alloc: A, jobs: Jobs, gate: &'w G) -> Workers<'w, R, G, A> {
+        Workers {
+            rt,
+            alloc,
+            jobs,
+            gate,
+            pieces: 0,
+        }
+    }
+
+    // What each of some lines of rows reads as, each piece of them in a thread of its own.
+    fn read_pieces(
+        &mut self,
+        kinds: &[Kind],
+        lines: &[&[u8]],
+    ) -> Result<Vec<ReadRow<A>, A>, ReadError>
+        ensures ok { IfOk result (λ rows. AreRead (λ values. values.items) kinds.now rows.items (map (λ line. line.now) lines.now)) }
+        ensures memory { IfErr result (λ e. e ≡ error.Memory) }
+    {
+        let (alloc, gate, before) = (self.alloc, self.gate, self.pieces);
+        let pieces = thread::map_chunks(
+            self.rt,
+            alloc,
+            lines,
+            PIECE_LINES,
+            &|start, lines| -> Result<Vec<ReadRow<A>, A>, AllocError>
+                ensures { IfOk result (λ rows. AreRead (λ values. values.items) kinds.entry.now rows.items (map (λ line. line.now) lines.entry.now)) }
+            { read_piece(alloc, kinds, lines, gate, number_of(before, start)) },
+        )?;
+        self.pieces = self.pieces.saturating_add(pieces.len() as u64);
+        let mut rows = Vec::with_capacity(alloc, lines.len())?;
+        for piece in pieces {
+            let mut read = piece?;
+            rows.append(&mut read)?;
+        }
+        Ok(rows)
+    }
+
+    // Inserts the row of a line, and those of lines behind it, into a table whose columns have the kinds. What is left are the
+    // lines after them.
+    fn read_some<'d>(
+        &mut self,
+        line: Line<'d>,
+        catalog: &Catalog<A>,
+        tables: &mut Tables<A>,
+        table: TableNo,
+        kinds: &[Kind],
+    ) -> Result<Lines<'d>, ReadError>
+        requires has { table < length catalog.now }
+        requires same_tables { length tables.old ≡ length catalog.now }
+        requires kinds { kinds.now ≡ kinds_of catalog.now table }
+        requires number { line.rest.number ≡ line.number + 1 }
+        requires row { bytes_eq line.bytes.now end_of_rows ≡ false }
+        ensures rows { (counted : Bool) → Reads (λ l. read_lines l.number (Within counted catalog.now tables.new table) (lines_of l.text.now)) result (read_lines line.entry.number (Within counted catalog.now tables.old table) (line.entry.bytes.now ∷ lines_of line.entry.rest.text.now)) }
+        ensures shorter { IfOk result (λ l. length l.text.now ≤ length line.entry.rest.text.now) }
+        ensures same_tables { length tables.new ≡ length catalog.now }
+        ensures sound { is_sound catalog.now tables.old ≡ true → is_sound catalog.now tables.new ≡ true }
+    {
+        let most = self.jobs.get() as usize * PIECE_LINES;
+        let (lines, left) = row_lines(self.alloc, line, most)?;
+        let rows = self.read_pieces(kinds, lines.as_slice())?;
+        is_number(left.number);
+        insert_rows(self.alloc, catalog, tables, table, line.number, rows)?;
+        Ok(left)
+    }
+
+    // The rows of a table, and the line behind them.
+    fn read_rows<'d>(
+        &mut self,
+        mut lines: Lines<'d>,
+        catalog: &Catalog<A>,
+        table: TableNo,
+        tables: &mut Tables<A>,
+    ) -> Result<Lines<'d>, ReadError>
+        requires has { table < length catalog.now }
+        requires same_tables { length tables.old ≡ length catalog.now }
+        ensures rows { (counted : Bool) → Reads (λ l. read_lines l.number (ended counted catalog.now tables.new table) (lines_of l.text.now)) result (read_lines lines.entry.number (Within counted catalog.now tables.old table) (lines_of lines.entry.text.now)) }
+        ensures same_tables { length tables.new ≡ length catalog.now }
+        ensures sound { is_sound catalog.now tables.old ≡ true → is_sound catalog.now tables.new ≡ true }
+    {
+        let kinds = kinds_of(self.alloc, catalog.table(table).columns())?;
+        loop {
+            let (bytes, rest) = next_line(lines)?;
+            if bytes == b"\\.".as_slice() {
+                return Ok(rest);
+            }
+            let number = lines.number;
+            let line = Line {
+                number,
+                bytes,
+                rest,
+            };
+            lines = self.read_some(line, catalog, tables, table, kinds.as_slice())?;
+        }
+    }
+
+    // A table: its COPY line, its rows, and their number.
+    fn read_table<'d>(
+        &mut self,
+        lines: Lines<'d>,
+        counted: bool,
+        catalog: &Catalog<A>,
+        table: TableNo,
+        tables: &mut Tables<A>,
+    ) -> Result<Lines<'d>, ReadError>
+        requires has { table < length catalog.now }
+        requires same_tables { length tables.old ≡ length catalog.now }
+        ensures rows { Reads (λ l. read_lines l.number (Before counted catalog.now tables.new (table + 1)) (lines_of l.text.now)) result (read_lines lines.entry.number (Before counted catalog.now tables.old table) (lines_of lines.entry.text.now)) }
+        ensures same_tables { length tables.new ≡ length catalog.now }
+        ensures sound { is_sound catalog.now tables.old ≡ true → is_sound catalog.now tables.new ≡ true }
+    {
+        let rows = read_copy_line(self.alloc, lines, catalog, table)?;
+        let count = self.read_rows(rows, catalog, table, tables)?;
+        read_count(self.alloc, count, counted, catalog, table, tables)
+    }
+
+    // The tables, in the order of their creation.
+    fn read_tables<'d>(
+        &mut self,
+        mut lines: Lines<'d>,
+        counted: bool,
+        catalog: &Catalog<A>,
+        tables: &mut Tables<A>,
+    ) -> Result<Lines<'d>, ReadError>
+        requires { length tables.old ≡ length catalog.now }
+        ensures rows { Reads (λ l. read_lines l.number (Before counted catalog.now tables.new (length catalog.now)) (lines_of l.text.now)) result (read_lines lines.entry.number (Before counted catalog.now tables.old 0) (lines_of lines.entry.text.now)) }
+        ensures sound { is_sound catalog.now tables.old ≡ true → is_sound catalog.now tables.new ≡ true }
+    {
+        for place in 0..catalog.len() as u32 {
+            lines = self.read_table(lines, counted, catalog, TableNo::at(place), tables)?;
+        }
+        Ok(lines)
+    }
+
+    // The catalog and tables of a dump.
+    fn read_dump(&mut self, dump: &[u8]) -> Result<(Catalog<A>, Tables<A>), ReadError>
+        ensures dump { Reads (λ x. Ok x) result (read_dump dump.now) }
+        ensures sound { IfOk result (λ x. is_sound x.0 x.1 ≡ true) }
+    {
+        let lines = Lines {
+            number: 1,
+            text: dump,
+        };
+        let (counted, catalog, lines) = read_head(self.alloc, lines)?;
+        let mut tables = empty_tables(self.alloc, &catalog)?;
+        let lines = self.read_tables(lines, counted, &catalog, &mut tables)?;
+        read_end(lines, &catalog, &tables)?;
+        Ok((catalog, tables))
+    }
+}
+
+// The number of a line is one of 64 bits. Nothing is done.
+fn is_number(number: u64)
+    ensures { number < 2 ^ 64 }
+{}
+
+// The number of the piece that begins at a place, where so many pieces were before.
+fn number_of(before: u64, start: usize) -> u64 {
+    before
+        .saturating_add(start as u64 / PIECE_LINES as u64)
+        .saturating_add(1)
+}
+
+// What each line of a piece reads as.
+fn read_piece<A: Allocator + Copy, G: Gate>(
+    alloc: A,
+    kinds: &[Kind],
+    lines: &[&[u8]],
+    gate: &G,
+    number: u64,
+) -> Result<Vec<ReadRow<A>, A>, AllocError>
+    ensures { IfOk result (λ rows. AreRead (λ values. values.items) kinds.now rows.items (map (λ line. line.now) lines.now)) }
+{
+    gate.before(number);
+    let rows = read_each(alloc, kinds, lines);
+    gate.after(number);
+    rows
+}
+
+/// Reads a dump as `restore_one` does. Up to `jobs` threads read the lines of a table's rows, in pieces of 1000 lines that
+/// are numbered from 1 in the order of the dump. The gate is asked round each piece.
+pub fn restore<R: Threads + Sync, G: Gate, A: Allocator + Copy + Send + Sync>(
+    rt: &R,
+    alloc: A,
+    dump: &[u8],
+    jobs: Jobs,
+    gate: &G,
+) -> Result<(Catalog<A>, Tables<A>), RestoreFault>
+    ensures dump { (result ≡ read_dump dump.now) ⊎ (result ≡ Err no_memory) }
+    ensures sound { IfOk result (λ x. is_sound x.0 x.1 ≡ true) }
+{
+    let mut workers = Workers::new(rt, alloc, jobs, gate);
+    match workers.read_dump(dump) {
+        Ok(found) => Ok(found),
+        Err(error) => Err(error.fault()),
+    }
+}
