@@ -1,8 +1,13 @@
-//! What takes the bytes of a dump.
+//! What takes the bytes of a dump, and the pieces of a dump written in their order.
 #![tactic(auto)]
 
+mod answers;
 mod device;
+mod gather;
+mod sequence;
 #[cfg(test)]
 mod tests;
 
+pub use answers::{Finish, OfferFault};
 pub use device::{Device, DeviceError, write_all};
+pub use gather::Collector;

@@ -1,2 +1,4 @@
 pub mod LineLemmas
+pub mod PieceLemmas
+pub mod PlanLemmas
 pub mod TextLemmas

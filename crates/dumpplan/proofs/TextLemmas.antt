@@ -49,10 +49,15 @@ module _ {A : Type 0} where
   rows_ended : (rows : List (Row A)) → ended (map row_line rows) ≡ flat_map (λ row. row_text (row.0 ∷ row.1)) rows
   rows_ended rows = flat_map-map (λ (line : List ℕ). line ++ 10 ∷ []) row_line rows
 
-  -- a table's text: its COPY line, its rows, and the two lines behind them
-  pub table_parts : (d : TableSchema) (rows : List (Row A)) → table_text d rows ≡ (copy_line d ++ 10 ∷ []) ++ (flat_map (λ row. row_text (row.0 ∷ row.1)) rows ++ (codes "\\.\n" ++ (rows_line (length rows) ++ 10 ∷ [])))
-  table_parts d rows =
+  -- a table's text: its COPY line, its rows, and what ends them
+  pub table_split : (d : TableSchema) (rows : List (Row A)) → table_text d rows ≡ (copy_line d ++ 10 ∷ []) ++ (flat_map (λ row. row_text (row.0 ∷ row.1)) rows ++ ended (end_of_rows ∷ rows_line (length rows) ∷ []))
+  table_split d rows =
       flat_map-append (λ (line : List ℕ). line ++ 10 ∷ []) (copy_line d ∷ map row_line rows) (end_of_rows ∷ rows_line (length rows) ∷ [])
       ∙ append_assoc (copy_line d ++ 10 ∷ []) (ended (map row_line rows)) (ended (end_of_rows ∷ rows_line (length rows) ∷ []))
       ∙ ap (λ (t : List ℕ). (copy_line d ++ 10 ∷ []) ++ (t ++ ended (end_of_rows ∷ rows_line (length rows) ∷ []))) (rows_ended rows)
+
+  -- with the two lines behind them spelled out
+  pub table_parts : (d : TableSchema) (rows : List (Row A)) → table_text d rows ≡ (copy_line d ++ 10 ∷ []) ++ (flat_map (λ row. row_text (row.0 ∷ row.1)) rows ++ (codes "\\.\n" ++ (rows_line (length rows) ++ 10 ∷ [])))
+  table_parts d rows =
+      table_split d rows
       ∙ ap (λ (t : List ℕ). (copy_line d ++ 10 ∷ []) ++ (flat_map (λ row. row_text (row.0 ∷ row.1)) rows ++ (codes "\\.\n" ++ t))) (append-nil (rows_line (length rows) ++ 10 ∷ []))

@@ -2,12 +2,18 @@
 #![tactic(auto)]
 
 mod create;
+mod cutting;
 mod gate;
 mod jobs;
 pub mod lines;
+mod piece;
+mod range;
 #[cfg(test)]
 mod tests;
 pub mod text;
 
+pub use cutting::plan;
 pub use gate::{Gate, NoGate};
 pub use jobs::{Jobs, PieceRows};
+pub use piece::{Piece, Plan, RowRange, RowsEnd};
+pub use range::range_text;

@@ -17,7 +17,7 @@ use std::alloc::Allocator;
 use value::refusal::{Code, Refusal};
 
 // One more row than so many. No reader has as many rows as there are numbers of 64 bits.
-fn one_more(rows: u64) -> Result<u64, Refusal>
+pub(crate) fn one_more(rows: u64) -> Result<u64, Refusal>
     ensures ok { IfOk result (λ n. n ≡ rows + 1) }
     ensures memory { IfErr result (λ e. e ≡ out_of_memory) }
 {
@@ -75,7 +75,7 @@ pub fn head_text<A: Allocator>(alloc: A, catalog: &Catalog<A>) -> Result<Vec<u8,
 }
 
 // Appends a table's COPY line.
-fn append_copy_line<A: Allocator>(
+pub(crate) fn append_copy_line<A: Allocator>(
     alloc: A,
     table: &TableSchema<A>,
     text: &mut Vec<u8, A>,
@@ -90,7 +90,7 @@ fn append_copy_line<A: Allocator>(
 }
 
 // Appends the lines behind a table's rows.
-fn append_end_of_rows<A: Allocator>(
+pub(crate) fn append_end_of_rows<A: Allocator>(
     alloc: A,
     rows: u64,
     text: &mut Vec<u8, A>,
