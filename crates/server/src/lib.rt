@@ -4,3 +4,5 @@
 mod locked;
 pub mod request;
 pub mod shared;
+#[cfg(test)]
+mod tests;
