@@ -8,29 +8,22 @@ use std::io::ErrorKind;
 use std::process::ExitCode;
 use std::{env, io};
 
-// Does what the words behind the program's name ask for.
-fn run(rt: &HostRuntime) -> io::Result<ExitCode> {
-    let words = env::args(rt)?;
+// The words behind the program's name.
+fn words(rt: &HostRuntime) -> io::Result<Vec<String>> {
+    let mut words = Vec::new(rt.alloc());
+    for word in env::args(rt)?.skip(1) {
+        words.push(word)?;
+    }
+    Ok(words)
+}
+
+// The words, lent.
+fn lend<'w>(rt: &HostRuntime, words: &'w [String]) -> io::Result<Vec<&'w str>> {
     let mut lent = Vec::new(rt.alloc());
-    for word in words.skip(1) {
-        lent.push(word)?;
+    for word in words {
+        lent.push(word.as_str())?;
     }
-    let mut texts = Vec::new(rt.alloc());
-    for word in &lent {
-        texts.push(word.as_str())?;
-    }
-    let files = HostFiles { rt };
-    let (mut out, mut err) = (rt.stdout(), rt.stderr());
-    let status = run_words(
-        rt,
-        rt.alloc(),
-        rt.alloc(),
-        texts.as_slice(),
-        &files,
-        &mut out,
-        &mut err,
-    );
-    Ok(ExitCode::from(status))
+    Ok(lent)
 }
 
 // How the program ends where its words can't be had: memory was wanting for them, or one isn't text.
@@ -44,8 +37,24 @@ fn end_without_words(rt: &HostRuntime, error: &io::Error) -> ExitCode {
 }
 
 fn main(rt: HostRuntime) -> ExitCode {
-    match run(&rt) {
-        Ok(status) => status,
-        Err(error) => end_without_words(&rt, &error),
-    }
+    let words = match words(&rt) {
+        Ok(words) => words,
+        Err(error) => return end_without_words(&rt, &error),
+    };
+    let lent = match lend(&rt, words.as_slice()) {
+        Ok(lent) => lent,
+        Err(error) => return end_without_words(&rt, &error),
+    };
+    let files = HostFiles { rt: &rt };
+    let (mut out, mut err) = (rt.stdout(), rt.stderr());
+    let status = run_words(
+        &rt,
+        rt.alloc(),
+        rt.alloc(),
+        lent.as_slice(),
+        &files,
+        &mut out,
+        &mut err,
+    );
+    ExitCode::from(status)
 }
