@@ -365,36 +365,48 @@ fn keys_and_counts(alloc: Global, rows: &[Row]) -> Result<Vec<(i64, usize)>, Fai
     Ok(counted)
 }
 
-#[test]
-fn all_changes_at_once(rt: HostRuntime) -> Result<(), Fail> {
-    let alloc = rt.alloc();
-    let mut tables = Tables::new(alloc, &parent_and_child(alloc)?)?;
-    let (parent, child, nowhere) = (TableNo::at(0), TableNo::at(1), TableNo::at(2));
-    assert!(rt; tables.has(parent));
-    tables.put(alloc, parent, row(alloc, 1, "-", 0, 0)?)?;
+// Rows of three tables, of which two are there, and that a key has no row any more.
+fn some_changes(alloc: Global) -> Result<Vec<Change>, Fail> {
     let mut changes = Changes::new(alloc);
-    changes.put_row(alloc, child, row(alloc, 7, "a", 3, 2)?)?;
-    changes.put_row(alloc, nowhere, row(alloc, 8, "-", 0, 0)?)?;
-    changes.put_row(alloc, parent, row(alloc, 3, "-", 0, 0)?)?;
-    changes.put_row(alloc, parent, row(alloc, -2, "-", 0, 0)?)?;
+    for (table, key, count) in [(1, 7, 2), (2, 8, 0), (0, 3, 0), (0, -2, 0)] {
+        let row = row(alloc, key, "a", 3, count)?;
+        changes.put_row(alloc, TableNo::at(table), row)?;
+    }
     let one = Key::new(Value::Int(1)).ok_or("a null key")?;
-    changes.put_absence(alloc, parent, one)?;
-    let changes = changes.into_list(alloc)?;
-    tables.apply_all(alloc, changes.as_slice())?;
+    changes.put_absence(alloc, TableNo::at(0), one)?;
+    let list = changes.into_list(alloc)?;
+    Ok(list)
+}
+
+// Two tables with changes put in.
+fn changed(alloc: Global, changes: &[Change]) -> Result<Tables, Fail> {
+    let catalog = parent_and_child(alloc)?;
+    let mut tables = Tables::new(alloc, &catalog)?;
+    tables.apply_all(alloc, changes)?;
+    Ok(tables)
+}
+
+// What the tables hold, as it is printed.
+fn printed_counts(alloc: Global, tables: Tables) -> Result<String, Fail> {
     let mut rows = Vec::new(alloc);
     for table in &tables.into_rows(alloc)? {
         rows.push(keys_and_counts(alloc, table.as_slice())?)?;
     }
-    assert_eq!(rt;
-        format!(in alloc; "{rows:?}")?.as_str(),
-        "[[(-2, 0), (3, 0)], [(7, 2)]]"
-    );
-    Ok(())
+    let text = format!(in alloc; "{rows:?}")?;
+    Ok(text)
 }
 
 #[test]
-fn levels_of_references(rt: HostRuntime) -> Result<(), Fail> {
-    let alloc = rt.alloc();
+fn all_changes_at_once(rt: HostRuntime) -> Result<(), Fail> {
+    let changes = some_changes(rt.alloc())?;
+    let tables = changed(rt.alloc(), changes.as_slice())?;
+    let text = printed_counts(rt.alloc(), tables)?;
+    assert_eq!(rt; text.as_str(), "[[(-2, 0), (3, 0)], [(7, 2)]]");
+    Ok(())
+}
+
+// Tables of two columns, the second of which references the named one, if any.
+fn referencing(alloc: Global) -> Result<Catalog, Fail> {
     let mut catalog = Catalog::new(alloc);
     for (name, references) in [
         ("p", ""),
@@ -404,18 +416,31 @@ fn levels_of_references(rt: HostRuntime) -> Result<(), Fail> {
         ("e", "q"),
         ("f", "d"),
     ] {
-        catalog.add(alloc, table(alloc, name, 2, Kind::Bigint, references)?)?;
+        let table = table(alloc, name, 2, Kind::Bigint, references)?;
+        catalog.add(alloc, table)?;
     }
+    Ok(catalog)
+}
+
+// A table whose columns reference three others.
+fn of_three(alloc: Global) -> Result<TableDef, Fail> {
     let mut columns = Vec::new(alloc);
-    columns.push(column(alloc, "id", Kind::Bigint, false, "e")?)?;
-    columns.push(column(alloc, "c", Kind::Bigint, false, "c")?)?;
-    columns.push(column(alloc, "p", Kind::Bigint, false, "p")?)?;
+    for (name, references) in [("id", "e"), ("c", "c"), ("p", "p")] {
+        let column = column(alloc, name, Kind::Bigint, false, references)?;
+        columns.push(column)?;
+    }
     let name = Text::from_str(alloc, "g")?;
-    catalog.add(alloc, TableDef::new(alloc, name, columns)?)?;
-    assert_eq!(rt;
-        catalog.levels(alloc)?.as_slice(),
-        [0, 0, 1, 2, 1, 3, 2].as_slice()
-    );
+    let table = TableDef::new(alloc, name, columns)?;
+    Ok(table)
+}
+
+#[test]
+fn levels_of_references(rt: HostRuntime) -> Result<(), Fail> {
+    let mut catalog = referencing(rt.alloc())?;
+    let last = of_three(rt.alloc())?;
+    catalog.add(rt.alloc(), last)?;
+    let levels = catalog.levels(rt.alloc())?;
+    assert_eq!(rt; levels.as_slice(), [0, 0, 1, 2, 1, 3, 2].as_slice());
     Ok(())
 }
 
