@@ -51,8 +51,8 @@ where
     server.view(rt, alloc, pass)
 }
 
-/// Dumps the safe snapshot of a session's transaction to a device, by as many workers as there are
-/// jobs, while other sessions go on. The text is that of a state of the serial order, of the history
+/// Dumps the safe snapshot of a session's transaction to a device, with as many workers as `dump`
+/// starts for the jobs, while other sessions go on. The text is that of a state of the serial order, of the history
 /// that the pass has then seen and of every one that goes on from it; restoring it gives that
 /// state's tables.
 pub fn dump_safe<'w, J, A, W, G, T>(

@@ -44,8 +44,8 @@ fn view_session<A: Allocator + Copy>(
     core.view(alloc, session)
 }
 
-/// Dumps the safe snapshot of a session's transaction to a device, by as many workers as there are
-/// jobs, while other threads may read the core. The text is that of a state of the serial order;
+/// Dumps the safe snapshot of a session's transaction to a device, with as many workers as `dump`
+/// starts for the jobs, while other threads may read the core. The text is that of a state of the serial order;
 /// restoring it gives that state's tables.
 pub fn dump_session<A, W, G, T>(
     rt: &T,
