@@ -36,7 +36,7 @@ pub struct Workers<'w, R, G, A: Allocator> {
 
 impl<'w, R: Threads + Sync, G: Gate, A: Allocator + Copy + Send + Sync> Workers<'w, R, G, A> {
     /// Workers that have read nothing.
-    pub fn new(rt: &'w R, alloc: A, jobs: Jobs, gate: &'w G) -> Workers<'w, R, G, A> {
+    pub(crate) fn new(rt: &'w R, alloc: A, jobs: Jobs, gate: &'w G) -> Workers<'w, R, G, A> {
         Workers {
             rt,
             alloc,
