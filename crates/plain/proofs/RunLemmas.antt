@@ -11,7 +11,8 @@ use Rattle.statement.specs.declared.outcome.Mark.{Mark}
 use Rattle.statement.specs.declared.outcome.Outcome.{Outcome}
 use Rattle.statement.specs.declared.reply.Reply.{Reply}
 use Rattle.statement.specs.declared.reply.Reply.TheVariants as reply
-use Rattle.statement.specs.Evaluation.{outcome, writes}
+use Rattle.statement.specs.declared.statement.Statement.TheVariants as statement
+use Rattle.statement.specs.Evaluation.{answers, outcome, writes}
 use Rattle.statement.specs.Footprint.{footprint}
 use Rattle.history.specs.declared.event.Action.{Action}
 use Rattle.history.specs.declared.event.Action.TheVariants.{Run}
@@ -26,6 +27,10 @@ use Rattle.plain.proofs.CommitLemmas.{after-ran, open_is}
 
 closed_not : (st : Standing) → is_open st ≡ false → st ≡ Open → ⊥
 closed_not st e p = true≢false (sym (ap is_open p) ∙ e)
+
+-- what only reads may be run in every mode
+pub only_reads_not : {a : Bool} (b : Bool) → a ≡ false → (a && b) ≡ false
+only_reads_not b e = ap (λ x. x && b) e
 
 module _ {A : Type 0} where
   -- ---- an evaluated statement
@@ -50,6 +55,13 @@ module _ {A : Type 0} where
     h.2,
     record { reads = h.3; changes = h.4 ∙ ap (λ (y : Outcome A). y.changes) e; marks = h.5 ∙ ap (λ (y : Outcome A). y.marks) e },
   )
+
+  -- what comes of a statement that only reads is its reply alone
+  pub reads_outcome : (c : Catalog) (q : Statement A) (X : Tables A) (r : Reply A) → writes q ≡ false → r ≡ (outcome c q X).reply → answers r ≡ outcome c q X
+  reads_outcome c (statement.Select t p conditions) X r w e = ap answers e
+  reads_outcome c (statement.Insert t values) X r w e = absurd (true≢false w)
+  reads_outcome c (statement.Update t more conditions) X r w e = absurd (true≢false w)
+  reads_outcome c (statement.Delete t conditions) X r w e = absurd (true≢false w)
 
   pub run_waits : (w : World A) (t : Txn A) (q : Statement A) → must_wait t ≡ true → run_reply w (with_own w t) q ≡ refuses code.ObjectNotInPrerequisiteState
   run_waits w t q m = ap (λ b. cond b (refuses code.ObjectNotInPrerequisiteState) (cond (writes q && not (is_read_write t.mode)) (refuses code.ReadOnlySqlTransaction) (evaluated w (with_own w t) (outcome w.catalog q (with_own w t).own)))) m

@@ -1,17 +1,20 @@
 -- What a statement comes to in an open transaction.
-use Rattle.std.specs.Prelude.{◌≡◌, true, false, Option, Some, List, ◌++◌}
+use Rattle.std.specs.Prelude.{◌≡◌, Bool, true, false, not, Option, Some, List, ◌++◌}
 use Rattle.schema.specs.Definition.{Catalog}
 use Rattle.schema.specs.declared.changes.Change.{Change}
 use Rattle.schema.specs.declared.tables.Tables.{Tables}
+use Rattle.statement.specs.declared.reply.Reply.{Reply}
 use Rattle.statement.specs.declared.reply.Reply.TheVariants as reply
 use Rattle.statement.specs.declared.outcome.Mark.{Mark}
 use Rattle.statement.specs.declared.outcome.Outcome.{Outcome}
 use Rattle.statement.specs.declared.reading.Reading.{Reading}
 use Rattle.statement.specs.declared.statement.Statement.{Statement}
-use Rattle.statement.specs.Evaluation.{outcome}
+use Rattle.statement.specs.Evaluation.{outcome, writes}
 use Rattle.statement.specs.Footprint.{footprint}
 use Rattle.statement.specs.Walk.{are_of}
-use Rattle.history.specs.Transactions.{Txn, World}
+use Rattle.history.specs.declared.event.Action.{Action}
+use Rattle.history.specs.declared.event.Action.TheVariants.{Run}
+use Rattle.history.specs.Transactions.{Txn, World, is_open, must_wait}
 use Rattle.history.specs.Answer.{evaluated, is_refused, run_reply}
 use Rattle.plain.specs.declared.added.Added.{Added}
 use Rattle.plain.specs.declared.run.Ran.{Ran}
@@ -46,3 +49,19 @@ module _ {A : Type 0} where
   -- so it is of the session's transaction, if it has one
   abbrev pub HoldsCurrent : Catalog → Tables A → Ledger A → Option (Txn A) → Type 0
   HoldsCurrent c X l o = (t : Txn A) → o ≡ Some t → HoldsOwn c X l t
+
+  -- ---- statements that only read, whose replies were found before
+
+  -- a statement that only reads
+  abbrev pub only_reads : Action A → Bool
+  only_reads (Run q) = not (writes q)
+  only_reads _ = false
+
+  -- The reply is what the statement answers on the transaction's own tables, where they may be read already.
+  abbrev pub IsFound : World A → Txn A → Statement A → Reply A → Type 0
+  IsFound w t q r = must_wait t ≡ false → r ≡ (outcome w.catalog q t.own).reply
+
+  -- so it is of the session's transaction, if it has an open one
+  abbrev pub IsFoundFor : World A → Option (Txn A) → Action A → Reply A → Type 0
+  IsFoundFor w (Some t) (Run q) r = is_open t.standing ≡ true → IsFound w t q r
+  IsFoundFor w _ _ r = Unit {0}

@@ -17,6 +17,8 @@ pub mod isolation;
 mod isolation_tests;
 pub mod keys;
 pub mod party;
+mod reader;
+mod record;
 pub mod reply;
 #[cfg(test)]
 mod reply_tests;

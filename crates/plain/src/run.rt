@@ -145,8 +145,8 @@ impl<A: Allocator> World<A> {
         ))
     }
 
-    // What an evaluated statement comes to.
-    fn weigh(
+    /// What an evaluated statement comes to.
+    pub(crate) fn weigh(
         &self,
         alloc: A,
         catalog: &Catalog<A>,
@@ -205,8 +205,8 @@ impl<A: Allocator> World<A> {
         }
     }
 
-    // A refused statement of the transaction at a place, which is over or goes on.
-    fn refuse(&mut self, at: usize, refusal: Refusal) -> Answered<A>
+    /// A refused statement of the transaction at a place, which is over or goes on.
+    pub(crate) fn refuse(&mut self, at: usize, refusal: Refusal) -> Answered<A>
         requires within { at < length self.old.txns }
         requires room { self.old.place + 1 < 2 ^ 64 }
         requires open { is_open (txn_at self.old.txns at).standing ≡ true }

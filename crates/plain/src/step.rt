@@ -19,8 +19,8 @@ use schema::tables::Tables;
 use std::alloc::Allocator;
 use value::refusal::Refusal;
 
-// Whether a transaction hasn't ended.
-fn is_active<A: Allocator>(transaction: &Transaction<A>) -> bool
+/// Whether a transaction hasn't ended.
+pub(crate) fn is_active<A: Allocator>(transaction: &Transaction<A>) -> bool
     ensures { result ≡ is_open transaction.now.standing }
 {
     transaction.standing.is_open()

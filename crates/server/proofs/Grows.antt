@@ -1,5 +1,5 @@
 -- Lists that grow by one, and the polls of a session that waits.
-use Rattle.std.proofs.Common.{◌≡◌, ◌≢◌, ◌⊎◌, ℕ, zero, suc, true, List, [], ◌∷◌, ◌++◌, length, replicate, slice_get, Some, refl, sym, ap, ◌∙◌, inl, inr, ⊎_elim, append_assoc, All, arith}
+use Rattle.std.proofs.Common.{◌≡◌, ◌⊎◌, ℕ, zero, suc, true, List, [], ◌∷◌, ◌++◌, length, replicate, slice_get, Some, refl, sym, ap, ◌∙◌, inl, inr, ⊎_elim, append_assoc, All, arith}
 use Rattle.std.proofs.lemmas.List.{append-nil}
 use Rattle.std.proofs.lemmas.List.Elements.{All-append, All-nil, All-cons}
 use mathlib.Core.List.{IsPrefix}
@@ -13,7 +13,7 @@ use Rattle.history.specs.declared.event.Record.{Record}
 use Rattle.plain.specs.Courses.{takes_memory}
 use Rattle.pass.specs.Knowing.{Known}
 use Rattle.pass.proofs.Prefixes.{prefix_trans}
-use Rattle.server.specs.Calls.{AreFresh, WasRecorded, WasLeft, IsCall, HasWaited, HasPolled, HasClosed}
+use Rattle.server.specs.Calls.{AreFresh, WasRecorded, WasLeft, IsCall, HasWaited, HasClosed}
 
 replicate_push : {T : Type 0} (n : ℕ) (x : T) → replicate n x ++ x ∷ [] ≡ replicate (suc n) x
 replicate_push zero x = refl

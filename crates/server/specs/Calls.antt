@@ -1,5 +1,5 @@
 -- What calls of a server leave in a pass.
-use Rattle.std.specs.Prelude.{ℕ, suc, ◌≡◌, ◌≢◌, ◌⊎◌, ◌==◌, nat_lt, Bool, true, false, ◌||◌, if◌then◌else◌, List, [], ◌∷◌, ◌++◌, length, replicate, slice_get, Some}
+use Rattle.std.specs.Prelude.{ℕ, suc, ◌≡◌, ◌≢◌, ◌⊎◌, ◌==◌, nat_lt, Bool, true, ◌||◌, if◌then◌else◌, List, [], ◌∷◌, ◌++◌, length, replicate, slice_get, Some}
 use mathlib.Core.List.{IsPrefix}
 use Rattle.value.specs.declared.refusal.Code.TheVariants.{ProgramLimitExceeded}
 use Rattle.value.specs.declared.refusal.Refusal.{Refusal}

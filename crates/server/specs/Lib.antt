@@ -1,2 +1,4 @@
 pub mod Calls
+pub mod Doings
+pub mod Holds
 pub mod Requests

@@ -1,20 +1,28 @@
 // What lies under the lock.
-ghost use Rattle.std.specs.Prelude.{◌≡◌, [], All};
+ghost use Rattle.std.specs.Prelude.{◌≡◌, false, [], All};
 ghost use mathlib.Core.List.{IsPrefix};
 ghost use Rattle.value.specs.Refusals.{AnswersOrNoMemory};
-ghost use Rattle.history.specs.Answer.{Allowed, IsLegal, Legal, of_session, view_answer};
+ghost use Rattle.statement.specs.Evaluation.{writes};
+ghost use Rattle.statement.specs.Fits.{Fits};
+ghost use Rattle.history.specs.Answer.{Allowed, IsLegal, Legal, of_session, reader_answer, view_answer};
 ghost use Rattle.server.specs.Calls.{HasClosed, IsCall};
+ghost use Rattle.server.specs.Doings.{IsAllowedFor, IsFoundSince, action_of};
+ghost use Rattle.server.specs.Holds.{IsFirstHold};
 
-use history::event::{Action, Event};
+use crate::doing::{Doing, do_event};
+use crate::hold::FirstHold;
+use history::event::Action;
 use mvrows::view::View;
 use pass::keeper::Keeper;
 use pass::token::Pass;
 use pass::word::Naming;
+use session::reader::SessionReader;
 use session::sessions::Core;
 use statement::reply::Reply;
+use statement::statement::Statement;
 use std::alloc::Allocator;
 use std::marker::Model;
-use value::refusal::Refusal;
+use value::refusal::{Code, Refusal};
 
 /// The core, and the seat that has seen its whole history.
 #[derive(Drop)]
@@ -45,6 +53,31 @@ impl<'w, J: Naming<A>, A: Allocator> Locked<'w, J, A> {
 
     // One event of the pass's session.
     #[tactic(auto, using(pass::proofs::Prefixes::snoc_last))]
+    fn advance(&mut self, alloc: A, pass: &mut Pass<'w, J, A>, doing: Doing<A>) -> Reply<A>
+    where
+        A: Copy,
+        requires { IsAllowedFor J.opening self.old.records pass.old.session doing }
+        ensures legal { Legal J.opening pass.new.seen }
+        ensures begins { IsPrefix pass.old.seen pass.new.seen }
+        ensures mine { pass.new.mine ≡ of_session pass.new.session pass.new.seen }
+        ensures call { IsCall J.most pass.old (action_of doing) result pass.new }
+    {
+        let before = self.core.history().records().len();
+        let session = pass.session();
+        let reply = do_event(&mut self.core, alloc, session, doing);
+        if self.core.history().records().len() > before {
+            let Some(last) = self.core.history().last() else {
+                unreachable!()
+            };
+            self.keeper.record(pass, last);
+        } else {
+            self.keeper.show(pass);
+        }
+        let _session = pass.session();
+        reply
+    }
+
+    // One event of the pass's session.
     pub(crate) fn call(
         &mut self,
         alloc: A,
@@ -59,19 +92,73 @@ impl<'w, J: Naming<A>, A: Allocator> Locked<'w, J, A> {
         ensures mine { pass.new.mine ≡ of_session pass.new.session pass.new.seen }
         ensures call { IsCall J.most pass.old action result pass.new }
     {
-        let before = self.core.history().records().len();
+        self.advance(alloc, pass, Doing::Act(action))
+    }
+
+    // The tables that the transaction of the pass's session sees, after the history that the pass
+    // then has seen.
+    fn reader(&mut self, alloc: A, pass: &mut Pass<'w, J, A>) -> Result<SessionReader<A>, Refusal>
+    where
+        A: Copy,
+        ensures legal { Legal J.opening pass.new.seen }
+        ensures begins { IsPrefix pass.old.seen pass.new.seen }
+        ensures session { pass.new.session ≡ pass.old.session }
+        ensures mine { pass.new.mine ≡ pass.old.mine }
+        ensures exact { pass.new.mine ≡ of_session pass.new.session pass.new.seen }
+        ensures reader { AnswersOrNoMemory result (reader_answer J.opening pass.new.seen pass.new.session) }
+    {
+        self.keeper.show(pass);
         let session = pass.session();
-        let reply = self.core.step(alloc, Event { session, action });
-        if self.core.history().records().len() > before {
-            let Some(last) = self.core.history().last() else {
-                unreachable!()
-            };
-            self.keeper.record(pass, last);
-        } else {
-            self.keeper.show(pass);
+        self.core.reader(alloc, session)
+    }
+
+    // The first hold of the lock for a SELECT: what it is to be evaluated on; or, where the session's
+    // transaction may read nothing, the whole event.
+    pub(crate) fn begin_read(
+        &mut self,
+        alloc: A,
+        pass: &mut Pass<'w, J, A>,
+        statement: Statement<A>,
+    ) -> FirstHold<A>
+    where
+        A: Copy,
+        requires { Fits J.opening.catalog statement }
+        ensures legal { Legal J.opening pass.new.seen }
+        ensures begins { IsPrefix pass.old.seen pass.new.seen }
+        ensures mine { pass.new.mine ≡ of_session pass.new.session pass.new.seen }
+        ensures hold { IsFirstHold J.opening J.most pass.old statement result pass.new }
+    {
+        match self.reader(alloc, pass) {
+            Ok(reader) => FirstHold::Reads(statement, reader),
+            Err(refusal) if refusal.code == Code::OutOfMemory => {
+                FirstHold::Replied(Reply::Refused(Refusal::of_code(Code::OutOfMemory)))
+            }
+            Err(_) => FirstHold::Replied(self.call(alloc, pass, Action::Run(statement))),
         }
+    }
+
+    // The second hold: the event, with the reply that was found on what the first one gave.
+    pub(crate) fn finish_read(
+        &mut self,
+        alloc: A,
+        pass: &mut Pass<'w, J, A>,
+        statement: Statement<A>,
+        found: Reply<A>,
+    ) -> Reply<A>
+    where
+        A: Copy,
+        requires fits { Fits J.opening.catalog statement }
+        requires reads { writes statement ≡ false }
+        requires found { IsFoundSince J.opening pass.old.seen pass.old.session statement found }
+        ensures legal { Legal J.opening pass.new.seen }
+        ensures begins { IsPrefix pass.old.seen pass.new.seen }
+        ensures mine { pass.new.mine ≡ of_session pass.new.session pass.new.seen }
+        ensures call { IsCall J.most pass.old (Action.Run statement) result pass.new }
+    {
         let _session = pass.session();
-        reply
+        self.keeper.show(pass);
+        self.core.is_legal();
+        self.advance(alloc, pass, Doing::Note(statement, found))
     }
 
     // The tables of the safe snapshot of the pass's session, after the history that the pass then

@@ -10,6 +10,7 @@ ghost use Rattle.server.specs.Calls.{AreFresh, HasClosed, HasPolled, IsCall, is_
 
 use crate::locked::Locked;
 use crate::request::Request;
+use dumpplan::NoGate;
 use history::event::Action;
 use mvrows::view::View;
 use pass::keeper::Keeper;
@@ -30,9 +31,9 @@ pub const MOST_SESSIONS: u32 = 64;
 /// lends what lies under the lock.
 #[derive(Drop)]
 pub struct Server<'w, J: Naming<A>, A: Allocator = Global> {
-    locked: Mutex<Locked<'w, J, A>>,
+    pub(crate) locked: Mutex<Locked<'w, J, A>>,
     ended: Condvar,
-    catalog: Catalog<A>,
+    pub(crate) catalog: Catalog<A>,
     ghost catalog_is: { catalog ≡ J.opening.catalog },
 }
 
@@ -174,8 +175,9 @@ impl<'w, J: Naming<A>, A: Allocator> Server<'w, J, A> {
         Ok((server, passes))
     }
 
-    /// Does one event of the pass's session. A text is parsed before the lock is taken. The reply
-    /// is recorded, but for want of memory (53200) and a full history (54000).
+    /// Does one event of the pass's session. A text is parsed before the lock is taken, and a SELECT
+    /// evaluated while it is free. The reply is recorded, but for want of memory (53200) and a full
+    /// history (54000).
     pub fn call<R: Wait>(
         &self,
         rt: &R,
@@ -190,17 +192,11 @@ impl<'w, J: Naming<A>, A: Allocator> Server<'w, J, A> {
         ensures mine { pass.new.mine ≡ of_session pass.new.session pass.new.seen }
         ensures call { IsCall J.most pass.old (asked J.opening.catalog request) result pass.new }
     {
-        match request.into_action(alloc, &self.catalog) {
-            Ok(action) => self.act(rt, alloc, pass, action),
-            Err(refusal) => {
-                let _session = pass.session();
-                Reply::Refused(refusal)
-            }
-        }
+        self.call_gated(rt, alloc, pass, request, &NoGate)
     }
 
-    // Does one event, and wakes the sessions that wait for it.
-    fn act<R: Wait>(
+    // Does one event under one hold of the lock, and wakes the sessions that wait for it.
+    pub(crate) fn act<R: Wait>(
         &self,
         rt: &R,
         alloc: A,

@@ -23,7 +23,7 @@ use std::thread::{Threads, join};
 use value::refusal::Mode;
 
 // A catalog of two tables, which have a key alone.
-fn two_tables(alloc: Global) -> Result<Catalog, Fail> {
+pub(crate) fn two_tables(alloc: Global) -> Result<Catalog, Fail> {
     let mut catalog = Catalog::new(alloc);
     for text in [
         "CREATE TABLE a (id bigint PRIMARY KEY);",
@@ -48,7 +48,7 @@ fn said<'w, J: Naming<Global>, R: Wait>(
 }
 
 // How many rows a statement answers; 100 where it answers none.
-fn rows<'w, J: Naming<Global>, R: Wait>(
+pub(crate) fn rows<'w, J: Naming<Global>, R: Wait>(
     rt: &R,
     alloc: Global,
     server: &Server<'w, J>,
@@ -62,7 +62,7 @@ fn rows<'w, J: Naming<Global>, R: Wait>(
 }
 
 // BEGIN, a text and COMMIT; whether they were answered so.
-fn inserts<'w, J: Naming<Global>, R: Wait>(
+pub(crate) fn inserts<'w, J: Naming<Global>, R: Wait>(
     rt: &R,
     alloc: Global,
     server: &Server<'w, J>,

@@ -1,5 +1,5 @@
 -- No event commits a transaction but its session's COMMIT.
-use Rattle.std.proofs.Common.{◌≡◌, ◌==◌, refl, sym, ap, subst, ◌∙◌, ℕ, ◌+◌, ◌<◌, ◌≤◌, Bool, true, false, true≢false, cond, not, ◌&&◌, ◌⊎◌, inl, inr, List, [], ◌∷◌, ◌++◌, Option, Some, None, arith}
+use Rattle.std.proofs.Common.{◌≡◌, ◌==◌, refl, sym, ap, ◌∙◌, ℕ, ◌+◌, Bool, true, false, true≢false, cond, not, ◌&&◌, ◌⊎◌, inl, inr, List, [], ◌∷◌, ◌++◌, Option, Some, None, arith}
 use Rattle.std.specs.List.{find}
 use Rattle.std.specs.Option.{option_map}
 use Rattle.std.proofs.lemmas.Bool.{eqb-true}
@@ -10,8 +10,8 @@ use Rattle.statement.specs.declared.reply.Reply.TheVariants.{Begun, Imported, Sa
 use Rattle.history.specs.declared.event.Action.{Action}
 use Rattle.history.specs.declared.event.Action.TheVariants.{Begin, Run, Broken, Poll, Export, Import, Commit, Rollback, Prune}
 use Rattle.history.specs.declared.event.Record.{Record}
-use Rattle.history.specs.Transactions.{Standing, Open, Doomed, Failed, Aborted, Done, Txn, World, Exported_snapshot, commits, current, exported, is_done, is_of, is_owed, is_spoilt}
-use Rattle.history.specs.Events.{begun, causes, ended, fails, followed, follows, goes_on, import, moved, polled, replaced, settled, told, turned, turned_from, txns_after, with_snapshot, without_transaction}
+use Rattle.history.specs.Transactions.{Standing, Open, Doomed, Failed, Aborted, Done, Txn, World, Exported_snapshot, commits, current, exported, is_done, is_owed, is_spoilt}
+use Rattle.history.specs.Events.{begun, causes, ended, followed, follows, goes_on, import, moved, replaced, settled, told, turned, turned_from, txns_after, with_snapshot, without_transaction}
 use Rattle.plain.specs.Keys.{committed_at}
 use Rattle.session.specs.Core.{is_commit}
 use Rattle.session.proofs.Legal.{current_in}

@@ -87,20 +87,20 @@ module _ {A : Type 0} where
   -- ---- what is kept of a legal history
 
   module _ (h : Recorded A) (l : Ledger A) (k : IsKept h l) where
-    abbrev w : World A
+    abbrev pub w : World A
     w = world h
 
     -- the world of what is kept
-    abbrev lent : World A
+    abbrev pub lent : World A
     lent = world_on h.opening.catalog h.opening.tables l
 
-    same_world : lent ≡ kept_world w
+    pub same_world : lent ≡ kept_world w
     same_world =
         ap (λ m. world_on h.opening.catalog h.opening.tables m) k.world
         ∙ ap (λ c. world_on c h.opening.tables (ledger w)) (sym (run-catalog (start h.opening) h.records))
         ∙ ap (λ X. world_on w.catalog X (ledger w)) (sym (run_opening (start h.opening) h.records))
 
-    own : (s : ℕ) (t : Txn A) → current w s ≡ Some t → t.own ≡ Rattle.schema.specs.Plain.put_all t.changes (Rattle.history.specs.Transactions.tables_at w t.snapshot)
+    pub own : (s : ℕ) (t : Txn A) → current w s ≡ Some t → t.own ≡ Rattle.schema.specs.Plain.put_all t.changes (Rattle.history.specs.Transactions.tables_at w t.snapshot)
     own s t e = has_own w (good_world h.opening h.records k.legal) s t e
 
     pub step_room : length h.records < h.most → l.place + 1 < 2 ^ 64

@@ -30,3 +30,5 @@ mod PivotExamples
 pub mod ViewSound
 pub mod Sourced
 pub mod ViewSafe
+pub mod Elsewhere
+pub mod Reading

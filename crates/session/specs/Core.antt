@@ -4,14 +4,18 @@ use Rattle.value.specs.Refusals.{AnswersOrNoMemory, of_code, out_of_memory}
 use Rattle.value.specs.declared.refusal.Refusal.{Refusal}
 use Rattle.value.specs.declared.refusal.TxnNo.{TxnNo}
 use Rattle.value.specs.declared.refusal.Code.TheVariants.{ProgramLimitExceeded}
+use Rattle.schema.specs.declared.tables.Tables.{Tables}
+use Rattle.statement.specs.declared.statement.Statement.{Statement}
+use Rattle.statement.specs.Evaluation.{outcome}
 use Rattle.statement.specs.declared.reply.Reply.{Reply}
 use Rattle.statement.specs.declared.reply.Reply.TheVariants.{Refused}
 use Rattle.history.specs.declared.event.Action.{Action}
 use Rattle.history.specs.declared.event.Action.TheVariants.{Commit}
+use Rattle.history.specs.declared.event.Record.{Record}
 use Rattle.history.specs.declared.key.SerialKey.{SerialKey}
 use Rattle.history.specs.Opening.{Opening, Recorded}
 use Rattle.history.specs.Events.{world}
-use Rattle.history.specs.Answer.{IsLegal, answer, checkpoint_answer}
+use Rattle.history.specs.Answer.{IsLegal, answer, checkpoint_answer, reader_answer}
 use Rattle.history.specs.Serial.{keys_by_commit}
 use Rattle.plain.specs.Courses.{takes_memory}
 use Rattle.plain.specs.Keys.{keyed}
@@ -59,3 +63,7 @@ module _ {A : Type 0} where
   abbrev pub IsCheckpoint : Recorded A → ℕ → Result (Recorded A) (Recorded A × Refusal) → Type 0
   IsCheckpoint h most (Ok next) = from_opening most (checkpoint_answer h.opening h.records most) ≡ Ok next
   IsCheckpoint h most (Err back) = (back.0 ≡ h) × AnswersOrNoMemory (Err back.1) (from_opening most (checkpoint_answer h.opening h.records most))
+
+  -- The reply is what the statement answers on the tables that the session's transaction sees, if it may read.
+  abbrev pub IsFoundReply : Opening A → List (Record A) → ℕ → Statement A → Reply A → Type 0
+  IsFoundReply o es s q r = (X : Tables A) → reader_answer o es s ≡ Ok X → r ≡ (outcome o.catalog q X).reply

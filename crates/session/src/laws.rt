@@ -10,7 +10,7 @@ ghost use Rattle.history.specs.Transactions.{World, commits, tables_at};
 ghost use Rattle.history.specs.Checkpoint.{opening_after};
 ghost use Rattle.history.specs.Events.{world_of};
 ghost use Rattle.history.specs.Serial.{AllDoneFromSnapshots, ContinuesOn, IsSafeReply, IsSerial, SafeAreSafe, Stays, serial_order};
-ghost use Rattle.history.specs.Answer.{Allowed, Legal, answer, of_session, view_answer};
+ghost use Rattle.history.specs.Answer.{Allowed, Legal, answer, of_session, reader_answer, view_answer};
 ghost use Rattle.session.specs.Backups.{IsBackup};
 ghost use Rattle.session.specs.Laws.{AfterCheckpoint, AfterLegal, AfterMore, AfterSafe};
 
@@ -89,9 +89,21 @@ pub fn views_are_sound<A: Allocator>()
     ensures { (o : Opening A) → (es : List (AnyRecord A)) → (s : ℕ) → (X : AnyTables A) → Legal o es → view_answer o es s ≡ Ok X → IsTrue (is_sound o.catalog X) }
 {}
 
+/// The tables that a session's transaction sees are sound.
+pub fn readers_are_sound<A: Allocator>()
+    ensures { (o : Opening A) → (es : List (AnyRecord A)) → (s : ℕ) → (X : AnyTables A) → Legal o es → reader_answer o es s ≡ Ok X → IsTrue (is_sound o.catalog X) }
+{}
+
 /// The tables that a session may view are a state of the serial order, that of the prefix at its
 /// transaction's snapshot, which holds each transaction that had committed before the deferrable one
 /// began that found it safe; and they stay one, whatever is done later.
 pub fn views_are_backups<A: Allocator>()
     ensures { (o : Opening A) → (es : List (AnyRecord A)) → (s : ℕ) → (X : AnyTables A) → Legal o es → view_answer o es s ≡ Ok X → IsBackup o es s X }
+{}
+
+/// As long as a session does nothing, what it may read stays: whatever others do, the tables that its
+/// transaction sees are those that it saw, or it is doomed and may read none.
+pub fn readers_stay<A: Allocator>()
+    ensures { (o : Opening A) → (es more : List (AnyRecord A)) → (s : ℕ) → (X Y : AnyTables A) → Legal o (es ++ more) → of_session s (es ++ more) ≡ of_session s es
+        → reader_answer o es s ≡ Ok X → reader_answer o (es ++ more) s ≡ Ok Y → Y ≡ X }
 {}

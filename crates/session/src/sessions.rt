@@ -11,6 +11,7 @@ ghost use Rattle.plain.specs.Views.{are_quiet};
 ghost use Rattle.session.specs.Core.{HasRoom, IsCheckpoint, IsKept, IsStep, from_opening, is_commit, recorded};
 
 mod committed;
+mod reading;
 
 use history::base::Base;
 use history::event::{Action, Event, Record};

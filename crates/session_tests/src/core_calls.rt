@@ -1,6 +1,6 @@
 //! A core's own calls: full histories, sessions, and checkpoints.
 
-use crate::fixture::{core_of, open, play, say};
+use crate::fixture::{core_of, open, play, say, script};
 use history::session_id::SessionId;
 use session::sessions::Core;
 use std::alloc::Global;
@@ -161,4 +161,51 @@ fn refused_checkpoints(rt: HostRuntime) -> Result<(), Fail> {
     )?;
     next(&rt, rt.alloc(), core, 1)?;
     Ok(())
+}
+
+const READS: &str = "
+CREATE TABLE t (id bigint PRIMARY KEY, v bigint);
+READ 1 SELECT * FROM t: ERROR 25P01
+1 BEGIN: BEGIN
+1 INSERT INTO t VALUES (1, 10): INSERT 0 1
+READ 1 SELECT * FROM t: SELECT 1 1|10
+2 BEGIN: BEGIN
+READ 2 SELECT count(*) FROM t: SELECT 1 0
+1 COMMIT: COMMIT
+READ 2 SELECT v FROM t WHERE id = 1: SELECT 0
+2 INSERT INTO t VALUES (1, 5): ERROR 40001 row
+READ 2 SELECT * FROM t: ERROR 25P02
+2 ROLLBACK: ROLLBACK
+3 BEGIN READ ONLY DEFERRABLE: BEGIN
+READ 3 SELECT * FROM t: ERROR 55000
+3 POLL: SAFE 1
+READ 3 SELECT * FROM t: SELECT 1 1|10
+3 COMMIT: COMMIT";
+
+// A SELECT sees its transaction's snapshot and own changes, also where it is evaluated outside.
+#[test]
+fn selects_in_two_halves(rt: HostRuntime) -> Result<(), Fail> {
+    script(&rt, rt.alloc(), READS)
+}
+
+const READ_SKEW: &str = "
+CREATE TABLE t (id bigint PRIMARY KEY, v bigint);
+1 BEGIN: BEGIN
+1 INSERT INTO t VALUES (1, 10): INSERT 0 1
+1 INSERT INTO t VALUES (2, 20): INSERT 0 1
+1 COMMIT: COMMIT
+1 BEGIN: BEGIN
+2 BEGIN: BEGIN
+READ 1 SELECT * FROM t: SELECT 2 1|10 2|20
+READ 2 SELECT * FROM t: SELECT 2 1|10 2|20
+1 UPDATE t SET v = 0 WHERE id = 1: UPDATE 1
+2 UPDATE t SET v = 0 WHERE id = 2: UPDATE 1
+1 COMMIT: COMMIT
+READ 2 SELECT * FROM t: ERROR 40001 cause 2 3 2
+2 COMMIT: ERROR 40001 cause 2 3 2";
+
+// What was read outside is covered as what was read by a step.
+#[test]
+fn selects_in_two_halves_are_read(rt: HostRuntime) -> Result<(), Fail> {
+    script(&rt, rt.alloc(), READ_SKEW)
 }

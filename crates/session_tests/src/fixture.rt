@@ -1,16 +1,22 @@
 //! Scripts of sessions: what each says, and the printed reply.
-ghost use Rattle.std.specs.Prelude.{IfOk, IfSome};
+ghost use Rattle.std.specs.Prelude.{◌≡◌, IfOk, IfSome, Ok};
 ghost use Rattle.schema.specs.Definition.{Catalog as AnyCatalog};
-ghost use Rattle.history.specs.Answer.{Allowed};
+ghost use Rattle.statement.specs.Fits.{Fits};
+ghost use Rattle.history.specs.Answer.{Allowed, reader_answer};
+ghost use Rattle.session.specs.Core.{IsFoundReply};
 
 use history::event::{Action, Event};
 use history::session_id::SessionId;
 use schema::catalog::Catalog;
 use schema::tables::Tables;
+use session::laws::readers_are_sound;
+use session::reader::SessionReader;
 use session::sessions::Core;
 use sqltext::create::parse_create;
 use sqltext::parse::parse_statement;
+use statement::evaluate::{evaluate, sound_tables_are_held};
 use statement::reply::Reply;
+use statement::statement::Statement;
 use std::alloc::Global;
 use std::process::Abort;
 use std::test::Fail;
@@ -200,8 +206,44 @@ pub fn say(alloc: Global, core: &mut Core, session: SessionId, text: &str) -> Re
     printed(alloc, &reply)
 }
 
+// A SELECT, evaluated on what the core's reader gives, and recorded with what it answers there; or
+// why there is no reader.
+fn read(alloc: Global, core: &mut Core, session: SessionId, text: &str) -> Result<String, Fail> {
+    let statement = parse_statement(alloc, core.history().catalog(), text)?;
+    if statement.writes() {
+        return Err("no SELECT".into());
+    }
+    match core.reader(alloc, session) {
+        Ok(reader) => {
+            let reply = found_on(alloc, core, session, &statement, &reader)?;
+            let recorded = core.record(alloc, session, statement, reply);
+            printed(alloc, &recorded)
+        }
+        Err(refusal) => refusal_printed(alloc, refusal),
+    }
+}
+
+// What a statement answers on the tables of a reader of the core's.
+fn found_on(
+    alloc: Global,
+    core: &Core,
+    session: SessionId,
+    statement: &Statement,
+    reader: &SessionReader,
+) -> Result<Reply, Fail>
+    requires fits { Fits core.now.opening.catalog statement.now }
+    requires read { reader_answer core.now.opening core.now.records session ≡ Ok reader.now }
+    ensures { IfOk result (IsFoundReply core.now.opening core.now.records session statement.now) }
+{
+    core.is_legal();
+    readers_are_sound::<Global>();
+    sound_tables_are_held::<Global>();
+    let outcome = evaluate(alloc, core.history().catalog(), statement, reader)?;
+    Ok(outcome.reply)
+}
+
 // What is answered to what stands before the colon of a line: to a session's number and its text,
-// to VIEW and a session's number, or to KEYS.
+// to VIEW and a session's number, to READ, a session's number and its SELECT, or to KEYS.
 fn answer(alloc: Global, core: &mut Core, asked: &str) -> Result<String, Fail> {
     if asked == "KEYS" {
         return keys_printed(alloc, core);
@@ -209,6 +251,10 @@ fn answer(alloc: Global, core: &mut Core, asked: &str) -> Result<String, Fail> {
     let (who, text) = asked.split_once(' ').ok_or("no text")?;
     if who == "VIEW" {
         return view_printed(alloc, core, text);
+    }
+    if who == "READ" {
+        let (who, text) = text.split_once(' ').ok_or("no text")?;
+        return read(alloc, core, session_of(who)?, text);
     }
     say(alloc, core, session_of(who)?, text)
 }

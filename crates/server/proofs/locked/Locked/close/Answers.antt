@@ -1,4 +1,4 @@
-use Rattle.std.proofs.Common.{rules, ◌≡◌, ◌∙◌, sym, ap, subst, ◌++◌, ◌∷◌, [], append_assoc, All, refl, arith}
+use Rattle.std.proofs.Common.{rules, ◌∙◌, sym, ap, subst, ◌++◌, ◌∷◌, [], append_assoc, All, refl, arith}
 use Rattle.std.proofs.lemmas.Grind.{common_steps}
 use Rattle.std.proofs.lemmas.List.{append-nil}
 use Rattle.server.specs.Calls.{HasClosed}

@@ -1,4 +1,4 @@
-use Rattle.std.proofs.Common.{◌≡◌, ◌∙◌, [], ap, subst}
+use Rattle.std.proofs.Common.{◌∙◌, [], ap, subst}
 use Rattle.history.specs.Opening.{Recorded}
 use Rattle.history.specs.Answer.{Legal}
 use Rattle.pass.proofs.Legality.{legal_sound}

@@ -5,11 +5,11 @@ use Rattle.history.specs.declared.event.Action.{Action}
 use Rattle.plain.specs.Courses.{takes_memory}
 use Rattle.server.specs.Requests.{asked}
 use Rattle.server.specs.Calls.{IsCall}
-use Rattle.server.proofs.shared.Server.call.Goals as goal
+use Rattle.server.proofs.shared.Server.call_gated.Goals as goal
 
 pub returns-in-Ok-clause-call : goal.returns-in-Ok-clause-call
 returns-in-Ok-clause-call g c =
-    subst (λ (a : Action _). IsCall g.J.Naming.most c.args.pass.now a c.act.result c.act.new.pass) (c.in-Ok.ensures.asked ∙ ap (λ (d : Catalog). asked d c.args.request) c.args.self.now.catalog_is) c.act.ensures.call
+    subst (λ (a : Action _). IsCall g.J.Naming.most c.args.pass.now a c.act_gated.result c.act_gated.new.pass) (c.in-Ok.ensures.asked ∙ ap (λ (d : Catalog). asked d c.args.request) c.args.self.now.catalog_is) c.act_gated.ensures.call
 
 pub returns-in-Err-clause-call : goal.returns-in-Err-clause-call
 returns-in-Err-clause-call g c =

@@ -1,0 +1,177 @@
+// SELECTs, which are evaluated while the lock is free.
+ghost use Rattle.std.specs.Prelude.{◌≡◌, true, false, Ok, IfOk, IfErr};
+ghost use mathlib.Core.List.{IsPrefix};
+ghost use Rattle.value.specs.Refusals.{out_of_memory};
+ghost use Rattle.schema.specs.Plain.{is_sound};
+ghost use Rattle.statement.specs.Evaluation.{outcome, writes};
+ghost use Rattle.statement.specs.Fits.{Fits};
+ghost use Rattle.history.specs.Answer.{Allowed, Legal, of_session, reader_answer};
+ghost use Rattle.server.specs.Calls.{IsCall};
+ghost use Rattle.server.specs.Requests.{asked};
+
+use crate::hold::FirstHold;
+use crate::request::Request;
+use crate::shared::Server;
+use dumpplan::Gate;
+use history::event::Action;
+use pass::token::Pass;
+use pass::word::Naming;
+use schema::catalog::Catalog;
+use session::laws::{readers_are_sound, readers_stay};
+use session::reader::SessionReader;
+use statement::evaluate::{evaluate, sound_tables_are_held};
+use statement::reply::Reply;
+use statement::statement::Statement;
+use std::alloc::Allocator;
+use std::sync::Wait;
+use value::refusal::Refusal;
+
+// The statement that an action runs, where it only reads; else the action.
+fn reading_of<A: Allocator>(action: Action<A>) -> Result<Statement<A>, Action<A>>
+    ensures ok { IfOk result (λ statement. action ≡ Action.Run statement) }
+    ensures reads { IfOk result (λ statement. writes statement ≡ false) }
+    ensures err { IfErr result (λ other. other ≡ action) }
+{
+    match action {
+        Action::Run(statement) => {
+            if statement.writes() {
+                Err(Action::Run(statement))
+            } else {
+                Ok(statement)
+            }
+        }
+        other => Err(other),
+    }
+}
+
+// What a SELECT answers on the tables that a session's transaction sees.
+fn found_on<A: Allocator + Copy>(
+    alloc: A,
+    catalog: &Catalog<A>,
+    statement: &Statement<A>,
+    reader: &SessionReader<A>,
+) -> Result<Reply<A>, Refusal>
+    requires fits { Fits catalog.now statement.now }
+    requires sound { is_sound catalog.now reader.now ≡ true }
+    ensures ok { IfOk result (λ reply. reply ≡ (outcome catalog.now statement.now reader.now).reply) }
+    ensures memory { IfErr result (λ e. e ≡ out_of_memory) }
+{
+    sound_tables_are_held::<A>();
+    match evaluate(alloc, catalog, statement, reader) {
+        Ok(outcome) => Ok(outcome.reply),
+        Err(refusal) => Err(refusal),
+    }
+}
+
+impl<'w, J: Naming<A>, A: Allocator> Server<'w, J, A> {
+    /// `call`, with a gate that is asked before a SELECT is evaluated, as piece 1, and after it.
+    pub fn call_gated<R: Wait, G: Gate>(
+        &self,
+        rt: &R,
+        alloc: A,
+        pass: &mut Pass<'w, J, A>,
+        request: Request<A>,
+        gate: &G,
+    ) -> Reply<A>
+    where
+        A: Copy,
+        ensures legal { Legal J.opening pass.new.seen }
+        ensures begins { IsPrefix pass.old.seen pass.new.seen }
+        ensures mine { pass.new.mine ≡ of_session pass.new.session pass.new.seen }
+        ensures call { IsCall J.most pass.old (asked J.opening.catalog request) result pass.new }
+    {
+        match request.into_action(alloc, &self.catalog) {
+            Ok(action) => self.act_gated(rt, alloc, pass, action, gate),
+            Err(refusal) => {
+                let _session = pass.session();
+                Reply::Refused(refusal)
+            }
+        }
+    }
+
+    // Does one event.
+    fn act_gated<R: Wait, G: Gate>(
+        &self,
+        rt: &R,
+        alloc: A,
+        pass: &mut Pass<'w, J, A>,
+        action: Action<A>,
+        gate: &G,
+    ) -> Reply<A>
+    where
+        A: Copy,
+        requires { Allowed J.opening.catalog action }
+        ensures legal { Legal J.opening pass.new.seen }
+        ensures begins { IsPrefix pass.old.seen pass.new.seen }
+        ensures mine { pass.new.mine ≡ of_session pass.new.session pass.new.seen }
+        ensures call { IsCall J.most pass.old action result pass.new }
+    {
+        match reading_of(action) {
+            Ok(statement) => self.read(rt, alloc, pass, statement, gate),
+            Err(action) => self.act(rt, alloc, pass, action),
+        }
+    }
+
+    // Does the event of a SELECT: in one hold of the lock it gets what it reads, and in another it is
+    // recorded.
+    fn read<R: Wait, G: Gate>(
+        &self,
+        rt: &R,
+        alloc: A,
+        pass: &mut Pass<'w, J, A>,
+        statement: Statement<A>,
+        gate: &G,
+    ) -> Reply<A>
+    where
+        A: Copy,
+        requires fits { Fits J.opening.catalog statement }
+        requires reads { writes statement ≡ false }
+        ensures legal { Legal J.opening pass.new.seen }
+        ensures begins { IsPrefix pass.old.seen pass.new.seen }
+        ensures mine { pass.new.mine ≡ of_session pass.new.session pass.new.seen }
+        ensures call { IsCall J.most pass.old (Action.Run statement) result pass.new }
+    {
+        let held = self.locked.lock(rt).begin_read(alloc, pass, statement);
+        match held {
+            FirstHold::Replied(reply) => reply,
+            FirstHold::Reads(statement, reader) => {
+                self.read_on(rt, alloc, pass, statement, &reader, gate)
+            }
+        }
+    }
+
+    // Evaluates a SELECT on what its session's transaction sees, and records it.
+    fn read_on<R: Wait, G: Gate>(
+        &self,
+        rt: &R,
+        alloc: A,
+        pass: &mut Pass<'w, J, A>,
+        statement: Statement<A>,
+        reader: &SessionReader<A>,
+        gate: &G,
+    ) -> Reply<A>
+    where
+        A: Copy,
+        requires fits { Fits J.opening.catalog statement }
+        requires reads { writes statement ≡ false }
+        requires read { reader_answer J.opening pass.old.seen pass.old.session ≡ Ok reader.now }
+        ensures legal { Legal J.opening pass.new.seen }
+        ensures begins { IsPrefix pass.old.seen pass.new.seen }
+        ensures mine { pass.new.mine ≡ of_session pass.new.session pass.new.seen }
+        ensures call { IsCall J.most pass.old (Action.Run statement) result pass.new }
+    {
+        let _session = pass.session();
+        readers_are_sound::<A>();
+        readers_stay::<A>();
+        gate.before(1);
+        let found = found_on(alloc, &self.catalog, &statement, reader);
+        gate.after(1);
+        match found {
+            Ok(reply) => self
+                .locked
+                .lock(rt)
+                .finish_read(alloc, pass, statement, reply),
+            Err(refusal) => Reply::Refused(refusal),
+        }
+    }
+}

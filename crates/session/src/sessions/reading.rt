@@ -1,0 +1,95 @@
+// SELECTs in two halves: what a session's transaction sees, and the event with the reply that was found there.
+ghost use Rattle.std.specs.Prelude.{◌≡◌, false, Ok, IfOk, IfErr, OnErr};
+ghost use Rattle.value.specs.Refusals.{AnswersOrNoMemory, out_of_memory};
+ghost use Rattle.statement.specs.Evaluation.{writes};
+ghost use Rattle.statement.specs.Fits.{Fits};
+ghost use Rattle.history.specs.Answer.{answer, reader_answer};
+ghost use Rattle.session.specs.Core.{HasRoom, IsFoundReply, IsStep, recorded};
+
+use crate::reader::SessionReader;
+use crate::sessions::Core;
+use history::event::{Action, Record};
+use history::session_id::SessionId;
+use statement::reply::Reply;
+use statement::statement::Statement;
+use std::alloc::Allocator;
+use value::refusal::{Code, Refusal};
+
+impl<A: Allocator> Core<A> {
+    /// The tables that a session's transaction sees, its own changes too. Refused with 25P01 where it
+    /// has none, with 25P02 where it has failed, with 55000 for a deferrable one whose snapshot isn't
+    /// known to be safe, with 40001 and the cause for one that is doomed, or with 53200. It is no
+    /// event.
+    pub fn reader(&self, alloc: A, session: SessionId) -> Result<SessionReader<A>, Refusal>
+    where
+        A: Copy,
+        ensures { AnswersOrNoMemory result (reader_answer self.now.opening self.now.records session) }
+    {
+        match self.world.reader(alloc, self.history.tables(), session) {
+            Ok(tables) => Ok(SessionReader::of(tables)),
+            Err(refusal) => Err(refusal),
+        }
+    }
+
+    // The answer to a SELECT whose reply was found before, where the history has room.
+    fn note(
+        &mut self,
+        alloc: A,
+        session: SessionId,
+        statement: Statement<A>,
+        found: Reply<A>,
+    ) -> Result<Reply<A>, Refusal>
+    where
+        A: Copy,
+        requires room { HasRoom self.old }
+        requires fits { Fits self.old.opening.catalog statement }
+        requires reads { writes statement ≡ false }
+        requires found { IsFoundReply self.old.opening self.old.records session statement found }
+        ensures reply { IfOk result (λ r. r ≡ answer self.old.opening self.old.records session (Action.Run statement)) }
+        ensures history { IfOk result (λ r. self.new ≡ recorded self.old session (Action.Run statement) r) }
+        ensures err { OnErr result (self.new ≡ self.old) }
+        ensures memory { IfErr result (λ e. e ≡ out_of_memory) }
+    {
+        let action = Action::Run(statement);
+        let answered = self.world.record(
+            alloc,
+            self.history.catalog(),
+            self.history.tables(),
+            session,
+            &action,
+            found,
+        )?;
+        self.history.push(Record {
+            session,
+            action,
+            reply: answered.recorded,
+        });
+        Ok(answered.reply)
+    }
+
+    /// The event of a SELECT whose reply was found before, on the tables that `reader` gave: answered
+    /// and recorded as `step` does it, which would find the same reply. The session has done nothing
+    /// since.
+    pub fn record(
+        &mut self,
+        alloc: A,
+        session: SessionId,
+        statement: Statement<A>,
+        found: Reply<A>,
+    ) -> Reply<A>
+    where
+        A: Copy,
+        requires fits { Fits self.old.opening.catalog statement }
+        requires reads { writes statement ≡ false }
+        requires found { IsFoundReply self.old.opening self.old.records session statement found }
+        ensures { IsStep self.old self.new session (Action.Run statement) result }
+    {
+        if self.history.is_full() {
+            return Reply::Refused(Refusal::of_code(Code::ProgramLimitExceeded));
+        }
+        match self.note(alloc, session, statement, found) {
+            Ok(reply) => reply,
+            Err(refusal) => Reply::Refused(refusal),
+        }
+    }
+}
