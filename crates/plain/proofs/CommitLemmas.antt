@@ -181,12 +181,12 @@ module _ {A : Type 0} where
 
   -- ---- statements
 
-  pub after-run_refused : (l : Ledger A) (c : Catalog) (X : Tables A) (q : Statement A) (n : ℕ) (course : Course) (r : Refusal) → IsCounted l → n < length l.txns → is_open (txn_at l.txns n).standing ≡ true
+  pub after-run_refused : (l : Ledger A) (c : Catalog) (X : Tables A) (tables : ℕ → Tables A) (q : Statement A) (n : ℕ) (course : Course) (r : Refusal) → IsCounted l → n < length l.txns → is_open (txn_at l.txns n).standing ≡ true
       → on_course course (txn_at l.txns n) ≡ kept (fails (world_on c X l) r (txn_at l.txns n))
-      → record l { txns = turned_at n (on_course course) l.txns; place = l.place + 1 } ≡ after_owned (world_on c X l) (Run q) (Refused r) (with_own (world_on c X l) (txn_at l.txns n))
-  after-run_refused l c X q n course r counted h o g =
+      → record l { txns = turned_at n (on_course course) l.txns; place = l.place + 1 } ≡ after_owned (world_on c X l) (Run q) (Refused r) (with_own tables (txn_at l.txns n))
+  after-run_refused l c X tables q n course r counted h o g =
       ap (λ ts. record l { txns = ts; place = l.place + 1 }) (at-replaced (on_course course) l n (kept (fails w r t)) counted h g (sym (ap (λ (y : Txn A). y.number) g))
-      ∙ ap (λ x. replaced x l.txns) (own (goes_on r.code) ∙ ap kept (sym (turned-open w (Run q) (Refused r) (with_own w t) o))))
+      ∙ ap (λ x. replaced x l.txns) (own (goes_on r.code) ∙ ap kept (sym (turned-open w (Run q) (Refused r) (with_own tables t) o))))
     where
       w : World A
       w = world_on c X l
@@ -194,7 +194,7 @@ module _ {A : Type 0} where
       t : Txn A
       t = txn_at l.txns n
 
-      own : (b : Bool) → kept (cond b t (ended w Failed t)) ≡ kept (cond b (with_own w t) (ended w Failed (with_own w t)))
+      own : (b : Bool) → kept (cond b t (ended w Failed t)) ≡ kept (cond b (with_own tables t) (ended w Failed (with_own tables t)))
       own true = refl
       own false = refl
 
@@ -202,12 +202,12 @@ module _ {A : Type 0} where
   done_is w q (Refused r) t e = absurd (true≢false e)
   done_is w q _ t e = refl
 
-  pub after-ran : (l : Ledger A) (c : Catalog) (X : Tables A) (q : Statement A) (n : ℕ) (r : Reply A) → IsCounted l → n < length l.txns → is_open (txn_at l.txns n).standing ≡ true → is_refused r ≡ false
-      → record l { txns = turned_at n (adds (footprint c q) (outcome c q (with_own (world_on c X l) (txn_at l.txns n)).own).changes (outcome c q (with_own (world_on c X l) (txn_at l.txns n)).own).marks) l.txns; place = l.place + 1 }
-      ≡ after_owned (world_on c X l) (Run q) r (with_own (world_on c X l) (txn_at l.txns n))
-  after-ran l c X q n r counted h o done =
-      ap (λ ts. record l { txns = ts; place = l.place + 1 }) (at-replaced _ l n (kept (ran w q r (with_own w t))) counted h refl refl
-      ∙ ap (λ x. replaced (kept x) l.txns) (sym (turned-open w (Run q) r (with_own w t) o ∙ done_is w q r (with_own w t) done)))
+  pub after-ran : (l : Ledger A) (c : Catalog) (X : Tables A) (tables : ℕ → Tables A) (q : Statement A) (n : ℕ) (r : Reply A) → IsCounted l → n < length l.txns → is_open (txn_at l.txns n).standing ≡ true → is_refused r ≡ false
+      → record l { txns = turned_at n (adds (footprint c q) (outcome c q (with_own tables (txn_at l.txns n)).own).changes (outcome c q (with_own tables (txn_at l.txns n)).own).marks) l.txns; place = l.place + 1 }
+      ≡ after_owned (world_on c X l) (Run q) r (with_own tables (txn_at l.txns n))
+  after-ran l c X tables q n r counted h o done =
+      ap (λ ts. record l { txns = ts; place = l.place + 1 }) (at-replaced _ l n (kept (ran w q r (with_own tables t))) counted h refl refl
+      ∙ ap (λ x. replaced (kept x) l.txns) (sym (turned-open w (Run q) r (with_own tables t) o ∙ done_is w q r (with_own tables t) done)))
     where
       w : World A
       w = world_on c X l

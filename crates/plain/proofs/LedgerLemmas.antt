@@ -1,5 +1,6 @@
 -- Transactions by their places and by their numbers.
-use Rattle.std.proofs.Common.{◌≡◌, refl, sym, ap, subst, ◌∙◌, ℕ, zero, suc, ◌+◌, ◌^◌, ◌<◌, ◌≤◌, Bool, true, false, true≢false, cond, not, List, [], ◌∷◌, ◌++◌, length, map, take, drop, get_or, eqb, arith, length-append}
+use Rattle.std.proofs.Common.{◌≡◌, refl, sym, ap, subst, ◌∙◌, ℕ, zero, suc, ◌+◌, ◌^◌, ◌<◌, ◌≤◌, Bool, true, false, true≢false, cond, not, List, [], ◌∷◌, ◌++◌, length, map, take, drop, get_or, eqb, arith, length-append, Some, None, slice_get}
+use Rattle.std.specs.List.{find}
 use Rattle.std.proofs.Math.ListN.{set}
 use Rattle.std.proofs.lemmas.Bool.{eqb-true, eq-eqb}
 use Rattle.statement.specs.declared.reply.Reply.{Reply}
@@ -10,7 +11,7 @@ use Rattle.schema.specs.Definition.{Catalog}
 use Rattle.schema.specs.declared.tables.Tables.{Tables}
 use Rattle.history.specs.declared.event.Action.{Action}
 use Rattle.history.specs.declared.event.Action.TheVariants.{Run, Export, Commit}
-use Rattle.history.specs.Transactions.{Standing, Open, Doomed, Failed, Aborted, Done, Txn, World, is_open, is_deferrable, is_pending}
+use Rattle.history.specs.Transactions.{Standing, Open, Doomed, Failed, Aborted, Done, Txn, World, is_of, is_open, is_deferrable, is_pending}
 use Rattle.history.specs.Events.{polled, replaced, turned}
 use Rattle.history.specs.Answer.{poll_reply, refuses, reply_from, open_reply, doomed, failed, idle}
 use Rattle.plain.specs.declared.course.Course.{Course}
@@ -178,3 +179,16 @@ module _ {A : Type 0} where
   turned_at-same course [] n t h e g = refl
   turned_at-same course (u ∷ ts) zero t h e g = ap (λ y. on_course course y ∷ ts) (sym e) ∙ ap (λ y. y ∷ ts) (g ∙ e)
   turned_at-same course (u ∷ ts) (suc n) t h e g = ap (λ us. u ∷ us) (turned_at-same course ts n t (omega arith) e g)
+
+  -- ---- the transaction that was found at a place
+
+  got-at : (ts : List (Txn A)) (n : ℕ) → n < length ts → slice_get ts n ≡ Some (txn_at ts n)
+  got-at [] n h = absurd (omega arith)
+  got-at (t ∷ ts) zero h = refl
+  got-at (t ∷ ts) (suc n) h = got-at ts n (omega arith)
+
+  pub found_at : (us ts : List (Txn A)) (s n : ℕ) → us ≡ ts → find (is_of s) us ≡ slice_get us n → n < length us → find (is_of s) ts ≡ Some (txn_at ts n)
+  found_at us ts s n same found h = subst (λ xs. find (is_of s) xs ≡ Some (txn_at xs n)) same (found ∙ got-at us n h)
+
+  pub found_none : (us ts : List (Txn A)) (s : ℕ) → us ≡ ts → find (is_of s) us ≡ None → find (is_of s) ts ≡ None
+  found_none us ts s same none = subst (λ xs. find (is_of s) xs ≡ None) same none

@@ -2,5 +2,7 @@ pub mod CauseLemmas
 pub mod ExtentLemmas
 pub mod WalkLemmas
 pub mod LedgerLemmas
+pub mod MergedLemmas
 pub mod CommitLemmas
 pub mod RunLemmas
+pub mod InstallLemmas

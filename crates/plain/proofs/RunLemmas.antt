@@ -21,7 +21,7 @@ use Rattle.history.specs.Events.{turned_from}
 use Rattle.history.specs.Answer.{evaluated, is_refused, meets_another, refuses, refuses_row, reply_from, reply_of, open_reply, run_reply}
 use Rattle.plain.specs.declared.run.Ran.{Ran}
 use Rattle.plain.specs.declared.run.Ran.TheVariants as ran
-use Rattle.plain.specs.Runs.{adds, IsRan, IsWeighed}
+use Rattle.plain.specs.Runs.{adds, only_reads, IsRan, IsWeighed}
 use Rattle.plain.specs.Ledger.{Ledger, IsCounted, kept, with_own, ready, world_on, after_owned, turned_at, txn_at}
 use Rattle.plain.proofs.CommitLemmas.{after-ran, open_is}
 
@@ -46,15 +46,20 @@ module _ {A : Type 0} where
       ap (λ b. cond b (refuses code.ObjectNotInPrerequisiteState) (cond (writes q && not (is_read_write t.mode)) (refuses code.ReadOnlySqlTransaction) (evaluated w t (outcome w.catalog q t.own)))) m
       ∙ ap (λ b. cond b (refuses code.ReadOnlySqlTransaction) (evaluated w t (outcome w.catalog q t.own))) f
 
-  pub ran_from : (l : Ledger A) (c : Catalog) (X : Tables A) (t : Txn A) (q : Statement A) (o : Outcome A) → must_wait t ≡ false → (writes q && not (is_read_write t.mode)) ≡ false → o ≡ outcome c q (with_own (world_on c X l) t).own
-      → (r : Ran A) → IsWeighed (world_on c [] l) t q o r → IsRan (world_on c X l) (with_own (world_on c X l) t) q r
-  ran_from l c X t q o m f e (ran.Refused x) h = run_is (world_on c X l) (with_own (world_on c X l) t) q m f ∙ ap (evaluated (world_on c X l) (with_own (world_on c X l) t)) (sym e) ∙ h
-  ran_from l c X t q o m f e (ran.Done done recorded added) h = (
-    run_is (world_on c X l) (with_own (world_on c X l) t) q m f ∙ ap (evaluated (world_on c X l) (with_own (world_on c X l) t)) (sym e) ∙ h.0,
+  pub ran_from : (l : Ledger A) (c : Catalog) (X : Tables A) (tables : ℕ → Tables A) (t : Txn A) (q : Statement A) (o : Outcome A) → must_wait t ≡ false → (writes q && not (is_read_write t.mode)) ≡ false → o ≡ outcome c q (with_own tables t).own
+      → (r : Ran A) → IsWeighed (world_on c [] l) t q o r → IsRan (world_on c X l) (with_own tables t) q r
+  ran_from l c X tables t q o m f e (ran.Refused x) h = run_is (world_on c X l) (with_own tables t) q m f ∙ ap (evaluated (world_on c X l) (with_own tables t)) (sym e) ∙ h
+  ran_from l c X tables t q o m f e (ran.Done done recorded added) h = (
+    run_is (world_on c X l) (with_own tables t) q m f ∙ ap (evaluated (world_on c X l) (with_own tables t)) (sym e) ∙ h.0,
     h.1,
     h.2,
     record { reads = h.3; changes = h.4 ∙ ap (λ (y : Outcome A). y.changes) e; marks = h.5 ∙ ap (λ (y : Outcome A). y.marks) e },
   )
+
+  -- statements alone only read
+  pub runs : (a : Action A) → only_reads a ≡ true → ((q : Statement A) → a ≡ Run q → ⊥) → ⊥
+  runs (Run q) e not_run = not_run q refl
+  runs _ e not_run = true≢false (sym e)
 
   -- what comes of a statement that only reads is its reply alone
   pub reads_outcome : (c : Catalog) (q : Statement A) (X : Tables A) (r : Reply A) → writes q ≡ false → r ≡ (outcome c q X).reply → answers r ≡ outcome c q X
@@ -63,40 +68,45 @@ module _ {A : Type 0} where
   reads_outcome c (statement.Update t more conditions) X r w e = absurd (true≢false w)
   reads_outcome c (statement.Delete t conditions) X r w e = absurd (true≢false w)
 
-  pub run_waits : (w : World A) (t : Txn A) (q : Statement A) → must_wait t ≡ true → run_reply w (with_own w t) q ≡ refuses code.ObjectNotInPrerequisiteState
-  run_waits w t q m = ap (λ b. cond b (refuses code.ObjectNotInPrerequisiteState) (cond (writes q && not (is_read_write t.mode)) (refuses code.ReadOnlySqlTransaction) (evaluated w (with_own w t) (outcome w.catalog q (with_own w t).own)))) m
+  pub run_waits : (w : World A) (tables : ℕ → Tables A) (t : Txn A) (q : Statement A) → must_wait t ≡ true → run_reply w (with_own tables t) q ≡ refuses code.ObjectNotInPrerequisiteState
+  run_waits w tables t q m = ap (λ b. cond b (refuses code.ObjectNotInPrerequisiteState) (cond (writes q && not (is_read_write t.mode)) (refuses code.ReadOnlySqlTransaction) (evaluated w (with_own tables t) (outcome w.catalog q (with_own tables t).own)))) m
 
-  pub after-added : (l : Ledger A) (c : Catalog) (X : Tables A) (q : Statement A) (n : ℕ) (done : Reply A) (reads : List (Reading A)) (changes : List (Change A)) (marks : List (Mark A)) → IsCounted l → n < length l.txns → is_open (txn_at l.txns n).standing ≡ true → is_refused done ≡ false
-      → reads ≡ footprint c q → changes ≡ (outcome c q (with_own (world_on c X l) (txn_at l.txns n)).own).changes → marks ≡ (outcome c q (with_own (world_on c X l) (txn_at l.txns n)).own).marks
-      → record l { txns = turned_at n (adds reads changes marks) l.txns; place = l.place + 1 } ≡ after_owned (world_on c X l) (Run q) done (with_own (world_on c X l) (txn_at l.txns n))
-  after-added l c X q n done reads changes marks counted h o d e1 e2 e3 =
+  pub run_bars : (w : World A) (tables : ℕ → Tables A) (u t : Txn A) (q : Statement A) → t ≡ u → must_wait u ≡ false → (writes q && not (is_read_write u.mode)) ≡ true → run_reply w (with_own tables t) q ≡ refuses code.ReadOnlySqlTransaction
+  run_bars w tables u t q same m f =
+      ap (λ b. cond b (refuses code.ObjectNotInPrerequisiteState) (cond (writes q && not (is_read_write t.mode)) (refuses code.ReadOnlySqlTransaction) (evaluated w (with_own tables t) (outcome w.catalog q (with_own tables t).own)))) (ap must_wait same ∙ m)
+      ∙ ap (λ b. cond b (refuses code.ReadOnlySqlTransaction) (evaluated w (with_own tables t) (outcome w.catalog q (with_own tables t).own))) (ap (λ (x : Txn A). writes q && not (is_read_write x.mode)) same ∙ f)
+
+  pub after-added : (l : Ledger A) (c : Catalog) (X : Tables A) (tables : ℕ → Tables A) (q : Statement A) (n : ℕ) (done : Reply A) (reads : List (Reading A)) (changes : List (Change A)) (marks : List (Mark A)) → IsCounted l → n < length l.txns → is_open (txn_at l.txns n).standing ≡ true → is_refused done ≡ false
+      → reads ≡ footprint c q → changes ≡ (outcome c q (with_own tables (txn_at l.txns n)).own).changes → marks ≡ (outcome c q (with_own tables (txn_at l.txns n)).own).marks
+      → record l { txns = turned_at n (adds reads changes marks) l.txns; place = l.place + 1 } ≡ after_owned (world_on c X l) (Run q) done (with_own tables (txn_at l.txns n))
+  after-added l c X tables q n done reads changes marks counted h o d e1 e2 e3 =
       ap (λ xs. record l { txns = turned_at n (adds xs changes marks) l.txns; place = l.place + 1 }) e1
       ∙ ap (λ xs. record l { txns = turned_at n (adds (footprint c q) xs marks) l.txns; place = l.place + 1 }) e2
-      ∙ ap (λ xs. record l { txns = turned_at n (adds (footprint c q) (outcome c q (with_own (world_on c X l) (txn_at l.txns n)).own).changes xs) l.txns; place = l.place + 1 }) e3
-      ∙ after-ran l c X q n done counted h o d
+      ∙ ap (λ xs. record l { txns = turned_at n (adds (footprint c q) (outcome c q (with_own tables (txn_at l.txns n)).own).changes xs) l.txns; place = l.place + 1 }) e3
+      ∙ after-ran l c X tables q n done counted h o d
 
   -- ---- a transaction that is over
 
-  pub over_reply : (w : World A) (a : Action A) (t : Txn A) → is_open t.standing ≡ false → reply_from t.standing w t a ≡ reply_of w (Rattle.std.proofs.Common.Some (ready w a t)) a
-  over_reply w (Run q) t e = go t.standing e
+  pub over_reply : (w : World A) (tables : ℕ → Tables A) (a : Action A) (t : Txn A) → is_open t.standing ≡ false → reply_from t.standing w t a ≡ reply_of w (Rattle.std.proofs.Common.Some (ready tables a t)) a
+  over_reply w tables (Run q) t e = go t.standing e
     where
-      go : (st : Standing) → is_open st ≡ false → reply_from st w t (Run q) ≡ reply_from st w (with_own w t) (Run q)
+      go : (st : Standing) → is_open st ≡ false → reply_from st w t (Run q) ≡ reply_from st w (with_own tables t) (Run q)
       go Open f = absurd (true≢false f)
       go _ f = refl
-  over_reply w _ t e = refl
+  over_reply w tables _ t e = refl
 
-  pub over_after : (w : World A) (a : Action A) (r : Reply A) (t : Txn A) → is_open t.standing ≡ false → after_owned w a r t ≡ after_owned w a r (ready w a t)
-  over_after w (Run q) r t e = ap (λ x. record { base = w.base; log = w.log; txns = Rattle.history.specs.Events.replaced x w.txns; exports = w.exports; place = w.place + 1 }) (go t.standing e)
+  pub over_after : (w : World A) (tables : ℕ → Tables A) (a : Action A) (r : Reply A) (t : Txn A) → is_open t.standing ≡ false → after_owned w a r t ≡ after_owned w a r (ready tables a t)
+  over_after w tables (Run q) r t e = ap (λ x. record { base = w.base; log = w.log; txns = Rattle.history.specs.Events.replaced x w.txns; exports = w.exports; place = w.place + 1 }) (go t.standing e)
     where
-      go : (st : Standing) → is_open st ≡ false → kept (turned_from st w (Run q) r t) ≡ kept (turned_from st w (Run q) r (with_own w t))
+      go : (st : Standing) → is_open st ≡ false → kept (turned_from st w (Run q) r t) ≡ kept (turned_from st w (Run q) r (with_own tables t))
       go Open f = absurd (true≢false f)
       go (Doomed c) f = refl
       go Failed f = refl
       go Aborted f = refl
       go Done f = refl
-  over_after w _ r t e = refl
+  over_after w tables _ r t e = refl
 
   -- ---- one that is open
 
-  pub open_ready : (w : World A) (a : Action A) (t : Txn A) → is_open (ready w a t).standing ≡ true → open_reply w (ready w a t) a ≡ reply_of w (Rattle.std.proofs.Common.Some (ready w a t)) a
-  open_ready w a t o = ap (λ st. reply_from st w (ready w a t) a) (sym (open_is (ready w a t).standing o))
+  pub open_ready : (w : World A) (tables : ℕ → Tables A) (a : Action A) (t : Txn A) → is_open (ready tables a t).standing ≡ true → open_reply w (ready tables a t) a ≡ reply_of w (Rattle.std.proofs.Common.Some (ready tables a t)) a
+  open_ready w tables a t o = ap (λ st. reply_from st w (ready tables a t) a) (sym (open_is (ready tables a t).standing o))

@@ -11,7 +11,7 @@ use Rattle.statement.specs.declared.reply.Reply.TheVariants.{Begun, Committed}
 use Rattle.history.specs.declared.base.Base.{Base}
 use Rattle.history.specs.declared.event.Action.{Action}
 use Rattle.history.specs.declared.event.Action.TheVariants.{Begin, Run, Commit}
-use Rattle.history.specs.Transactions.{Done, Txn, World, Exported_snapshot, is_open, is_read_write, tables_at, with_all, current}
+use Rattle.history.specs.Transactions.{Done, Txn, World, Exported_snapshot, is_open, is_read_write, with_all, current}
 use Rattle.history.specs.Events.{begun, causes, doomed_by, exports_after, replaced, turned}
 
 -- A world without its catalog and its opening tables.
@@ -65,18 +65,18 @@ module _ {A : Type 0} where
 
   -- ---- an event
 
-  -- a transaction with its own tables again: its changes put into the tables at its snapshot
-  abbrev pub with_own : World A → Txn A → Txn A
-  with_own w t = record t { own = put_all t.changes (tables_at w t.snapshot) }
+  -- a transaction with its own tables again: its changes put into the tables at its snapshot, of these tables by commit numbers
+  abbrev pub with_own : (ℕ → Tables A) → Txn A → Txn A
+  with_own tables t = record t { own = put_all t.changes (tables t.snapshot) }
 
   -- its own tables are asked for by a statement alone
-  abbrev pub ready : World A → Action A → Txn A → Txn A
-  ready w (Run q) t = with_own w t
-  ready w _ t = t
+  abbrev pub ready : (ℕ → Tables A) → Action A → Txn A → Txn A
+  ready tables (Run q) t = with_own tables t
+  ready tables _ t = t
 
-  abbrev pub ready_for : World A → Action A → Option (Txn A) → Option (Txn A)
-  ready_for w a None = None
-  ready_for w a (Some t) = Some (ready w a t)
+  abbrev pub ready_for : (ℕ → Tables A) → Action A → Option (Txn A) → Option (Txn A)
+  ready_for tables a None = None
+  ready_for tables a (Some t) = Some (ready tables a t)
 
   -- the transactions after an event of a session that has none
   abbrev pub joined : World A → ℕ → Action A → Reply A → List (Txn A)

@@ -4,6 +4,8 @@ pub mod Earliest
 pub mod Extents
 pub mod Keys
 pub mod Ledger
+pub mod Merged
 pub mod Runs
 pub mod Standings
+pub mod Versions
 pub mod Views

@@ -1,5 +1,5 @@
 -- What a statement comes to in an open transaction.
-use Rattle.std.specs.Prelude.{◌≡◌, Bool, true, false, not, Option, Some, List, ◌++◌}
+use Rattle.std.specs.Prelude.{◌≡◌, ℕ, Bool, true, false, not, Option, Some, List, ◌++◌}
 use Rattle.schema.specs.Definition.{Catalog}
 use Rattle.schema.specs.declared.changes.Change.{Change}
 use Rattle.schema.specs.declared.tables.Tables.{Tables}
@@ -19,7 +19,7 @@ use Rattle.history.specs.Answer.{evaluated, is_refused, run_reply}
 use Rattle.plain.specs.declared.added.Added.{Added}
 use Rattle.plain.specs.declared.run.Ran.{Ran}
 use Rattle.plain.specs.declared.run.Ran.TheVariants.{Refused, Done}
-use Rattle.plain.specs.Ledger.{Ledger, kept, with_own, world_on}
+use Rattle.plain.specs.Ledger.{kept, with_own}
 
 module _ {A : Type 0} where
   -- a transaction with what a statement adds; it is kept without statements and own tables
@@ -43,12 +43,12 @@ module _ {A : Type 0} where
   IsWeighed w t q o (Done done recorded added) = (evaluated w t o ≡ done) × (recorded ≡ done) × (is_refused done ≡ false) × (added.reads.items ≡ footprint w.catalog q) × (added.changes.items ≡ o.changes) × (added.marks.items ≡ o.marks)
 
   -- the tables that a transaction's own changes come to are the catalog's
-  abbrev pub HoldsOwn : Catalog → Tables A → Ledger A → Txn A → Type 0
-  HoldsOwn c X l t = are_of c (with_own (world_on c X l) t).own ≡ true
+  abbrev pub HoldsOwn : Catalog → (ℕ → Tables A) → Txn A → Type 0
+  HoldsOwn c tables t = are_of c (with_own tables t).own ≡ true
 
   -- so it is of the session's transaction, if it has one
-  abbrev pub HoldsCurrent : Catalog → Tables A → Ledger A → Option (Txn A) → Type 0
-  HoldsCurrent c X l o = (t : Txn A) → o ≡ Some t → HoldsOwn c X l t
+  abbrev pub HoldsCurrent : Catalog → (ℕ → Tables A) → Option (Txn A) → Type 0
+  HoldsCurrent c tables o = (t : Txn A) → o ≡ Some t → HoldsOwn c tables t
 
   -- ---- statements that only read, whose replies were found before
 
@@ -58,10 +58,10 @@ module _ {A : Type 0} where
   only_reads _ = false
 
   -- The reply is what the statement answers on the transaction's own tables, where they may be read already.
-  abbrev pub IsFound : World A → Txn A → Statement A → Reply A → Type 0
-  IsFound w t q r = must_wait t ≡ false → r ≡ (outcome w.catalog q t.own).reply
+  abbrev pub IsFound : Catalog → Txn A → Statement A → Reply A → Type 0
+  IsFound c t q r = must_wait t ≡ false → r ≡ (outcome c q t.own).reply
 
   -- so it is of the session's transaction, if it has an open one
-  abbrev pub IsFoundFor : World A → Option (Txn A) → Action A → Reply A → Type 0
-  IsFoundFor w (Some t) (Run q) r = is_open t.standing ≡ true → IsFound w t q r
-  IsFoundFor w _ _ r = Unit {0}
+  abbrev pub IsFoundFor : Catalog → Option (Txn A) → Action A → Reply A → Type 0
+  IsFoundFor c (Some t) (Run q) r = is_open t.standing ≡ true → IsFound c t q r
+  IsFoundFor c _ _ r = Unit {0}

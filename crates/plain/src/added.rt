@@ -20,8 +20,8 @@ pub struct Added<A: Allocator = Global> {
     pub marks: Vec<Mark<A>, A>,
 }
 
-// Moves elements to the end, where there is room for them.
-fn append_reserved<T: Drop, A: Allocator>(list: &mut Vec<T, A>, more: Vec<T, A>)
+/// Moves elements to the end, where there is room for them.
+pub(crate) fn append_reserved<T: Drop, A: Allocator>(list: &mut Vec<T, A>, more: Vec<T, A>)
     requires { vec_len list.old + vec_len more ≤ vec_capacity list.old }
     ensures { list.new.items ≡ list.old.items ++ more.items }
 {
@@ -42,10 +42,9 @@ impl<A: Allocator> Transaction<A> {
             marks,
         } = added;
         self.reads.reserve(reads.len())?;
-        self.changes.reserve(changes.len())?;
         self.marks.reserve(marks.len())?;
+        self.changes.append(changes)?;
         append_reserved(&mut self.reads, reads);
-        append_reserved(&mut self.changes, changes);
         append_reserved(&mut self.marks, marks);
         self.asked = true;
         Ok(())

@@ -10,7 +10,9 @@ ghost use Rattle.history.specs.Events.{doomed_by, numbered};
 ghost use Rattle.history.specs.Answer.{cause_of, commit_reply};
 ghost use Rattle.plain.specs.Answers.{both};
 ghost use Rattle.plain.specs.Courses.{on_course};
+ghost use Rattle.mvrows.specs.Installing.{installed};
 ghost use Rattle.plain.specs.Ledger.{after_owned, turned_at, txn_at, world_on, written};
+ghost use Rattle.plain.specs.Versions.{AreCurrent, HasSameCommits, StayShown, next_commit};
 
 use crate::answered::Answered;
 use crate::course::Course;
@@ -20,6 +22,7 @@ use crate::reply::of_cause;
 use crate::transaction::{Standing, Transaction, is_read_write};
 use crate::world::{Logged, World, turn};
 use history::event::Action;
+use mvrows::rows::Rows;
 use schema::changes::Change;
 use statement::reply::Reply;
 use std::alloc::Allocator;
@@ -129,22 +132,32 @@ impl<A: Allocator> World<A> {
         try_course(&mut self.transactions, at, course)
     }
 
-    // An event that takes the transaction at a place to a course, adds its commit to the log, and
-    // dooms those in the middle of the causes.
+    // An event that takes the transaction at a place to a course, adds its commit to the log and to
+    // the versions, and dooms those in the middle of the causes.
     fn add_commit(
         &mut self,
+        alloc: A,
+        rows: &mut Rows<A>,
         at: usize,
         committed: Course,
         logged: Logged<A>,
         causes: &[Cause],
     ) -> Result<(), Refusal>
+    where
+        A: Copy,
         requires within { at < length self.old.txns }
         requires room { self.old.place + 1 < 2 ^ 64 }
+        requires current { AreCurrent self.old rows.old }
+        ensures rows { OnOk result (rows.new ≡ installed (next_commit self.old) logged.changes rows.old) }
+        ensures rows_err { OnErr result (rows.new ≡ rows.old) }
         ensures ok { OnOk result (self.new ≡ record self.old { log = self.old.log ++ logged ∷ []; txns = map (doomed_by (self.old.place + 1) causes.now) (turned_at at (on_course committed) self.old.txns); place = self.old.place + 1 }) }
         ensures err { OnErr result (self.new ≡ self.old) }
         ensures memory { IfErr result (λ e. e ≡ out_of_memory) }
     {
-        self.log.push(logged)?;
+        let number = self.commits() + 1;
+        self.log.reserve(1)?;
+        rows.install(alloc, number, logged.changes())?;
+        self.log.push_reserved(logged);
         self.place += 1;
         turn(&mut self.transactions, at, committed);
         doom_all(&mut self.transactions, causes, self.place);
@@ -152,11 +165,20 @@ impl<A: Allocator> World<A> {
     }
 
     // COMMIT of the open read-write transaction at a place, which makes no structure.
-    fn commit_writer(&mut self, alloc: A, at: usize, committed: Course) -> Result<(), Refusal>
+    fn commit_writer(
+        &mut self,
+        alloc: A,
+        rows: &mut Rows<A>,
+        at: usize,
+        committed: Course,
+    ) -> Result<(), Refusal>
     where
         A: Copy,
         requires within { at < length self.old.txns }
         requires room { self.old.place + 1 < 2 ^ 64 }
+        requires current { AreCurrent self.old rows.old }
+        ensures rows { OnOk result (rows.new ≡ installed (next_commit self.old) (txn_at self.old.txns at).changes rows.old) }
+        ensures rows_err { OnErr result (rows.new ≡ rows.old) }
         ensures ok { OnOk result (self.new ≡ record self.old { log = self.old.log ++ written (txn_at self.old.txns at).changes ∷ []; txns = map (doomed_by (self.old.place + 1) (spec.dooms node reads_from self.old.txns (txn_at self.old.txns at))) (turned_at at (on_course committed) self.old.txns); place = self.old.place + 1 }) }
         ensures err { OnErr result (self.new ≡ self.old) }
         ensures memory { IfErr result (λ e. e ≡ out_of_memory) }
@@ -164,7 +186,7 @@ impl<A: Allocator> World<A> {
         let transaction = &self.transactions[at];
         let causes = dooms(alloc, self.transactions.as_slice(), transaction)?;
         let logged = Logged::of(copy_changes(alloc, transaction.changes.as_slice())?);
-        self.add_commit(at, committed, logged, causes.as_slice())
+        self.add_commit(alloc, rows, at, committed, logged, causes.as_slice())
     }
 
     // The course on which the transaction at a place has committed.
@@ -198,7 +220,8 @@ impl<A: Allocator> World<A> {
         requires within { at < length self.old.txns }
         requires room { self.old.place + 1 < 2 ^ 64 }
         requires open { is_open (txn_at self.old.txns at).standing ≡ true }
-        ensures { (c : Catalog) (X : Tables A) → self.new ≡ after_owned (world_on c X self.old) Action.Commit (commit_reply (Some cause)) (txn_at self.old.txns at) }
+        ensures world { (c : Catalog) (X : Tables A) → self.new ≡ after_owned (world_on c X self.old) Action.Commit (commit_reply (Some cause)) (txn_at self.old.txns at) }
+        ensures log { HasSameCommits self.old self.new }
     {
         let _cause = cause;
         let aborted = self.transactions[at].ends(Standing::Aborted, self.place + 1);
@@ -206,19 +229,28 @@ impl<A: Allocator> World<A> {
     }
 
     // COMMIT of the open transaction at a place, which makes no structure.
-    fn commit_at(&mut self, alloc: A, at: usize, committed: Course) -> Result<(), Refusal>
+    fn commit_at(
+        &mut self,
+        alloc: A,
+        rows: &mut Rows<A>,
+        at: usize,
+        committed: Course,
+    ) -> Result<(), Refusal>
     where
         A: Copy,
         requires within { at < length self.old.txns }
         requires room { self.old.place + 1 < 2 ^ 64 }
+        requires current { AreCurrent self.old rows.old }
         requires open { is_open (txn_at self.old.txns at).standing ≡ true }
         requires course { (c : Catalog) (X : Tables A) → on_course committed (txn_at self.old.txns at) ≡ numbered (world_on c X self.old) (txn_at self.old.txns at) }
         ensures ok { OnOk result ((c : Catalog) (X : Tables A) → self.new ≡ after_owned (world_on c X self.old) Action.Commit (commit_reply None) (txn_at self.old.txns at)) }
+        ensures rows { OnOk result (StayShown self.old rows.old self.new rows.new) }
         ensures err { OnErr result (self.new ≡ self.old) }
+        ensures rows_err { OnErr result (rows.new ≡ rows.old) }
         ensures memory { IfErr result (λ e. e ≡ out_of_memory) }
     {
         if is_writer(&self.transactions[at]) {
-            self.commit_writer(alloc, at, committed)?;
+            self.commit_writer(alloc, rows, at, committed)?;
         } else {
             self.turn(at, committed);
         }
@@ -226,39 +258,55 @@ impl<A: Allocator> World<A> {
     }
 
     // COMMIT of the open transaction at a place: the structure for which it is refused.
-    fn commit_or_abort(&mut self, alloc: A, at: usize) -> Result<Option<Cause>, Refusal>
+    fn commit_or_abort(
+        &mut self,
+        alloc: A,
+        rows: &mut Rows<A>,
+        at: usize,
+    ) -> Result<Option<Cause>, Refusal>
     where
         A: Copy,
         requires within { at < length self.old.txns }
         requires room { self.old.place + 1 < 2 ^ 64 }
+        requires current { AreCurrent self.old rows.old }
         requires open { is_open (txn_at self.old.txns at).standing ≡ true }
         ensures cause { IfOk result (λ cause. (c : Catalog) (X : Tables A) → cause ≡ cause_of (world_on c X self.old) (txn_at self.old.txns at)) }
         ensures world { IfOk result (λ cause. (c : Catalog) (X : Tables A) → self.new ≡ after_owned (world_on c X self.old) Action.Commit (commit_reply cause) (txn_at self.old.txns at)) }
+        ensures rows { OnOk result (StayShown self.old rows.old self.new rows.new) }
         ensures err { OnErr result (self.new ≡ self.old) }
+        ensures rows_err { OnErr result (rows.new ≡ rows.old) }
         ensures memory { IfErr result (λ e. e ≡ out_of_memory) }
     {
         let committed = self.committed(at);
         let cause = self.cause_of_commit(at, committed);
         match cause {
             Some(found) => self.abort(at, found),
-            None => self.commit_at(alloc, at, committed)?,
+            None => self.commit_at(alloc, rows, at, committed)?,
         }
         Ok(cause)
     }
 
     /// COMMIT of the open transaction at a place.
-    pub(crate) fn commit(&mut self, alloc: A, at: usize) -> Result<Answered<A>, Refusal>
+    pub(crate) fn commit(
+        &mut self,
+        alloc: A,
+        rows: &mut Rows<A>,
+        at: usize,
+    ) -> Result<Answered<A>, Refusal>
     where
         A: Copy,
         requires within { at < length self.old.txns }
         requires room { self.old.place + 1 < 2 ^ 64 }
+        requires current { AreCurrent self.old rows.old }
         requires open { is_open (txn_at self.old.txns at).standing ≡ true }
         ensures reply { IfOk result (λ r. (c : Catalog) (X : Tables A) → r ≡ both (commit_reply (cause_of (world_on c X self.old) (txn_at self.old.txns at)))) }
         ensures world { IfOk result (λ r. (c : Catalog) (X : Tables A) → self.new ≡ after_owned (world_on c X self.old) Action.Commit r.reply (txn_at self.old.txns at)) }
+        ensures rows { OnOk result (StayShown self.old rows.old self.new rows.new) }
         ensures err { OnErr result (self.new ≡ self.old) }
+        ensures rows_err { OnErr result (rows.new ≡ rows.old) }
         ensures memory { IfErr result (λ e. e ≡ out_of_memory) }
     {
-        let cause = self.commit_or_abort(alloc, at)?;
+        let cause = self.commit_or_abort(alloc, rows, at)?;
         Ok(answer(cause))
     }
 }

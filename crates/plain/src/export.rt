@@ -8,6 +8,7 @@ ghost use Rattle.history.specs.Answer.{export_reply};
 ghost use Rattle.plain.specs.Answers.{both};
 ghost use Rattle.plain.specs.Courses.{on_course};
 ghost use Rattle.plain.specs.Ledger.{after_owned, turned_at, txn_at, world_on};
+ghost use Rattle.plain.specs.Versions.{HasSameCommits};
 
 use crate::answered::Answered;
 use crate::course::Course;
@@ -67,6 +68,7 @@ impl<A: Allocator> World<A> {
         requires open { is_open (txn_at self.old.txns at).standing ≡ true }
         ensures reply { IfOk result (λ r. (c : Catalog) (X : Tables A) → r ≡ both (export_reply (world_on c X self.old) (txn_at self.old.txns at))) }
         ensures world { IfOk result (λ r. (c : Catalog) (X : Tables A) → self.new ≡ after_owned (world_on c X self.old) Action.Export r.reply (txn_at self.old.txns at)) }
+        ensures log { OnOk result (HasSameCommits self.old self.new) }
         ensures err { OnErr result (self.new ≡ self.old) }
         ensures memory { IfErr result (λ e. e ≡ out_of_memory) }
     {

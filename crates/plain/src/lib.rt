@@ -16,8 +16,9 @@ pub mod isolation;
 #[cfg(test)]
 mod isolation_tests;
 pub mod keys;
+pub mod own;
 pub mod party;
-mod reader;
+pub mod reader;
 mod record;
 pub mod reply;
 #[cfg(test)]

@@ -1,9 +1,13 @@
-// The tables that a session's transaction sees.
-ghost use Rattle.value.specs.Refusals.{AnswersOrNoMemory};
-ghost use Rattle.std.specs.Prelude.{◌≡◌, Some, Err};
+//! What a session's transaction reads.
+ghost use Rattle.std.specs.Prelude.{◌≡◌, Some, IfOk, IfErr};
+ghost use Rattle.value.specs.Refusals.{AnswersOrNoMemory, out_of_memory};
 ghost use Rattle.schema.specs.Definition.{Catalog};
+ghost use Rattle.schema.specs.Plain.{put_all};
+ghost use Rattle.schema.specs.declared.tables.Tables.{Tables};
 ghost use Rattle.history.specs.Answer.{reader_of};
-ghost use Rattle.plain.specs.Ledger.{kept_current, with_own, world_on};
+ghost use Rattle.mvrows.specs.Versions.{AreInOrder};
+ghost use Rattle.plain.specs.Ledger.{kept_current, with_own};
+ghost use Rattle.plain.specs.Versions.{versions_at};
 ghost use Rattle.plain.specs.Views.{reader_on};
 
 use crate::reply::of_cause;
@@ -11,46 +15,104 @@ use crate::snapshots::find_current;
 use crate::transaction::{Standing, Transaction};
 use crate::world::World;
 use history::session_id::SessionId;
-use schema::tables::Tables;
-use std::alloc::Allocator;
+use mvrows::rows::Rows;
+use mvrows::view::View;
+use schema::catalog::TableNo;
+use schema::changes::Changes;
+use schema::reader::{Bound, SnapshotReader};
+use schema::row::Row;
+use snapshot::overlay::Overlay;
+use std::alloc::{Allocator, Global};
+use std::marker::Model;
+use value::key::Key;
 use value::refusal::{Code, Refusal};
 
-impl<A: Allocator> World<A> {
-    // The tables that a session's transaction sees, where it may read.
-    fn reader_owned(
-        &self,
-        alloc: A,
-        opening: &Tables<A>,
-        transaction: &Transaction<A>,
-    ) -> Result<Tables<A>, Refusal>
-    where
-        A: Copy,
-        ensures { (c : Catalog) → AnswersOrNoMemory result (reader_of (Some (with_own (world_on c opening.now self.now) transaction.now))) }
+/// The tables that a session's transaction sees, its own changes too. They never change, and borrow
+/// nothing: a SELECT can be evaluated on them while others go on.
+#[derive(Drop)]
+#[derive_where(Debug)]
+pub struct SessionReader<A: Allocator = Global> {
+    view: View<A>,
+    own: Changes<A>,
+}
+
+impl<A: Allocator> Model for SessionReader<A> {
+    ghost use Rattle.std.specs.Prelude.{List};
+    ghost use Rattle.schema.specs.Rows.{Rows};
+    ghost use Rattle.schema.specs.Plain.{put_all};
+
+    ghost Value = { List (Rows A) };
+
+    ghost view = { λ r. put_all r.own r.view };
+}
+
+impl<A: Allocator> SessionReader<A> {
+    // A view with changes put in.
+    fn of(view: View<A>, own: Changes<A>) -> SessionReader<A>
+        ensures { result ≡ put_all own view }
     {
-        match transaction.standing {
-            Standing::Doomed(cause) => Err(of_cause(cause)),
-            Standing::Failed => Err(Refusal::of_code(Code::InFailedSqlTransaction)),
-            _ if transaction.must_wait() => Err(Refusal::of_code(
-                Code::ObjectNotInPrerequisiteState,
-            )),
-            _ => self.own(alloc, opening, transaction),
-        }
+        SessionReader { view, own }
+    }
+}
+
+impl<A: Allocator> SnapshotReader<A> for SessionReader<A> {
+    ghost tables = { λ r. r };
+
+    fn next_row(&self, table: TableNo, after: Bound<&Key<A>>) -> Option<&Row<A>> {
+        Overlay::new(&self.view, &self.own).lend_next(table, after)
     }
 
+    fn get(&self, table: TableNo, key: &Key<A>) -> Option<&Row<A>> {
+        Overlay::new(&self.view, &self.own).lend(table, key)
+    }
+}
+
+impl<A: Allocator> Transaction<A> {
+    // Its own tables, over the versions of rows.
+    fn own(&self, alloc: A, rows: &Rows<A>) -> Result<SessionReader<A>, Refusal>
+    where
+        A: Copy,
+        requires { AreInOrder rows.now }
+        ensures ok { IfOk result (λ reader. reader ≡ (with_own (versions_at rows.now) self.now).own) }
+        ensures memory { IfErr result (λ e. e ≡ out_of_memory) }
+    {
+        let own = self.changes.merge(alloc)?;
+        let view = rows.view(alloc, self.snapshot)?;
+        Ok(SessionReader::of(view, own))
+    }
+
+    // What it sees, where it may read.
+    fn reader(&self, alloc: A, rows: &Rows<A>) -> Result<SessionReader<A>, Refusal>
+    where
+        A: Copy,
+        requires { AreInOrder rows.now }
+        ensures { AnswersOrNoMemory result (reader_of (Some (with_own (versions_at rows.now) self.now))) }
+    {
+        match self.standing {
+            Standing::Doomed(cause) => Err(of_cause(cause)),
+            Standing::Failed => Err(Refusal::of_code(Code::InFailedSqlTransaction)),
+            _ if self.must_wait() => Err(Refusal::of_code(Code::ObjectNotInPrerequisiteState)),
+            _ => self.own(alloc, rows),
+        }
+    }
+}
+
+impl<A: Allocator> World<A> {
     /// The tables that a session's transaction sees, its own changes too, where it may read; over the
-    /// opening ones.
+    /// versions of rows.
     pub fn reader(
         &self,
         alloc: A,
-        opening: &Tables<A>,
+        rows: &Rows<A>,
         session: SessionId,
-    ) -> Result<Tables<A>, Refusal>
+    ) -> Result<SessionReader<A>, Refusal>
     where
         A: Copy,
-        ensures { (c : Catalog) → AnswersOrNoMemory result (reader_on (world_on c opening.now self.now) (kept_current c opening.now self.now session)) }
+        requires { AreInOrder rows.now }
+        ensures { (c : Catalog) (X : Tables A) → AnswersOrNoMemory result (reader_on (versions_at rows.now) (kept_current c X self.now session)) }
     {
         match find_current(self.transactions.as_slice(), session) {
-            Some(at) => self.reader_owned(alloc, opening, &self.transactions[at]),
+            Some(at) => self.transactions[at].reader(alloc, rows),
             None => Err(Refusal::of_code(Code::NoActiveSqlTransaction)),
         }
     }

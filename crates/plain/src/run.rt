@@ -1,5 +1,5 @@
 // Statements in open transactions.
-ghost use Rattle.std.specs.Prelude.{◌≡◌, ◌+◌, ◌^◌, ◌<◌, [], length, true, false, not, ◌&&◌, if◌then◌else◌, IfSome, IfNone, IfOk, IfErr, OnErr};
+ghost use Rattle.std.specs.Prelude.{◌≡◌, ◌+◌, ◌^◌, ◌<◌, [], length, true, false, not, ◌&&◌, if◌then◌else◌, ℕ, IfSome, IfNone, IfOk, IfErr, OnErr, OnOk};
 ghost use Rattle.value.specs.Refusals.{out_of_memory};
 ghost use Rattle.statement.specs.Evaluation.{outcome, writes};
 ghost use Rattle.statement.specs.Fits.{Fits};
@@ -8,6 +8,8 @@ ghost use Rattle.statement.specs.Walk.{are_of};
 ghost use Rattle.history.specs.Transactions.{is_open, is_read_write};
 ghost use Rattle.history.specs.Events.{goes_on};
 ghost use Rattle.history.specs.Answer.{is_refused, run_reply};
+ghost use Rattle.mvrows.specs.Versions.{AreInOrder, shown};
+ghost use Rattle.schema.specs.Plain.{put_all};
 ghost use Rattle.schema.specs.Definition.{Catalog as AnyCatalog};
 ghost use Rattle.schema.specs.declared.tables.Tables.{Tables as AnyTables};
 ghost use Rattle.statement.specs.declared.statement.Statement.{Statement as AnyStatement};
@@ -16,17 +18,18 @@ ghost use Rattle.plain.specs.Courses.{on_course};
 ghost use Rattle.plain.specs.Standings.{standing_of};
 ghost use Rattle.plain.specs.Ledger.{after_owned, kept, txn_at, with_own, world_on};
 ghost use Rattle.plain.specs.Runs.{HoldsOwn, IsRan, IsWeighed};
+ghost use Rattle.plain.specs.Versions.{HasSameCommits, versions_at};
 
 use crate::added::Added;
 use crate::answered::Answered;
 use crate::course::Course;
+use crate::own::OwnChanges;
 use crate::rows::meets_another;
 use crate::transaction::{Standing, Transaction, is_read_write};
 use crate::world::World;
 use history::event::Action;
+use mvrows::rows::Rows;
 use schema::catalog::Catalog;
-use schema::tables::Tables;
-use statement::evaluate::evaluate;
 use statement::footprint::footprint;
 use statement::outcome::Outcome;
 use statement::reading::Reading;
@@ -66,22 +69,45 @@ fn reads_of<A: Allocator + Copy>(
     }
 }
 
-// What comes of a statement on a transaction's own tables.
-fn evaluate_on<A: Allocator + Copy>(
+// What comes of a statement on what versions show at a snapshot, with changes put in. They stay.
+fn evaluate_own<A: Allocator + Copy>(
     alloc: A,
     catalog: &Catalog<A>,
+    rows: &Rows<A>,
+    snapshot: u64,
+    changes: &mut OwnChanges<A>,
     statement: &Statement<A>,
-    own: &Tables<A>,
 ) -> Result<Outcome<A>, Refusal>
+    requires order { AreInOrder rows.now }
     requires fits { Fits catalog.now statement.now }
-    requires held { are_of catalog.now own.now ≡ true }
-    ensures ok { IfOk result (λ o. o ≡ outcome catalog.now statement.now own.now) }
+    requires held { are_of catalog.now (put_all changes.old (shown snapshot rows.now)) ≡ true }
+    ensures ok { IfOk result (λ o. o ≡ outcome catalog.now statement.now (put_all changes.old (shown snapshot rows.now))) }
+    ensures same { changes.new ≡ changes.old }
     ensures memory { IfErr result (λ e. e ≡ out_of_memory) }
 {
-    match evaluate(alloc, catalog, statement, own) {
-        Ok(outcome) => Ok(outcome),
-        Err(refusal) => Err(refusal),
-    }
+    let lent = rows.at(snapshot);
+    changes.evaluate(alloc, catalog, statement, &lent)
+}
+
+// What comes of a statement on the own tables of the transaction at a place: its changes put into
+// what versions show at its snapshot. The transactions stay.
+fn evaluate_at<A: Allocator + Copy>(
+    alloc: A,
+    catalog: &Catalog<A>,
+    rows: &Rows<A>,
+    transactions: &mut Vec<Transaction<A>, A>,
+    at: usize,
+    statement: &Statement<A>,
+) -> Result<Outcome<A>, Refusal>
+    requires within { at < length transactions.old.items }
+    requires order { AreInOrder rows.now }
+    requires fits { Fits catalog.now statement.now }
+    requires held { HoldsOwn catalog.now (versions_at rows.now) (txn_at transactions.old.items at) }
+    ensures ok { IfOk result (λ o. o ≡ outcome catalog.now statement.now (with_own (versions_at rows.now) (txn_at transactions.old.items at)).own) }
+    ensures same { transactions.new.items ≡ transactions.old.items }
+    ensures memory { IfErr result (λ e. e ≡ out_of_memory) }
+{
+    transactions[at].evaluate(alloc, catalog, rows, statement)
 }
 
 // The refusal that a reply is, if it is one.
@@ -100,6 +126,35 @@ fn may_not_write<A: Allocator>(transaction: &Transaction<A>, statement: &Stateme
     ensures { result ≡ (writes statement.now && not (is_read_write transaction.now.mode)) }
 {
     statement.writes() && !is_read_write(transaction.mode)
+}
+
+impl<A: Allocator> Transaction<A> {
+    // What comes of a statement on its own tables. It stays.
+    fn evaluate(
+        &mut self,
+        alloc: A,
+        catalog: &Catalog<A>,
+        rows: &Rows<A>,
+        statement: &Statement<A>,
+    ) -> Result<Outcome<A>, Refusal>
+    where
+        A: Copy,
+        requires order { AreInOrder rows.now }
+        requires fits { Fits catalog.now statement.now }
+        requires held { HoldsOwn catalog.now (versions_at rows.now) self.old }
+        ensures ok { IfOk result (λ o. o ≡ outcome catalog.now statement.now (with_own (versions_at rows.now) self.old).own) }
+        ensures same { self.new ≡ self.old }
+        ensures memory { IfErr result (λ e. e ≡ out_of_memory) }
+    {
+        evaluate_own(
+            alloc,
+            catalog,
+            rows,
+            self.snapshot,
+            &mut self.changes,
+            statement,
+        )
+    }
 }
 
 impl<A: Allocator> World<A> {
@@ -166,31 +221,34 @@ impl<A: Allocator> World<A> {
         }
     }
 
-    // What a statement comes to.
+    // What a statement of the transaction at a place comes to. The world stays.
     fn ran(
-        &self,
+        &mut self,
         alloc: A,
         catalog: &Catalog<A>,
-        opening: &Tables<A>,
-        transaction: &Transaction<A>,
+        rows: &Rows<A>,
+        at: usize,
         statement: &Statement<A>,
     ) -> Result<Ran<A>, Refusal>
     where
         A: Copy,
+        requires within { at < length self.old.txns }
+        requires order { AreInOrder rows.now }
         requires fits { Fits catalog.now statement.now }
-        requires held { HoldsOwn catalog.now opening.now self.now transaction.now }
-        ensures ok { IfOk result (IsRan (world_on catalog.now opening.now self.now) (with_own (world_on catalog.now opening.now self.now) transaction.now) statement.now) }
+        requires held { HoldsOwn catalog.now (versions_at rows.now) (txn_at self.old.txns at) }
+        ensures ok { IfOk result (λ r. (X : AnyTables A) → IsRan (world_on catalog.now X self.old) (with_own (versions_at rows.now) (txn_at self.old.txns at)) statement.now r) }
+        ensures same { self.new ≡ self.old }
         ensures memory { IfErr result (λ e. e ≡ out_of_memory) }
     {
+        let transaction = &self.transactions[at];
         if transaction.must_wait() {
             return Ok(Ran::Refused(Refusal::of_code(Code::ObjectNotInPrerequisiteState)));
         }
         if may_not_write(transaction, statement) {
             return Ok(Ran::Refused(Refusal::of_code(Code::ReadOnlySqlTransaction)));
         }
-        let own = self.own(alloc, opening, transaction)?;
-        let outcome = evaluate_on(alloc, catalog, statement, &own)?;
-        self.weigh(alloc, catalog, transaction, statement, outcome)
+        let outcome = evaluate_at(alloc, catalog, rows, &mut self.transactions, at, statement)?;
+        self.weigh(alloc, catalog, &self.transactions[at], statement, outcome)
     }
 
     // The course of an open transaction after a refusal of a statement.
@@ -211,7 +269,8 @@ impl<A: Allocator> World<A> {
         requires room { self.old.place + 1 < 2 ^ 64 }
         requires open { is_open (txn_at self.old.txns at).standing ≡ true }
         ensures reply { result ≡ both (Reply.Refused refusal) }
-        ensures world { (c : AnyCatalog) (X : AnyTables A) (q : AnyStatement A) → self.new ≡ after_owned (world_on c X self.old) (Action.Run q) (Reply.Refused refusal) (with_own (world_on c X self.old) (txn_at self.old.txns at)) }
+        ensures world { (c : AnyCatalog) (X : AnyTables A) (tables : ℕ → AnyTables A) (q : AnyStatement A) → self.new ≡ after_owned (world_on c X self.old) (Action.Run q) (Reply.Refused refusal) (with_own tables (txn_at self.old.txns at)) }
+        ensures log { HasSameCommits self.old self.new }
     {
         let course = self.refused_course(&self.transactions[at], refusal.code);
         self.turn(at, course);
@@ -221,12 +280,12 @@ impl<A: Allocator> World<A> {
         }
     }
 
-    /// A statement of the open transaction at a place.
+    /// A statement of the open transaction at a place, on its changes put into what versions show.
     pub(crate) fn run(
         &mut self,
         alloc: A,
         catalog: &Catalog<A>,
-        opening: &Tables<A>,
+        rows: &Rows<A>,
         at: usize,
         statement: &Statement<A>,
     ) -> Result<Answered<A>, Refusal>
@@ -235,14 +294,17 @@ impl<A: Allocator> World<A> {
         requires within { at < length self.old.txns }
         requires room { self.old.place + 1 < 2 ^ 64 }
         requires open { is_open (txn_at self.old.txns at).standing ≡ true }
+        requires order { AreInOrder rows.now }
         requires fits { Fits catalog.now statement.now }
-        requires held { HoldsOwn catalog.now opening.now self.old (txn_at self.old.txns at) }
-        ensures reply { IfOk result (λ r. r ≡ both (run_reply (world_on catalog.now opening.now self.old) (with_own (world_on catalog.now opening.now self.old) (txn_at self.old.txns at)) statement.now)) }
-        ensures world { IfOk result (λ r. self.new ≡ after_owned (world_on catalog.now opening.now self.old) (Action.Run statement.now) r.reply (with_own (world_on catalog.now opening.now self.old) (txn_at self.old.txns at))) }
+        requires held { HoldsOwn catalog.now (versions_at rows.now) (txn_at self.old.txns at) }
+        ensures reply { IfOk result (λ r. (X : AnyTables A) → r ≡ both (run_reply (world_on catalog.now X self.old) (with_own (versions_at rows.now) (txn_at self.old.txns at)) statement.now)) }
+        ensures world { IfOk result (λ r. (X : AnyTables A) → self.new ≡ after_owned (world_on catalog.now X self.old) (Action.Run statement.now) r.reply (with_own (versions_at rows.now) (txn_at self.old.txns at))) }
+        ensures log { OnOk result (HasSameCommits self.old self.new) }
         ensures err { OnErr result (self.new ≡ self.old) }
         ensures memory { IfErr result (λ e. e ≡ out_of_memory) }
     {
-        match self.ran(alloc, catalog, opening, &self.transactions[at], statement)? {
+        let _place = self.place;
+        match self.ran(alloc, catalog, rows, at, statement)? {
             Ran::Refused(refusal) => Ok(self.refuse(at, refusal)),
             Ran::Done(reply, recorded, added) => {
                 self.add(at, added)?;

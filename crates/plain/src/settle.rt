@@ -9,6 +9,7 @@ ghost use Rattle.plain.specs.Answers.{both};
 ghost use Rattle.plain.specs.Courses.{is_simple, takes_memory};
 ghost use Rattle.plain.specs.Ledger.{after_owned, kept_after, txn_at, world_on};
 ghost use Rattle.plain.specs.Standings.{begun_at};
+ghost use Rattle.plain.specs.Versions.{HasSameCommits};
 
 use crate::answered::{Answered, twin};
 use crate::reply;
@@ -29,6 +30,7 @@ impl<A: Allocator> World<A> {
         requires simple { is_open (txn_at self.old.txns at).standing ≡ true → is_simple action.now ≡ true }
         ensures reply { (c : Catalog) (X : Tables A) → result ≡ both (reply_from (txn_at self.old.txns at).standing (world_on c X self.old) (txn_at self.old.txns at) action.now) }
         ensures world { (c : Catalog) (X : Tables A) → self.new ≡ after_owned (world_on c X self.old) action.now result.reply (txn_at self.old.txns at) }
+        ensures log { HasSameCommits self.old self.new }
     {
         let decision = self.decide(&self.transactions[at], action);
         self.turn(at, decision.course);
@@ -79,6 +81,7 @@ impl<A: Allocator> World<A> {
         requires { self.old.place + 1 < 2 ^ 64 }
         ensures reply { IfOk result (λ r. r ≡ both (idle action.now)) }
         ensures world { IfOk result (λ r. (c : Catalog) (X : Tables A) → self.new ≡ kept_after (world_on c X self.old) session action.now r.reply None) }
+        ensures log { OnOk result (HasSameCommits self.old self.new) }
         ensures err { OnErr result (self.new ≡ self.old) }
         ensures memory { IfErr result (λ e. e ≡ out_of_memory) }
         ensures taken { OnErr result (takes_memory action.now ≡ true) }

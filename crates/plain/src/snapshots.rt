@@ -1,6 +1,6 @@
 // Sessions' transactions, and the snapshots that are exported, among all transactions.
 ghost use Rattle.std.specs.Prelude.{◌≡◌, ◌==◌, ◌&&◌, ◌<◌, find, length, slice_get, None, IfSome, IfNone};
-ghost use Rattle.history.specs.Transactions.{is_living, is_of};
+ghost use Rattle.history.specs.Transactions.{is_living, is_of, is_open};
 
 use crate::transaction::Transaction;
 use history::session_id::SessionId;
@@ -44,12 +44,20 @@ pub fn find_current<A: Allocator>(
     None
 }
 
+// Whether a transaction is the exporter, and open still.
+fn exports_still<A: Allocator>(transaction: &Transaction<A>, exported: ExportedSnapshot) -> bool
+    ensures { result ≡ (transaction.now.number == exported.exporter && is_open transaction.now.standing) }
+{
+    transaction.number == exported.exporter && transaction.standing.is_open()
+}
+
 /// Whether an identifier lives: its exporter is open. It takes no memory.
 pub fn is_living<A: Allocator>(transactions: &[Transaction<A>], exported: ExportedSnapshot) -> bool
     ensures { result ≡ is_living transactions.now exported }
 {
-    transactions.iter().any(|transaction| transaction.number == exported.exporter
-        && transaction.standing.is_open())
+    transactions
+        .iter()
+        .any(|transaction| exports_still(transaction, exported))
 }
 
 // Whether it is what this identifier names, and lives.

@@ -1,5 +1,5 @@
 // One event of a session.
-ghost use Rattle.std.specs.Prelude.{◌≡◌, ◌+◌, ◌^◌, ◌<◌, length, true, Some, IfOk, IfErr, OnErr};
+ghost use Rattle.std.specs.Prelude.{◌≡◌, ◌+◌, ◌^◌, ◌<◌, [], length, true, Some, IfOk, IfErr, OnErr, OnOk};
 ghost use Rattle.value.specs.Refusals.{out_of_memory};
 ghost use Rattle.history.specs.Transactions.{is_open};
 ghost use Rattle.history.specs.Answer.{Allowed, reply_of};
@@ -7,6 +7,8 @@ ghost use Rattle.plain.specs.Answers.{both};
 ghost use Rattle.plain.specs.Courses.{takes_memory};
 ghost use Rattle.plain.specs.Ledger.{after_owned, kept_after, kept_current, ready, ready_for, txn_at, world_on};
 ghost use Rattle.plain.specs.Runs.{HoldsCurrent, HoldsOwn};
+ghost use Rattle.plain.specs.Versions.{AreCurrent, StayShown, versions_at};
+ghost use Rattle.schema.specs.declared.tables.Tables.{Tables as AnyTables};
 
 use crate::answered::Answered;
 use crate::snapshots::find_current;
@@ -14,8 +16,8 @@ use crate::transaction::Transaction;
 use crate::world::World;
 use history::event::Action;
 use history::session_id::SessionId;
+use mvrows::rows::Rows;
 use schema::catalog::Catalog;
-use schema::tables::Tables;
 use std::alloc::Allocator;
 use value::refusal::Refusal;
 
@@ -32,7 +34,7 @@ impl<A: Allocator> World<A> {
         &mut self,
         alloc: A,
         catalog: &Catalog<A>,
-        opening: &Tables<A>,
+        rows: &mut Rows<A>,
         at: usize,
         action: &Action<A>,
     ) -> Result<Answered<A>, Refusal>
@@ -41,18 +43,21 @@ impl<A: Allocator> World<A> {
         requires within { at < length self.old.txns }
         requires room { self.old.place + 1 < 2 ^ 64 }
         requires allowed { Allowed catalog.now action.now }
-        requires held { HoldsOwn catalog.now opening.now self.old (txn_at self.old.txns at) }
-        ensures reply { IfOk result (λ r. r ≡ both (reply_of (world_on catalog.now opening.now self.old) (Some (ready (world_on catalog.now opening.now self.old) action.now (txn_at self.old.txns at))) action.now)) }
-        ensures world { IfOk result (λ r. self.new ≡ after_owned (world_on catalog.now opening.now self.old) action.now r.reply (ready (world_on catalog.now opening.now self.old) action.now (txn_at self.old.txns at))) }
+        requires current { AreCurrent self.old rows.old }
+        requires held { HoldsOwn catalog.now (versions_at rows.old) (txn_at self.old.txns at) }
+        ensures reply { IfOk result (λ r. (X : AnyTables A) → r ≡ both (reply_of (world_on catalog.now X self.old) (Some (ready (versions_at rows.old) action.now (txn_at self.old.txns at))) action.now)) }
+        ensures world { IfOk result (λ r. (X : AnyTables A) → self.new ≡ after_owned (world_on catalog.now X self.old) action.now r.reply (ready (versions_at rows.old) action.now (txn_at self.old.txns at))) }
+        ensures rows { OnOk result (StayShown self.old rows.old self.new rows.new) }
         ensures err { OnErr result (self.new ≡ self.old) }
+        ensures rows_err { OnErr result (rows.new ≡ rows.old) }
         ensures memory { IfErr result (λ e. e ≡ out_of_memory) }
         ensures taken { OnErr result (takes_memory action.now ≡ true) }
     {
         if is_active(&self.transactions[at]) {
             match action {
-                Action::Run(statement) => self.run(alloc, catalog, opening, at, statement),
+                Action::Run(statement) => self.run(alloc, catalog, rows, at, statement),
                 Action::Export => self.export(at),
-                Action::Commit => self.commit(alloc, at),
+                Action::Commit => self.commit(alloc, rows, at),
                 _ => Ok(self.settle(at, action)),
             }
         } else {
@@ -60,13 +65,13 @@ impl<A: Allocator> World<A> {
         }
     }
 
-    /// One event of a session, over the catalog and the tables that the history opened with: its
-    /// reply, and what is kept after it.
+    /// One event of a session, over the catalog and the versions of the tables: its reply, and what
+    /// is kept after it. A commit is installed in the versions.
     pub fn step(
         &mut self,
         alloc: A,
         catalog: &Catalog<A>,
-        opening: &Tables<A>,
+        rows: &mut Rows<A>,
         session: SessionId,
         action: &Action<A>,
     ) -> Result<Answered<A>, Refusal>
@@ -74,15 +79,18 @@ impl<A: Allocator> World<A> {
         A: Copy,
         requires room { self.old.place + 1 < 2 ^ 64 }
         requires allowed { Allowed catalog.now action.now }
-        requires held { HoldsCurrent catalog.now opening.now self.old (kept_current catalog.now opening.now self.old session) }
-        ensures reply { IfOk result (λ r. r ≡ both (reply_of (world_on catalog.now opening.now self.old) (ready_for (world_on catalog.now opening.now self.old) action.now (kept_current catalog.now opening.now self.old session)) action.now)) }
-        ensures world { IfOk result (λ r. self.new ≡ kept_after (world_on catalog.now opening.now self.old) session action.now r.reply (ready_for (world_on catalog.now opening.now self.old) action.now (kept_current catalog.now opening.now self.old session))) }
+        requires current { AreCurrent self.old rows.old }
+        requires held { HoldsCurrent catalog.now (versions_at rows.old) (kept_current catalog.now [] self.old session) }
+        ensures reply { IfOk result (λ r. (X : AnyTables A) → r ≡ both (reply_of (world_on catalog.now X self.old) (ready_for (versions_at rows.old) action.now (kept_current catalog.now X self.old session)) action.now)) }
+        ensures world { IfOk result (λ r. (X : AnyTables A) → self.new ≡ kept_after (world_on catalog.now X self.old) session action.now r.reply (ready_for (versions_at rows.old) action.now (kept_current catalog.now X self.old session))) }
+        ensures rows { OnOk result (StayShown self.old rows.old self.new rows.new) }
         ensures err { OnErr result (self.new ≡ self.old) }
+        ensures rows_err { OnErr result (rows.new ≡ rows.old) }
         ensures memory { IfErr result (λ e. e ≡ out_of_memory) }
         ensures taken { OnErr result (takes_memory action.now ≡ true) }
     {
         match find_current(self.transactions.as_slice(), session) {
-            Some(at) => self.step_owned(alloc, catalog, opening, at, action),
+            Some(at) => self.step_owned(alloc, catalog, rows, at, action),
             None => self.join(alloc, session, action),
         }
     }

@@ -1,11 +1,9 @@
-// The tables that a snapshot shows, and those of a transaction's own.
+// The tables that a snapshot shows, by the commits in the log.
 ghost use Rattle.std.specs.Prelude.{◌≡◌, ◌-◌, take, OnOk, IfOk, IfErr};
 ghost use Rattle.value.specs.Refusals.{out_of_memory};
-ghost use Rattle.schema.specs.Plain.{put_all};
 ghost use Rattle.history.specs.Transactions.{with_all};
 ghost use Rattle.plain.specs.Ledger.{shown_tables};
 
-use crate::transaction::Transaction;
 use crate::world::{Logged, World};
 use schema::tables::Tables;
 use std::alloc::Allocator;
@@ -54,23 +52,6 @@ impl<A: Allocator> World<A> {
             &mut tables,
             first_commits(self.log.as_slice(), count),
         )?;
-        Ok(tables)
-    }
-
-    /// The tables of a transaction's own: its changes put into those at its snapshot.
-    pub(crate) fn own(
-        &self,
-        alloc: A,
-        opening: &Tables<A>,
-        transaction: &Transaction<A>,
-    ) -> Result<Tables<A>, Refusal>
-    where
-        A: Copy,
-        ensures ok { IfOk result (λ tables. tables ≡ put_all transaction.now.changes (shown_tables self.now opening.now transaction.now.snapshot)) }
-        ensures memory { IfErr result (λ e. e ≡ out_of_memory) }
-    {
-        let mut tables = self.shown(alloc, opening, transaction.snapshot)?;
-        tables.apply_all(alloc, transaction.changes.as_slice())?;
         Ok(tables)
     }
 }

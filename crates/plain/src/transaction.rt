@@ -6,6 +6,7 @@ ghost use Rattle.history.specs.Transactions as spec;
 ghost use Rattle.plain.specs.Standings.{begun_at, standing_of};
 
 use crate::cover;
+use crate::own::OwnChanges;
 use crate::party::{Facts, Party};
 use history::session_id::SessionId;
 use schema::changes::Change;
@@ -89,7 +90,7 @@ pub struct Transaction<A: Allocator = Global> {
     /// What its statements read.
     pub(crate) reads: Vec<Reading<A>, A>,
     /// What its statements wrote, in their order.
-    pub(crate) changes: Vec<Change<A>, A>,
+    pub(crate) changes: OwnChanges<A>,
     /// The references of the rows that they wrote, before and after.
     pub(crate) marks: Vec<Mark<A>, A>,
 }
@@ -101,7 +102,7 @@ impl<A: Allocator> Model for Transaction<A> {
 
     ghost Value = { Txn A };
 
-    ghost view = { λ t. record { session = t.session; number = t.number; mode = t.mode; begin = t.begin; standing = standing_of t.standing; end = t.end; commit = t.commit; snapshot = t.snapshot; taken = t.taken; imported = t.imported; known = t.known; asked = t.asked; statements = []; own = []; reads = t.reads.items; changes = t.changes.items; marks = t.marks.items } };
+    ghost view = { λ t. record { session = t.session; number = t.number; mode = t.mode; begin = t.begin; standing = standing_of t.standing; end = t.end; commit = t.commit; snapshot = t.snapshot; taken = t.taken; imported = t.imported; known = t.known; asked = t.asked; statements = []; own = []; reads = t.reads.items; changes = t.changes; marks = t.marks.items } };
 }
 
 impl<A: Allocator> Transaction<A> {
@@ -133,7 +134,7 @@ impl<A: Allocator> Transaction<A> {
             known: false,
             asked: false,
             reads: Vec::new(alloc),
-            changes: Vec::new(alloc),
+            changes: OwnChanges::new(alloc),
             marks: Vec::new(alloc),
         }
     }

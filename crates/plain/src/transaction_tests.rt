@@ -164,7 +164,7 @@ fn the_first_to_write_a_row_wins(rt: HostRuntime) -> Result<(), Fail> {
         (Standing::Aborted, 0, 0, false),
     ] {
         let mut other = begun(alloc, 2, 4)?;
-        other.changes = absence(alloc, 0)?;
+        other.changes.append(absence(alloc, 0)?)?;
         other.standing = standing;
         other.commit = number;
         let all = [other, begun(alloc, 3, 5)?];

@@ -2,18 +2,21 @@
 ghost use Rattle.std.specs.Prelude.{◌≡◌, ◌+◌, ◌≤◌, ◌<◌, ◌^◌, length, not, Some, Err};
 ghost use Rattle.value.specs.Refusals.{AnswersOrNoMemory};
 ghost use Rattle.schema.specs.Definition.{Catalog};
+ghost use Rattle.schema.specs.declared.tables.Tables.{Tables};
 ghost use Rattle.history.specs.Transactions.{is_owed, is_quiet};
 ghost use Rattle.history.specs.Answer.{view_of};
 ghost use Rattle.plain.specs.Ledger.{kept_current, world_on};
 ghost use Rattle.plain.specs.Views.{is_failed, are_quiet};
 ghost use Rattle.plain.specs.Standings.{standing_of};
+ghost use Rattle.plain.specs.Versions.{AreShown};
 
 use crate::snapshots::find_current;
 use crate::transaction::{Standing, Transaction};
 use crate::world::World;
 use history::base::Base;
 use history::session_id::SessionId;
-use schema::tables::Tables;
+use mvrows::rows::Rows;
+use mvrows::view::View;
 use std::alloc::Allocator;
 use value::refusal::{Code, Refusal};
 
@@ -36,12 +39,12 @@ impl<A: Allocator> World<A> {
     fn view_owned(
         &self,
         alloc: A,
-        opening: &Tables<A>,
+        rows: &Rows<A>,
         transaction: &Transaction<A>,
-    ) -> Result<Tables<A>, Refusal>
+    ) -> Result<View<A>, Refusal>
     where
         A: Copy,
-        ensures { (c : Catalog) → AnswersOrNoMemory result (view_of (world_on c opening.now self.now) (Some transaction.now)) }
+        ensures { (c : Catalog) (X : Tables A) → AreShown self.now X rows.now → AnswersOrNoMemory result (view_of (world_on c X self.now) (Some transaction.now)) }
     {
         if is_failed(transaction.standing) {
             return Err(Refusal::of_code(Code::InFailedSqlTransaction));
@@ -49,23 +52,18 @@ impl<A: Allocator> World<A> {
         if !transaction.known {
             return Err(Refusal::of_code(Code::ObjectNotInPrerequisiteState));
         }
-        self.shown(alloc, opening, transaction.snapshot)
+        rows.view(alloc, transaction.snapshot)
     }
 
-    /// The tables at the snapshot of a session's transaction, where that is known to be safe, over
-    /// the opening ones.
-    pub fn view(
-        &self,
-        alloc: A,
-        opening: &Tables<A>,
-        session: SessionId,
-    ) -> Result<Tables<A>, Refusal>
+    /// The tables at the snapshot of a session's transaction, where that is known to be safe, of the
+    /// versions.
+    pub fn view(&self, alloc: A, rows: &Rows<A>, session: SessionId) -> Result<View<A>, Refusal>
     where
         A: Copy,
-        ensures { (c : Catalog) → AnswersOrNoMemory result (view_of (world_on c opening.now self.now) (kept_current c opening.now self.now session)) }
+        ensures { (c : Catalog) (X : Tables A) → AreShown self.now X rows.now → AnswersOrNoMemory result (view_of (world_on c X self.now) (kept_current c X self.now session)) }
     {
         match find_current(self.transactions.as_slice(), session) {
-            Some(at) => self.view_owned(alloc, opening, &self.transactions[at]),
+            Some(at) => self.view_owned(alloc, rows, &self.transactions[at]),
             None => Err(Refusal::of_code(Code::NoActiveSqlTransaction)),
         }
     }

@@ -1,10 +1,11 @@
 -- A step of the core, from what it keeps.
 use Rattle.std.proofs.Common.{◌≡◌, ◌==◌, refl, sym, ap, subst, ◌∙◌, ℕ, ◌+◌, ◌^◌, ◌<◌, ◌≤◌, true, Bool, false, cond, not, ◌||◌, nat_le, true≢false, inl, inr, Result, Ok, Err, List, [], ◌∷◌, ◌++◌, length, map, Option, Some, None, arith}
 use Rattle.std.specs.Option.{option_map, option_to_list}
+use Rattle.std.specs.Result.{IfOk, IfErr}
 use Rattle.value.specs.declared.refusal.Refusal.{Refusal}
 use Rattle.value.specs.declared.refusal.TxnNo.{TxnNo}
 use Rattle.value.specs.declared.refusal.Code.TheVariants as code
-use Rattle.value.specs.Refusals.{AnswersOrNoMemory, of_code}
+use Rattle.value.specs.Refusals.{AnswersOrNoMemory, of_code, out_of_memory}
 use Rattle.std.proofs.lemmas.List.Folds.{list_all-map}
 use Rattle.std.proofs.lemmas.Bool.Decides.{nat_tests}
 use Rattle.std.proofs.lemmas.List.{length_push}
@@ -47,6 +48,12 @@ opened_is true e x y (inl p) = cc
 opened_is true e x y (inr p) = cc
 opened_is false e x y (inl p) = cc
 opened_is false e x y (inr p) = cc
+
+-- an answer, passed on or given up for want of memory
+pub passed_on : {T : Type 0} (r : Result T Refusal) (x : T) (g : Result T Refusal) → AnswersOrNoMemory (Ok x) g → IfOk r (λ y. y ≡ x) → IfErr r (λ e. e ≡ out_of_memory) → AnswersOrNoMemory r g
+passed_on (Ok y) x g (inl p) e m = inl (ap Ok e ∙ p)
+passed_on (Ok y) x g (inr p) e m = cc
+passed_on (Err v) x g p e m = inr (ap Err m)
 
 pub answered_ok : {T : Type 0} (x : T) (r : Result T Refusal) → AnswersOrNoMemory (Ok x) r → r ≡ Ok x
 answered_ok x r (inl e) = sym e
@@ -110,38 +117,38 @@ module _ {A : Type 0} where
         let r = k.room in
         omega arith
 
-    held_of : (s : ℕ) (o : Option (Txn A)) → current w s ≡ o → (t : Txn A) → option_map kept o ≡ Some t → are_of w.catalog (with_own (kept_world w) t).own ≡ true
+    held_of : (s : ℕ) (o : Option (Txn A)) → current w s ≡ o → (t : Txn A) → option_map kept o ≡ Some t → are_of w.catalog (with_own (tables_at (kept_world w)) t).own ≡ true
     held_of s None e t f = cc
     held_of s (Some u) e t f =
         let same : kept u ≡ t = cc in
-        subst (λ (y : Txn A). are_of w.catalog (with_own (kept_world w) y).own ≡ true) same
+        subst (λ (y : Txn A). are_of w.catalog (with_own (tables_at (kept_world w)) y).own ≡ true) same
         (subst (λ (X : Tables A). are_of w.catalog X ≡ true) (sym (ap (λ (y : Txn A). y.own) (same_ready w u (own s u e)))) (held_sound w.catalog u.own (own_sound h.opening h.records k.legal u (current_in w s u e).0)))
 
-    pub step_held : (s : ℕ) → HoldsCurrent h.opening.catalog h.opening.tables l (kept_current h.opening.catalog h.opening.tables l s)
+    pub step_held : (s : ℕ) → HoldsCurrent h.opening.catalog (tables_at lent) (kept_current h.opening.catalog h.opening.tables l s)
     step_held s = λ t e.
-        subst (λ (v : World A). are_of v.catalog (with_own v t).own ≡ true) (sym same_world)
+        subst (λ (v : World A). are_of v.catalog (with_own (tables_at v) t).own ≡ true) (sym same_world)
         (held_of s (current w s) refl t (sym (same_current w s) ∙ ap (λ (v : World A). current v s) (sym same_world) ∙ e))
 
-    pub step_reply : (s : ℕ) (a : Action A) → reply_of lent (ready_for lent a (current lent s)) a ≡ answer h.opening h.records s a
+    pub step_reply : (s : ℕ) (a : Action A) → reply_of lent (ready_for (tables_at lent) a (current lent s)) a ≡ answer h.opening h.records s a
     unfolding answer
-    step_reply s a = ap (λ (v : World A). reply_of v (ready_for v a (current v s)) a) same_world ∙ same_reply w s a (λ t e. own s t e)
+    step_reply s a = ap (λ (v : World A). reply_of v (ready_for (tables_at v) a (current v s)) a) same_world ∙ same_reply w s a (λ t e. own s t e)
 
-    pub step_kept : (s : ℕ) (a : Action A) (r : Reply A) → Allowed h.opening.catalog a → r ≡ answer h.opening h.records s a → IsKept (recorded h s a r) (kept_after lent s a r (ready_for lent a (current lent s)))
+    pub step_kept : (s : ℕ) (a : Action A) (r : Reply A) → Allowed h.opening.catalog a → r ≡ answer h.opening h.records s a → IsKept (recorded h s a r) (kept_after lent s a r (ready_for (tables_at lent) a (current lent s)))
     step_kept s a r fits e = record {
       legal = Legal-push h.opening h.records s a r k.legal fits e;
-      world = ap (λ (v : World A). kept_after v s a r (ready_for v a (current v s))) same_world ∙ same_follows w s a r (λ t f. own s t f) ∙ ap ledger (sym (run_push (start h.opening) h.records (record { session = s; action = a; reply = r })));
+      world = ap (λ (v : World A). kept_after v s a r (ready_for (tables_at v) a (current v s))) same_world ∙ same_follows w s a r (λ t f. own s t f) ∙ ap ledger (sym (run_push (start h.opening) h.records (record { session = s; action = a; reply = r })));
       room = k.room;
     }
 
     -- what a step of the world answers and leaves is the answer, and is kept of the history with it
     pub stepped : (s : ℕ) (a : Action A) (c : Catalog) (X : Tables A) → c ≡ h.opening.catalog → X ≡ h.opening.tables → (given : Answered A) (m : Ledger A)
-        → given ≡ both (reply_of (world_on c X l) (ready_for (world_on c X l) a (kept_current c X l s)) a) → m ≡ kept_after (world_on c X l) s a given.reply (ready_for (world_on c X l) a (kept_current c X l s)) → Allowed h.opening.catalog a
+        → given ≡ both (reply_of (world_on c X l) (ready_for (tables_at (world_on c X l)) a (kept_current c X l s)) a) → m ≡ kept_after (world_on c X l) s a given.reply (ready_for (tables_at (world_on c X l)) a (kept_current c X l s)) → Allowed h.opening.catalog a
         → (given.reply ≡ answer h.opening h.records s a) × IsKept (recorded h s a given.recorded) m
     stepped s a c X p q given m =
         subst Goal (sym p) (subst (λ (Y : Tables A). GoalAt h.opening.catalog Y) (sym q) here)
       where
         GoalAt : Catalog → Tables A → Type 0
-        GoalAt d Y = given ≡ both (reply_of (world_on d Y l) (ready_for (world_on d Y l) a (kept_current d Y l s)) a) → m ≡ kept_after (world_on d Y l) s a given.reply (ready_for (world_on d Y l) a (kept_current d Y l s)) → Allowed h.opening.catalog a
+        GoalAt d Y = given ≡ both (reply_of (world_on d Y l) (ready_for (tables_at (world_on d Y l)) a (kept_current d Y l s)) a) → m ≡ kept_after (world_on d Y l) s a given.reply (ready_for (tables_at (world_on d Y l)) a (kept_current d Y l s)) → Allowed h.opening.catalog a
             → (given.reply ≡ answer h.opening h.records s a) × IsKept (recorded h s a given.recorded) m
 
         Goal : Catalog → Type 0
@@ -153,7 +160,7 @@ module _ {A : Type 0} where
             let same : given.reply ≡ given.recorded = ap (λ (y : Answered A). y.reply) e ∙ sym (ap (λ (y : Answered A). y.recorded) e) in (
               replied,
               subst (λ (n : Ledger A). IsKept (recorded h s a given.recorded) n) (sym f)
-                  (subst (λ (r : Reply A). IsKept (recorded h s a r) (kept_after lent s a given.reply (ready_for lent a (current lent s)))) same (step_kept s a given.reply fits replied)),
+                  (subst (λ (r : Reply A). IsKept (recorded h s a r) (kept_after lent s a given.reply (ready_for (tables_at lent) a (current lent s)))) same (step_kept s a given.reply fits replied)),
             )
 
     -- the keys with that of what the last event committed are those of the history with it
@@ -199,7 +206,7 @@ module _ {A : Type 0} where
 
     -- a step of the world, and the keys with that of what it has committed, are what a core keeps of the history with it
     pub stepped_holding : (s : ℕ) (a : Action A) (c : Catalog) (X : Tables A) → c ≡ h.opening.catalog → X ≡ h.opening.tables → (given : Answered A) (m : Ledger A)
-        → given ≡ both (reply_of (world_on c X l) (ready_for (world_on c X l) a (kept_current c X l s)) a) → m ≡ kept_after (world_on c X l) s a given.reply (ready_for (world_on c X l) a (kept_current c X l s)) → Allowed h.opening.catalog a
+        → given ≡ both (reply_of (world_on c X l) (ready_for (tables_at (world_on c X l)) a (kept_current c X l s)) a) → m ≡ kept_after (world_on c X l) s a given.reply (ready_for (tables_at (world_on c X l)) a (kept_current c X l s)) → Allowed h.opening.catalog a
         → (ks more : List (TxnNo × SerialKey)) (room capacity : ℕ) → HoldsKeys h ks room → length h.records < h.most
         → map keyed more ≡ map keyed ks ++ cond (is_commit a) (option_to_list (committed_at m.place m.txns)) [] → length more ≤ length ks + 1 → capacity ≡ room
         → IsKept (recorded h s a given.recorded) m × HoldsKeys (recorded h s a given.recorded) more capacity

@@ -215,18 +215,18 @@ module _ {A : Type 0} where
     abbrev pub HasOwn : Txn A → Type 0
     HasOwn t = t.own ≡ put_all t.changes (tables_at w t.snapshot)
 
-    pub same_ready : (t : Txn A) → HasOwn t → with_own kept_world (kept t) ≡ record t { statements = [] }
+    pub same_ready : (t : Txn A) → HasOwn t → with_own (tables_at kept_world) (kept t) ≡ record t { statements = [] }
     same_ready t own = ap (λ X. record t { statements = []; own = X }) (ap (put_all t.changes) (shown_kept w.log (t.snapshot - w.base.commits) w.opening) ∙ sym own)
 
-    ready_standing : (a : Action A) (t : Txn A) → (ready kept_world a (kept t)).standing ≡ t.standing
+    ready_standing : (a : Action A) (t : Txn A) → (ready (tables_at kept_world) a (kept t)).standing ≡ t.standing
     ready_standing (Run q) t = refl
     ready_standing _ t = refl
 
-    ready_kept : (a : Action A) (t : Txn A) → kept (ready kept_world a (kept t)) ≡ kept t
+    ready_kept : (a : Action A) (t : Txn A) → kept (ready (tables_at kept_world) a (kept t)) ≡ kept t
     ready_kept (Run q) t = refl
     ready_kept _ t = refl
 
-    same_open : (t : Txn A) → HasOwn t → (a : Action A) → open_reply kept_world (ready kept_world a (kept t)) a ≡ open_reply w t a
+    same_open : (t : Txn A) → HasOwn t → (a : Action A) → open_reply kept_world (ready (tables_at kept_world) a (kept t)) a ≡ open_reply w t a
     same_open t own (Run q) =
         ap (λ (x : Txn A). run_reply kept_world x q) (same_ready t own)
         ∙ ap (λ b. cond (must_wait t) (refuses code.ObjectNotInPrerequisiteState) (cond (writes q && not (is_read_write t.mode)) (refuses code.ReadOnlySqlTransaction)
@@ -240,23 +240,23 @@ module _ {A : Type 0} where
         ap commit_reply (ap (λ x. first_cause node edge (replaced x (all_kept w.txns))) (same_numbered t) ∙ ap (first_cause node edge) (replaced_kept (numbered w t) w.txns) ∙ first_kept (replaced (numbered w t) w.txns))
     same_open t own _ = refl
 
-    same_from : (t : Txn A) → HasOwn t → (a : Action A) (st : Standing) → reply_from st kept_world (ready kept_world a (kept t)) a ≡ reply_from st w t a
+    same_from : (t : Txn A) → HasOwn t → (a : Action A) (st : Standing) → reply_from st kept_world (ready (tables_at kept_world) a (kept t)) a ≡ reply_from st w t a
     same_from t own a Open = same_open t own a
     same_from t own a _ = refl
 
-    same_of : (a : Action A) (o : Option (Txn A)) → ((t : Txn A) → o ≡ Some t → HasOwn t) → reply_of kept_world (ready_for kept_world a (option_map kept o)) a ≡ reply_of w o a
+    same_of : (a : Action A) (o : Option (Txn A)) → ((t : Txn A) → o ≡ Some t → HasOwn t) → reply_of kept_world (ready_for (tables_at kept_world) a (option_map kept o)) a ≡ reply_of w o a
     same_of a None own = refl
-    same_of a (Some t) own = ap (λ st. reply_from st kept_world (ready kept_world a (kept t)) a) (ready_standing a t) ∙ same_from t (own t refl) a t.standing
+    same_of a (Some t) own = ap (λ st. reply_from st kept_world (ready (tables_at kept_world) a (kept t)) a) (ready_standing a t) ∙ same_from t (own t refl) a t.standing
 
-    pub same_reply : (s : ℕ) (a : Action A) → ((t : Txn A) → current w s ≡ Some t → HasOwn t) → reply_of kept_world (ready_for kept_world a (current kept_world s)) a ≡ reply_in w s a
-    same_reply s a own = ap (λ o. reply_of kept_world (ready_for kept_world a o) a) (same_current s) ∙ same_of a (current w s) own
+    pub same_reply : (s : ℕ) (a : Action A) → ((t : Txn A) → current w s ≡ Some t → HasOwn t) → reply_of kept_world (ready_for (tables_at kept_world) a (current kept_world s)) a ≡ reply_in w s a
+    same_reply s a own = ap (λ o. reply_of kept_world (ready_for (tables_at kept_world) a o) a) (same_current s) ∙ same_of a (current w s) own
 
     -- ---- what an event makes
 
-    same_moved : (t : Txn A) → HasOwn t → (a : Action A) (r : Reply A) → kept (moved kept_world a r (ready kept_world a (kept t))) ≡ kept (moved w a r t)
+    same_moved : (t : Txn A) → HasOwn t → (a : Action A) (r : Reply A) → kept (moved kept_world a r (ready (tables_at kept_world) a (kept t))) ≡ kept (moved w a r t)
     same_moved t own (Run q) (Refused r) = go (Rattle.history.specs.Events.goes_on r.code)
       where
-        go : (b : Bool) → kept (cond b (with_own kept_world (kept t)) (ended w Failed (with_own kept_world (kept t)))) ≡ kept (cond b t (ended w Failed t))
+        go : (b : Bool) → kept (cond b (with_own (tables_at kept_world) (kept t)) (ended w Failed (with_own (tables_at kept_world) (kept t)))) ≡ kept (cond b t (ended w Failed t))
         go true = refl
         go false = refl
     same_moved t own (Run q) r = ap (λ (x : Txn A). kept (Rattle.history.specs.Events.ran kept_world q r x)) (same_ready t own)
@@ -271,15 +271,15 @@ module _ {A : Type 0} where
     same_moved t own Commit Committed = ap kept (same_numbered t)
     same_moved t own _ _ = refl
 
-    same_turned_from : (t : Txn A) → HasOwn t → (a : Action A) (r : Reply A) (st : Standing) → kept (turned_from st kept_world a r (ready kept_world a (kept t))) ≡ kept (turned_from st w a r t)
+    same_turned_from : (t : Txn A) → HasOwn t → (a : Action A) (r : Reply A) (st : Standing) → kept (turned_from st kept_world a r (ready (tables_at kept_world) a (kept t))) ≡ kept (turned_from st w a r t)
     same_turned_from t own a r Open = same_moved t own a r
     same_turned_from t own a r (Doomed c) = ap (λ (x : Txn A). record x { standing = Rattle.history.specs.Events.told a x.standing }) (ready_kept a t)
     same_turned_from t own a r Failed = ap (λ (x : Txn A). record x { standing = Rattle.history.specs.Events.settled a x.standing }) (ready_kept a t)
     same_turned_from t own a r Aborted = ready_kept a t
     same_turned_from t own a r Done = ready_kept a t
 
-    same_turned : (t : Txn A) → HasOwn t → (a : Action A) (r : Reply A) → kept (turned kept_world a r (ready kept_world a (kept t))) ≡ kept (turned w a r t)
-    same_turned t own a r = ap (λ st. kept (turned_from st kept_world a r (ready kept_world a (kept t)))) (ready_standing a t) ∙ same_turned_from t own a r t.standing
+    same_turned : (t : Txn A) → HasOwn t → (a : Action A) (r : Reply A) → kept (turned kept_world a r (ready (tables_at kept_world) a (kept t))) ≡ kept (turned w a r t)
+    same_turned t own a r = ap (λ st. kept (turned_from st kept_world a r (ready (tables_at kept_world) a (kept t)))) (ready_standing a t) ∙ same_turned_from t own a r t.standing
 
     numbered_changes : (t : Txn A) → (numbered w t).changes ≡ t.changes
     numbered_changes t = go (is_read_write t.mode)
@@ -288,7 +288,7 @@ module _ {A : Type 0} where
         go true = refl
         go false = refl
 
-    same_log : (t : Txn A) (a : Action A) (r : Reply A) → logged kept_world a r (ready kept_world a (kept t)) ≡ logs (log_after w a r t)
+    same_log : (t : Txn A) (a : Action A) (r : Reply A) → logged kept_world a r (ready (tables_at kept_world) a (kept t)) ≡ logs (log_after w a r t)
     same_log t Commit Committed = go (is_read_write t.mode)
       where
         go : (b : Bool) → cond b (logs w.log ++ written t.changes ∷ []) (logs w.log) ≡ logs (cond b (w.log ++ numbered w t ∷ []) w.log)
@@ -296,14 +296,14 @@ module _ {A : Type 0} where
         go false = refl
     same_log t _ _ = refl
 
-    same_exports : (t : Txn A) (a : Action A) (r : Reply A) → exports_after kept_world a r (ready kept_world a (kept t)) ≡ exports_after w a r t
+    same_exports : (t : Txn A) (a : Action A) (r : Reply A) → exports_after kept_world a r (ready (tables_at kept_world) a (kept t)) ≡ exports_after w a r t
     same_exports t Export (Exported i) = refl
     same_exports t _ _ = refl
 
-    same_replaced : (t : Txn A) → HasOwn t → (a : Action A) (r : Reply A) → replaced (kept (turned kept_world a r (ready kept_world a (kept t)))) (all_kept w.txns) ≡ all_kept (replaced (turned w a r t) w.txns)
+    same_replaced : (t : Txn A) → HasOwn t → (a : Action A) (r : Reply A) → replaced (kept (turned kept_world a r (ready (tables_at kept_world) a (kept t)))) (all_kept w.txns) ≡ all_kept (replaced (turned w a r t) w.txns)
     same_replaced t own a r = ap (λ x. replaced x (all_kept w.txns)) (same_turned t own a r) ∙ replaced_kept (turned w a r t) w.txns
 
-    same_turned_all : (t : Txn A) → HasOwn t → (a : Action A) (r : Reply A) → turned_all kept_world a r (ready kept_world a (kept t)) ≡ all_kept (txns_after w a r t)
+    same_turned_all : (t : Txn A) → HasOwn t → (a : Action A) (r : Reply A) → turned_all kept_world a r (ready (tables_at kept_world) a (kept t)) ≡ all_kept (txns_after w a r t)
     same_turned_all t own Commit Committed =
         ap (map (doomed_by (w.place + 1) (causes kept_world Commit Committed (kept t)))) (same_replaced t own Commit Committed)
         ∙ ap (λ cs. map (doomed_by (w.place + 1) (cond (is_read_write t.mode) cs [])) (all_kept (replaced (turned w Commit Committed t) w.txns))) (dooms_kept w.txns t)
@@ -321,17 +321,17 @@ module _ {A : Type 0} where
     same_joined s _ _ = refl
 
     same_after : (s : ℕ) (a : Action A) (r : Reply A) (o : Option (Txn A)) → ((t : Txn A) → o ≡ Some t → HasOwn t)
-        → kept_after kept_world s a r (ready_for kept_world a (option_map kept o)) ≡ ledger (followed w (record { session = s; action = a; reply = r }) o)
+        → kept_after kept_world s a r (ready_for (tables_at kept_world) a (option_map kept o)) ≡ ledger (followed w (record { session = s; action = a; reply = r }) o)
     same_after s a r None own = same_joined s a r
     same_after s a r (Some t) own =
         let h = own t refl in
-        ap (λ ts. record { base = w.base; log = logged kept_world a r (ready kept_world a (kept t)); txns = ts; exports = exports_after kept_world a r (ready kept_world a (kept t)); place = w.place + 1 }) (same_turned_all t h a r)
-        ∙ ap (λ ts. record { base = w.base; log = ts; txns = all_kept (txns_after w a r t); exports = exports_after kept_world a r (ready kept_world a (kept t)); place = w.place + 1 }) (same_log t a r)
+        ap (λ ts. record { base = w.base; log = logged kept_world a r (ready (tables_at kept_world) a (kept t)); txns = ts; exports = exports_after kept_world a r (ready (tables_at kept_world) a (kept t)); place = w.place + 1 }) (same_turned_all t h a r)
+        ∙ ap (λ ts. record { base = w.base; log = ts; txns = all_kept (txns_after w a r t); exports = exports_after kept_world a r (ready (tables_at kept_world) a (kept t)); place = w.place + 1 }) (same_log t a r)
         ∙ ap (λ xs. record { base = w.base; log = logs (log_after w a r t); txns = all_kept (txns_after w a r t); exports = xs; place = w.place + 1 }) (same_exports t a r)
 
     pub same_follows : (s : ℕ) (a : Action A) (r : Reply A) → ((t : Txn A) → current w s ≡ Some t → HasOwn t)
-        → kept_after kept_world s a r (ready_for kept_world a (current kept_world s)) ≡ ledger (follows w (record { session = s; action = a; reply = r }))
-    same_follows s a r own = ap (λ o. kept_after kept_world s a r (ready_for kept_world a o)) (same_current s) ∙ same_after s a r (current w s) own
+        → kept_after kept_world s a r (ready_for (tables_at kept_world) a (current kept_world s)) ≡ ledger (follows w (record { session = s; action = a; reply = r }))
+    same_follows s a r own = ap (λ o. kept_after kept_world s a r (ready_for (tables_at kept_world) a o)) (same_current s) ∙ same_after s a r (current w s) own
 
   -- ---- after a legal history
 

@@ -23,6 +23,7 @@ pub mod KeptKeys
 pub mod CommitOrder
 pub mod CommitAlone
 pub mod CoreLemmas
+pub mod RowsKept
 pub mod Play
 mod Examples
 mod LegalExample

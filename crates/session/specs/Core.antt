@@ -20,6 +20,8 @@ use Rattle.history.specs.Serial.{keys_by_commit}
 use Rattle.plain.specs.Courses.{takes_memory}
 use Rattle.plain.specs.Keys.{keyed}
 use Rattle.plain.specs.Ledger.{Ledger, ledger}
+use Rattle.plain.specs.Versions.{AreCurrent, AreShown}
+use Rattle.mvrows.specs.Versions.{VersionedRows}
 
 module _ {A : Type 0} where
   -- The history is legal, what is kept is what is kept of its world, and its events can be counted.
@@ -33,6 +35,11 @@ module _ {A : Type 0} where
     pub keys : map keyed ks ≡ keys_by_commit (world h)
     pub few : length ks ≤ length h.records
     pub room : h.most ≤ capacity
+
+  -- The versions are those of the commits so far, and show the tables at each of their numbers.
+  pub record HoldsRows (h : Recorded A) (l : Ledger A) (rows : List (VersionedRows A)) : Type 0 where
+    pub current : AreCurrent l rows
+    pub shown : AreShown l h.opening.tables rows
 
   -- the action by which transactions commit
   abbrev pub is_commit : Action A → Bool

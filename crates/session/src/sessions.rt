@@ -8,6 +8,7 @@ ghost use Rattle.history.specs.Answer.{Allowed, answer, checkpoint_answer, view_
 ghost use Rattle.plain.specs.Courses.{takes_memory};
 ghost use Rattle.plain.specs.Keys.{committed_at, keyed};
 ghost use Rattle.plain.specs.Views.{are_quiet};
+ghost use Rattle.mvrows.specs.Installing.{opened};
 ghost use Rattle.session.specs.Core.{HasRoom, IsCheckpoint, IsKept, IsStep, from_opening, is_commit, recorded};
 
 mod committed;
@@ -18,6 +19,7 @@ use history::event::{Action, Event, Record};
 use history::key::SerialKey;
 use history::list::History;
 use history::session_id::SessionId;
+use mvrows::rows::Rows;
 use mvrows::view::View;
 use plain::world::World;
 use schema::catalog::Catalog;
@@ -35,6 +37,8 @@ pub struct Core<A: Allocator = Global> {
     world: World<A>,
     // The committed transactions with their keys, in the order of their commits.
     keys: Vec<(TxnNo, SerialKey), A>,
+    // What each commit left of the rows, on which statements are evaluated.
+    rows: Rows<A>,
 }
 
 impl<A: Allocator> Model for Core<A> {
@@ -43,11 +47,52 @@ impl<A: Allocator> Model for Core<A> {
     ghost Value = { Recorded A };
 
     ghost use Rattle.std.specs.Prelude.{vec_capacity};
-    ghost use Rattle.session.specs.Core.{HoldsKeys, IsKept};
+    ghost use Rattle.session.specs.Core.{HoldsKeys, HoldsRows, IsKept};
 
     ghost view = { λ c. c.history };
 
-    ghost invariant = { λ c. IsKept c.history c.world × HoldsKeys c.history c.keys.items (vec_capacity c.keys) };
+    ghost invariant = { λ c. IsKept c.history c.world × HoldsKeys c.history c.keys.items (vec_capacity c.keys) × HoldsRows c.history c.world c.rows };
+}
+
+// The versions of the tables that a history opens with.
+fn open_rows<A: Allocator + Copy>(
+    alloc: A,
+    catalog: &Catalog<A>,
+    tables: &Tables<A>,
+) -> Result<Rows<A>, Refusal>
+    requires { IsTrue (is_sound catalog.now tables.now) }
+    ensures ok { IfOk result (λ rows. rows ≡ opened tables.now) }
+    ensures memory { IfErr result (λ e. e ≡ out_of_memory) }
+{
+    // The catalog's tables are few.
+    let _count = catalog.len();
+    let copy = tables.copy(alloc)?;
+    Rows::of(alloc, copy)
+}
+
+// A core of nothing yet on a history of nothing yet.
+fn open_history<A: Allocator + Copy>(
+    alloc: A,
+    history: History<A>,
+    keys: Vec<(TxnNo, SerialKey), A>,
+) -> Result<Core<A>, Refusal>
+    requires none { history.records ≡ [] }
+    requires no_keys { keys.items ≡ [] }
+    requires capacity { history.most ≤ vec_capacity keys }
+    requires sound { IsTrue (is_sound history.opening.catalog history.opening.tables) }
+    requires within { (history.opening.base.transactions ≤ history.opening.base.events) × (history.opening.base.commits ≤ history.opening.base.events) × (history.opening.base.identifiers ≤ history.opening.base.events) }
+    requires room { history.opening.base.events + history.most < 2 ^ 64 }
+    ensures ok { IfOk result (λ made. made ≡ history) }
+    ensures memory { IfErr result (λ e. e ≡ out_of_memory) }
+{
+    let rows = open_rows(alloc, history.catalog(), history.tables())?;
+    let world = World::open(alloc, history.base());
+    Ok(Core {
+        history,
+        world,
+        keys,
+        rows,
+    })
 }
 
 // A core of nothing yet, whose numbers go on from a base.
@@ -68,11 +113,7 @@ fn open_on<A: Allocator + Copy>(
 {
     let keys = Vec::with_capacity(alloc, max_events as usize)?;
     match History::open(alloc, catalog, tables, base, max_events) {
-        Ok(history) => Ok(Core {
-            history,
-            world: World::open(alloc, base),
-            keys,
-        }),
+        Ok(history) => open_history(alloc, history, keys),
         Err(refusal) => Err(refusal),
     }
 }
@@ -193,7 +234,7 @@ impl<A: Allocator> Core<A> {
         let answered = self.world.step(
             alloc,
             self.history.catalog(),
-            self.history.tables(),
+            &mut self.rows,
             session,
             &action,
         )?;
@@ -231,10 +272,7 @@ impl<A: Allocator> Core<A> {
         A: Copy,
         ensures { AnswersOrNoMemory result (view_answer self.now.opening self.now.records session) }
     {
-        match self.world.view(alloc, self.history.tables(), session) {
-            Ok(tables) => Ok(View::of(tables)),
-            Err(refusal) => Err(refusal),
-        }
+        self.world.view(alloc, &self.rows, session)
     }
 
     // A core that goes on from the tables and the numbers of this one.

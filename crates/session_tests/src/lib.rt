@@ -8,6 +8,8 @@ mod core_calls;
 #[cfg(test)]
 mod fixture;
 #[cfg(test)]
+mod own_changes;
+#[cfg(test)]
 mod pivots;
 #[cfg(test)]
 mod snapshots;

@@ -1,7 +1,7 @@
 ghost use Rattle.std.specs.Prelude.{◌≡◌, ◌<◌, IfOk, IfErr, length};
 ghost use Rattle.std.specs.Option.{option_copied};
 ghost use Rattle.schema.specs.Plain.{put_all};
-ghost use Rattle.schema.specs.Rows.{HasTable, IsInKeyOrder, next_row};
+ghost use Rattle.schema.specs.Rows.{HasTable, IsInKeyOrder, next_row, row_of};
 ghost use Rattle.snapshot.specs.Overlaid.{rows_with, is_before, next_after, changes_after, changes_within};
 
 use schema::catalog::TableNo;
@@ -76,23 +76,40 @@ impl<'a, R: SnapshotReader<A>, A: Allocator> Overlay<'a, R, A> {
             }
         }
     }
-}
 
-impl<R: SnapshotReader<A>, A: Allocator> SnapshotReader<A> for Overlay<'_, R, A> {
-    ghost tables = { λ o. put_all o.changes.now (R.tables o.reader.now) };
-
-    fn next_row(&self, table: TableNo, after: Bound<&Key<A>>) -> Option<&Row<A>> {
+    /// `next_row`, whose row is lent as long as the reader and the changes are.
+    pub fn lend_next(&self, table: TableNo, after: Bound<&Key<A>>) -> Option<&'a Row<A>>
+        requires { HasTable (put_all self.now.changes.now (R.tables self.now.reader.now)) table }
+        ensures row { option_copied result ≡ next_row (rows_with self.now.changes.now (R.tables self.now.reader.now) table) after.entry }
+        ensures ordered { IsInKeyOrder (rows_with self.now.changes.now (R.tables self.now.reader.now) table) }
+    {
         match self.next_or_gone(table, after) {
             Ok(row) => row,
             Err(gone) => self.next_past(table, gone),
         }
     }
 
-    fn get(&self, table: TableNo, key: &Key<A>) -> Option<&Row<A>> {
+    /// `get`, whose row is lent as long as the reader and the changes are.
+    pub fn lend(&self, table: TableNo, key: &Key<A>) -> Option<&'a Row<A>>
+        requires { HasTable (put_all self.now.changes.now (R.tables self.now.reader.now)) table }
+        ensures { option_copied result ≡ row_of (rows_with self.now.changes.now (R.tables self.now.reader.now) table) key.now }
+    {
         self.changes.in_key_order(table);
         match self.changes.get(table, key) {
             Some(own) => own.as_ref(),
             None => self.reader.get(table, key),
         }
+    }
+}
+
+impl<R: SnapshotReader<A>, A: Allocator> SnapshotReader<A> for Overlay<'_, R, A> {
+    ghost tables = { λ o. put_all o.changes.now (R.tables o.reader.now) };
+
+    fn next_row(&self, table: TableNo, after: Bound<&Key<A>>) -> Option<&Row<A>> {
+        self.lend_next(table, after)
+    }
+
+    fn get(&self, table: TableNo, key: &Key<A>) -> Option<&Row<A>> {
+        self.lend(table, key)
     }
 }

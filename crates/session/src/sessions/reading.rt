@@ -6,10 +6,10 @@ ghost use Rattle.statement.specs.Fits.{Fits};
 ghost use Rattle.history.specs.Answer.{answer, reader_answer};
 ghost use Rattle.session.specs.Core.{HasRoom, IsFoundReply, IsStep, recorded};
 
-use crate::reader::SessionReader;
 use crate::sessions::Core;
 use history::event::{Action, Record};
 use history::session_id::SessionId;
+use plain::reader::SessionReader;
 use statement::reply::Reply;
 use statement::statement::Statement;
 use std::alloc::Allocator;
@@ -25,10 +25,7 @@ impl<A: Allocator> Core<A> {
         A: Copy,
         ensures { AnswersOrNoMemory result (reader_answer self.now.opening self.now.records session) }
     {
-        match self.world.reader(alloc, self.history.tables(), session) {
-            Ok(tables) => Ok(SessionReader::of(tables)),
-            Err(refusal) => Err(refusal),
-        }
+        self.world.reader(alloc, &self.rows, session)
     }
 
     // The answer to a SELECT whose reply was found before, where the history has room.
@@ -54,7 +51,7 @@ impl<A: Allocator> Core<A> {
         let answered = self.world.record(
             alloc,
             self.history.catalog(),
-            self.history.tables(),
+            &self.rows,
             session,
             &action,
             found,

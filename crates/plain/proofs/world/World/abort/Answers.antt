@@ -7,8 +7,8 @@ use Rattle.plain.proofs.LedgerLemmas.{txn_at-is}
 use Rattle.plain.proofs.CommitLemmas.{after-refused}
 use Rattle.plain.proofs.world.World.abort.Goals as goal
 
-pub returns : goal.returns
-returns g c = λ d X.
+pub returns-clause-world : goal.returns-clause-world
+returns-clause-world g c = λ d X.
     let now : Ledger _ = c.args.self.now in
     let same_place = ap (λ (l : Ledger _). l.place) c.self.view_is in
     let found : txn_at now.txns c.args.at ≡ c.index.result.now = txn_at-is now.txns c.args.at c.index.result.now c.requires.within (c.index.ensures ∙ ap (λ (l : Ledger _). get_or l.txns c.args.at c.index.result.now) c.self.view_is) in

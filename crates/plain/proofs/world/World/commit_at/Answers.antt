@@ -1,8 +1,9 @@
-use Rattle.std.proofs.Common.{ap, subst, sym, ◌∙◌, ◌≡◌, true, false, get_or}
+use Rattle.std.proofs.Common.{ap, refl, subst, sym, ◌∙◌, ◌≡◌, true, false, get_or}
 use Rattle.history.specs.Transactions.{Txn, is_read_write}
 use Rattle.plain.specs.Ledger.{Ledger, IsCounted, txn_at}
 use Rattle.plain.proofs.LedgerLemmas.{txn_at-is}
 use Rattle.plain.proofs.CommitLemmas.{after-read, after-written}
+use Rattle.plain.proofs.InstallLemmas.{stay-installed, stay-same}
 use Rattle.plain.proofs.world.World.commit_at.Goals as goal
 
 pub returns-in_ok-commit_writer-clause-ok : goal.returns-in_ok-commit_writer-clause-ok
@@ -18,3 +19,12 @@ returns-else-is_writer-clause-ok g c = λ d X.
     let found : txn_at now.txns c.args.at ≡ c.index.result.now = txn_at-is now.txns c.args.at c.index.result.now c.requires.within (c.index.ensures ∙ ap (λ (l : Ledger _). get_or l.txns c.args.at c.index.result.now) c.self.view_is) in
     let reads : is_read_write (txn_at now.txns c.args.at).mode ≡ false = ap (λ (t : Txn _). is_read_write t.mode) found ∙ sym c.is_writer.ensures ∙ c.if-is_writer.false in
     c.turn.ensures ∙ after-read now d X c.args.at c.args.committed (subst IsCounted c.self.view_is c.self.invariant) c.requires.within c.requires.open reads (c.requires.course d X)
+
+pub returns-in_ok-commit_writer-clause-rows : goal.returns-in_ok-commit_writer-clause-rows
+returns-in_ok-commit_writer-clause-rows g c =
+    let now : Ledger _ = c.args.self.now in
+    stay-installed now c.commit_writer.new.self c.args.rows.now c.commit_writer.new.rows (txn_at now.txns c.args.at).changes (ap (λ (l : Ledger _). l.base) c.in_ok-commit_writer.ensures.ok) (ap (λ (l : Ledger _). l.log) c.in_ok-commit_writer.ensures.ok) c.in_ok-commit_writer.ensures.rows c.requires.current
+
+pub returns-else-is_writer-clause-rows : goal.returns-else-is_writer-clause-rows
+returns-else-is_writer-clause-rows g c =
+    stay-same c.args.self.now c.turn.new.self c.args.rows.now c.args.rows.now (ap (λ (l : Ledger _). l.base) c.turn.ensures, ap (λ (l : Ledger _). l.log) c.turn.ensures) refl c.requires.current

@@ -1,44 +1,58 @@
-use Rattle.std.proofs.Common.{ap, sym, ◌∙◌, ◌≡◌, true, false, get_or}
+use Rattle.std.proofs.Common.{ap, refl, sym, ◌∙◌, ◌≡◌, true, false, get_or}
 use Rattle.history.specs.Transactions.{Txn, is_open}
 use Rattle.history.specs.declared.event.Action.TheVariants.{Run, Export, Commit}
 use Rattle.plain.specs.Answers.{both}
 use Rattle.plain.specs.Ledger.{Ledger, txn_at, world_on}
+use Rattle.plain.specs.Versions.{versions_at}
 use Rattle.plain.proofs.LedgerLemmas.{txn_at-is}
-use Rattle.plain.proofs.CommitLemmas.{if_ok_map}
+use Rattle.plain.proofs.CommitLemmas.{if_ok_map, on_ok_map}
+use Rattle.plain.proofs.InstallLemmas.{stay-same}
 use Rattle.plain.proofs.RunLemmas.{open_ready, over_after, over_reply}
 use Rattle.plain.proofs.world.World.step_owned.Goals as goal
 
 pub returns-else-is_active-clause-reply : goal.returns-else-is_active-clause-reply
-returns-else-is_active-clause-reply g c =
+returns-else-is_active-clause-reply g c = λ X.
     let now : Ledger _ = c.args.self.now in
     let found : txn_at now.txns c.args.at ≡ c.index.result.now = txn_at-is now.txns c.args.at c.index.result.now c.requires.within (c.index.ensures ∙ ap (λ (l : Ledger _). get_or l.txns c.args.at c.index.result.now) c.self.view_is) in
     let over : is_open (txn_at now.txns c.args.at).standing ≡ false = ap (λ (t : Txn _). is_open t.standing) found ∙ sym c.is_active.ensures ∙ c.if-is_active.false in
-    c.settle-else-is_active.ensures.reply c.args.catalog.now c.args.opening.now ∙ ap both (over_reply (world_on c.args.catalog.now c.args.opening.now now) c.args.action.now (txn_at now.txns c.args.at) over)
+    c.settle-else-is_active.ensures.reply c.args.catalog.now X ∙ ap both (over_reply (world_on c.args.catalog.now X now) (versions_at c.args.rows.now) c.args.action.now (txn_at now.txns c.args.at) over)
 
 pub returns-else-is_active-clause-world : goal.returns-else-is_active-clause-world
-returns-else-is_active-clause-world g c =
+returns-else-is_active-clause-world g c = λ X.
     let now : Ledger _ = c.args.self.now in
     let found : txn_at now.txns c.args.at ≡ c.index.result.now = txn_at-is now.txns c.args.at c.index.result.now c.requires.within (c.index.ensures ∙ ap (λ (l : Ledger _). get_or l.txns c.args.at c.index.result.now) c.self.view_is) in
     let over : is_open (txn_at now.txns c.args.at).standing ≡ false = ap (λ (t : Txn _). is_open t.standing) found ∙ sym c.is_active.ensures ∙ c.if-is_active.false in
-    c.settle-else-is_active.ensures.world c.args.catalog.now c.args.opening.now ∙ over_after (world_on c.args.catalog.now c.args.opening.now now) c.args.action.now c.settle-else-is_active.result.reply (txn_at now.txns c.args.at) over
+    c.settle-else-is_active.ensures.world c.args.catalog.now X ∙ over_after (world_on c.args.catalog.now X now) (versions_at c.args.rows.now) c.args.action.now c.settle-else-is_active.result.reply (txn_at now.txns c.args.at) over
 
 pub returns-in-Run-clause-reply : goal.returns-in-Run-clause-reply
 returns-in-Run-clause-reply g c =
     let now : Ledger _ = c.args.self.now in
     let found : txn_at now.txns c.args.at ≡ c.index.result.now = txn_at-is now.txns c.args.at c.index.result.now c.requires.within (c.index.ensures ∙ ap (λ (l : Ledger _). get_or l.txns c.args.at c.index.result.now) c.self.view_is) in
     let open' : is_open (txn_at now.txns c.args.at).standing ≡ true = ap (λ (t : Txn _). is_open t.standing) found ∙ sym c.is_active.ensures ∙ c.if-is_active.true in
-    rw c.in-Run.is (if_ok_map _ _ c.run.result (λ r e. e ∙ ap both (open_ready (world_on c.args.catalog.now c.args.opening.now now) (Run c.in-Run.statement) (txn_at now.txns c.args.at) open')) c.run.ensures.reply)
+    rw c.in-Run.is (if_ok_map _ _ c.run.result (λ r e X. e X ∙ ap both (open_ready (world_on c.args.catalog.now X now) (versions_at c.args.rows.now) (Run c.in-Run.statement) (txn_at now.txns c.args.at) open')) c.run.ensures.reply)
 
 pub returns-in-Export-clause-reply : goal.returns-in-Export-clause-reply
 returns-in-Export-clause-reply g c =
     let now : Ledger _ = c.args.self.now in
     let found : txn_at now.txns c.args.at ≡ c.index.result.now = txn_at-is now.txns c.args.at c.index.result.now c.requires.within (c.index.ensures ∙ ap (λ (l : Ledger _). get_or l.txns c.args.at c.index.result.now) c.self.view_is) in
     let open' : is_open (txn_at now.txns c.args.at).standing ≡ true = ap (λ (t : Txn _). is_open t.standing) found ∙ sym c.is_active.ensures ∙ c.if-is_active.true in
-    rw c.in-Export.is (if_ok_map _ _ c.export.result (λ r e. e c.args.catalog.now c.args.opening.now ∙ ap both (open_ready (world_on c.args.catalog.now c.args.opening.now now) Export (txn_at now.txns c.args.at) open')) c.export.ensures.reply)
+    rw c.in-Export.is (if_ok_map _ _ c.export.result (λ r e X. e c.args.catalog.now X ∙ ap both (open_ready (world_on c.args.catalog.now X now) (versions_at c.args.rows.now) Export (txn_at now.txns c.args.at) open')) c.export.ensures.reply)
 
 pub returns-in-Commit-clause-reply : goal.returns-in-Commit-clause-reply
 returns-in-Commit-clause-reply g c =
     let now : Ledger _ = c.args.self.now in
     let found : txn_at now.txns c.args.at ≡ c.index.result.now = txn_at-is now.txns c.args.at c.index.result.now c.requires.within (c.index.ensures ∙ ap (λ (l : Ledger _). get_or l.txns c.args.at c.index.result.now) c.self.view_is) in
     let open' : is_open (txn_at now.txns c.args.at).standing ≡ true = ap (λ (t : Txn _). is_open t.standing) found ∙ sym c.is_active.ensures ∙ c.if-is_active.true in
-    rw c.in-Commit.is (if_ok_map _ _ c.commit.result (λ r e. e c.args.catalog.now c.args.opening.now ∙ ap both (open_ready (world_on c.args.catalog.now c.args.opening.now now) Commit (txn_at now.txns c.args.at) open')) c.commit.ensures.reply)
+    rw c.in-Commit.is (if_ok_map _ _ c.commit.result (λ r e X. e c.args.catalog.now X ∙ ap both (open_ready (world_on c.args.catalog.now X now) (versions_at c.args.rows.now) Commit (txn_at now.txns c.args.at) open')) c.commit.ensures.reply)
+
+pub returns-else-is_active-clause-rows : goal.returns-else-is_active-clause-rows
+returns-else-is_active-clause-rows g c = stay-same c.args.self.now c.settle-else-is_active.new.self c.args.rows.now c.args.rows.now c.settle-else-is_active.ensures.log refl c.requires.current
+
+pub returns-in-Run-clause-rows : goal.returns-in-Run-clause-rows
+returns-in-Run-clause-rows g c = on_ok_map _ _ c.run.result (λ same. stay-same c.args.self.now c.run.new.self c.args.rows.now c.args.rows.now same refl c.requires.current) c.run.ensures.log
+
+pub returns-in-Export-clause-rows : goal.returns-in-Export-clause-rows
+returns-in-Export-clause-rows g c = on_ok_map _ _ c.export.result (λ same. stay-same c.args.self.now c.export.new.self c.args.rows.now c.args.rows.now same refl c.requires.current) c.export.ensures.log
+
+pub returns-in-Run-clause-world : goal.returns-in-Run-clause-world
+returns-in-Run-clause-world g c = rw c.in-Run.is c.run.ensures.world

@@ -3,7 +3,7 @@ use Rattle.schema.specs.Plain.{rows_of}
 use Rattle.schema.specs.Rows.{row_of}
 use Rattle.schema.proofs.PlainLemmas.{length-put_all}
 use Rattle.snapshot.proofs.OverlayLemmas.{row_of-overlaid}
-use Rattle.snapshot.proofs.overlay.OverlaySnapshotReader.get.Goals as goal
+use Rattle.snapshot.proofs.overlay.Overlay.lend.Goals as goal
 
 pub get-requires-in-None : goal.get-requires-in-None
 get-requires-in-None g c = omega (arith, c.requires, length-put_all c.args.self.now.changes.now (g.R.SnapshotReader.tables c.args.self.now.reader.now))

@@ -1,0 +1,20 @@
+-- Changes in the order of writing, and by key: the same for the tables that they are put into.
+-- Source: PostgreSQL manual, Transaction Isolation: a command sees its own transaction's earlier changes.
+use Rattle.std.specs.Prelude.{◌≡◌, List}
+use Rattle.std.specs.List.{AllByRecursion}
+use Rattle.std.specs.List.Sorted.{IsStrictlySortedBy}
+use Rattle.schema.specs.declared.changes.Change.{Change}
+use Rattle.schema.specs.declared.tables.Tables.{Tables}
+use Rattle.schema.specs.Changing.{change_cmp}
+use Rattle.schema.specs.Plain.{put_all}
+use Rattle.schema.specs.Rows.{IsInKeyOrder}
+
+module _ {A : Type 0} where
+  -- the rows of each table are in key order
+  abbrev pub AreInKeyOrder : Tables A → Type 0
+  AreInKeyOrder X = AllByRecursion IsInKeyOrder X
+
+  -- The first changes are by table, then by key, one at most for each; and put into tables they come to the same as the others, put in one after another.
+  pub record AreMerged (ys xs : List (Change A)) : Type 0 where
+    pub by_key : IsStrictlySortedBy change_cmp ys
+    pub same : (X : Tables A) → AreInKeyOrder X → put_all ys X ≡ put_all xs X

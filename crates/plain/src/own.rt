@@ -1,0 +1,193 @@
+// What a transaction has written, and what its statements come to on tables with that put in.
+ghost use Rattle.std.specs.Prelude.{◌≡◌, ◌≤◌, ◌++◌, [], true, length, take, OnOk, OnErr, IfOk, IfErr};
+ghost use Rattle.value.specs.Refusals.{out_of_memory};
+ghost use Rattle.schema.specs.Changing.{put_change};
+ghost use Rattle.schema.specs.Plain.{put_all};
+ghost use Rattle.statement.specs.Evaluation.{outcome};
+ghost use Rattle.statement.specs.Fits.{Fits};
+ghost use Rattle.statement.specs.Walk.{are_of};
+ghost use Rattle.plain.specs.Merged.{AreInKeyOrder, AreMerged};
+
+use crate::added::append_reserved;
+use schema::catalog::Catalog;
+use schema::changes::{Change, Changes};
+use schema::reader::SnapshotReader;
+use schema::row::Row;
+use snapshot::overlay::Overlay;
+use statement::evaluate::evaluate;
+use statement::outcome::Outcome;
+use statement::statement::Statement;
+use std::alloc::{Allocator, Global};
+use std::marker::Model;
+use value::refusal::Refusal;
+use value::value::Value;
+
+/// What a transaction has written, in the order of its statements. Contracts see it as that list.
+#[derive(Drop)]
+pub struct OwnChanges<A: Allocator = Global> {
+    list: Vec<Change<A>, A>,
+    // The first of the list by their keys, of each key the last. The others come to them when a
+    // statement next asks.
+    merged: Changes<A>,
+    count: usize,
+}
+
+impl<A: Allocator> Model for OwnChanges<A> {
+    ghost use Rattle.std.specs.Prelude.{◌≤◌, List, length, take};
+    ghost use Rattle.schema.specs.declared.changes.Change.{Change};
+    ghost use Rattle.plain.specs.Merged.{AreMerged};
+
+    ghost Value = { List (Change A) };
+
+    ghost view = { λ o. o.list.items };
+
+    ghost invariant = { λ o. (o.count ≤ length o.list.items) × AreMerged o.merged (take o.count o.list.items) };
+}
+
+// Equal values.
+fn copy_values<A: Allocator + Copy>(
+    alloc: A,
+    values: &[Value<A>],
+) -> Result<Vec<Value<A>, A>, Refusal>
+    ensures ok { IfOk result (λ copies. copies.items ≡ values.now) }
+    ensures memory { IfErr result (λ e. e ≡ out_of_memory) }
+{
+    let mut copies = Vec::with_capacity(alloc, values.len())?;
+    for value in values {
+        copies.push(value.copy(alloc)?)?;
+    }
+    Ok(copies)
+}
+
+// Puts in a copy of a change, over any of its key.
+fn put_over<A: Allocator + Copy>(
+    alloc: A,
+    merged: &mut Changes<A>,
+    change: &Change<A>,
+) -> Result<(), Refusal>
+    ensures ok { OnOk result (merged.new ≡ put_change merged.old change.now) }
+    ensures err { OnErr result (merged.new ≡ merged.old) }
+    ensures memory { IfErr result (λ e. e ≡ out_of_memory) }
+{
+    let key = change.key().copy(alloc)?;
+    match change.fields() {
+        Some(fields) => {
+            let row = Row::new(key, copy_values(alloc, fields)?);
+            merged.put_row(alloc, change.table(), row)
+        }
+        None => merged.put_absence(alloc, change.table(), key),
+    }
+}
+
+// Merges the rest of a list, of which so many are merged.
+fn merge_rest<A: Allocator + Copy>(
+    alloc: A,
+    merged: &mut Changes<A>,
+    count: &mut usize,
+    list: &[Change<A>],
+) -> Result<(), Refusal>
+    requires within { count.old ≤ length list.now }
+    requires merged { AreMerged merged.old (take count.old list.now) }
+    ensures within { count.new ≤ length list.now }
+    ensures merged { AreMerged merged.new (take count.new list.now) }
+    ensures ok { OnOk result (count.new ≡ length list.now) }
+    ensures memory { IfErr result (λ e. e ≡ out_of_memory) }
+{
+    while *count < list.len() {
+        put_over(alloc, merged, &list[*count])?;
+        *count += 1;
+    }
+    Ok(())
+}
+
+// What comes of a statement on the tables of a reader.
+fn evaluate_on<A: Allocator + Copy, R: SnapshotReader<A>>(
+    alloc: A,
+    catalog: &Catalog<A>,
+    statement: &Statement<A>,
+    reader: &R,
+) -> Result<Outcome<A>, Refusal>
+    requires fits { Fits catalog.now statement.now }
+    requires held { are_of catalog.now (R.tables reader.now) ≡ true }
+    ensures ok { IfOk result (λ o. o ≡ outcome catalog.now statement.now (R.tables reader.now)) }
+    ensures memory { IfErr result (λ e. e ≡ out_of_memory) }
+{
+    match evaluate(alloc, catalog, statement, reader) {
+        Ok(outcome) => Ok(outcome),
+        Err(refusal) => Err(refusal),
+    }
+}
+
+impl<A: Allocator> OwnChanges<A> {
+    /// Nothing.
+    pub fn new(alloc: A) -> OwnChanges<A>
+    where
+        A: Copy,
+        ensures { result ≡ [] }
+    {
+        OwnChanges {
+            list: Vec::new(alloc),
+            merged: Changes::new(alloc),
+            count: 0,
+        }
+    }
+
+    /// The changes, in their order.
+    pub fn as_slice(&self) -> &[Change<A>]
+        ensures { result.now ≡ self.now }
+    {
+        self.list.as_slice()
+    }
+
+    /// Adds changes at the end.
+    pub(crate) fn append(&mut self, changes: Vec<Change<A>, A>) -> Result<(), Refusal>
+        ensures ok { OnOk result (self.new ≡ self.old ++ changes.items) }
+        ensures err { OnErr result (self.new ≡ self.old) }
+        ensures memory { IfErr result (λ e. e ≡ out_of_memory) }
+    {
+        self.list.reserve(changes.len())?;
+        append_reserved(&mut self.list, changes);
+        Ok(())
+    }
+
+    /// The changes by their keys, of each key the last.
+    pub(crate) fn merge(&self, alloc: A) -> Result<Changes<A>, Refusal>
+    where
+        A: Copy,
+        ensures ok { IfOk result (λ merged. AreMerged merged self.now) }
+        ensures memory { IfErr result (λ e. e ≡ out_of_memory) }
+    {
+        let mut merged = Changes::new(alloc);
+        let mut count = 0;
+        merge_rest(alloc, &mut merged, &mut count, self.list.as_slice())?;
+        Ok(merged)
+    }
+
+    /// What comes of a statement on the tables of a reader with these changes put in. The tables
+    /// aren't copied.
+    pub(crate) fn evaluate<R: SnapshotReader<A>>(
+        &mut self,
+        alloc: A,
+        catalog: &Catalog<A>,
+        statement: &Statement<A>,
+        reader: &R,
+    ) -> Result<Outcome<A>, Refusal>
+    where
+        A: Copy,
+        requires fits { Fits catalog.now statement.now }
+        requires order { AreInKeyOrder (R.tables reader.now) }
+        requires held { are_of catalog.now (put_all self.old (R.tables reader.now)) ≡ true }
+        ensures ok { IfOk result (λ o. o ≡ outcome catalog.now statement.now (put_all self.old (R.tables reader.now))) }
+        ensures same { self.new ≡ self.old }
+        ensures memory { IfErr result (λ e. e ≡ out_of_memory) }
+    {
+        merge_rest(
+            alloc,
+            &mut self.merged,
+            &mut self.count,
+            self.list.as_slice(),
+        )?;
+        let own = Overlay::new(reader, &self.merged);
+        evaluate_on(alloc, catalog, statement, &own)
+    }
+}
