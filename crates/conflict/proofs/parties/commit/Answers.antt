@@ -1,0 +1,10 @@
+use Rattle.std.proofs.Common.{◌∙◌, ap, sym, arith}
+use Rattle.std.proofs.lemmas.List.Edits.{map_over_more}
+use Rattle.std.proofs.Math.ListN.{set}
+use Rattle.conflict.specs.Tracked.{with_commit}
+use Rattle.conflict.proofs.parties.commit.Goals as goal
+
+pub loop-party-preserved : goal.loop-party-preserved
+loop-party-preserved g c =
+    ap (set c.loop-party.party-items c.loop-party.party-index) (c.commit.ensures ∙ ap (with_commit c.args.number c.args.commit) (sym c.party-item.is))
+    ∙ map_over_more (with_commit c.args.number c.args.commit) c.deref_mut-party-items.result.now c.loop-party.party-items c.loop-party.party-index c.party-item.result (omega arith) c.loop-party.invariant c.party-item.is

@@ -1,0 +1,5 @@
+pub mod Earliest
+pub mod Later
+pub mod Through
+pub mod Tracked
+pub mod Undo

@@ -1,0 +1,163 @@
+// The active transactions that a commit dooms: each is the pivot of a structure that it closes.
+ghost use Rattle.std.specs.Prelude.{◌≡◌, ◌+◌, ◌<◌, ◌≤◌, [], ◌∷◌, ◌++◌, true, find, length, take};
+ghost use Rattle.std.specs.List.{filter};
+ghost use Rattle.std.specs.Option.{option_map};
+ghost use Rattle.value.specs.Isolation as spec;
+ghost use Rattle.conflict.specs.Tracked.{node, reads};
+
+use crate::cause::structure;
+use crate::party::{Facts, Party};
+use std::alloc::Allocator;
+use std::marker::Model;
+use value::refusal::{Cause, TxnNo};
+
+/// How many transactions a commit can doom: each session but the committer's has one at most.
+pub const MAX_DOOMS: usize = 63;
+
+/// The causes by which a commit dooms active transactions, each the pivot of its cause. It has room
+/// for all of them in itself.
+#[derive(Drop)]
+pub struct Dooms {
+    // The first so many of these.
+    causes: [Cause; 63],
+    count: usize,
+}
+
+impl Model for Dooms {
+    ghost use Rattle.std.specs.Prelude.{◌≤◌, List, take};
+    ghost use Rattle.value.specs.declared.refusal.Cause.{Cause as AnyCause};
+
+    ghost Value = { List AnyCause };
+
+    ghost view = { λ d. take d.count d.causes };
+
+    ghost invariant = { λ d. d.count ≤ 63 };
+}
+
+impl Dooms {
+    /// None is doomed.
+    pub fn none() -> Dooms
+        ensures { result ≡ [] }
+    {
+        let nobody = Cause {
+            a: TxnNo(0),
+            b: TxnNo(0),
+            c: TxnNo(0),
+        };
+        Dooms {
+            causes: [nobody; 63],
+            count: 0,
+        }
+    }
+
+    /// The causes, in the order of their pivots.
+    pub fn causes(&self) -> &[Cause]
+        ensures { result.now ≡ self.now }
+    {
+        &self.causes[..self.count]
+    }
+
+    // Adds a cause.
+    fn push(&mut self, cause: Cause)
+        requires { length self.old < 63 }
+        ensures { self.new ≡ self.old ++ cause ∷ [] }
+    {
+        self.causes[self.count] = cause;
+        self.count += 1;
+    }
+}
+
+// Whether a transaction is another read-write one than the committer, active still.
+fn is_live<A: Allocator>(committer: &Party<A>, party: &Party<A>) -> bool
+    ensures { result ≡ spec.is_live node reads committer.now party.now }
+{
+    let facts = party.facts();
+    facts.number != committer.facts().number && facts.active && facts.read_write
+}
+
+// Whether a transaction is the middle of one of these structures.
+fn is_doomed<A: Allocator>(causes: &[Cause], party: &Party<A>) -> bool
+    ensures { result ≡ spec.is_doomed node reads causes.now party.now }
+{
+    let number = party.facts().number;
+    causes.iter().any(|cause| cause.b.0 == number)
+}
+
+// Whether a transaction may stand first before the pivot.
+fn is_first<A: Allocator>(
+    committer: &Party<A>,
+    causes: &[Cause],
+    pivot: &Party<A>,
+    first: &Party<A>,
+) -> bool
+    ensures { result ≡ spec.is_first node reads committer.now causes.now pivot.now first.now }
+{
+    let number = first.facts().number;
+    let is_committer = number == committer.facts().number;
+    number != pivot.facts().number
+        && (is_committer || is_live(committer, first) && !is_doomed(causes, first))
+        && first.reads_from(pivot)
+}
+
+// The facts of the least that may stand first before the pivot.
+fn first_before<A: Allocator>(
+    parties: &[Party<A>],
+    committer: &Party<A>,
+    causes: &[Cause],
+    pivot: &Party<A>,
+) -> Option<Facts>
+    ensures { result ≡ option_map node (find (spec.is_first node reads committer.now causes.now pivot.now) parties.now) }
+{
+    for first in parties {
+        if is_first(committer, causes, pivot, first) {
+            return Some(first.facts());
+        }
+    }
+    None
+}
+
+// The structure by which a commit dooms the pivot, if there is one.
+fn doom_of<A: Allocator>(
+    parties: &[Party<A>],
+    committer: &Party<A>,
+    causes: &[Cause],
+    pivot: &Party<A>,
+) -> Option<Cause>
+    ensures { result ≡ spec.doom_of node reads parties.now committer.now causes.now pivot.now }
+{
+    if !is_live(committer, pivot) || !pivot.reads_from(committer) {
+        return None;
+    }
+    match first_before(parties, committer, causes, pivot) {
+        Some(first) => Some(structure(first, pivot.facts(), committer.facts())),
+        None => None,
+    }
+}
+
+// Adds the structure by which a commit dooms the pivot, if there is one.
+fn push_doom<A: Allocator>(
+    parties: &[Party<A>],
+    committer: &Party<A>,
+    dooms: &mut Dooms,
+    pivot: &Party<A>,
+)
+    requires { spec.is_live node reads committer.now pivot.now ≡ true → length dooms.old < 63 }
+    ensures { dooms.new ≡ spec.with_doom node reads parties.now committer.now dooms.old pivot.now }
+{
+    if let Some(cause) = doom_of(parties, committer, dooms.causes(), pivot) {
+        dooms.push(cause);
+    }
+}
+
+/// The structures by which a commit dooms active transactions, each the one in its middle, of
+/// transactions in the order of their numbers.
+pub(crate) fn doomed_by<A: Allocator>(parties: &[Party<A>], committer: &Party<A>) -> Dooms
+    requires { length (filter (spec.is_live node reads committer.now) parties.now) ≤ 63 }
+    ensures { result ≡ spec.dooms node reads parties.now committer.now }
+{
+    let mut dooms = Dooms::none();
+    for pivot in parties {
+        push_doom(parties, committer, &mut dooms, pivot);
+    }
+    dooms
+}
