@@ -1,6 +1,7 @@
 //! Versions of rows: views of the tables at a snapshot, which never change.
 #![tactic(auto)]
 
+pub mod at;
 mod chain;
 pub mod laws;
 mod page;

@@ -1,14 +1,15 @@
 //! The tables with their versions.
-ghost use Rattle.std.specs.Prelude.{◌≡◌, ◌≤◌, ◌^◌, length, map, OnOk, OnErr, IfOk, IfErr};
+ghost use Rattle.std.specs.Prelude.{◌≡◌, ◌≤◌, ◌<◌, ◌^◌, length, map, OnOk, OnErr, IfOk, IfErr};
 ghost use Rattle.std.specs.List.{AllByRecursion};
 ghost use Rattle.value.specs.Refusals.{out_of_memory};
 ghost use Rattle.schema.specs.Rows.{HasTable};
 ghost use Rattle.schema.specs.Plain.{rows_of};
-ghost use Rattle.mvrows.specs.Versions.{TablesAreBelow, newest as last_commit, shown};
+ghost use Rattle.mvrows.specs.Versions.{TablesAreBelow, newest as last_commit, shown, versions_of};
 ghost use Rattle.mvrows.specs.Installing.{opened, opened_row, install_change, installed};
 ghost use Rattle.mvrows.specs.Pruning.{pruned, pruned_rows};
 ghost use Rattle.mvrows.specs.HeldRows.{rows_held, undone, IsUndoable, own_pruned, AreVersioned};
 
+use crate::at::At;
 use crate::page::Page;
 use crate::table::Table;
 use crate::view::View;
@@ -185,6 +186,23 @@ impl<A: Allocator> Rows<A> {
                 Err(refusal)
             }
         }
+    }
+
+    /// The tables that a snapshot shows, lent: neither memory is taken nor a row copied. Statements are
+    /// evaluated over it while no view of them has to outlive a change.
+    pub fn at(&self, snapshot: u64) -> At<'_, A>
+        ensures parts { result ≡ record { rows = self.entry; snapshot = snapshot } }
+        ensures count { length (shown snapshot self.now) ≡ length self.now }
+    {
+        At::new(self, snapshot)
+    }
+
+    /// The keys of a table with their versions.
+    pub(crate) fn page(&self, table: TableNo) -> &Page<A>
+        requires { table < length self.now }
+        ensures { result.now ≡ versions_of self.now table }
+    {
+        self.tables[table.place() as usize].page()
     }
 
     /// The number of a key's last commit, 0 for the opening. Nothing where the key was never there,

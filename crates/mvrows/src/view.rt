@@ -51,8 +51,8 @@ impl<A: Allocator> Model for View<A> {
     ghost view = { λ v. tables_of v.source };
 }
 
-// The row of the least key within a bound that a snapshot shows of a page.
-fn next_row<'p, A: Allocator>(
+/// The row of the least key within a bound that a snapshot shows of a page.
+pub(crate) fn next_row<'p, A: Allocator>(
     page: &'p Page<A>,
     snapshot: u64,
     after: Bound<&Key<A>>,
@@ -71,8 +71,12 @@ fn has_key<A: Allocator>(row: &Row<A>, key: &Key<A>) -> bool
     key.cmp(row.key()).is_eq()
 }
 
-// The row of a key that a snapshot shows of a page.
-fn get<'p, A: Allocator>(page: &'p Page<A>, snapshot: u64, key: &Key<A>) -> Option<&'p Row<A>>
+/// The row of a key that a snapshot shows of a page.
+pub(crate) fn get<'p, A: Allocator>(
+    page: &'p Page<A>,
+    snapshot: u64,
+    key: &Key<A>,
+) -> Option<&'p Row<A>>
     ensures { option_copied result ≡ row_of (shown_rows snapshot page.now) key.now }
 {
     match next_row(page, snapshot, Bound::From(key)) {
