@@ -1,14 +1,16 @@
 -- What installing and pruning come to for snapshots.
 -- Source: Ports and Grittner, Serializable Snapshot Isolation in PostgreSQL, on snapshot isolation; PostgreSQL manual, Routine Vacuuming, on recovering disk space.
-use Rattle.std.specs.Prelude.{ℕ, ◌≡◌, ◌<◌, ◌≤◌, List}
+use Rattle.std.specs.Prelude.{ℕ, ◌≡◌, ◌<◌, ◌≤◌, if◌then◌else◌, Some, List, length}
 use Rattle.std.specs.List.{AllByRecursion}
+use Rattle.std.specs.Option.{option_map, option_or}
 use Rattle.value.specs.declared.value.Value.{Value}
 use Rattle.schema.specs.declared.changes.Change.{Change}
 use Rattle.schema.specs.declared.tables.Tables.{Tables}
 use Rattle.schema.specs.Rows.{IsInKeyOrder}
-use Rattle.schema.specs.Plain.{put_all}
+use Rattle.schema.specs.Plain.{put_all, row_at}
 use Rattle.mvrows.specs.Versions.{VersionedRows, AreInOrder, TablesAreBelow, shown, newest}
 use Rattle.mvrows.specs.Installing.{opened, installed}
+use Rattle.mvrows.specs.Commits.{changes_key, installed_from, last_change}
 use Rattle.mvrows.specs.Pruning.{ArePruned, KeepsNewest, pruned}
 
 -- every snapshot shows the opening
@@ -46,3 +48,15 @@ StaysInOrder A = (tables : List (VersionedRows A)) (changes : List (Change A)) (
 -- versions are of commits below the next
 abbrev pub StaysBelow : Type 0 → Type 0
 StaysBelow A = (tables : List (VersionedRows A)) (changes : List (Change A)) (commit next oldest : ℕ) → commit < next → TablesAreBelow next tables → TablesAreBelow next (installed commit changes tables) × TablesAreBelow next (pruned oldest tables)
+
+-- the number of the last commit of a key is 0 where the opening has it
+abbrev pub NewestIsOpening : Type 0 → Type 0
+NewestIsOpening A = (tables : Tables A) (t : ℕ) (key : Value A) → newest (opened tables) t key ≡ option_map (λ _. 0) (row_at tables t key)
+
+-- after a commit it is that commit's where it changes the key, else as before
+abbrev pub NewestIsInstalled : Type 0 → Type 0
+NewestIsInstalled A = (tables : List (VersionedRows A)) (changes : List (Change A)) (commit t : ℕ) (key : Value A) → t < length tables → newest (installed commit changes tables) t key ≡ (if changes_key changes t key then Some commit else newest tables t key)
+
+-- after commits one after another it is that of the last of them that changes the key, or as before
+abbrev pub NewestIsLast : Type 0 → Type 0
+NewestIsLast A = (tables : List (VersionedRows A)) (commits : List (List (Change A))) (first t : ℕ) (key : Value A) → t < length tables → newest (installed_from first commits tables) t key ≡ option_or (last_change first commits t key) (newest tables t key)

@@ -1,3 +1,4 @@
+pub mod Commits
 pub mod Held
 pub mod HeldRows
 pub mod Installing

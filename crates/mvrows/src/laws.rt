@@ -1,5 +1,5 @@
 //! What holds of versions, whatever was installed and pruned.
-ghost use Rattle.mvrows.specs.Laws.{OpeningIsShown, OpeningIsFirst, ShowsInstalled, HidesInstalled, PruningIsHidden, PruningLeavesOne, PruningKeepsNewest, StaysInOrder, StaysBelow};
+ghost use Rattle.mvrows.specs.Laws.{OpeningIsShown, OpeningIsFirst, ShowsInstalled, HidesInstalled, PruningIsHidden, PruningLeavesOne, PruningKeepsNewest, StaysInOrder, StaysBelow, NewestIsOpening, NewestIsInstalled, NewestIsLast};
 
 use std::alloc::Allocator;
 
@@ -32,4 +32,12 @@ pub fn pruning_is_hidden<A: Allocator>()
 pub fn versions_stay_ordered<A: Allocator>()
     ensures order { StaysInOrder A }
     ensures below { StaysBelow A }
+{}
+
+/// The number of a key's last commit is that of the last commit that changes it, or 0 where only the
+/// opening has the key.
+pub fn newest_is_the_last_change<A: Allocator>()
+    ensures opening { NewestIsOpening A }
+    ensures installed { NewestIsInstalled A }
+    ensures last { NewestIsLast A }
 {}
