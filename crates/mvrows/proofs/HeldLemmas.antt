@@ -1,5 +1,5 @@
 -- A table's keys while a commit is under way.
-use Rattle.std.proofs.Common.{suc, zero, ◌≡◌, refl, sym, ap, subst, ◌∙◌, ℕ, ◌+◌, ◌<◌, ◌≤◌, Bool, true, false, true≢false, cond, List, [], ◌∷◌, ◌++◌, take, drop, map, length, get_or, set, arith, add-one}
+use Rattle.std.proofs.Common.{append_assoc, suc, zero, ◌≡◌, refl, sym, ap, subst, ◌∙◌, ℕ, ◌+◌, ◌<◌, ◌≤◌, Bool, true, false, true≢false, cond, List, [], ◌∷◌, ◌++◌, take, drop, map, length, get_or, set, arith, add-one}
 use Rattle.std.specs.Prelude.{filter, Result, Ok, Err, OnOk, OnErr}
 use Rattle.std.specs.List.{AllByRecursion}
 use Rattle.std.specs.List.Sorted.{IsStrictlySortedBy}
@@ -18,7 +18,7 @@ use Rattle.mvrows.specs.Versions.{Version, KeyVersions, VersionedRows, IsInOrder
 use Rattle.mvrows.specs.Installing.{opened_row, opened, first_version, newer, put_version, install_change, installed}
 use Rattle.mvrows.specs.Pruning.{has_version, pruned_key, pruned}
 use Rattle.mvrows.specs.TakenBack.{versions_before, key_before, rows_before}
-use Rattle.mvrows.specs.HeldRows.{Held, rows_held, undone, IsUndoable, AreVersioned}
+use Rattle.mvrows.specs.HeldRows.{Held, rows_in, rows_held, undone, undone_in, IsUndoable, AreUndoable, AllVersioned, AreVersioned}
 use Rattle.mvrows.proofs.VersionLemmas.{IsLeast, all-set, all-get_or}
 
 -- a list that is cut before an element
@@ -37,6 +37,20 @@ take-cut xs i x rest cut = rw add-one (take_suc-cut xs i x rest cut)
 
 drop-cut : {X : Type 0} (xs : List X) (i : ℕ) (x : X) (rest : List X) → drop i xs ≡ x ∷ rest → drop (i + 1) xs ≡ rest
 drop-cut xs i x rest cut = rw add-one (drop_suc-cut xs i x rest cut)
+
+pub all-append : {X : Type 0} (P : X → Type 0) (xs ys : List X) → AllByRecursion P (xs ++ ys) → AllByRecursion P xs × AllByRecursion P ys
+all-append P [] ys all = (tt, all)
+all-append P (x ∷ xs) ys all = let rest = all-append P xs ys all.1 in ((all.0, rest.0), rest.1)
+
+-- a function of each element that a change leaves
+pub same-set : {X Y : Type 0} (f : X → Y) (xs : List X) (t : ℕ) (h old : X) → old ≡ get_or xs t old → f h ≡ f old → map f (set xs t h) ≡ map f xs
+same-set f xs t h old at same =
+    map-set f xs t h ∙ ap (set (map f xs) t) (same ∙ ap f at) ∙ sym (map-set f xs t (get_or xs t old)) ∙ ap (map f) (set-get_or xs t old)
+
+pub element-at : {X : Type 0} (P : X → Type 0) (xs : List X) (t : ℕ) (old : X) → t < length xs → old ≡ get_or xs t old → AllByRecursion P xs → P old
+element-at P [] t old lt at all = absurd (omega arith)
+element-at P (h ∷ hs) zero old lt at all = subst P (sym at) all.0
+element-at P (h ∷ hs) (suc t) old lt at all = element-at P hs t old (omega arith) at all.1
 
 module _ {A : Type 0} where
   -- ---- taking back
@@ -106,7 +120,7 @@ module _ {A : Type 0} where
   -- ---- a table while a commit is under way
 
   -- what it has for itself
-  undone-own : (commit : ℕ) (h : Held A) → h.own ≡ true → undone commit h ≡ rows_before commit h.rows
+  pub undone-own : (commit : ℕ) (h : Held A) → h.own ≡ true → undone commit h ≡ rows_before commit h.rows
   undone-own commit h own = ap (λ b. cond b (rows_before commit h.rows) h.rows) own
 
   -- taking the rows of a table for itself changes nothing of what taking back leaves
@@ -116,6 +130,14 @@ module _ {A : Type 0} where
       go : (b : Bool) → old.own ≡ b → rows_before commit old.rows ≡ cond b (rows_before commit old.rows) old.rows
       go true e = refl
       go false e = before-below commit old.rows versioned (undoable e)
+
+  -- where a page can be undone, its versions before a commit are what taking back leaves of it
+  pub undone-kept : (commit : ℕ) (h : Held A) → AllVersioned h.rows → IsUndoable commit h → rows_before commit h.rows ≡ undone commit h
+  undone-kept commit h versioned undoable = go h.own refl
+    where
+      go : (b : Bool) → h.own ≡ b → rows_before commit h.rows ≡ cond b (rows_before commit h.rows) h.rows
+      go true e = refl
+      go false e = before-below commit h.rows versioned (undoable e)
 
   pub undoable-own : (commit : ℕ) (h : Held A) → h.own ≡ true → IsUndoable commit h
   undoable-own commit h own = λ shared. absurd (true≢false (sym own ∙ shared))
@@ -137,38 +159,52 @@ module _ {A : Type 0} where
   installed-append commit (x ∷ xs) ys tables = installed-append commit xs ys (install_change commit x tables)
 
   -- before any change
-  pub undoable-below : (commit : ℕ) (tables : List (Held A)) → TablesAreBelow commit (rows_held tables) → AllByRecursion (IsUndoable commit) tables
-  undoable-below commit [] below = tt
-  undoable-below commit (h ∷ hs) below = ((λ shared. below.0), undoable-below commit hs below.1)
 
-  pub undone-below : (commit : ℕ) (tables : List (Held A)) → AreVersioned (rows_held tables) → TablesAreBelow commit (rows_held tables) → map (undone commit) tables ≡ rows_held tables
-  undone-below commit [] versioned below = refl
-  undone-below commit (h ∷ hs) versioned below = λ i. go h.own i ∷ undone-below commit hs versioned.1 below.1 i
+  leaves_undoable : (commit : ℕ) (leaves : List (Held A)) → RowsAreBelow commit (rows_in leaves) → AreUndoable commit leaves
+  leaves_undoable commit [] below = tt
+  leaves_undoable commit (h ∷ hs) below =
+      let parts = all-append (λ k. AreBelow commit k.versions) h.rows (rows_in hs) below in
+      ((λ shared. parts.0), leaves_undoable commit hs parts.1)
+
+  pub undoable-below : (commit : ℕ) (tables : List (List (Held A))) → TablesAreBelow commit (rows_held tables) → AllByRecursion (AreUndoable commit) tables
+  undoable-below commit [] below = tt
+  undoable-below commit (leaves ∷ more) below = (leaves_undoable commit leaves below.0, undoable-below commit more below.1)
+
+  leaves_undone : (commit : ℕ) (leaves : List (Held A)) → AllVersioned (rows_in leaves) → RowsAreBelow commit (rows_in leaves) → undone_in commit leaves ≡ rows_in leaves
+  leaves_undone commit [] versioned below = refl
+  leaves_undone commit (h ∷ hs) versioned below =
+      let all = all-append (λ k. has_version k ≡ true) h.rows (rows_in hs) versioned in
+      let parts = all-append (λ k. AreBelow commit k.versions) h.rows (rows_in hs) below in
+      λ i. go h.own all.0 parts.0 i ++ leaves_undone commit hs all.1 parts.1 i
     where
-      go : (b : Bool) → cond b (rows_before commit h.rows) h.rows ≡ h.rows
-      go true = before-below commit h.rows versioned.0 below.0
-      go false = refl
+      go : (b : Bool) → AllVersioned h.rows → RowsAreBelow commit h.rows → cond b (rows_before commit h.rows) h.rows ≡ h.rows
+      go true all small = before-below commit h.rows all small
+      go false all small = refl
+
+  pub undone-below : (commit : ℕ) (tables : List (List (Held A))) → AreVersioned (rows_held tables) → TablesAreBelow commit (rows_held tables) → map (undone_in commit) tables ≡ rows_held tables
+  undone-below commit [] versioned below = refl
+  undone-below commit (leaves ∷ more) versioned below = λ i. leaves_undone commit leaves versioned.0 below.0 i ∷ undone-below commit more versioned.1 below.1 i
 
   -- one table changed
-  pub held-set : (tables : List (Held A)) (t : ℕ) (h : Held A) (commit : ℕ) (x : Change A) (old : Held A) → t ≡ x.table → t < length tables → old ≡ get_or tables t old → h.rows ≡ put_version x.key (record { number = commit; fields = x.fields }) old.rows → rows_held (set tables t h) ≡ install_change commit x (rows_held tables)
+  pub held-set : (tables : List (List (Held A))) (t : ℕ) (h : List (Held A)) (commit : ℕ) (x : Change A) (old : List (Held A)) → t ≡ x.table → t < length tables → old ≡ get_or tables t old → rows_in h ≡ put_version x.key (record { number = commit; fields = x.fields }) (rows_in old) → rows_held (set tables t h) ≡ install_change commit x (rows_held tables)
   held-set tables t h commit x old place lt at put =
-      map-set (λ y. y.rows) tables t h
-      ∙ ap (set (rows_held tables) t) (put ∙ ap (put_version x.key (record { number = commit; fields = x.fields })) (ap (λ y. y.rows) at ∙ rows_at tables t old lt))
+      map-set rows_in tables t h
+      ∙ ap (set (rows_held tables) t) (put ∙ ap (put_version x.key (record { number = commit; fields = x.fields })) (ap rows_in at ∙ rows_at tables t old lt))
       ∙ ap (λ n. set (rows_held tables) n (put_version x.key (record { number = commit; fields = x.fields }) (versions_of (rows_held tables) n))) place
     where
-      rows_at : (hs : List (Held A)) (i : ℕ) (d : Held A) → i < length hs → (get_or hs i d).rows ≡ get_or (rows_held hs) i []
+      rows_at : (hs : List (List (Held A))) (i : ℕ) (d : List (Held A)) → i < length hs → rows_in (get_or hs i d) ≡ get_or (rows_held hs) i []
       rows_at [] i d small = absurd (omega arith)
       rows_at (y ∷ ys) zero d small = refl
       rows_at (y ∷ ys) (suc i) d small = rows_at ys i d (omega arith)
 
-  pub held-past : (tables : List (Held A)) (t : ℕ) (commit : ℕ) (x : Change A) → t ≡ x.table → length tables ≤ t → rows_held tables ≡ install_change commit x (rows_held tables)
-  held-past tables t commit x place past = sym (ap (λ n. set (rows_held tables) n (put_version x.key (record { number = commit; fields = x.fields }) (versions_of (rows_held tables) n))) (sym place) ∙ set_past (rows_held tables) t _ (rw (length-map tables (λ (y : Held A). y.rows)) past))
+  pub held-past : (tables : List (List (Held A))) (t : ℕ) (commit : ℕ) (x : Change A) → t ≡ x.table → length tables ≤ t → rows_held tables ≡ install_change commit x (rows_held tables)
+  held-past tables t commit x place past = sym (ap (λ n. set (rows_held tables) n (put_version x.key (record { number = commit; fields = x.fields }) (versions_of (rows_held tables) n))) (sym place) ∙ set_past (rows_held tables) t _ (rw (length-map tables (λ (y : List (Held A)). rows_in y)) past))
 
 -- a commit's changes are installed, and could be taken back
-pub record UnderWay {A : Type 0} (commit : ℕ) (xs : List (Change A)) (old new : List (Held A)) : Type 0 where
+pub record UnderWay {A : Type 0} (commit : ℕ) (xs : List (Change A)) (old new : List (List (Held A))) : Type 0 where
   pub done : rows_held new ≡ installed commit xs (rows_held old)
-  pub undo : map (undone commit) new ≡ map (undone commit) old
-  pub undoable : AllByRecursion (IsUndoable commit) new
+  pub undo : map (undone_in commit) new ≡ map (undone_in commit) old
+  pub undoable : AllByRecursion (AreUndoable commit) new
   pub versioned : AreVersioned (rows_held new)
 
 -- ---- a loop over a list that changes its elements
@@ -230,7 +266,7 @@ module _ {A : Type 0} where
   front-in_order (x ∷ xs) y ys sorted = (front-least x.key xs y ys sorted.0, front-in_order xs y ys sorted.1)
 
   -- one more change
-  pub under_way-more : (commit : ℕ) (xs : List (Change A)) (x : Change A) (start old new : List (Held A)) → rows_held new ≡ install_change commit x (rows_held old) → map (undone commit) new ≡ map (undone commit) old → AllByRecursion (IsUndoable commit) new → AreVersioned (rows_held new) → UnderWay commit xs start old → UnderWay commit (xs ++ x ∷ []) start new
+  pub under_way-more : (commit : ℕ) (xs : List (Change A)) (x : Change A) (start old new : List (List (Held A))) → rows_held new ≡ install_change commit x (rows_held old) → map (undone_in commit) new ≡ map (undone_in commit) old → AllByRecursion (AreUndoable commit) new → AreVersioned (rows_held new) → UnderWay commit xs start old → UnderWay commit (xs ++ x ∷ []) start new
   under_way-more commit xs x start old new put undo undoable versioned so_far = record {
     done = put ∙ ap (install_change commit x) so_far.done ∙ sym (installed-append commit xs (x ∷ []) (rows_held start));
     undo = undo ∙ so_far.undo;
@@ -238,45 +274,23 @@ module _ {A : Type 0} where
     versioned = versioned;
   }
 
-  -- a table is opened after those before
-  pub opened-more : (tables : Tables A) (i : ℕ) → i < length tables → map (map opened_row) (take (i + 1) tables) ≡ map (map opened_row) (take i tables) ++ map opened_row (get_or tables i []) ∷ []
-  opened-more tables i lt = ap (map (map opened_row)) (take_more tables i [] lt) ∙ map-append (map opened_row) (take i tables) (get_or tables i [] ∷ [])
-
   -- ---- one table changed
 
-  -- a function of each table that the change leaves
-  pub same-set : {Y : Type 0} (f : Held A → Y) (tables : List (Held A)) (t : ℕ) (h old : Held A) → old ≡ get_or tables t old → f h ≡ f old → map f (set tables t h) ≡ map f tables
-  same-set f tables t h old at same =
-      map-set f tables t h ∙ ap (set (map f tables) t) (same ∙ ap f at) ∙ sym (map-set f tables t (get_or tables t old)) ∙ ap (map f) (set-get_or tables t old)
-
   -- what holds of each table's rows holds of one's
-  pub rows-at : (P : VersionedRows A → Type 0) (tables : List (Held A)) (t : ℕ) (old : Held A) → t < length tables → old ≡ get_or tables t old → AllByRecursion P (rows_held tables) → P old.rows
+  pub rows-at : (P : VersionedRows A → Type 0) (tables : List (List (Held A))) (t : ℕ) (old : List (Held A)) → t < length tables → old ≡ get_or tables t old → AllByRecursion P (rows_held tables) → P (rows_in old)
   rows-at P [] t old lt at all = absurd (omega arith)
-  rows-at P (h ∷ hs) zero old lt at all = subst (λ x. P x.rows) (sym at) all.0
+  rows-at P (h ∷ hs) zero old lt at all = subst (λ x. P (rows_in x)) (sym at) all.0
   rows-at P (h ∷ hs) (suc t) old lt at all = rows-at P hs t old (omega arith) at all.1
 
-  pub table-at : (P : Held A → Type 0) (tables : List (Held A)) (t : ℕ) (old : Held A) → t < length tables → old ≡ get_or tables t old → AllByRecursion P tables → P old
-  table-at P [] t old lt at all = absurd (omega arith)
-  table-at P (h ∷ hs) zero old lt at all = subst P (sym at) all.0
-  table-at P (h ∷ hs) (suc t) old lt at all = table-at P hs t old (omega arith) at all.1
+  versioned-either : {T E : Type 0} (r : Result T E) (k : Value A) (v : Version A) (old new : VersionedRows A) → OnOk r (new ≡ put_version k v old) → OnErr r (new ≡ old) → AllVersioned old → AllVersioned new
+  versioned-either (Ok x) k v old new ok err all = subst AllVersioned (sym ok) (put-versioned k v old all)
+  versioned-either (Err e) k v old new ok err all = subst AllVersioned (sym err) all
 
-  versioned-either : {T E : Type 0} (r : Result T E) (k : Value A) (v : Version A) (old new : VersionedRows A) → OnOk r (new ≡ put_version k v old) → OnErr r (new ≡ old) → AllByRecursion (λ x. has_version x ≡ true) old → AllByRecursion (λ x. has_version x ≡ true) new
-  versioned-either (Ok x) k v old new ok err all = subst (AllByRecursion (λ (y : KeyVersions A). has_version y ≡ true)) (sym ok) (put-versioned k v old all)
-  versioned-either (Err e) k v old new ok err all = subst (AllByRecursion (λ (y : KeyVersions A). has_version y ≡ true)) (sym err) all
-
-  pub versioned-set : {T E : Type 0} (r : Result T E) (k : Value A) (v : Version A) (tables : List (Held A)) (t : ℕ) (h old : Held A) → t < length tables → old ≡ get_or tables t old → OnOk r (h.rows ≡ put_version k v old.rows) → OnErr r (h.rows ≡ old.rows) → AreVersioned (rows_held tables) → AreVersioned (rows_held (set tables t h))
+  pub versioned-set : {T E : Type 0} (r : Result T E) (k : Value A) (v : Version A) (tables : List (List (Held A))) (t : ℕ) (h old : List (Held A)) → t < length tables → old ≡ get_or tables t old → OnOk r (rows_in h ≡ put_version k v (rows_in old)) → OnErr r (rows_in h ≡ rows_in old) → AreVersioned (rows_held tables) → AreVersioned (rows_held (set tables t h))
   versioned-set r k v tables t h old lt at ok err all =
-      subst AreVersioned (sym (map-set (λ x. x.rows) tables t h))
-      (all-set (AllByRecursion (λ (x : KeyVersions A). has_version x ≡ true)) (rows_held tables) t h.rows
-      (versioned-either r k v old.rows h.rows ok err (rows-at (AllByRecursion (λ (x : KeyVersions A). has_version x ≡ true)) tables t old lt at all)) all)
-
-  -- one more table of the opening
-  pub opening-more : (tables : Tables A) (i : ℕ) (items more : List (Held A)) (h : Held A) → i < length tables → more ≡ items ++ h ∷ [] → h.rows ≡ map opened_row (get_or tables i []) → rows_held items ≡ map (map opened_row) (take i tables) → rows_held more ≡ map (map opened_row) (take (i + 1) tables)
-  opening-more tables i items more h lt push is so_far =
-      ap rows_held push ∙ map-append (λ x. x.rows) items (h ∷ []) ∙ (λ j. so_far j ++ is j ∷ []) ∙ sym (opened-more tables i lt)
-
-  pub opening-whole : (tables : Tables A) (i : ℕ) (items shared : List (Held A)) → length tables ≤ i → rows_held shared ≡ rows_held items → rows_held items ≡ map (map opened_row) (take i tables) → rows_held shared ≡ opened tables
-  opening-whole tables i items shared past same so_far = same ∙ so_far ∙ ap (map (map opened_row)) (take_all i tables past)
+      subst AreVersioned (sym (map-set rows_in tables t h))
+      (all-set AllVersioned (rows_held tables) t (rows_in h)
+      (versioned-either r k v (rows_in old) (rows_in h) ok err (rows-at AllVersioned tables t old lt at all)) all)
 
   -- ---- the opening is first
 
@@ -291,3 +305,16 @@ module _ {A : Type 0} where
   pub opened-below : (n : ℕ) (tables : Tables A) → 0 < n → TablesAreBelow n (opened tables)
   opened-below n [] positive = tt
   opened-below n (rows ∷ tables) positive = (opened_rows-below n rows positive, opened-below n tables positive)
+
+  -- ---- tables opened one after another
+
+  -- one more table of the opening
+  pub open_tables-step : {X : Type 0} (f : X → List (Row A)) (opening more : List (List (Held A))) (table : List (Held A)) (x : X) (rest left : List X) (whole : List (VersionedRows A))
+      → more ≡ opening ++ table ∷ [] → rows_in table ≡ map opened_row (f x) → rest ≡ x ∷ left → rows_held opening ++ opened (map f rest) ≡ whole → rows_held more ++ opened (map f left) ≡ whole
+  open_tables-step f opening more table x rest left whole push made step so_far =
+      ap (λ ls. rows_held ls ++ opened (map f left)) push
+      ∙ ap (λ rs. rs ++ opened (map f left)) (map-append rows_in opening (table ∷ []))
+      ∙ append_assoc (rows_held opening) (rows_in table ∷ []) (opened (map f left))
+      ∙ ap (λ rows. rows_held opening ++ rows ∷ opened (map f left)) made
+      ∙ ap (λ xs. rows_held opening ++ opened (map f xs)) (sym step)
+      ∙ so_far

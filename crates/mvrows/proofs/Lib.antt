@@ -1,5 +1,7 @@
 pub mod ChainLemmas
 pub mod HeldLemmas
+pub mod JoinedLemmas
+pub mod LeavesLemmas
 pub mod NewestLemmas
 pub mod PageLemmas
 pub mod PruningLemmas

@@ -1,6 +1,6 @@
 -- Keys in key order: where one stands, and what is changed there.
-use Rattle.std.proofs.Common.{suc, zero, ◌≡◌, refl, sym, ap, subst, ◌∙◌, ℕ, ◌+◌, ◌<◌, ◌≤◌, Bool, true, false, true≢false, not, cond, List, [], ◌∷◌, ◌++◌, take, drop, map, length, Option, Some, None, get_or, set, arith, Bor, add-one}
-use Rattle.std.specs.Prelude.{slice_get, filter, Result, Ok, Err, OnOk, OnErr}
+use Rattle.std.proofs.Common.{suc, zero, ◌≡◌, refl, sym, ap, subst, ◌∙◌, ℕ, ◌+◌, ◌-◌, ◌<◌, ◌≤◌, Bool, true, false, true≢false, not, ◌&&◌, cond, List, [], ◌∷◌, ◌++◌, take, drop, map, length, Option, Some, None, get_or, set, arith, Bor, add-one}
+use Rattle.std.specs.Prelude.{slice_get, filter, find, Result, Ok, Err, OnOk, OnErr}
 use Rattle.std.specs.List.{AllByRecursion, AllWithin, cons_option}
 use Rattle.std.specs.List.Sorted.{IsStrictlySortedBy, IsPartitionedBy, IsPartitionPoint}
 use Rattle.std.specs.Option.{option_map, option_map_or}
@@ -17,15 +17,16 @@ use Rattle.schema.specs.declared.reader.Bound.{Bound}
 use Rattle.schema.specs.Plain.{same}
 use Rattle.schema.specs.Rows.{is_within, next_row}
 use Rattle.schema.proofs.RowsInOrder.{later_within}
-use Rattle.mvrows.specs.Versions.{Version, KeyVersions, VersionedRows, IsInOrder, shown_fields, shown_row, shown_rows, newest_version, newest_in}
+use Rattle.mvrows.specs.Versions.{Version, KeyVersions, VersionedRows, IsInOrder, shown_fields, shown_row, shown_rows, newest_version}
 use Rattle.mvrows.specs.Installing.{first_version, newer, put_version}
 use Rattle.mvrows.specs.Pruning.{pruned_key, has_version, pruned_rows}
+use Rattle.mvrows.specs.HeldRows.{is_before, has_keys}
 use Rattle.mvrows.proofs.VersionLemmas.{IsLeast, put_version-in_order}
 use Rattle.mvrows.proofs.PruningLemmas.{not_above}
 
 -- ---- where a test turns
 
-abbrev Pairwise : {X : Type 0} → (X → X → Type 0) → List X → Type 0
+abbrev pub Pairwise : {X : Type 0} → (X → X → Type 0) → List X → Type 0
 Pairwise R [] = Unit {0}
 Pairwise R (x ∷ xs) = AllByRecursion (R x) xs × Pairwise R xs
 
@@ -34,7 +35,7 @@ all-at P [] i d lt all = absurd (omega arith)
 all-at P (x ∷ xs) zero d lt all = all.0
 all-at P (x ∷ xs) (suc i) d lt all = all-at P xs i d (omega arith) all.1
 
-partitioned-pairwise : {X : Type 0} (p : X → Bool) (R : X → X → Type 0) → ((x y : X) → R x y → p y ≡ true → p x ≡ true) → (xs : List X) → Pairwise R xs → IsPartitionedBy p xs
+pub partitioned-pairwise : {X : Type 0} (p : X → Bool) (R : X → X → Type 0) → ((x y : X) → R x y → p y ≡ true → p x ≡ true) → (xs : List X) → Pairwise R xs → IsPartitionedBy p xs
 partitioned-pairwise p R step [] pairs = λ i j d le lt yes. absurd (omega arith)
 partitioned-pairwise {X} p R step (x ∷ xs) pairs = go (partitioned-pairwise p R step xs pairs.1)
   where
@@ -44,12 +45,12 @@ partitioned-pairwise {X} p R step (x ∷ xs) pairs = go (partitioned-pairwise p 
     go rest (suc i) zero d le lt passes = absurd (omega arith)
     go rest (suc i) (suc j) d le lt passes = rest i j d (omega arith) (omega arith) passes
 
-all-take : {X : Type 0} (P : X → Type 0) (i : ℕ) (xs : List X) → i ≤ length xs → AllWithin P xs 0 i → AllByRecursion P (take i xs)
+pub all-take : {X : Type 0} (P : X → Type 0) (i : ℕ) (xs : List X) → i ≤ length xs → AllWithin P xs 0 i → AllByRecursion P (take i xs)
 all-take P zero xs le h = tt
 all-take P (suc i) [] le h = tt
 all-take P (suc i) (x ∷ xs) le h = (h 0 x (omega arith) (omega arith), all-take P i xs (omega arith) (λ k d low high. h (suc k) d (omega arith) (omega arith)))
 
-all-drop : {X : Type 0} (P : X → Type 0) (i : ℕ) (xs : List X) → AllWithin P xs i (length xs) → AllByRecursion P (drop i xs)
+pub all-drop : {X : Type 0} (P : X → Type 0) (i : ℕ) (xs : List X) → AllWithin P xs i (length xs) → AllByRecursion P (drop i xs)
 all-drop P zero [] h = tt
 all-drop P zero (x ∷ xs) h = (h 0 x (omega arith) (omega arith), all-drop P zero xs (λ k d low high. h (suc k) d (omega arith) (omega arith)))
 all-drop P (suc i) [] h = tt
@@ -87,7 +88,7 @@ slice_get-below (y ∷ ys) (suc i) x e = let lt : i < length ys = slice_get-belo
 pub drop-at : {X : Type 0} (xs : List X) (i : ℕ) (x : X) → slice_get xs i ≡ Some x → drop i xs ≡ x ∷ drop (i + 1) xs
 drop-at xs i x e = rw add-one (slice_get-drop xs i x e)
 
-greater : (o : Ordering) → is_le o ≡ false → o ≡ Greater
+pub greater : (o : Ordering) → is_le o ≡ false → o ≡ Greater
 greater Less e = cc
 greater Equal e = cc
 greater Greater e = refl
@@ -124,6 +125,10 @@ pub on_ok : {T E : Type 0} (r : Result T E) (P Q : Type 0) → (P → Q) → OnO
 on_ok (Ok x) P Q f p = f p
 on_ok (Err e) P Q f p = p
 
+and_true : (b : Bool) → (b && true) ≡ b
+and_true true = refl
+and_true false = refl
+
 module _ {A : Type 0} where
   -- a key before a bound
   abbrev pub is_early : Bound (Bor (Key A)) → KeyVersions A → Bool
@@ -154,13 +159,70 @@ module _ {A : Type 0} where
   pub all-late : (bound : Bound (Bor (Key A))) (rows : VersionedRows A) (i : ℕ) → IsPartitionPoint (λ y. is_early bound y ≡ true) (λ y. is_early bound y ≡ false) rows i → AllByRecursion (λ k. is_within bound k.key ≡ true) (drop i rows)
   all-late bound rows i point = all-weaker (λ y. is_early bound y ≡ false) (λ k. is_within bound k.key ≡ true) (λ y. not-false (is_within bound y.key)) (drop i rows) (all-drop (λ y. is_early bound y ≡ false) i rows point.1)
 
+  -- ---- whether any key is within a bound is told by the last one
+
+  least-at : (a : Value A) (rows : VersionedRows A) (i : ℕ) (k : KeyVersions A) → IsLeast a rows → slice_get rows i ≡ Some k → value_cmp a k.key ≡ Less
+  least-at a [] i k least at = cc
+  least-at a (r ∷ rs) zero k least at = let same : r ≡ k = cc in subst (λ x. value_cmp a x.key ≡ Less) same least.0
+  least-at a (r ∷ rs) (suc i) k least at = least-at a rs i k least.1 at
+
+  last-tells : (bound : Bound (Bor (Key A))) (rows : VersionedRows A) (i : ℕ) (k : KeyVersions A) → IsInOrder rows → slice_get rows i ≡ Some k → length rows ≡ suc i → not (is_within bound k.key) ≡ is_before bound rows
+  unfolding IsStrictlySortedBy
+  last-tells bound [] i k sorted at len = cc
+  last-tells bound (r ∷ []) zero k sorted at len = let same : r ≡ k = cc in ap (λ x. not (is_within bound x.key)) (sym same) ∙ sym (and_true (not (is_within bound r.key)))
+  last-tells bound (r ∷ s ∷ rs) zero k sorted at len = absurd (omega (arith, len))
+  last-tells bound (r ∷ rs) (suc i) k sorted at len = go (is_within bound r.key) refl (last-tells bound rs i k sorted.1 at (omega (arith, len)))
+    where
+      go : (b : Bool) → is_within bound r.key ≡ b → not (is_within bound k.key) ≡ is_before bound rs → not (is_within bound k.key) ≡ (not b && is_before bound rs)
+      go false e rest = rest
+      go true e rest = ap not (later_within bound r.key k.key (least-at r.key rs i k sorted.0 at) e)
+
+  pub before-last : (bound : Bound (Bor (Key A))) (rows : VersionedRows A) (k : KeyVersions A) → IsInOrder rows → slice_get rows (length rows - 1) ≡ Some k → not (is_within bound k.key) ≡ is_before bound rows
+  before-last bound rows k sorted at = let lt = slice_get-below rows (length rows - 1) k at in last-tells bound rows (length rows - 1) k sorted at (omega (arith, lt))
+
+  pub before-none : (bound : Bound (Bor (Key A))) (rows : VersionedRows A) → slice_get rows (length rows - 1) ≡ None → true ≡ is_before bound rows
+  before-none bound [] at = refl
+  before-none bound (r ∷ rs) at = absurd (none (r ∷ rs) (length (r ∷ rs) - 1) (omega arith) at)
+    where
+      none : {X : Type 0} (xs : List X) (j : ℕ) → j < length xs → slice_get xs j ≡ None → ⊥
+      none [] j lt e = absurd (omega arith)
+      none (x ∷ xs) zero lt e = cc
+      none (x ∷ xs) (suc j) lt e = none xs j (omega arith) e
+
+  pub one-in_order : (k : KeyVersions A) (rows : VersionedRows A) → rows ≡ k ∷ [] → IsInOrder rows
+  unfolding IsStrictlySortedBy
+  one-in_order k rows e = subst IsInOrder (sym e) (tt, tt)
+
   -- ---- parts in order
 
-  in_order-drop : (i : ℕ) (rows : VersionedRows A) → IsInOrder rows → IsInOrder (drop i rows)
+  pub in_order-drop : (i : ℕ) (rows : VersionedRows A) → IsInOrder rows → IsInOrder (drop i rows)
   unfolding IsStrictlySortedBy
   in_order-drop zero rows sorted = sorted
   in_order-drop (suc i) [] sorted = sorted
   in_order-drop (suc i) (r ∷ rs) sorted = in_order-drop i rs sorted.1
+
+  least-take : (k : Value A) (i : ℕ) (rows : VersionedRows A) → IsLeast k rows → IsLeast k (take i rows)
+  least-take k zero rows least = tt
+  least-take k (suc i) [] least = tt
+  least-take k (suc i) (r ∷ rs) least = (least.0, least-take k i rs least.1)
+
+  pub in_order-take : (i : ℕ) (rows : VersionedRows A) → IsInOrder rows → IsInOrder (take i rows)
+  unfolding IsStrictlySortedBy
+  in_order-take zero rows sorted = tt
+  in_order-take (suc i) [] sorted = sorted
+  in_order-take (suc i) (r ∷ rs) sorted = (least-take r.key i rs sorted.0, in_order-take i rs sorted.1)
+
+  -- a cut with keys on both sides
+  pub cut-keys : (rows : VersionedRows A) (i : ℕ) → 0 < i → i < length rows → (has_keys (take i rows) ≡ true) × (has_keys (drop i rows) ≡ true)
+  cut-keys rows zero positive lt = absurd (omega arith)
+  cut-keys [] (suc i) positive lt = absurd (omega arith)
+  cut-keys (r ∷ rs) (suc i) positive lt = (refl, rest i rs (omega arith))
+    where
+      rest : (j : ℕ) (xs : VersionedRows A) → j < length xs → has_keys (drop j xs) ≡ true
+      rest zero [] small = absurd (omega arith)
+      rest zero (x ∷ xs) small = refl
+      rest (suc j) [] small = absurd (omega arith)
+      rest (suc j) (x ∷ xs) small = rest j xs (omega arith)
 
   -- ---- the next row
 
@@ -193,15 +255,18 @@ module _ {A : Type 0} where
   pub first-none : (n i : ℕ) (rows : VersionedRows A) → length rows ≤ i → slice_get (shown_rows n rows) 0 ≡ slice_get (shown_rows n (drop i rows)) 0 → slice_get (shown_rows n rows) 0 ≡ None
   first-none n i rows past so_far = so_far ∙ ap (λ ks. slice_get (shown_rows n ks) 0) (drop_all i rows past)
 
-  -- ---- the last commit of a key
+  -- ---- a key with its versions
 
-  newest-early : (key : Value A) (i : ℕ) (rows : VersionedRows A) → AllByRecursion (λ k. is_le (value_cmp key k.key) ≡ false) (take i rows) → newest_in rows key ≡ newest_in (drop i rows) key
-  newest-early key zero rows early = refl
-  newest-early key (suc i) [] early = refl
-  newest-early key (suc i) (r ∷ rs) early = rw (greater (value_cmp key r.key) early.0) (newest-early key i rs early.1)
+  abbrev is_key : Value A → KeyVersions A → Bool
+  is_key key k = same key k.key
 
-  pub newest-here : (key : Value A) (i : ℕ) (rows : VersionedRows A) (k : KeyVersions A) → AllByRecursion (λ r. is_le (value_cmp key r.key) ≡ false) (take i rows) → slice_get rows i ≡ Some k → same key k.key ≡ true → newest_in rows key ≡ newest_version k
-  newest-here key i rows k early at is = newest-early key i rows early ∙ ap (λ ks. newest_in ks key) (drop-at rows i k at) ∙ rw is refl
+  find-early : (key : Value A) (i : ℕ) (rows : VersionedRows A) → AllByRecursion (λ k. is_le (value_cmp key k.key) ≡ false) (take i rows) → find (is_key key) rows ≡ find (is_key key) (drop i rows)
+  find-early key zero rows early = refl
+  find-early key (suc i) [] early = refl
+  find-early key (suc i) (r ∷ rs) early = rw (greater (value_cmp key r.key) early.0) (find-early key i rs early.1)
+
+  pub find-here : (key : Value A) (i : ℕ) (rows : VersionedRows A) (k : KeyVersions A) → AllByRecursion (λ r. is_le (value_cmp key r.key) ≡ false) (take i rows) → slice_get rows i ≡ Some k → same key k.key ≡ true → find (is_key key) rows ≡ Some k
+  find-here key i rows k early at is = find-early key i rows early ∙ ap (find (is_key key)) (drop-at rows i k at) ∙ rw is refl
 
   least_after : (key : Value A) (k : KeyVersions A) (rest : VersionedRows A) → value_cmp key k.key ≡ Less → IsInOrder (k ∷ rest) → IsLeast key (k ∷ rest)
   unfolding IsStrictlySortedBy
@@ -211,16 +276,21 @@ module _ {A : Type 0} where
       go [] least = tt
       go (r ∷ rs) least = (value_cmp-total.trans key k.key r.key below least.0, go rs least.1)
 
-  pub newest-missing : (key : Value A) (i : ℕ) (rows : VersionedRows A) (k : KeyVersions A) → IsInOrder rows → AllByRecursion (λ r. is_le (value_cmp key r.key) ≡ false) (take i rows) → AllByRecursion (λ r. is_le (value_cmp key r.key) ≡ true) (drop i rows) → slice_get rows i ≡ Some k → same key k.key ≡ false → None ≡ newest_in rows key
-  newest-missing key i rows k sorted early late at isnt =
+  -- a key below all is none of them
+  pub find-none_above : (key : Value A) (rows : VersionedRows A) → IsLeast key rows → find (is_key key) rows ≡ None
+  find-none_above key [] least = refl
+  find-none_above key (r ∷ rs) least = rw least.0 (find-none_above key rs least.1)
+
+  pub find-missing : (key : Value A) (i : ℕ) (rows : VersionedRows A) (k : KeyVersions A) → IsInOrder rows → AllByRecursion (λ r. is_le (value_cmp key r.key) ≡ false) (take i rows) → AllByRecursion (λ r. is_le (value_cmp key r.key) ≡ true) (drop i rows) → slice_get rows i ≡ Some k → same key k.key ≡ false → None ≡ find (is_key key) rows
+  find-missing key i rows k sorted early late at isnt =
       let cut = drop-at rows i k at in
       let late_here = subst (AllByRecursion (λ (r : KeyVersions A). is_le (value_cmp key r.key) ≡ true)) cut late in
       let below : value_cmp key k.key ≡ Less = less (value_cmp key k.key) late_here.0 isnt in
-      let none = not_above key (k ∷ drop (i + 1) rows) (least_after key k (drop (i + 1) rows) below (subst IsInOrder cut (in_order-drop i rows sorted))) in
-      sym (newest-early key i rows early ∙ ap (λ ks. newest_in ks key) cut ∙ none)
+      let none = find-none_above key (k ∷ drop (i + 1) rows) (least_after key k (drop (i + 1) rows) below (subst IsInOrder cut (in_order-drop i rows sorted))) in
+      sym (find-early key i rows early ∙ ap (find (is_key key)) cut ∙ none)
 
-  pub newest-none : (key : Value A) (i : ℕ) (rows : VersionedRows A) → AllByRecursion (λ r. is_le (value_cmp key r.key) ≡ false) (take i rows) → slice_get rows i ≡ None → None ≡ newest_in rows key
-  newest-none key i rows early at = sym (newest-early key i rows early ∙ ap (λ ks. newest_in ks key) (slice_get-none rows i at))
+  pub find-past : (key : Value A) (i : ℕ) (rows : VersionedRows A) → AllByRecursion (λ r. is_le (value_cmp key r.key) ≡ false) (take i rows) → slice_get rows i ≡ None → None ≡ find (is_key key) rows
+  find-past key i rows early at = sym (find-early key i rows early ∙ ap (find (is_key key)) (slice_get-none rows i at))
 
   -- ---- a newer version
 
@@ -282,7 +352,7 @@ module _ {A : Type 0} where
   abbrev pub trimmed : (List (Version A) → List (Version A)) → KeyVersions A → KeyVersions A
   trimmed f r = record r { versions = f r.versions }
 
-  kept-least : (f : List (Version A) → List (Version A)) (k : Value A) (rows : VersionedRows A) → IsLeast k rows → IsLeast k (filter has_version (map (trimmed f) rows))
+  pub kept-least : (f : List (Version A) → List (Version A)) (k : Value A) (rows : VersionedRows A) → IsLeast k rows → IsLeast k (filter has_version (map (trimmed f) rows))
   kept-least f k [] least = tt
   kept-least f k (r ∷ rs) least = by_test (has_version (trimmed f r)) (kept-least f k rs least.1)
     where

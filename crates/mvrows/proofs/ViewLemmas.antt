@@ -1,21 +1,18 @@
 -- What views read.
-use Rattle.std.proofs.Common.{suc, zero, ◌≡◌, refl, sym, ap, ◌∙◌, ℕ, ◌<◌, true, false, cond, List, [], ◌∷◌, map, length, Option, Some, None, Bor, get_or, arith}
+use Rattle.std.proofs.Common.{suc, zero, ◌≡◌, refl, sym, ap, subst, ◌∙◌, ℕ, ◌<◌, Bool, true, false, cond, List, [], ◌∷◌, map, length, get_or, Option, Some, None, arith}
+use Rattle.std.specs.Prelude.{find}
 use Rattle.std.specs.List.{AllByRecursion, cons_option}
 use Rattle.std.specs.List.Sorted.{IsStrictlySortedBy}
-use Rattle.std.specs.Option.{option_map}
-use Rattle.std.specs.Ordering.{is_eq, is_le}
-use Rattle.std.specs.declared.cmp.Ordering.{Ordering}
-use Rattle.std.specs.declared.cmp.Ordering.TheVariants.{Less, Equal, Greater}
-use Rattle.std.specs.declared.sync.Arc.{Arc}
-use Rattle.value.specs.Order.{value_cmp, value_cmp-total}
-use Rattle.value.specs.declared.key.Key.{Key}
+use Rattle.std.specs.Option.{option_map, option_and_then}
+use Rattle.value.specs.Order.{value_cmp}
 use Rattle.value.specs.declared.value.Value.{Value}
 use Rattle.schema.specs.declared.row.Row.{Row}
-use Rattle.schema.specs.declared.reader.Bound.TheVariants.{From}
-use Rattle.schema.specs.Plain.{rows_of}
-use Rattle.schema.specs.Rows.{Rows, IsInKeyOrder, next_row, row_of}
-use Rattle.mvrows.specs.Versions.{VersionedRows, IsInOrder, shown_fields, shown_rows, shown}
-use Rattle.mvrows.proofs.VersionLemmas.{shown-above}
+use Rattle.schema.specs.Plain.{same, rows_of}
+use Rattle.schema.proofs.PlainLemmas.{same_value}
+use Rattle.schema.specs.Rows.{IsInKeyOrder, row_of}
+use Rattle.mvrows.specs.Versions.{KeyVersions, VersionedRows, IsInOrder, shown_fields, shown_row, shown_rows, shown}
+use Rattle.mvrows.specs.HeldRows.{Held, rows_in, rows_held}
+use Rattle.mvrows.proofs.VersionLemmas.{IsLeast, shown-above}
 
 module _ {A : Type 0} where
   -- what is shown is in key order
@@ -28,52 +25,34 @@ module _ {A : Type 0} where
       go None rest = rest
       go (Some f) rest = (shown-above n r.key rs sorted.0, rest)
 
-  -- the page of a table
-  pub page-shown : {Z : Type 0} (n : ℕ) (pages : List (Arc (VersionedRows A) Z)) (t : ℕ) (page : Arc (VersionedRows A) Z) → page ≡ get_or pages t page → t < length (shown n (map (λ p. p.value) pages)) → shown_rows n page.value ≡ rows_of (shown n (map (λ p. p.value) pages)) t
-  page-shown n [] t page at lt = absurd (omega arith)
-  page-shown n (p ∷ ps) zero page at lt = ap (λ x. shown_rows n x.value) at
-  page-shown n (p ∷ ps) (suc t) page at lt = page-shown n ps t page at (omega arith)
+  -- a table of a view
+  pub table-shown : (n : ℕ) (tables : List (List (Held A))) (t : ℕ) (leaves : List (Held A)) → leaves ≡ get_or tables t leaves → t < length (shown n (rows_held tables)) → shown_rows n (rows_in leaves) ≡ rows_of (shown n (rows_held tables)) t
+  table-shown n [] t leaves at lt = absurd (omega arith)
+  table-shown n (x ∷ xs) zero leaves at lt = ap (λ y. shown_rows n (rows_in y)) at
+  table-shown n (x ∷ xs) (suc t) leaves at lt = table-shown n xs t leaves at (omega arith)
 
-  -- ---- the row of a key is the next one from it, or there is none
+  -- ---- the row of a key is what is shown of its versions
 
-  none_above : (k : Value A) (rows : Rows A) → AllByRecursion (λ l. value_cmp k l ≡ Less) (map (λ row. row.0) rows) → row_of rows k ≡ None
-  none_above k [] above = refl
-  none_above k (row ∷ rows) above = rw above.0 (none_above k rows above.1)
-
-  above_too : (k a : Value A) (rows : Rows A) → value_cmp k a ≡ Less → AllByRecursion (λ l. value_cmp a l ≡ Less) (map (λ row. row.0) rows) → AllByRecursion (λ l. value_cmp k l ≡ Less) (map (λ row. row.0) rows)
-  above_too k a [] below above = tt
-  above_too k a (row ∷ rows) below above = (value_cmp-total.trans k a row.0 below above.0, above_too k a rows below above.1)
-
-  pub get-here : (key : Bor (Key A)) (rows : Rows A) (row : Row A) → next_row rows (From key) ≡ Some row → is_eq (value_cmp key.now row.0) ≡ true → row_of rows key.now ≡ Some row
-  get-here key [] row found is = cc
-  get-here key (first ∷ rows) row found is = by_order (value_cmp key.now first.0) refl found (get-here key rows row)
+  none_above : (n : ℕ) (k : Value A) (rows : VersionedRows A) → IsLeast k rows → row_of (shown_rows n rows) k ≡ None
+  none_above n k [] above = refl
+  none_above n k (r ∷ rs) above = go (shown_fields n r.versions) (none_above n k rs above.1)
     where
-      differs : false ≡ true → ⊥
-      differs h = cc
+      go : (o : Option (List (Value A))) → row_of (shown_rows n rs) k ≡ None → row_of (cons_option (option_map (λ f. (r.key, f)) o) (shown_rows n rs)) k ≡ None
+      go None rest = rest
+      go (Some f) rest = rw above.0 rest
 
-      by_order : (o : Ordering) → value_cmp key.now first.0 ≡ o → cond (is_le o) (Some first) (next_row rows (From key)) ≡ Some row → (next_row rows (From key) ≡ Some row → is_eq (value_cmp key.now row.0) ≡ true → row_of rows key.now ≡ Some row) → cond (is_eq o) (Some first) (row_of rows key.now) ≡ Some row
-      by_order Less e here rest = let same : first ≡ row = cc in absurd (differs (sym (ap is_eq e) ∙ ap (λ r. is_eq (value_cmp key.now r.0)) same ∙ is))
-      by_order Equal e here rest = here
-      by_order Greater e here rest = rest here is
-
-  pub get-missing : (key : Bor (Key A)) (rows : Rows A) (row : Row A) → IsInKeyOrder rows → next_row rows (From key) ≡ Some row → is_eq (value_cmp key.now row.0) ≡ false → None ≡ row_of rows key.now
+  pub row_of-found : (n : ℕ) (k : Value A) (rows : VersionedRows A) → IsInOrder rows → option_and_then (shown_row n) (find (λ r. same k r.key) rows) ≡ row_of (shown_rows n rows) k
   unfolding IsStrictlySortedBy
-  get-missing key [] row sorted found isnt = refl
-  get-missing key (first ∷ rows) row sorted found isnt = by_order (value_cmp key.now first.0) refl found (get-missing key rows row sorted.1)
+  row_of-found n k [] sorted = refl
+  row_of-found n k (r ∷ rs) sorted = by_key (same k r.key) refl (shown_fields n r.versions) refl (row_of-found n k rs sorted.1)
     where
-      differs : true ≡ false → ⊥
-      differs h = cc
+      by_row : (b : Bool) → same k r.key ≡ b → (o : Option (List (Value A))) → cond b (option_map (λ f. (r.key, f)) o) (row_of (shown_rows n rs) k) ≡ row_of (cons_option (option_map (λ f. (r.key, f)) o) (shown_rows n rs)) k
+      by_row true e None = sym (none_above n k rs (subst (λ x. IsLeast x rs) (sym (same_value k r.key e)) sorted.0))
+      by_row true e (Some f) = sym (ap (λ b. cond b (Some (r.key, f)) (row_of (shown_rows n rs) k)) e)
+      by_row false e None = refl
+      by_row false e (Some f) = sym (ap (λ b. cond b (Some (r.key, f)) (row_of (shown_rows n rs) k)) e)
 
-      by_order : (o : Ordering) → value_cmp key.now first.0 ≡ o → cond (is_le o) (Some first) (next_row rows (From key)) ≡ Some row → (next_row rows (From key) ≡ Some row → is_eq (value_cmp key.now row.0) ≡ false → None ≡ row_of rows key.now) → None ≡ cond (is_eq o) (Some first) (row_of rows key.now)
-      by_order Less e here rest = sym (none_above key.now rows (above_too key.now first.0 rows e sorted.0))
-      by_order Equal e here rest = let same : first ≡ row = cc in absurd (differs (sym (ap is_eq e) ∙ ap (λ r. is_eq (value_cmp key.now r.0)) same ∙ isnt))
-      by_order Greater e here rest = rest here isnt
-
-  pub get-none : (key : Bor (Key A)) (rows : Rows A) → next_row rows (From key) ≡ None → None ≡ row_of rows key.now
-  get-none key [] found = refl
-  get-none key (first ∷ rows) found = by_order (value_cmp key.now first.0) found (get-none key rows)
-    where
-      by_order : (o : Ordering) → cond (is_le o) (Some first) (next_row rows (From key)) ≡ None → (next_row rows (From key) ≡ None → None ≡ row_of rows key.now) → None ≡ cond (is_eq o) (Some first) (row_of rows key.now)
-      by_order Less here rest = cc
-      by_order Equal here rest = cc
-      by_order Greater here rest = rest here
+      by_key : (b : Bool) → same k r.key ≡ b → (o : Option (List (Value A))) → shown_fields n r.versions ≡ o → option_and_then (shown_row n) (find (λ x. same k x.key) rs) ≡ row_of (shown_rows n rs) k
+          → option_and_then (shown_row n) (cond b (Some r) (find (λ x. same k x.key) rs)) ≡ row_of (cons_option (option_map (λ f. (r.key, f)) o) (shown_rows n rs)) k
+      by_key true e o is rest = ap (option_map (λ f. (r.key, f))) is ∙ by_row true e o
+      by_key false e o is rest = rest ∙ by_row false e o

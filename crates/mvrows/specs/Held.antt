@@ -1,7 +1,7 @@
--- A table's keys with their versions, and whether views share them.
+-- A page of a table, and whether views share it.
 use Rattle.std.specs.Prelude.{true, false}
-use Rattle.mvrows.specs.declared.table.Holder.{Holder}
-use Rattle.mvrows.specs.declared.table.Holder.TheVariants.{Own, Shared}
+use Rattle.mvrows.specs.declared.leaf.Holder.{Holder}
+use Rattle.mvrows.specs.declared.leaf.Holder.TheVariants.{Own, Shared}
 use Rattle.mvrows.specs.HeldRows.{Held}
 
 module _ {A : Type 0} where

@@ -1,31 +1,76 @@
--- A table's keys with their versions, and whether it has them for itself.
-use Rattle.std.specs.Prelude.{◌≡◌, ℕ, Bool, true, false, if◌then◌else◌, List, map}
-use Rattle.std.specs.List.{AllByRecursion}
-use Rattle.mvrows.specs.Versions.{VersionedRows, RowsAreBelow}
+-- A table's keys with their versions, page by page, and which pages it has for itself.
+use Rattle.std.specs.Prelude.{◌≡◌, ℕ, Bool, true, false, not, if◌then◌else◌, List, [], ◌∷◌, map}
+use Rattle.std.specs.Borrow.{Bor}
+use Rattle.std.specs.List.{AllByRecursion, flat_map, list_all}
+use Rattle.value.specs.declared.key.Key.{Key}
+use Rattle.schema.specs.declared.reader.Bound.{Bound}
+use Rattle.schema.specs.Rows.{is_within}
+use Rattle.mvrows.specs.Versions.{VersionedRows, IsInOrder, RowsAreBelow}
 use Rattle.mvrows.specs.Pruning.{has_version, pruned_rows}
 use Rattle.mvrows.specs.TakenBack.{rows_before}
 
--- views share what isn't its own
+-- a page; views share what isn't its own
 pub record Held (A : Type 0) : Type 0 where
   pub own : Bool
   pub rows : VersionedRows A
 
 module _ {A : Type 0} where
-  abbrev pub rows_held : List (Held A) → List (VersionedRows A)
-  rows_held tables = map (λ h. h.rows) tables
+  -- the pages of a table, whoever has them
+  abbrev pub pages_of : List (Held A) → List (VersionedRows A)
+  pages_of leaves = map (λ h. h.rows) leaves
 
-  -- what is left where the versions of an unfinished commit are taken back: a table puts such versions into its own alone
+  -- pages one after another
+  abbrev pub joined : List (VersionedRows A) → VersionedRows A
+  joined pages = flat_map (λ page. page) pages
+
+  -- the keys of a table with their versions
+  abbrev pub rows_in : List (Held A) → VersionedRows A
+  rows_in leaves = joined (pages_of leaves)
+
+  -- those of each table
+  abbrev pub rows_held : List (List (Held A)) → List (VersionedRows A)
+  rows_held tables = map rows_in tables
+
+  -- a page has a key
+  abbrev pub has_keys : VersionedRows A → Bool
+  has_keys [] = false
+  has_keys (k ∷ ks) = true
+
+  -- keys rise over all pages, and each page has one
+  abbrev pub AreLaidOut : List (VersionedRows A) → Type 0
+  AreLaidOut pages = IsInOrder (joined pages) × AllByRecursion (λ page. has_keys page ≡ true) pages
+
+  -- no key of a page is within a bound
+  abbrev pub is_before : Bound (Bor (Key A)) → VersionedRows A → Bool
+  is_before bound page = list_all (λ k. not (is_within bound k.key)) page
+
+  -- what is left of a page where the versions of an unfinished commit are taken back: a table puts such versions into its own pages alone
   abbrev pub undone : ℕ → Held A → VersionedRows A
   undone commit h = if h.own then rows_before commit h.rows else h.rows
+
+  -- of all pages
+  abbrev pub undone_in : ℕ → List (Held A) → VersionedRows A
+  undone_in commit leaves = joined (map (undone commit) leaves)
 
   -- what others share has no such version
   abbrev pub IsUndoable : ℕ → Held A → Type 0
   IsUndoable commit h = h.own ≡ false → RowsAreBelow commit h.rows
 
-  -- what is left where a table prunes its own
+  abbrev pub AreUndoable : ℕ → List (Held A) → Type 0
+  AreUndoable commit leaves = AllByRecursion (IsUndoable commit) leaves
+
+  -- what is left of a page where a table prunes its own
   abbrev pub own_pruned : ℕ → Held A → VersionedRows A
   own_pruned oldest h = if h.own then pruned_rows oldest h.rows else h.rows
 
-  -- each key of each table has a version
+  -- of all pages
+  abbrev pub own_pruned_in : ℕ → List (Held A) → VersionedRows A
+  own_pruned_in oldest leaves = joined (map (own_pruned oldest) leaves)
+
+  -- each key has a version
+  abbrev pub AllVersioned : VersionedRows A → Type 0
+  AllVersioned rows = AllByRecursion (λ k. has_version k ≡ true) rows
+
+  -- in each table
   abbrev pub AreVersioned : List (VersionedRows A) → Type 0
-  AreVersioned tables = AllByRecursion (AllByRecursion (λ k. has_version k ≡ true)) tables
+  AreVersioned tables = AllByRecursion AllVersioned tables

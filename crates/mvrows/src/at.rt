@@ -3,10 +3,11 @@ ghost use Rattle.std.specs.Prelude.{◌≡◌};
 ghost use Rattle.schema.specs.Rows.{HasTable};
 ghost use Rattle.schema.specs.Plain.{rows_of};
 ghost use Rattle.mvrows.specs.Versions.{shown, shown_rows};
+ghost use Rattle.mvrows.specs.HeldRows.{rows_in};
 
-use crate::page::Page;
 use crate::rows::Rows;
-use crate::view::{get, next_row};
+use crate::table::Table;
+use crate::view::next_row;
 use schema::catalog::TableNo;
 use schema::reader::{Bound, SnapshotReader};
 use schema::row::Row;
@@ -30,11 +31,11 @@ impl<'r, A: Allocator> At<'r, A> {
     }
 
     // The keys of a table with their versions.
-    fn page(&self, table: TableNo) -> &Page<A>
+    fn table(&self, table: TableNo) -> &Table<A>
         requires { HasTable (shown self.now.snapshot self.now.rows.now) table }
-        ensures { shown_rows self.now.snapshot result.now ≡ rows_of (shown self.now.snapshot self.now.rows.now) table }
+        ensures { shown_rows self.now.snapshot (rows_in result.now) ≡ rows_of (shown self.now.snapshot self.now.rows.now) table }
     {
-        self.rows.page(table)
+        self.rows.table(table)
     }
 }
 
@@ -42,10 +43,10 @@ impl<A: Allocator> SnapshotReader<A> for At<'_, A> {
     ghost tables = { λ a. shown a.snapshot a.rows.now };
 
     fn next_row(&self, table: TableNo, after: Bound<&Key<A>>) -> Option<&Row<A>> {
-        next_row(self.page(table), self.snapshot, after)
+        next_row(self.table(table), self.snapshot, after)
     }
 
     fn get(&self, table: TableNo, key: &Key<A>) -> Option<&Row<A>> {
-        get(self.page(table), self.snapshot, key)
+        self.table(table).get(self.snapshot, key)
     }
 }

@@ -102,18 +102,17 @@ impl<A: Allocator> Chain<A> {
     }
 
     /// The key of a row, with the version of the opening alone.
-    pub fn opened(alloc: A, row: &Row<A>) -> Result<Chain<A>, Refusal>
+    pub fn opened(alloc: A, row: Row<A>) -> Result<Chain<A>, Refusal>
     where
         A: Copy,
-        ensures ok { IfOk result (λ c. c ≡ opened_row row.now) }
+        ensures ok { IfOk result (λ c. c ≡ opened_row row) }
         ensures err { IfErr result (λ e. e ≡ out_of_memory) }
     {
         let key = row.key().copy(alloc)?;
-        let kept = row_of(alloc, &key, Some(row.fields()))?;
         let mut versions = VecDeque::new(alloc);
         versions.push_front(Stored {
             number: 0,
-            row: kept,
+            row: Some(row),
         })?;
         Ok(Chain { key, versions })
     }

@@ -4,6 +4,7 @@
 pub mod at;
 mod chain;
 pub mod laws;
+mod leaf;
 mod page;
 pub mod rows;
 mod table;

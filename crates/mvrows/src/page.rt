@@ -1,5 +1,5 @@
-// Keys with their versions, side by side.
-ghost use Rattle.std.specs.Prelude.{◌≡◌, ◌≤◌, ◌++◌, ◌∷◌, [], true, false, not, length, take, drop, slice_get, map, filter, OnOk, OnErr, IfOk, IfErr, IsTrue};
+// Keys with their versions, side by side: what views share of a table.
+ghost use Rattle.std.specs.Prelude.{◌≡◌, ◌≤◌, ◌++◌, ◌∷◌, [], true, false, not, length, take, drop, slice_get, map, filter, find, OnOk, OnErr, IfOk, IfErr, IsTrue};
 ghost use Rattle.std.specs.List.{AllByRecursion};
 ghost use Rattle.std.specs.Option.{option_copied, option_map_or};
 ghost use Rattle.std.specs.Ordering.{is_le};
@@ -7,10 +7,11 @@ ghost use Rattle.value.specs.Order.{value_cmp};
 ghost use Rattle.value.specs.Refusals.{out_of_memory};
 ghost use Rattle.schema.specs.Plain.{same};
 ghost use Rattle.schema.specs.Rows.{is_within, next_row};
-ghost use Rattle.mvrows.specs.Versions.{IsInOrder, shown_rows, newest_in};
-ghost use Rattle.mvrows.specs.Installing.{put_version, opened_row};
+ghost use Rattle.mvrows.specs.Versions.{IsInOrder, shown_rows};
+ghost use Rattle.mvrows.specs.Installing.{put_version, opened_row, first_version};
 ghost use Rattle.mvrows.specs.Pruning.{pruned_key, has_version, pruned_rows};
 ghost use Rattle.mvrows.specs.TakenBack.{key_before, rows_before};
+ghost use Rattle.mvrows.specs.HeldRows.{is_before, has_keys};
 
 use crate::chain::Chain;
 use schema::changes::Change;
@@ -20,6 +21,9 @@ use std::alloc::{Allocator, Global};
 use std::marker::Model;
 use value::key::Key;
 use value::refusal::Refusal;
+
+/// How many keys a page has at most.
+const MOST_KEYS: usize = 64;
 
 /// Some keys with their versions, in key order.
 #[derive(Drop)]
@@ -39,7 +43,7 @@ impl<A: Allocator> Model for Page<A> {
 }
 
 // Whether a key comes before all that a bound lets in.
-fn is_before<A: Allocator>(key: &Key<A>, bound: Bound<&Key<A>>) -> bool
+fn comes_before<A: Allocator>(key: &Key<A>, bound: Bound<&Key<A>>) -> bool
     ensures { result ≡ not (is_within bound.entry key.now) }
 {
     match bound {
@@ -59,7 +63,7 @@ fn start<A: Allocator>(chains: &[Chain<A>], bound: Bound<&Key<A>>) -> usize
     chains.partition_point(
         |chain: &Chain<A>| -> bool
             ensures { result ≡ not (is_within bound.entry chain.now.key) }
-        { is_before(chain.key(), bound) },
+        { comes_before(chain.key(), bound) },
     )
 }
 
@@ -175,30 +179,55 @@ impl<A: Allocator> Page<A> {
         first_shown(within, snapshot)
     }
 
-    /// The number of a key's last commit.
-    pub fn newest(&self, key: &Key<A>) -> Option<u64>
-        ensures { result ≡ newest_in self.now key.now }
+    /// A key with its versions.
+    pub fn find(&self, key: &Key<A>) -> Option<&Chain<A>>
+        ensures { option_copied result ≡ find (λ k. same key.now k.key) self.now }
     {
         let chains = self.chains.as_slice();
         let place = start(chains, Bound::From(key));
         match at(chains, place) {
-            Some(chain) => {
-                if is_of(chain, key) {
-                    chain.newest()
-                } else {
-                    None
-                }
-            }
+            Some(chain) => { if is_of(chain, key) { Some(chain) } else { None } }
             None => None,
         }
     }
 
+    /// Whether no key is within a bound.
+    pub fn is_before(&self, bound: Bound<&Key<A>>) -> bool
+        ensures { result ≡ is_before bound.entry self.now }
+    {
+        match self.chains.last() {
+            Some(chain) => comes_before(chain.key(), bound),
+            None => true,
+        }
+    }
+
+    /// Whether there is a key.
+    pub fn has_keys(&self) -> bool
+        ensures { result ≡ has_keys self.now }
+    {
+        !self.chains.is_empty()
+    }
+
+    /// Whether there is no room for a further key.
+    pub fn is_full(&self) -> bool
+        ensures { IsTrue result → 2 ≤ length self.now }
+    {
+        self.chains.len() >= MOST_KEYS
+    }
+
+    /// Whether a key would be one too many.
+    pub fn needs_room(&self, key: &Key<A>) -> bool
+        ensures { IsTrue result → 2 ≤ length self.now }
+    {
+        self.is_full() && self.find(key).is_none()
+    }
+
     /// Puts in a row of the opening, whose key is above all.
-    pub fn open(&mut self, alloc: A, row: &Row<A>) -> Result<(), Refusal>
+    pub fn push_opened(&mut self, alloc: A, row: Row<A>) -> Result<(), Refusal>
     where
         A: Copy,
-        requires { IsInOrder (self.old ++ opened_row row.now ∷ []) }
-        ensures ok { OnOk result (self.new ≡ self.old ++ opened_row row.now ∷ []) }
+        requires { IsInOrder (self.old ++ opened_row row ∷ []) }
+        ensures ok { OnOk result (self.new ≡ self.old ++ opened_row row ∷ []) }
         ensures memory { IfErr result (λ e. e ≡ out_of_memory) }
     {
         let chain = Chain::opened(alloc, row)?;
@@ -216,6 +245,33 @@ impl<A: Allocator> Page<A> {
     {
         let place = start(self.chains.as_slice(), Bound::From(change.key()));
         put(alloc, &mut self.chains, place, number, change)
+    }
+
+    /// The page of one change's key, with the version that it makes alone.
+    pub fn first(alloc: A, number: u64, change: &Change<A>) -> Result<Page<A>, Refusal>
+    where
+        A: Copy,
+        ensures ok { IfOk result (λ page. page ≡ first_version change.now.key (record { number = number; fields = change.now.fields }) ∷ []) }
+        ensures err { IfErr result (λ e. e ≡ out_of_memory) }
+    {
+        let mut chains = Vec::new(alloc);
+        chains.push(Chain::of(alloc, number, change)?)?;
+        Ok(Page { chains })
+    }
+
+    /// Moves the upper half of the keys out.
+    pub fn cut(&mut self) -> Result<Page<A>, Refusal>
+    where
+        A: Copy,
+        requires { 2 ≤ length self.old }
+        ensures parts { IfOk result (λ upper. self.new ++ upper ≡ self.old) }
+        ensures keys { IfOk result (λ upper. (has_keys self.new ≡ true) × (has_keys upper ≡ true)) }
+        ensures err { OnErr result (self.new ≡ self.old) }
+        ensures memory { IfErr result (λ e. e ≡ out_of_memory) }
+    {
+        let half = self.chains.len() / 2;
+        let chains = self.chains.split_off(half)?;
+        Ok(Page { chains })
     }
 
     /// Whether a pruning leaves it as it is.

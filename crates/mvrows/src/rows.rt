@@ -2,20 +2,20 @@
 ghost use Rattle.std.specs.Prelude.{◌≡◌, ◌≤◌, ◌<◌, ◌^◌, length, map, OnOk, OnErr, IfOk, IfErr};
 ghost use Rattle.std.specs.List.{AllByRecursion};
 ghost use Rattle.value.specs.Refusals.{out_of_memory};
-ghost use Rattle.schema.specs.Rows.{HasTable};
+ghost use Rattle.schema.specs.Rows.{HasTable, IsInKeyOrder};
 ghost use Rattle.schema.specs.Plain.{rows_of};
-ghost use Rattle.mvrows.specs.Versions.{TablesAreBelow, newest as last_commit, shown, versions_of};
-ghost use Rattle.mvrows.specs.Installing.{opened, opened_row, install_change, installed};
+ghost use Rattle.mvrows.specs.Versions.{TablesAreBelow, newest as last_commit, newest_in, shown, versions_of};
+ghost use Rattle.mvrows.specs.Installing.{opened, install_change, installed};
 ghost use Rattle.mvrows.specs.Pruning.{pruned, pruned_rows};
-ghost use Rattle.mvrows.specs.HeldRows.{rows_held, undone, IsUndoable, own_pruned, AreVersioned};
+ghost use Rattle.mvrows.specs.HeldRows.{rows_in, rows_held, undone_in, AreUndoable, own_pruned_in, AreVersioned};
 
 use crate::at::At;
-use crate::page::Page;
 use crate::table::Table;
 use crate::view::View;
 use schema::catalog::TableNo;
 use schema::changes::Change;
-use schema::reader::{first_row, row_after};
+use schema::reader::first_row;
+use schema::row::Row;
 use schema::tables::Tables;
 use std::alloc::{Allocator, Global};
 use std::marker::Model;
@@ -43,23 +43,38 @@ impl<A: Allocator> Model for Rows<A> {
     ghost invariant = { λ r. AreVersioned (rows_held r.tables.items) };
 }
 
-// The opening of a table.
-fn open_table<A: Allocator + Copy>(
-    alloc: A,
-    tables: &Tables<A>,
-    table: TableNo,
-) -> Result<Page<A>, Refusal>
+// The rows of a table rise. Nothing is changed.
+fn in_key_order<A: Allocator>(tables: &Tables<A>, table: TableNo)
     requires { HasTable tables.now table }
-    ensures ok { IfOk result (λ page. page ≡ map opened_row (rows_of tables.now table)) }
+    ensures { IsInKeyOrder (rows_of tables.now table) }
+{
+    let _row = first_row(tables, table);
+}
+
+// So do those of each table.
+fn all_in_key_order<A: Allocator>(tables: &Tables<A>)
+    requires { length tables.now ≤ 2 ^ 32 }
+    ensures { AllByRecursion IsInKeyOrder tables.now }
+{
+    for place in 0..tables.count() {
+        in_key_order(tables, TableNo::at(place as u32));
+    }
+}
+
+// The opening of each table.
+fn open_tables<A: Allocator + Copy>(
+    alloc: A,
+    tables: Vec<Vec<Row<A>, A>, A>,
+) -> Result<Vec<Table<A>, A>, Refusal>
+    requires { AllByRecursion IsInKeyOrder (map (λ rows. rows.items) tables.items) }
+    ensures ok { IfOk result (λ opening. rows_held opening.items ≡ opened (map (λ rows. rows.items) tables.items)) }
     ensures err { IfErr result (λ e. e ≡ out_of_memory) }
 {
-    let mut page = Page::new(alloc);
-    let mut next = first_row(tables, table);
-    while let Some(row) = next {
-        page.open(alloc, row)?;
-        next = row_after(tables, table, row);
+    let mut opening = Vec::with_capacity(alloc, tables.len())?;
+    for rows in tables {
+        opening.push(Table::open(alloc, rows)?)?;
     }
-    Ok(page)
+    Ok(opening)
 }
 
 // Puts in a newer version of a change's key, where its table is there.
@@ -70,10 +85,10 @@ fn put_change<A: Allocator + Copy>(
     change: &Change<A>,
 ) -> Result<(), Refusal>
     requires versioned { AreVersioned (rows_held tables.old.items) }
-    requires undoable { AllByRecursion (IsUndoable commit) tables.old.items }
+    requires undoable { AllByRecursion (AreUndoable commit) tables.old.items }
     ensures ok { OnOk result (rows_held tables.new.items ≡ install_change commit change.now (rows_held tables.old.items)) }
-    ensures undo { map (undone commit) tables.new.items ≡ map (undone commit) tables.old.items }
-    ensures undoable { AllByRecursion (IsUndoable commit) tables.new.items }
+    ensures undo { map (undone_in commit) tables.new.items ≡ map (undone_in commit) tables.old.items }
+    ensures undoable { AllByRecursion (AreUndoable commit) tables.new.items }
     ensures versioned { AreVersioned (rows_held tables.new.items) }
     ensures memory { IfErr result (λ e. e ≡ out_of_memory) }
 {
@@ -94,9 +109,9 @@ fn put_all<A: Allocator + Copy>(
     changes: &[Change<A>],
 ) -> Result<(), Refusal>
     requires versioned { AreVersioned (rows_held tables.old.items) }
-    requires undoable { AllByRecursion (IsUndoable commit) tables.old.items }
+    requires undoable { AllByRecursion (AreUndoable commit) tables.old.items }
     ensures ok { OnOk result (rows_held tables.new.items ≡ installed commit changes.now (rows_held tables.old.items)) }
-    ensures undo { map (undone commit) tables.new.items ≡ map (undone commit) tables.old.items }
+    ensures undo { map (undone_in commit) tables.new.items ≡ map (undone_in commit) tables.old.items }
     ensures memory { IfErr result (λ e. e ≡ out_of_memory) }
 {
     for change in changes {
@@ -107,7 +122,7 @@ fn put_all<A: Allocator + Copy>(
 
 // Takes back the versions of a commit that wasn't finished.
 fn take_all_back<A: Allocator>(tables: &mut Vec<Table<A>, A>, commit: u64)
-    ensures { rows_held tables.new.items ≡ map (undone commit) tables.old.items }
+    ensures { rows_held tables.new.items ≡ map (undone_in commit) tables.old.items }
 {
     for table in tables.iter_mut() {
         table.take_back(commit);
@@ -119,18 +134,43 @@ fn share_all<A: Allocator + Copy>(alloc: A, tables: &mut Vec<Table<A>, A>)
     ensures { rows_held tables.new.items ≡ rows_held tables.old.items }
 {
     for table in tables.iter_mut() {
-        table.share(alloc);
+        table.share_all(alloc);
     }
 }
 
-// Makes each table's page its own, where a pruning has something to do.
+// Lets views share the page that a change's key belongs to, where its table is there.
+fn share_changed<A: Allocator + Copy>(alloc: A, tables: &mut Vec<Table<A>, A>, change: &Change<A>)
+    ensures { rows_held tables.new.items ≡ rows_held tables.old.items }
+{
+    let place = change.table().place() as usize;
+    if place >= tables.len() {
+        return;
+    }
+    let table = &mut tables[place];
+    table.share(alloc, change.key());
+}
+
+// Lets views share the pages that changes' keys belong to.
+fn share_all_changed<A: Allocator + Copy>(
+    alloc: A,
+    tables: &mut Vec<Table<A>, A>,
+    changes: &[Change<A>],
+)
+    ensures { rows_held tables.new.items ≡ rows_held tables.old.items }
+{
+    for change in changes {
+        share_changed(alloc, tables, change);
+    }
+}
+
+// Makes pages its own, where a pruning has something to do.
 fn make_all_prunable<A: Allocator + Copy>(
     alloc: A,
     tables: &mut Vec<Table<A>, A>,
     oldest: u64,
 ) -> Result<(), Refusal>
     ensures same { rows_held tables.new.items ≡ rows_held tables.old.items }
-    ensures ok { OnOk result (map (own_pruned oldest) tables.new.items ≡ map (λ h. pruned_rows oldest h.rows) tables.old.items) }
+    ensures ok { OnOk result (map (own_pruned_in oldest) tables.new.items ≡ map (λ leaves. pruned_rows oldest (rows_in leaves)) tables.old.items) }
     ensures memory { IfErr result (λ e. e ≡ out_of_memory) }
 {
     for table in tables.iter_mut() {
@@ -139,12 +179,22 @@ fn make_all_prunable<A: Allocator + Copy>(
     Ok(())
 }
 
-// Prunes what each table has for its own.
+// Prunes the pages that each table has for its own.
 fn prune_all<A: Allocator>(tables: &mut Vec<Table<A>, A>, oldest: u64)
-    ensures { rows_held tables.new.items ≡ map (own_pruned oldest) tables.old.items }
+    ensures { rows_held tables.new.items ≡ map (own_pruned_in oldest) tables.old.items }
 {
     for table in tables.iter_mut() {
         table.prune(oldest);
+    }
+}
+
+// The number of a key's last commit, in a table.
+fn newest_in<A: Allocator>(table: &Table<A>, key: &Key<A>) -> Option<u64>
+    ensures { result ≡ newest_in (rows_in table.now) key.now }
+{
+    match table.find(key) {
+        Some(chain) => chain.newest(),
+        None => None,
     }
 }
 
@@ -157,12 +207,9 @@ impl<A: Allocator> Rows<A> {
         ensures ok { IfOk result (λ r. r ≡ opened tables) }
         ensures err { IfErr result (λ e. e ≡ out_of_memory) }
     {
-        let mut opening = Vec::with_capacity(alloc, tables.count())?;
-        for place in 0..tables.count() {
-            let page = open_table(alloc, &tables, TableNo::at(place as u32))?;
-            opening.push(Table::of(page))?;
-        }
-        share_all(alloc, &mut opening);
+        all_in_key_order(&tables);
+        let rows = tables.into_rows(alloc)?;
+        let opening = open_tables(alloc, rows)?;
         Ok(Rows { tables: opening })
     }
 
@@ -177,7 +224,7 @@ impl<A: Allocator> Rows<A> {
     {
         match put_all(alloc, &mut self.tables, commit, changes) {
             Ok(()) => {
-                share_all(alloc, &mut self.tables);
+                share_all_changed(alloc, &mut self.tables, changes);
                 Ok(())
             }
             Err(refusal) => {
@@ -198,11 +245,11 @@ impl<A: Allocator> Rows<A> {
     }
 
     /// The keys of a table with their versions.
-    pub(crate) fn page(&self, table: TableNo) -> &Page<A>
+    pub(crate) fn table(&self, table: TableNo) -> &Table<A>
         requires { table < length self.now }
-        ensures { result.now ≡ versions_of self.now table }
+        ensures { rows_in result.now ≡ versions_of self.now table }
     {
-        self.tables[table.place() as usize].page()
+        &self.tables[table.place() as usize]
     }
 
     /// The number of a key's last commit, 0 for the opening. Nothing where the key was never there,
@@ -211,7 +258,7 @@ impl<A: Allocator> Rows<A> {
         ensures { result ≡ last_commit self.now table key.now }
     {
         match self.tables.get(table.place() as usize) {
-            Some(table) => table.page().newest(key),
+            Some(table) => newest_in(table, key),
             None => None,
         }
     }
@@ -225,10 +272,17 @@ impl<A: Allocator> Rows<A> {
         ensures err { OnErr result (self.new ≡ self.old) }
         ensures memory { IfErr result (λ e. e ≡ out_of_memory) }
     {
-        make_all_prunable(alloc, &mut self.tables, oldest)?;
-        prune_all(&mut self.tables, oldest);
-        share_all(alloc, &mut self.tables);
-        Ok(())
+        match make_all_prunable(alloc, &mut self.tables, oldest) {
+            Ok(()) => {
+                prune_all(&mut self.tables, oldest);
+                share_all(alloc, &mut self.tables);
+                Ok(())
+            }
+            Err(refusal) => {
+                share_all(alloc, &mut self.tables);
+                Err(refusal)
+            }
+        }
     }
 
     /// The tables that a snapshot shows, by pages that are shared: no row is copied.
@@ -238,10 +292,10 @@ impl<A: Allocator> Rows<A> {
         ensures ok { IfOk result (λ v. v ≡ shown snapshot self.now) }
         ensures err { IfErr result (λ e. e ≡ out_of_memory) }
     {
-        let mut pages = Vec::with_capacity(alloc, self.tables.len())?;
+        let mut tables = Vec::with_capacity(alloc, self.tables.len())?;
         for table in &self.tables {
-            pages.push(table.lend(alloc)?)?;
+            tables.push(table.lend(alloc)?)?;
         }
-        Ok(View::at(pages, snapshot))
+        Ok(View::at(tables, snapshot))
     }
 }

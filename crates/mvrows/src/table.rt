@@ -1,117 +1,412 @@
-// The keys of a table with their versions, which views may share.
-ghost use Rattle.std.specs.Prelude.{◌≡◌, true, OnOk, OnErr, IfOk, IfErr};
+// The pages of a table, in key order.
+ghost use Rattle.std.specs.Prelude.{ℕ, ◌≡◌, ◌≤◌, ◌<◌, ◌+◌, ◌++◌, [], true, false, length, take, drop, map, filter, find, slice_index_or, OnOk, OnErr, IfOk, IfErr, IsTrue};
 ghost use Rattle.std.specs.List.{AllByRecursion};
-ghost use Rattle.std.specs.Arc.{arc_value};
+ghost use Rattle.std.specs.Option.{option_copied};
+ghost use Rattle.std.specs.Ordering.{is_le};
+ghost use Rattle.std.specs.declared.cmp.Ordering.TheVariants.{Less};
+ghost use Rattle.value.specs.Order.{value_cmp};
 ghost use Rattle.value.specs.Refusals.{out_of_memory};
-ghost use Rattle.mvrows.specs.Installing.{put_version};
-ghost use Rattle.mvrows.specs.Pruning.{has_version, pruned_rows};
-ghost use Rattle.mvrows.specs.Held.{held};
-ghost use Rattle.mvrows.specs.HeldRows.{undone, IsUndoable, own_pruned};
+ghost use Rattle.schema.specs.Plain.{same};
+ghost use Rattle.schema.specs.Rows.{IsInKeyOrder, is_within, next_row, row_of};
+ghost use Rattle.mvrows.specs.Versions.{IsInOrder, shown_rows};
+ghost use Rattle.mvrows.specs.Installing.{opened_row, put_version};
+ghost use Rattle.mvrows.specs.Pruning.{pruned_rows};
+ghost use Rattle.mvrows.specs.HeldRows.{pages_of, joined, rows_in, has_keys, AreLaidOut, is_before, undone, undone_in, AreUndoable, own_pruned, own_pruned_in, AllVersioned};
 
+use crate::chain::Chain;
+use crate::leaf::Leaf;
 use crate::page::Page;
 use schema::changes::Change;
+use schema::reader::Bound;
+use schema::row::Row;
 use std::alloc::{Allocator, Global};
 use std::marker::Model;
-use std::mem;
-use std::sync::Arc;
+use value::key::Key;
 use value::refusal::Refusal;
 
-// Who has a page: nobody else, or views too.
-#[derive(Drop)]
-#[derive_where(Debug)]
-enum Holder<A: Allocator = Global> {
-    Own(Page<A>),
-    Shared(Arc<Page<A>, A>),
-}
-
-/// The keys of a table with their versions. It changes its own, and a copy of what views share.
+/// The keys of a table with their versions, page by page.
 #[derive(Drop)]
 #[derive_where(Debug)]
 pub(crate) struct Table<A: Allocator = Global> {
-    holder: Holder<A>,
+    leaves: Vec<Leaf<A>, A>,
 }
 
 impl<A: Allocator> Model for Table<A> {
-    ghost use Rattle.mvrows.specs.HeldRows.{Held};
-    ghost use Rattle.mvrows.specs.Held.{held};
+    ghost use Rattle.std.specs.Prelude.{List};
+    ghost use Rattle.mvrows.specs.HeldRows.{Held, pages_of, AreLaidOut};
 
-    ghost Value = { Held A };
+    ghost Value = { List (Held A) };
 
-    ghost view = { λ t. held t.holder };
+    ghost view = { λ t. t.leaves.items };
+
+    ghost invariant = { λ t. AreLaidOut (pages_of t.leaves.items) };
 }
 
-// The page that nobody else has, out of a holder; a copy of it where views share it.
-fn owned<A: Allocator + Copy>(alloc: A, holder: Holder<A>) -> Result<Page<A>, (Holder<A>, Refusal)>
-    ensures ok { IfOk result (λ page. page ≡ (held holder).rows) }
-    ensures err { IfErr result (λ e. e.0 ≡ holder) }
-    ensures memory { IfErr result (λ e. e.1 ≡ out_of_memory) }
+// The place of the first page with a key within a bound.
+fn start<A: Allocator>(leaves: &[Leaf<A>], bound: Bound<&Key<A>>) -> usize
+    requires { AreLaidOut (pages_of leaves.now) }
+    ensures within_length { result ≤ length leaves.now }
+    ensures before { AllByRecursion (λ page. is_before bound.entry page ≡ true) (take result (pages_of leaves.now)) }
+    ensures within { AllByRecursion (λ page. is_before bound.entry page ≡ false) (drop result (pages_of leaves.now)) }
 {
-    match holder {
-        Holder::Own(page) => Ok(page),
-        Holder::Shared(shared) => match Arc::try_unwrap(shared) {
-            Ok(page) => Ok(page),
-            Err(shared) => match shared.copy(alloc) {
-                Ok(page) => Ok(page),
-                Err(refusal) => Err((Holder::Shared(shared), refusal)),
-            },
-        },
+    leaves.partition_point(
+        |leaf: &Leaf<A>| -> bool
+            ensures { result ≡ is_before bound.entry leaf.now.rows }
+        { leaf.page().is_before(bound) },
+    )
+}
+
+// The place of the page that a key belongs to.
+fn place_of<A: Allocator>(leaves: &[Leaf<A>], key: &Key<A>) -> usize
+    requires laid_out { AreLaidOut (pages_of leaves.now) }
+    requires some { 0 < length leaves.now }
+    ensures range { result < length leaves.now }
+    ensures before { AllByRecursion (λ k. is_le (value_cmp key.now k.key) ≡ false) (joined (take result (pages_of leaves.now))) }
+    ensures after { AllByRecursion (λ l. value_cmp key.now l ≡ Less) (map (λ k. k.key) (joined (drop (result + 1) (pages_of leaves.now)))) }
+{
+    let from = start(leaves, Bound::From(key));
+    if from < leaves.len() {
+        from
+    } else {
+        leaves.len() - 1
     }
+}
+
+// The row of the least key within a bound that a snapshot shows of some pages.
+fn next_in<'l, A: Allocator>(
+    leaves: &'l [Leaf<A>],
+    snapshot: u64,
+    bound: Bound<&Key<A>>,
+) -> Option<&'l Row<A>>
+    ensures { option_copied result ≡ next_row (shown_rows snapshot (rows_in leaves.now)) bound.entry }
+{
+    for leaf in leaves {
+        if let Some(row) = leaf.page().next_row(snapshot, bound) {
+            return Some(row);
+        }
+    }
+    None
+}
+
+// Puts a page at the end, if it has a key.
+fn push_page<A: Allocator>(leaves: &mut Vec<Leaf<A>, A>, page: Page<A>) -> Result<(), Refusal>
+    requires { AllByRecursion (λ page. has_keys page ≡ true) (pages_of leaves.old.items) }
+    ensures ok { OnOk result (rows_in leaves.new.items ≡ rows_in leaves.old.items ++ page) }
+    ensures keys { AllByRecursion (λ page. has_keys page ≡ true) (pages_of leaves.new.items) }
+    ensures memory { IfErr result (λ e. e ≡ out_of_memory) }
+{
+    if page.has_keys() {
+        leaves.push(Leaf::of(page))?;
+    }
+    Ok(())
+}
+
+// A page with room for a further key: an empty one, where a full one was put at the end.
+fn with_room<A: Allocator + Copy>(
+    alloc: A,
+    leaves: &mut Vec<Leaf<A>, A>,
+    page: Page<A>,
+) -> Result<Page<A>, Refusal>
+    requires { AllByRecursion (λ page. has_keys page ≡ true) (pages_of leaves.old.items) }
+    ensures ok { IfOk result (λ next. rows_in leaves.new.items ++ next ≡ rows_in leaves.old.items ++ page) }
+    ensures keys { AllByRecursion (λ page. has_keys page ≡ true) (pages_of leaves.new.items) }
+    ensures memory { IfErr result (λ e. e ≡ out_of_memory) }
+{
+    if page.is_full() {
+        push_page(leaves, page)?;
+        Ok(Page::new(alloc))
+    } else {
+        Ok(page)
+    }
+}
+
+// The pages of the opening.
+fn open_pages<A: Allocator + Copy>(
+    alloc: A,
+    rows: Vec<Row<A>, A>,
+) -> Result<Vec<Leaf<A>, A>, Refusal>
+    requires { IsInKeyOrder rows.items }
+    ensures ok { IfOk result (λ leaves. rows_in leaves.items ≡ map opened_row rows.items) }
+    ensures laid_out { IfOk result (λ leaves. AreLaidOut (pages_of leaves.items)) }
+    ensures memory { IfErr result (λ e. e ≡ out_of_memory) }
+{
+    let mut leaves = Vec::new(alloc);
+    let mut page = Page::new(alloc);
+    for row in rows {
+        page = with_room(alloc, &mut leaves, page)?;
+        page.push_opened(alloc, row)?;
+    }
+    push_page(&mut leaves, page)?;
+    Ok(leaves)
+}
+
+// Cuts a page in two.
+fn cut<A: Allocator + Copy>(
+    alloc: A,
+    leaves: &mut Vec<Leaf<A>, A>,
+    place: usize,
+) -> Result<(), Refusal>
+    requires range { place < length leaves.old.items }
+    requires two { 2 ≤ length (slice_index_or (pages_of leaves.old.items) place []) }
+    requires laid_out { AreLaidOut (pages_of leaves.old.items) }
+    ensures rows { rows_in leaves.new.items ≡ rows_in leaves.old.items }
+    ensures laid_out { AreLaidOut (pages_of leaves.new.items) }
+    ensures some { 0 < length leaves.new.items }
+    ensures undo { (commit : ℕ) → AllVersioned (rows_in leaves.old.items) → AreUndoable commit leaves.old.items → undone_in commit leaves.new.items ≡ undone_in commit leaves.old.items }
+    ensures undoable { (commit : ℕ) → AreUndoable commit leaves.old.items → AreUndoable commit leaves.new.items }
+    ensures memory { IfErr result (λ e. e ≡ out_of_memory) }
+{
+    leaves.reserve(1)?;
+    let leaf = &mut leaves[place];
+    let upper = leaf.cut(alloc)?;
+    leaves.insert(place + 1, upper)?;
+    Ok(())
+}
+
+// Whether a key that belongs to a page has no room there.
+fn needs_room<A: Allocator>(leaves: &[Leaf<A>], place: usize, key: &Key<A>) -> bool
+    requires { place < length leaves.now }
+    ensures { IsTrue result → 2 ≤ length (slice_index_or (pages_of leaves.now) place []) }
+{
+    let leaf = &leaves[place];
+    leaf.page().needs_room(key)
+}
+
+// Cuts the page that a key belongs to, where it has no room for a further one.
+fn make_room<A: Allocator + Copy>(
+    alloc: A,
+    leaves: &mut Vec<Leaf<A>, A>,
+    key: &Key<A>,
+) -> Result<(), Refusal>
+    requires laid_out { AreLaidOut (pages_of leaves.old.items) }
+    requires some { 0 < length leaves.old.items }
+    ensures rows { rows_in leaves.new.items ≡ rows_in leaves.old.items }
+    ensures laid_out { AreLaidOut (pages_of leaves.new.items) }
+    ensures some { 0 < length leaves.new.items }
+    ensures undo { (commit : ℕ) → AllVersioned (rows_in leaves.old.items) → AreUndoable commit leaves.old.items → undone_in commit leaves.new.items ≡ undone_in commit leaves.old.items }
+    ensures undoable { (commit : ℕ) → AreUndoable commit leaves.old.items → AreUndoable commit leaves.new.items }
+    ensures memory { IfErr result (λ e. e ≡ out_of_memory) }
+{
+    let pages = leaves.as_slice();
+    let place = place_of(pages, key);
+    if needs_room(pages, place, key) {
+        cut(alloc, leaves, place)
+    } else {
+        Ok(())
+    }
+}
+
+// Puts a newer version of a change's key into the page that the key belongs to.
+fn put<A: Allocator + Copy>(
+    alloc: A,
+    leaves: &mut Vec<Leaf<A>, A>,
+    commit: u64,
+    change: &Change<A>,
+) -> Result<(), Refusal>
+    requires laid_out { AreLaidOut (pages_of leaves.old.items) }
+    requires some { 0 < length leaves.old.items }
+    ensures ok { OnOk result (rows_in leaves.new.items ≡ put_version change.now.key (record { number = commit; fields = change.now.fields }) (rows_in leaves.old.items)) }
+    ensures err { OnErr result (rows_in leaves.new.items ≡ rows_in leaves.old.items) }
+    ensures laid_out { AreLaidOut (pages_of leaves.new.items) }
+    ensures undo { AllVersioned (rows_in leaves.old.items) → AreUndoable commit leaves.old.items → undone_in commit leaves.new.items ≡ undone_in commit leaves.old.items }
+    ensures undoable { AreUndoable commit leaves.old.items → AreUndoable commit leaves.new.items }
+    ensures memory { IfErr result (λ e. e ≡ out_of_memory) }
+{
+    let place = place_of(leaves.as_slice(), change.key());
+    let leaf = &mut leaves[place];
+    leaf.put(alloc, commit, change)
+}
+
+// Puts the first key into a table.
+fn put_first<A: Allocator + Copy>(
+    alloc: A,
+    leaves: &mut Vec<Leaf<A>, A>,
+    commit: u64,
+    change: &Change<A>,
+) -> Result<(), Refusal>
+    requires { length leaves.old.items ≡ 0 }
+    ensures ok { OnOk result (rows_in leaves.new.items ≡ put_version change.now.key (record { number = commit; fields = change.now.fields }) (rows_in leaves.old.items)) }
+    ensures err { OnErr result (leaves.new.items ≡ leaves.old.items) }
+    ensures laid_out { OnOk result (AreLaidOut (pages_of leaves.new.items)) }
+    ensures undo { OnOk result (undone_in commit leaves.new.items ≡ undone_in commit leaves.old.items) }
+    ensures undoable { OnOk result (AreUndoable commit leaves.new.items) }
+    ensures memory { IfErr result (λ e. e ≡ out_of_memory) }
+{
+    let page = Page::first(alloc, commit, change)?;
+    leaves.push(Leaf::of(page))?;
+    Ok(())
+}
+
+// Puts a newer version of a change's key into a table that has pages.
+fn put_more<A: Allocator + Copy>(
+    alloc: A,
+    leaves: &mut Vec<Leaf<A>, A>,
+    commit: u64,
+    change: &Change<A>,
+) -> Result<(), Refusal>
+    requires laid_out { AreLaidOut (pages_of leaves.old.items) }
+    requires some { 0 < length leaves.old.items }
+    ensures ok { OnOk result (rows_in leaves.new.items ≡ put_version change.now.key (record { number = commit; fields = change.now.fields }) (rows_in leaves.old.items)) }
+    ensures err { OnErr result (rows_in leaves.new.items ≡ rows_in leaves.old.items) }
+    ensures laid_out { AreLaidOut (pages_of leaves.new.items) }
+    ensures undo { AllVersioned (rows_in leaves.old.items) → AreUndoable commit leaves.old.items → undone_in commit leaves.new.items ≡ undone_in commit leaves.old.items }
+    ensures undoable { AreUndoable commit leaves.old.items → AreUndoable commit leaves.new.items }
+    ensures memory { IfErr result (λ e. e ≡ out_of_memory) }
+{
+    make_room(alloc, leaves, change.key())?;
+    put(alloc, leaves, commit, change)
+}
+
+// Takes back the versions of a commit that wasn't finished, page by page.
+fn take_all_back<A: Allocator>(leaves: &mut Vec<Leaf<A>, A>, commit: u64)
+    ensures { pages_of leaves.new.items ≡ map (undone commit) leaves.old.items }
+{
+    for leaf in leaves.iter_mut() {
+        leaf.take_back(commit);
+    }
+}
+
+// Makes each page its own, where a pruning has something to do there.
+fn make_all_prunable<A: Allocator + Copy>(
+    alloc: A,
+    leaves: &mut Vec<Leaf<A>, A>,
+    oldest: u64,
+) -> Result<(), Refusal>
+    ensures pages { pages_of leaves.new.items ≡ pages_of leaves.old.items }
+    ensures ok { OnOk result (map (own_pruned oldest) leaves.new.items ≡ map (λ h. pruned_rows oldest h.rows) leaves.old.items) }
+    ensures memory { IfErr result (λ e. e ≡ out_of_memory) }
+{
+    for leaf in leaves.iter_mut() {
+        leaf.make_prunable(alloc, oldest)?;
+    }
+    Ok(())
+}
+
+// Prunes its own pages.
+fn prune_all<A: Allocator>(leaves: &mut Vec<Leaf<A>, A>, oldest: u64)
+    ensures { pages_of leaves.new.items ≡ map (own_pruned oldest) leaves.old.items }
+{
+    for leaf in leaves.iter_mut() {
+        leaf.prune(oldest);
+    }
+}
+
+// Drops the pages without a key.
+fn drop_empty<A: Allocator>(leaves: &mut Vec<Leaf<A>, A>)
+    ensures { leaves.new.items ≡ filter (λ h. has_keys h.rows) leaves.old.items }
+{
+    leaves.retain(|leaf| leaf.has_keys());
+}
+
+// Lets views share all pages, where there is memory for that.
+fn share_all<A: Allocator + Copy>(alloc: A, leaves: &mut Vec<Leaf<A>, A>)
+    ensures { pages_of leaves.new.items ≡ pages_of leaves.old.items }
+{
+    for leaf in leaves.iter_mut() {
+        leaf.share(alloc);
+    }
+}
+
+// Lets views share the page at a place, where there is memory for that, and says whether nobody else
+// had it.
+fn share_at<A: Allocator + Copy>(alloc: A, leaves: &mut Vec<Leaf<A>, A>, place: usize) -> bool
+    ensures { pages_of leaves.new.items ≡ pages_of leaves.old.items }
+{
+    if place >= leaves.len() {
+        return false;
+    }
+    let leaf = &mut leaves[place];
+    let own = leaf.is_own();
+    leaf.share(alloc);
+    own
+}
+
+// Lets views share the pages of its own from a place on, up to one that they share already.
+fn share_from<A: Allocator + Copy>(alloc: A, leaves: &mut Vec<Leaf<A>, A>, from: usize)
+    ensures { pages_of leaves.new.items ≡ pages_of leaves.old.items }
+{
+    for place in from..leaves.len() {
+        if !share_at(alloc, leaves, place) {
+            return;
+        }
+    }
+}
+
+// Lets views share the pages of its own before a place, back to one that they share already.
+fn share_before<A: Allocator + Copy>(alloc: A, leaves: &mut Vec<Leaf<A>, A>, from: usize)
+    ensures { pages_of leaves.new.items ≡ pages_of leaves.old.items }
+{
+    for back in 0..from {
+        if !share_at(alloc, leaves, from - 1 - back) {
+            return;
+        }
+    }
+}
+
+// Lets views share the page that a key belongs to, and those of its own around it.
+fn share_around<A: Allocator + Copy>(alloc: A, leaves: &mut Vec<Leaf<A>, A>, key: &Key<A>)
+    requires { AreLaidOut (pages_of leaves.old.items) }
+    ensures { pages_of leaves.new.items ≡ pages_of leaves.old.items }
+{
+    if leaves.is_empty() {
+        return;
+    }
+    let place = place_of(leaves.as_slice(), key);
+    share_before(alloc, leaves, place);
+    share_from(alloc, leaves, place);
 }
 
 impl<A: Allocator> Table<A> {
-    /// The table of a page.
-    pub fn of(page: Page<A>) -> Table<A>
-        ensures { result ≡ record { own = true; rows = page } }
-    {
-        Table {
-            holder: Holder::Own(page),
-        }
-    }
-
-    /// Its keys with their versions.
-    pub fn page(&self) -> &Page<A>
-        ensures { result.now ≡ self.now.rows }
-    {
-        match &self.holder {
-            Holder::Own(page) => page,
-            Holder::Shared(shared) => shared,
-        }
-    }
-
-    // Takes the page for itself: a copy, where views share it.
-    fn own(&mut self, alloc: A) -> Result<(), Refusal>
+    /// The opening of a table.
+    pub fn open(alloc: A, rows: Vec<Row<A>, A>) -> Result<Table<A>, Refusal>
     where
         A: Copy,
-        ensures ok { OnOk result (self.new ≡ record self.old { own = true }) }
-        ensures err { OnErr result (self.new ≡ self.old) }
-        ensures memory { IfErr result (λ e. e ≡ out_of_memory) }
+        requires { IsInKeyOrder rows.items }
+        ensures ok { IfOk result (λ table. rows_in table ≡ map opened_row rows.items) }
+        ensures err { IfErr result (λ e. e ≡ out_of_memory) }
     {
-        let holder = mem::replace(&mut self.holder, Holder::Own(Page::new(alloc)));
-        match owned(alloc, holder) {
-            Ok(page) => {
-                self.holder = Holder::Own(page);
-                Ok(())
-            }
-            Err((holder, refusal)) => {
-                self.holder = holder;
-                Err(refusal)
-            }
-        }
+        let mut leaves = open_pages(alloc, rows)?;
+        share_all(alloc, &mut leaves);
+        Ok(Table { leaves })
     }
 
-    // Puts a newer version of a change's key into its own.
-    fn put_own(&mut self, alloc: A, commit: u64, change: &Change<A>) -> Result<(), Refusal>
-    where
-        A: Copy,
-        requires { self.old.own ≡ true }
-        ensures own { self.new.own ≡ true }
-        ensures ok { OnOk result (self.new.rows ≡ put_version change.now.key (record { number = commit; fields = change.now.fields }) self.old.rows) }
-        ensures err { OnErr result (self.new.rows ≡ self.old.rows) }
-        ensures memory { IfErr result (λ e. e ≡ out_of_memory) }
+    /// The keys rise. Nothing is done.
+    pub fn in_order(&self)
+        ensures { IsInOrder (rows_in self.now) }
     {
-        match &mut self.holder {
-            Holder::Own(page) => page.put(alloc, commit, change),
-            Holder::Shared(_) => Ok(()),
+        let _leaves = &self.leaves;
+    }
+
+    /// The row of the least key within a bound that a snapshot shows.
+    pub fn next_row(&self, snapshot: u64, bound: Bound<&Key<A>>) -> Option<&Row<A>>
+        ensures { option_copied result ≡ next_row (shown_rows snapshot (rows_in self.now)) bound.entry }
+    {
+        let leaves = self.leaves.as_slice();
+        let from = start(leaves, bound);
+        let (_, within) = leaves.split_at(from);
+        next_in(within, snapshot, bound)
+    }
+
+    /// A key with its versions.
+    pub fn find(&self, key: &Key<A>) -> Option<&Chain<A>>
+        ensures { option_copied result ≡ find (λ k. same key.now k.key) (rows_in self.now) }
+    {
+        let leaves = self.leaves.as_slice();
+        if leaves.is_empty() {
+            return None;
+        }
+        let leaf = &leaves[place_of(leaves, key)];
+        leaf.page().find(key)
+    }
+
+    /// The row of a key that a snapshot shows.
+    pub fn get(&self, snapshot: u64, key: &Key<A>) -> Option<&Row<A>>
+        ensures { option_copied result ≡ row_of (shown_rows snapshot (rows_in self.now)) key.now }
+    {
+        self.in_order();
+        match self.find(key) {
+            Some(chain) => chain.row_at(snapshot),
+            None => None,
         }
     }
 
@@ -119,84 +414,76 @@ impl<A: Allocator> Table<A> {
     pub fn put(&mut self, alloc: A, commit: u64, change: &Change<A>) -> Result<(), Refusal>
     where
         A: Copy,
-        ensures ok { OnOk result (self.new.rows ≡ put_version change.now.key (record { number = commit; fields = change.now.fields }) self.old.rows) }
-        ensures err { OnErr result (self.new.rows ≡ self.old.rows) }
-        ensures undo { AllByRecursion (λ k. has_version k ≡ true) self.old.rows → IsUndoable commit self.old → undone commit self.new ≡ undone commit self.old }
-        ensures undoable { IsUndoable commit self.old → IsUndoable commit self.new }
+        ensures ok { OnOk result (rows_in self.new ≡ put_version change.now.key (record { number = commit; fields = change.now.fields }) (rows_in self.old)) }
+        ensures err { OnErr result (rows_in self.new ≡ rows_in self.old) }
+        ensures undo { AllVersioned (rows_in self.old) → AreUndoable commit self.old → undone_in commit self.new ≡ undone_in commit self.old }
+        ensures undoable { AreUndoable commit self.old → AreUndoable commit self.new }
         ensures memory { IfErr result (λ e. e ≡ out_of_memory) }
     {
-        self.own(alloc)?;
-        self.put_own(alloc, commit, change)
+        if self.leaves.is_empty() {
+            put_first(alloc, &mut self.leaves, commit, change)
+        } else {
+            put_more(alloc, &mut self.leaves, commit, change)
+        }
     }
 
     /// Takes back the versions of a commit that wasn't finished.
     pub fn take_back(&mut self, commit: u64)
-        ensures { self.new.rows ≡ undone commit self.old }
+        ensures { rows_in self.new ≡ undone_in commit self.old }
     {
-        match &mut self.holder {
-            Holder::Own(page) => page.take_back(commit),
-            Holder::Shared(_) => {}
-        }
+        take_all_back(&mut self.leaves, commit);
+        drop_empty(&mut self.leaves);
     }
 
-    /// Makes the page its own, where a pruning has something to do.
+    /// Makes pages its own, where a pruning has something to do.
     pub fn make_prunable(&mut self, alloc: A, oldest: u64) -> Result<(), Refusal>
     where
         A: Copy,
-        ensures same { self.new.rows ≡ self.old.rows }
-        ensures ok { OnOk result (own_pruned oldest self.new ≡ pruned_rows oldest self.old.rows) }
+        ensures same { rows_in self.new ≡ rows_in self.old }
+        ensures ok { OnOk result (own_pruned_in oldest self.new ≡ pruned_rows oldest (rows_in self.old)) }
         ensures memory { IfErr result (λ e. e ≡ out_of_memory) }
     {
-        if self.page().is_pruned(oldest) {
-            Ok(())
-        } else {
-            self.own(alloc)
-        }
+        make_all_prunable(alloc, &mut self.leaves, oldest)
     }
 
-    /// Prunes its own.
+    /// Prunes its own pages.
     pub fn prune(&mut self, oldest: u64)
-        ensures { self.new.rows ≡ own_pruned oldest self.old }
+        ensures { rows_in self.new ≡ own_pruned_in oldest self.old }
     {
-        match &mut self.holder {
-            Holder::Own(page) => page.prune(oldest),
-            Holder::Shared(_) => {}
-        }
+        prune_all(&mut self.leaves, oldest);
+        drop_empty(&mut self.leaves);
     }
 
-    /// Lets views share the page, where there is memory for that.
-    pub fn share(&mut self, alloc: A)
+    /// Lets views share the page that a key belongs to, and those of its own around it, where there
+    /// is memory for that.
+    pub fn share(&mut self, alloc: A, key: &Key<A>)
     where
         A: Copy,
-        ensures { self.new.rows ≡ self.old.rows }
+        ensures { rows_in self.new ≡ rows_in self.old }
     {
-        let holder = mem::replace(&mut self.holder, Holder::Own(Page::new(alloc)));
-        self.holder = shared(alloc, holder);
+        share_around(alloc, &mut self.leaves, key);
     }
 
-    /// The page, shared; a copy of it where it could not be shared before.
-    pub fn lend(&self, alloc: A) -> Result<Arc<Page<A>, A>, Refusal>
+    /// Lets views share all pages, where there is memory for that.
+    pub fn share_all(&mut self, alloc: A)
     where
         A: Copy,
-        ensures ok { IfOk result (λ page. arc_value page ≡ self.now.rows) }
+        ensures { rows_in self.new ≡ rows_in self.old }
+    {
+        share_all(alloc, &mut self.leaves);
+    }
+
+    /// The same pages, shared; copies of those that could not be shared before.
+    pub fn lend(&self, alloc: A) -> Result<Table<A>, Refusal>
+    where
+        A: Copy,
+        ensures ok { IfOk result (λ table. rows_in table ≡ rows_in self.now) }
         ensures err { IfErr result (λ e. e ≡ out_of_memory) }
     {
-        match &self.holder {
-            Holder::Own(page) => Ok(Arc::new(alloc, page.copy(alloc)?)?),
-            Holder::Shared(shared) => Ok(Arc::try_clone(shared)?),
+        let mut leaves = Vec::with_capacity(alloc, self.leaves.len())?;
+        for leaf in &self.leaves {
+            leaves.push(leaf.lend(alloc)?)?;
         }
-    }
-}
-
-// The page of a holder, shared where there is memory for that.
-fn shared<A: Allocator + Copy>(alloc: A, holder: Holder<A>) -> Holder<A>
-    ensures { (held result).rows ≡ (held holder).rows }
-{
-    match holder {
-        Holder::Own(page) => match Arc::new(alloc, page) {
-            Ok(shared) => Holder::Shared(shared),
-            Err(failed) => Holder::Own(failed.value),
-        },
-        Holder::Shared(shared) => Holder::Shared(shared),
+        Ok(Table { leaves })
     }
 }

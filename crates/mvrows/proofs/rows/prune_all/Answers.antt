@@ -1,8 +1,8 @@
 use Rattle.std.proofs.Common.{ap, sym, arith, ◌∙◌}
-use Rattle.mvrows.specs.HeldRows.{Held, own_pruned}
+use Rattle.mvrows.specs.HeldRows.{rows_in, own_pruned_in}
 use Rattle.mvrows.proofs.HeldLemmas.{so_far-more}
 use Rattle.mvrows.proofs.rows.prune_all.Goals as goal
 
 pub loop-table-preserved : goal.loop-table-preserved
 loop-table-preserved g c =
-    so_far-more (λ (h : Held _). h.rows) (own_pruned c.args.oldest) c.loop-table.table-items c.deref_mut-table-items.result.now c.loop-table.table-index c.table-item.result c.prune.new.self (omega arith) c.table-item.is (c.prune.ensures ∙ ap (own_pruned c.args.oldest) (sym c.table-item.is)) c.loop-table.invariant
+    so_far-more rows_in (own_pruned_in c.args.oldest) c.loop-table.table-items c.deref_mut-table-items.result.now c.loop-table.table-index c.table-item.result c.prune.new.self (omega arith) c.table-item.is (c.prune.ensures ∙ ap (own_pruned_in c.args.oldest) (sym c.table-item.is)) c.loop-table.invariant

@@ -1,10 +1,7 @@
-use Rattle.std.proofs.Common.{arith, ◌≡◌, ◌<◌, true, length, ◌∙◌}
-use Rattle.std.specs.List.{AllByRecursion}
-use Rattle.mvrows.specs.Versions.{KeyVersions}
-use Rattle.mvrows.specs.Pruning.{has_version}
-use Rattle.mvrows.specs.HeldRows.{IsUndoable, undone}
+use Rattle.std.proofs.Common.{arith, ◌<◌, length, ◌∙◌}
+use Rattle.mvrows.specs.HeldRows.{AreUndoable, undone_in, AllVersioned}
 use Rattle.mvrows.proofs.PageLemmas.{on_ok}
-use Rattle.mvrows.proofs.HeldLemmas.{held-set, same-set, rows-at, table-at, versioned-set}
+use Rattle.mvrows.proofs.HeldLemmas.{held-set, same-set, rows-at, element-at, versioned-set}
 use Rattle.mvrows.proofs.rows.put_change.Goals as goal
 
 pub returns-then-place-len-clause-ok : goal.returns-then-place-len-clause-ok
@@ -17,10 +14,10 @@ returns-then-place-len-clause-ok g c =
 pub returns-then-place-len-clause-undo : goal.returns-then-place-len-clause-undo
 returns-then-place-len-clause-undo g c =
     let lt : c.place-place.result < length c.args.tables.now.items = omega (arith, c.if-place-len.true, c.len.ensures, c.args.tables.now.ok) in
-    same-set (undone c.args.commit) c.args.tables.now.items c.place-place.result c.put.new.self c.index_mut-table.result.now c.index_mut-table.ensures.value
+    same-set (undone_in c.args.commit) c.args.tables.now.items c.place-place.result c.put.new.self c.index_mut-table.result.now c.index_mut-table.ensures.value
     (c.put.ensures.undo
-    (rows-at (AllByRecursion (λ (x : KeyVersions _). has_version x ≡ true)) c.args.tables.now.items c.place-place.result c.index_mut-table.result.now lt c.index_mut-table.ensures.value c.requires.versioned)
-    (table-at (IsUndoable c.args.commit) c.args.tables.now.items c.place-place.result c.index_mut-table.result.now lt c.index_mut-table.ensures.value c.requires.undoable))
+    (rows-at AllVersioned c.args.tables.now.items c.place-place.result c.index_mut-table.result.now lt c.index_mut-table.ensures.value c.requires.versioned)
+    (element-at (AreUndoable c.args.commit) c.args.tables.now.items c.place-place.result c.index_mut-table.result.now lt c.index_mut-table.ensures.value c.requires.undoable))
 
 pub returns-then-place-len-clause-versioned : goal.returns-then-place-len-clause-versioned
 returns-then-place-len-clause-versioned g c =

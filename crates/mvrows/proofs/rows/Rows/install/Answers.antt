@@ -8,10 +8,10 @@ pub put_all-requires-clause-undoable : goal.put_all-requires-clause-undoable
 put_all-requires-clause-undoable g c = undoable-below c.args.commit c.self.inside.tables.items (subst (TablesAreBelow c.args.commit) (sym c.self.view_is) c.requires)
 
 pub invariant_of-self : goal.invariant_of-self
-invariant_of-self g c = subst AreVersioned (sym (c.share_all.ensures ∙ c.in-Ok.ensures.ok)) (installed-versioned c.args.commit c.args.changes.now (rows_held c.self.inside.tables.items) c.self.invariant)
+invariant_of-self g c = subst AreVersioned (sym (c.share_all_changed.ensures ∙ c.in-Ok.ensures.ok)) (installed-versioned c.args.commit c.args.changes.now (rows_held c.self.inside.tables.items) c.self.invariant)
 
 pub invariant_of-self-in-Err : goal.invariant_of-self-in-Err
-invariant_of-self-in-Err g c = subst AreVersioned (sym (c.share_all-in-Err.ensures ∙ c.take_all_back.ensures ∙ c.put_all.ensures.undo ∙ undone-below c.args.commit c.self.inside.tables.items c.self.invariant (subst (TablesAreBelow c.args.commit) (sym c.self.view_is) c.requires))) c.self.invariant
+invariant_of-self-in-Err g c = subst AreVersioned (sym (c.share_all.ensures ∙ c.take_all_back.ensures ∙ c.put_all.ensures.undo ∙ undone-below c.args.commit c.self.inside.tables.items c.self.invariant (subst (TablesAreBelow c.args.commit) (sym c.self.view_is) c.requires))) c.self.invariant
 
 pub returns-in-Err-clause-err : goal.returns-in-Err-clause-err
-returns-in-Err-clause-err g c = c.share_all-in-Err.ensures ∙ c.take_all_back.ensures ∙ c.put_all.ensures.undo ∙ undone-below c.args.commit c.self.inside.tables.items c.self.invariant (subst (TablesAreBelow c.args.commit) (sym c.self.view_is) c.requires) ∙ c.self.view_is
+returns-in-Err-clause-err g c = c.share_all.ensures ∙ c.take_all_back.ensures ∙ c.put_all.ensures.undo ∙ undone-below c.args.commit c.self.inside.tables.items c.self.invariant (subst (TablesAreBelow c.args.commit) (sym c.self.view_is) c.requires) ∙ c.self.view_is

@@ -1,18 +1,16 @@
-use Rattle.std.proofs.Common.{ap, sym, subst, arith, map, ◌<◌, ◌≤◌, length, ◌∙◌}
-use Rattle.schema.specs.Plain.{rows_of}
-use Rattle.mvrows.specs.Installing.{opened_row}
-use Rattle.mvrows.specs.HeldRows.{Held, AreVersioned}
-use Rattle.mvrows.proofs.HeldLemmas.{opening-more, opening-whole, opened-versioned}
+use Rattle.std.proofs.Common.{ap, sym, subst, ◌∙◌}
+use Rattle.std.specs.List.{AllByRecursion}
+use Rattle.schema.specs.Rows.{IsInKeyOrder}
+use Rattle.mvrows.specs.Installing.{opened}
+use Rattle.mvrows.specs.HeldRows.{AreVersioned}
+use Rattle.mvrows.proofs.HeldLemmas.{opened-versioned}
 use Rattle.mvrows.proofs.rows.Rows.of.Goals as goal
 
-pub loop-place-preserved : goal.loop-place-preserved
-loop-place-preserved g c =
-    let lt : c.loop-place.place < length c.args.tables = omega (arith, c.loop-place-test.true, c.count-place-end.ensures) in
-    opening-more c.args.tables c.loop-place.place c.loop-place.opening.items c.push.new.self.items c.of.result lt c.in_ok-push.ensures.items
-    (ap (λ (h : Held _). h.rows) c.of.ensures ∙ c.in_ok-page.ensures.ok ∙ ap (λ n. map opened_row (rows_of c.args.tables n)) c.at.ensures)
-    c.loop-place.invariant
+pub open_tables-requires : goal.open_tables-requires
+open_tables-requires g c = subst (AllByRecursion IsInKeyOrder) (sym c.in_ok-rows.ensures.ok) c.all_in_key_order.ensures
 
 pub invariant_of-result : goal.invariant_of-result
-invariant_of-result g c =
-    let past : length c.args.tables ≤ c.loop-place.place = omega (arith, c.loop-place-test.false, c.count-place-end.ensures) in
-    subst AreVersioned (sym (opening-whole c.args.tables c.loop-place.place c.loop-place.opening.items c.share_all.new.tables.items past c.share_all.ensures c.loop-place.invariant)) (opened-versioned c.args.tables)
+invariant_of-result g c = subst AreVersioned (sym (c.in_ok-opening.ensures.ok ∙ ap opened c.in_ok-rows.ensures.ok)) (opened-versioned c.args.tables)
+
+pub returns-clause-ok : goal.returns-clause-ok
+returns-clause-ok g c = c.in_ok-opening.ensures.ok ∙ ap opened c.in_ok-rows.ensures.ok

@@ -1,0 +1,350 @@
+-- A table's pages, of which it has some for itself, while they are changed, cut and dropped.
+use Rattle.std.proofs.Common.{suc, zero, ◌≡◌, refl, sym, ap, subst, ◌∙◌, ℕ, ◌+◌, ◌<◌, ◌≤◌, Bool, true, false, true≢false, not, cond, List, [], ◌∷◌, ◌++◌, take, drop, map, length, Option, Some, None, Bor, get_or, set, arith, add-one, inl, inr}
+use Rattle.std.specs.Prelude.{filter, ◌⊎◌, Result, Ok, Err, OnOk, OnErr}
+use Rattle.std.specs.List.{AllByRecursion, flat_map}
+use Rattle.std.specs.List.Sorted.{IsStrictlySortedBy}
+use Rattle.std.specs.Option.{option_or}
+use Rattle.std.specs.Ordering.{is_le}
+use Rattle.std.proofs.lemmas.List.{map-set, map-append, append-nil, drop_all, length-map}
+use Rattle.std.proofs.lemmas.List.Elements.{filter-append}
+use Rattle.value.specs.Order.{value_cmp}
+use Rattle.value.specs.declared.value.Value.{Value}
+use Rattle.value.specs.declared.key.Key.{Key}
+use Rattle.schema.specs.declared.row.Row.{Row}
+use Rattle.schema.specs.declared.reader.Bound.{Bound}
+use Rattle.schema.specs.Rows.{next_row}
+use Rattle.mvrows.specs.Versions.{Version, KeyVersions, VersionedRows, IsInOrder, shown_rows}
+use Rattle.mvrows.specs.Installing.{opened_row, first_version, put_version}
+use Rattle.mvrows.specs.Pruning.{has_version, pruned_key, pruned_rows, pruned_versions}
+use Rattle.mvrows.specs.TakenBack.{key_before, rows_before, versions_before}
+use Rattle.mvrows.specs.HeldRows.{Held, pages_of, joined, rows_in, has_keys, AreLaidOut, undone, undone_in, IsUndoable, AreUndoable, own_pruned, own_pruned_in, AllVersioned}
+use Rattle.mvrows.proofs.VersionLemmas.{IsLeast, get_or-map, all-set, put_version-in_order}
+use Rattle.mvrows.proofs.PageLemmas.{one-in_order, trimmed, drop-item, kept-least, kept-in_order}
+use Rattle.mvrows.proofs.HeldLemmas.{before-put, front-in_order, all-append, same-set, element-at, undone-own, undone-kept, undoable-own, map-map}
+use Rattle.mvrows.proofs.JoinedLemmas.{append-assoc, flat-split, Below, least-append, least-join, Cut, in_order-cut, in_order-join, put-in, put-has_keys, next-append}
+
+-- ---- lists
+
+all-of_map : {X Y : Type 0} (P : Y → Type 0) (f : X → Y) (xs : List X) → AllByRecursion (λ x. P (f x)) xs → AllByRecursion P (map f xs)
+all-of_map P f [] all = tt
+all-of_map P f (x ∷ xs) all = (all.0, all-of_map P f xs all.1)
+
+all-from_map : {X Y : Type 0} (P : Y → Type 0) (f : X → Y) (xs : List X) → AllByRecursion P (map f xs) → AllByRecursion (λ x. P (f x)) xs
+all-from_map P f [] all = tt
+all-from_map P f (x ∷ xs) all = (all.0, all-from_map P f xs all.1)
+
+-- an element that is cut in two
+cut-flat_suc : {X Y : Type 0} (f : X → List Y) (xs : List X) (i : ℕ) (old lower upper : X) → i < length xs → old ≡ get_or xs i old → f lower ++ f upper ≡ f old → flat_map f (take (suc i) (set xs i lower) ++ upper ∷ drop (suc i) (set xs i lower)) ≡ flat_map f xs
+cut-flat_suc f [] i old lower upper lt at parts = absurd (omega arith)
+cut-flat_suc f (y ∷ ys) zero old lower upper lt at parts = sym (append-assoc (f lower) (f upper) (flat_map f ys)) ∙ ap (λ z. z ++ flat_map f ys) (parts ∙ ap f at)
+cut-flat_suc f (y ∷ ys) (suc i) old lower upper lt at parts = ap (λ rest. f y ++ rest) (cut-flat_suc f ys i old lower upper (omega arith) at parts)
+
+cut-all_suc : {X : Type 0} (P : X → Type 0) (xs : List X) (i : ℕ) (lower upper : X) → i < length xs → P lower → P upper → AllByRecursion P xs → AllByRecursion P (take (suc i) (set xs i lower) ++ upper ∷ drop (suc i) (set xs i lower))
+cut-all_suc P [] i lower upper lt low up all = absurd (omega arith)
+cut-all_suc P (y ∷ ys) zero lower upper lt low up all = (low, (up, all.1))
+cut-all_suc P (y ∷ ys) (suc i) lower upper lt low up all = (all.0, cut-all_suc P ys i lower upper (omega arith) low up all.1)
+
+cut-flat : {X Y : Type 0} (f : X → List Y) (xs : List X) (i : ℕ) (old lower upper : X) → i < length xs → old ≡ get_or xs i old → f lower ++ f upper ≡ f old → flat_map f (take (i + 1) (set xs i lower) ++ upper ∷ drop (i + 1) (set xs i lower)) ≡ flat_map f xs
+cut-flat f xs i old lower upper lt at parts = rw add-one (cut-flat_suc f xs i old lower upper lt at parts)
+
+cut-all : {X : Type 0} (P : X → Type 0) (xs : List X) (i : ℕ) (lower upper : X) → i < length xs → P lower → P upper → AllByRecursion P xs → AllByRecursion P (take (i + 1) (set xs i lower) ++ upper ∷ drop (i + 1) (set xs i lower))
+cut-all P xs i lower upper lt low up all = rw add-one (cut-all_suc P xs i lower upper lt low up all)
+
+pub on_err : {T E : Type 0} (r : Result T E) (P Q : Type 0) → (P → Q) → OnErr r P → OnErr r Q
+on_err (Ok x) P Q f p = p
+on_err (Err e) P Q f p = f p
+
+module _ {A : Type 0} where
+  joined-map : {X : Type 0} (f : X → VersionedRows A) (xs : List X) → joined (map f xs) ≡ flat_map f xs
+  joined-map f [] = refl
+  joined-map f (x ∷ xs) = ap (λ rest. f x ++ rest) (joined-map f xs)
+
+  -- ---- one page changed
+
+  pub page-at : (leaves : List (Held A)) (i : ℕ) (h : Held A) → h ≡ get_or leaves i h → h.rows ≡ get_or (pages_of leaves) i h.rows
+  page-at leaves i h at = ap (λ x. x.rows) at ∙ sym (get_or-map (λ x. x.rows) leaves i h)
+
+  -- where a key belongs
+  pub record Placed (key : Value A) (leaves : List (Held A)) (i : ℕ) : Type 0 where
+    pub range : i < length leaves
+    pub before : AllByRecursion (λ k. is_le (value_cmp key k.key) ≡ false) (joined (take i (pages_of leaves)))
+    pub after : IsLeast key (joined (drop (i + 1) (pages_of leaves)))
+
+  -- as a look-up of an equal key in an equal list tells it
+  pub placed : (key k : Value A) (leaves slice : List (Held A)) (i : ℕ) → slice ≡ leaves → k ≡ key → Placed k slice i → Placed key leaves i
+  placed key k leaves slice i same is p = subst (λ ls. Placed key ls i) same (subst (λ x. Placed x slice i) is p)
+
+  pub put-ok : (key : Value A) (v : Version A) (leaves : List (Held A)) (i : ℕ) (old new : Held A) → old ≡ get_or leaves i old → Placed key leaves i → new.rows ≡ put_version key v old.rows
+      → rows_in (set leaves i new) ≡ put_version key v (rows_in leaves)
+  put-ok key v leaves i old new at p put =
+      ap joined (map-set (λ h. h.rows) leaves i new)
+      ∙ put-in key v (pages_of leaves) i old.rows new.rows (omega (arith, p.range, length-map leaves (λ (h : Held A). h.rows))) (page-at leaves i old at) p.before p.after put
+
+  pub put-laid_out : {T E : Type 0} (r : Result T E) (key : Value A) (v : Version A) (leaves : List (Held A)) (i : ℕ) (old new : Held A) → old ≡ get_or leaves i old → Placed key leaves i
+      → OnOk r (new.rows ≡ put_version key v old.rows) → OnErr r (new.rows ≡ old.rows) → AreLaidOut (pages_of leaves) → AreLaidOut (pages_of (set leaves i new))
+  put-laid_out (Ok x) key v leaves i old new at p ok err laid = (
+    subst IsInOrder (sym (put-ok key v leaves i old new at p ok)) (put_version-in_order key v (rows_in leaves) laid.0),
+    subst (AllByRecursion (λ (page : VersionedRows A). has_keys page ≡ true)) (sym (map-set (λ h. h.rows) leaves i new))
+        (all-set (λ (page : VersionedRows A). has_keys page ≡ true) (pages_of leaves) i new.rows (subst (λ (page : VersionedRows A). has_keys page ≡ true) (sym ok) (put-has_keys key v old.rows)) laid.1),
+  )
+  put-laid_out (Err e) key v leaves i old new at p ok err laid = subst AreLaidOut (sym (same-set (λ (h : Held A). h.rows) leaves i new old at err)) laid
+
+  -- what holds of all keys holds of a page's
+  pub versioned-page : (leaves : List (Held A)) (i : ℕ) (h : Held A) → i < length leaves → h ≡ get_or leaves i h → AllVersioned (rows_in leaves) → AllVersioned h.rows
+  versioned-page [] i h lt at all = absurd (omega arith)
+  versioned-page (g ∷ gs) zero h lt at all = subst (λ x. AllVersioned x.rows) (sym at) (all-append (λ k. has_version k ≡ true) g.rows (rows_in gs) all).0
+  versioned-page (g ∷ gs) (suc i) h lt at all = versioned-page gs i h (omega arith) at (all-append (λ k. has_version k ≡ true) g.rows (rows_in gs) all).1
+
+  -- ---- a page cut in two
+
+  before-append : (commit : ℕ) (xs ys : VersionedRows A) → rows_before commit (xs ++ ys) ≡ rows_before commit xs ++ rows_before commit ys
+  before-append commit xs ys = ap (filter has_version) (map-append (key_before commit) xs ys) ∙ filter-append has_version (map (key_before commit) xs) (map (key_before commit) ys)
+
+  cut-undone : (commit : ℕ) (old lower upper : Held A) → lower.own ≡ true → upper.own ≡ true → lower.rows ++ upper.rows ≡ old.rows → AllVersioned old.rows → IsUndoable commit old → undone commit lower ++ undone commit upper ≡ undone commit old
+  cut-undone commit old lower upper low up parts versioned undoable =
+      (λ i. undone-own commit lower low i ++ undone-own commit upper up i)
+      ∙ sym (before-append commit lower.rows upper.rows)
+      ∙ ap (rows_before commit) parts
+      ∙ undone-kept commit old versioned undoable
+
+  abbrev cut_leaves : List (Held A) → ℕ → Held A → Held A → List (Held A)
+  cut_leaves leaves i lower upper = take (i + 1) (set leaves i lower) ++ upper ∷ drop (i + 1) (set leaves i lower)
+
+  pub cut-rows : (leaves more : List (Held A)) (i : ℕ) (old lower upper : Held A) → i < length leaves → old ≡ get_or leaves i old → lower.rows ++ upper.rows ≡ old.rows → more ≡ cut_leaves leaves i lower upper → rows_in more ≡ rows_in leaves
+  cut-rows leaves more i old lower upper lt at parts is =
+      ap rows_in is ∙ joined-map (λ (h : Held A). h.rows) (cut_leaves leaves i lower upper)
+      ∙ (cut-flat (λ (h : Held A). h.rows) leaves i old lower upper lt at parts)
+      ∙ sym (joined-map (λ (h : Held A). h.rows) leaves)
+
+  pub cut-undo : (commit : ℕ) (leaves more : List (Held A)) (i : ℕ) (old lower upper : Held A) → i < length leaves → old ≡ get_or leaves i old → lower.rows ++ upper.rows ≡ old.rows → lower.own ≡ true → upper.own ≡ true → more ≡ cut_leaves leaves i lower upper
+      → AllVersioned (rows_in leaves) → AreUndoable commit leaves → undone_in commit more ≡ undone_in commit leaves
+  cut-undo commit leaves more i old lower upper lt at parts low up is versioned undoable =
+      let one = cut-undone commit old lower upper low up parts (versioned-page leaves i old lt at versioned) (element-at (IsUndoable commit) leaves i old lt at undoable) in
+      ap (undone_in commit) is ∙ joined-map (undone commit) (cut_leaves leaves i lower upper)
+      ∙ (cut-flat (undone commit) leaves i old lower upper lt at one)
+      ∙ sym (joined-map (undone commit) leaves)
+
+  pub cut-undoable : (commit : ℕ) (leaves more : List (Held A)) (i : ℕ) (lower upper : Held A) → i < length leaves → lower.own ≡ true → upper.own ≡ true → more ≡ cut_leaves leaves i lower upper → AreUndoable commit leaves → AreUndoable commit more
+  cut-undoable commit leaves more i lower upper lt low up is undoable =
+      subst (AreUndoable commit) (sym is) (cut-all (IsUndoable commit) leaves i lower upper lt (undoable-own commit lower low) (undoable-own commit upper up) undoable)
+
+  pub cut-laid_out : (leaves more : List (Held A)) (i : ℕ) (old lower upper : Held A) → i < length leaves → old ≡ get_or leaves i old → lower.rows ++ upper.rows ≡ old.rows → has_keys lower.rows ≡ true → has_keys upper.rows ≡ true → more ≡ cut_leaves leaves i lower upper
+      → AreLaidOut (pages_of leaves) → AreLaidOut (pages_of more)
+  cut-laid_out leaves more i old lower upper lt at parts low up is laid = (
+    subst IsInOrder (sym (cut-rows leaves more i old lower upper lt at parts is)) laid.0,
+    all-of_map (λ (page : VersionedRows A). has_keys page ≡ true) (λ h. h.rows) more
+        (subst (AllByRecursion (λ (h : Held A). has_keys h.rows ≡ true)) (sym is)
+        (cut-all (λ (h : Held A). has_keys h.rows ≡ true) leaves i lower upper lt low up (all-from_map (λ (page : VersionedRows A). has_keys page ≡ true) (λ h. h.rows) leaves laid.1))),
+  )
+
+  -- a page taken for itself, where the cut failed
+  pub taken-rows : (leaves : List (Held A)) (i : ℕ) (old new : Held A) → old ≡ get_or leaves i old → (new ≡ old) ⊎ (new ≡ record old { own = true }) → pages_of (set leaves i new) ≡ pages_of leaves
+  taken-rows leaves i old new at (inl e) = same-set (λ (h : Held A). h.rows) leaves i new old at (ap (λ h. h.rows) e)
+  taken-rows leaves i old new at (inr e) = same-set (λ (h : Held A). h.rows) leaves i new old at (ap (λ h. h.rows) e)
+
+  pub taken-undo : (commit : ℕ) (leaves : List (Held A)) (i : ℕ) (old new : Held A) → i < length leaves → old ≡ get_or leaves i old → (new ≡ old) ⊎ (new ≡ record old { own = true }) → AllVersioned (rows_in leaves) → AreUndoable commit leaves → undone_in commit (set leaves i new) ≡ undone_in commit leaves
+  taken-undo commit leaves i old new lt at (inl e) versioned undoable = ap joined (same-set (undone commit) leaves i new old at (ap (undone commit) e))
+  taken-undo commit leaves i old new lt at (inr e) versioned undoable =
+      ap joined (same-set (undone commit) leaves i new old at (ap (undone commit) e ∙ undone-kept commit old (versioned-page leaves i old lt at versioned) (element-at (IsUndoable commit) leaves i old lt at undoable)))
+
+  pub taken-undoable : (commit : ℕ) (leaves : List (Held A)) (i : ℕ) (old new : Held A) → i < length leaves → old ≡ get_or leaves i old → (new ≡ old) ⊎ (new ≡ record old { own = true }) → AreUndoable commit leaves → AreUndoable commit (set leaves i new)
+  taken-undoable commit leaves i old new lt at (inl e) undoable = all-set (IsUndoable commit) leaves i new (subst (IsUndoable commit) (sym e) (element-at (IsUndoable commit) leaves i old lt at undoable)) undoable
+  taken-undoable commit leaves i old new lt at (inr e) undoable = all-set (IsUndoable commit) leaves i new (subst (IsUndoable commit) (sym e) (undoable-own commit (record old { own = true }) refl)) undoable
+
+  -- ---- pages that keep some versions of their keys
+
+  abbrev kept_page : (List (Version A) → List (Version A)) → Held A → VersionedRows A
+  kept_page f h = cond h.own (filter has_version (map (trimmed f) h.rows)) h.rows
+
+  keep-below : (f : List (Version A) → List (Version A)) (rows ys : VersionedRows A) → Below rows ys → Below (filter has_version (map (trimmed f) rows)) ys
+  keep-below f [] ys below = tt
+  keep-below f (r ∷ rs) ys below = by_test (has_version (trimmed f r)) (keep-below f rs ys below.1)
+    where
+      left : VersionedRows A
+      left = filter has_version (map (trimmed f) rs)
+
+      by_test : (b : Bool) → Below left ys → Below (cond b (trimmed f r ∷ left) left) ys
+      by_test true rest = (below.0, rest)
+      by_test false rest = rest
+
+  page-least : (f : List (Version A) → List (Version A)) (k : Value A) (h : Held A) → IsLeast k h.rows → IsLeast k (kept_page f h)
+  page-least f k h least = go h.own
+    where
+      go : (b : Bool) → IsLeast k (cond b (filter has_version (map (trimmed f) h.rows)) h.rows)
+      go true = kept-least f k h.rows least
+      go false = least
+
+  page-in_order : (f : List (Version A) → List (Version A)) (h : Held A) → IsInOrder h.rows → IsInOrder (kept_page f h)
+  page-in_order f h sorted = go h.own
+    where
+      go : (b : Bool) → IsInOrder (cond b (filter has_version (map (trimmed f) h.rows)) h.rows)
+      go true = kept-in_order f h.rows sorted
+      go false = sorted
+
+  page-below : (f : List (Version A) → List (Version A)) (h : Held A) (ys : VersionedRows A) → Below h.rows ys → Below (kept_page f h) ys
+  page-below f h ys below = go h.own
+    where
+      go : (b : Bool) → Below (cond b (filter has_version (map (trimmed f) h.rows)) h.rows) ys
+      go true = keep-below f h.rows ys below
+      go false = below
+
+  pages-least : (f : List (Version A) → List (Version A)) (k : Value A) (leaves : List (Held A)) → IsLeast k (rows_in leaves) → IsLeast k (joined (map (kept_page f) leaves))
+  pages-least f k [] least = least
+  pages-least f k (h ∷ hs) least =
+      let parts = least-append k h.rows (rows_in hs) least in
+      least-join k (kept_page f h) (joined (map (kept_page f) hs)) (page-least f k h parts.0) (pages-least f k hs parts.1)
+
+  pages-below : (f : List (Version A) → List (Version A)) (xs : VersionedRows A) (leaves : List (Held A)) → Below xs (rows_in leaves) → Below xs (joined (map (kept_page f) leaves))
+  pages-below f [] leaves below = tt
+  pages-below f (x ∷ xs) leaves below = (pages-least f x.key leaves below.0, pages-below f xs leaves below.1)
+
+  pages-in_order : (f : List (Version A) → List (Version A)) (leaves : List (Held A)) → IsInOrder (rows_in leaves) → IsInOrder (joined (map (kept_page f) leaves))
+  pages-in_order f [] sorted = sorted
+  pages-in_order f (h ∷ hs) sorted =
+      let cut = in_order-cut h.rows (rows_in hs) sorted in
+      in_order-join (kept_page f h) (joined (map (kept_page f) hs)) (record {
+        first = page-in_order f h cut.first;
+        second = pages-in_order f hs cut.second;
+        below = page-below f h (joined (map (kept_page f) hs)) (pages-below f h.rows hs cut.below);
+      })
+
+  -- ---- pages without a key are dropped
+
+  abbrev kept_leaves : List (Held A) → List (Held A)
+  kept_leaves leaves = filter (λ h. has_keys h.rows) leaves
+
+  no_keys : (rows rest : VersionedRows A) → has_keys rows ≡ false → rest ≡ rows ++ rest
+  no_keys [] rest e = refl
+  no_keys (r ∷ rs) rest e = absurd (true≢false e)
+
+  pub kept-rows : (leaves : List (Held A)) → rows_in (kept_leaves leaves) ≡ rows_in leaves
+  kept-rows [] = refl
+  kept-rows (h ∷ hs) = go (has_keys h.rows) refl (kept-rows hs)
+    where
+      go : (b : Bool) → has_keys h.rows ≡ b → rows_in (kept_leaves hs) ≡ rows_in hs → rows_in (cond b (h ∷ kept_leaves hs) (kept_leaves hs)) ≡ h.rows ++ rows_in hs
+      go true e rest = ap (λ left. h.rows ++ left) rest
+      go false e rest = rest ∙ no_keys h.rows (rows_in hs) e
+
+  kept-keys : (leaves : List (Held A)) → AllByRecursion (λ page. has_keys page ≡ true) (pages_of (kept_leaves leaves))
+  kept-keys [] = tt
+  kept-keys (h ∷ hs) = go (has_keys h.rows) refl (kept-keys hs)
+    where
+      go : (b : Bool) → has_keys h.rows ≡ b → AllByRecursion (λ page. has_keys page ≡ true) (pages_of (kept_leaves hs)) → AllByRecursion (λ page. has_keys page ≡ true) (pages_of (cond b (h ∷ kept_leaves hs) (kept_leaves hs)))
+      go true e rest = (e, rest)
+      go false e rest = rest
+
+  -- what is left, laid out
+  left-laid_out : (f : List (Version A) → List (Version A)) (leaves changed left : List (Held A)) → left ≡ kept_leaves changed → pages_of changed ≡ map (kept_page f) leaves → AreLaidOut (pages_of leaves) → AreLaidOut (pages_of left)
+  left-laid_out f leaves changed left is kept laid = subst (λ hs. AreLaidOut (pages_of hs)) (sym is) (subst IsInOrder (sym (kept-rows changed ∙ ap joined kept)) (pages-in_order f leaves laid.0), kept-keys changed)
+
+  pub undone-laid_out : (commit : ℕ) (leaves changed left : List (Held A)) → left ≡ kept_leaves changed → pages_of changed ≡ map (undone commit) leaves → AreLaidOut (pages_of leaves) → AreLaidOut (pages_of left)
+  undone-laid_out commit leaves changed left is kept laid = left-laid_out (versions_before commit) leaves changed left is kept laid
+
+  pub pruned-laid_out : (oldest : ℕ) (leaves changed left : List (Held A)) → left ≡ kept_leaves changed → pages_of changed ≡ map (own_pruned oldest) leaves → AreLaidOut (pages_of leaves) → AreLaidOut (pages_of left)
+  pruned-laid_out oldest leaves changed left is kept laid = left-laid_out (pruned_versions oldest) leaves changed left is kept laid
+
+  pub left-rows : (changed left : List (Held A)) (pages : List (VersionedRows A)) → left ≡ kept_leaves changed → pages_of changed ≡ pages → rows_in left ≡ joined pages
+  left-rows changed left pages is kept = ap rows_in is ∙ kept-rows changed ∙ ap joined kept
+
+  -- ---- a pruning of all pages
+
+  pruned-append : (oldest : ℕ) (xs ys : VersionedRows A) → pruned_rows oldest (xs ++ ys) ≡ pruned_rows oldest xs ++ pruned_rows oldest ys
+  pruned-append oldest xs ys = ap (filter has_version) (map-append (pruned_key oldest) xs ys) ∙ filter-append has_version (map (pruned_key oldest) xs) (map (pruned_key oldest) ys)
+
+  pub pruned-pages : (oldest : ℕ) (leaves : List (Held A)) → joined (map (λ h. pruned_rows oldest h.rows) leaves) ≡ pruned_rows oldest (rows_in leaves)
+  pruned-pages oldest [] = refl
+  pruned-pages oldest (h ∷ hs) = ap (λ rest. pruned_rows oldest h.rows ++ rest) (pruned-pages oldest hs) ∙ sym (pruned-append oldest h.rows (rows_in hs))
+
+  -- ---- pages of the opening
+
+  pub no-keys_after : (rows page : VersionedRows A) → has_keys page ≡ false → rows ≡ rows ++ page
+  no-keys_after rows [] e = sym (append-nil rows)
+  no-keys_after rows (k ∷ ks) e = absurd (true≢false e)
+
+  -- one more row of the opening, where a page was put at the end or not
+  open-whole : (old page new next : VersionedRows A) (row : Row A) (rest left : List (Row A)) (whole : VersionedRows A)
+      → new ++ next ≡ old ++ page → rest ≡ row ∷ left → old ++ (page ++ map opened_row rest) ≡ whole → new ++ (next ++ opened_row row ∷ map opened_row left) ≡ whole
+  open-whole old page new next row rest left whole turned step so_far =
+      sym (append-assoc new next (opened_row row ∷ map opened_row left))
+      ∙ ap (λ rows. rows ++ opened_row row ∷ map opened_row left) turned
+      ∙ append-assoc old page (opened_row row ∷ map opened_row left)
+      ∙ ap (λ rows. old ++ (page ++ map opened_row rows)) (sym step)
+      ∙ so_far
+
+  pub open-order : (old page new next : VersionedRows A) (row : Row A) (rest left : List (Row A)) (whole : VersionedRows A)
+      → new ++ next ≡ old ++ page → rest ≡ row ∷ left → old ++ (page ++ map opened_row rest) ≡ whole → IsInOrder whole → IsInOrder (next ++ opened_row row ∷ [])
+  open-order old page new next row rest left whole turned step so_far sorted =
+      front-in_order next (opened_row row) (map opened_row left)
+      (in_order-cut new (next ++ opened_row row ∷ map opened_row left) (subst IsInOrder (sym (open-whole old page new next row rest left whole turned step so_far)) sorted)).second
+
+  pub open-step : (old page new next more : VersionedRows A) (row : Row A) (rest left : List (Row A)) (whole : VersionedRows A)
+      → new ++ next ≡ old ++ page → more ≡ next ++ opened_row row ∷ [] → rest ≡ row ∷ left → old ++ (page ++ map opened_row rest) ≡ whole → new ++ (more ++ map opened_row left) ≡ whole
+  open-step old page new next more row rest left whole turned made step so_far =
+      ap (λ rows. new ++ (rows ++ map opened_row left)) made
+      ∙ ap (λ rows. new ++ rows) (append-assoc next (opened_row row ∷ []) (map opened_row left))
+      ∙ open-whole old page new next row rest left whole turned step so_far
+
+  pub open-end : (old page new : VersionedRows A) (rest : List (Row A)) (whole : VersionedRows A) → new ≡ old ++ page → rest ≡ [] → old ++ (page ++ map opened_row rest) ≡ whole → new ≡ whole
+  open-end old page new rest whole put none so_far =
+      put ∙ ap (λ rows. old ++ rows) (sym (append-nil page)) ∙ ap (λ rows. old ++ (page ++ map opened_row rows)) (sym none) ∙ so_far
+
+  -- ---- the first page of a table
+
+  no_leaves : (leaves : List (Held A)) → length leaves ≡ 0 → leaves ≡ []
+  no_leaves [] e = refl
+  no_leaves (h ∷ hs) e = absurd (omega (arith, e))
+
+  abbrev own_page : VersionedRows A → Held A
+  own_page page = record { own = true; rows = page }
+
+  first-leaves : (leaves more : List (Held A)) (page : VersionedRows A) → length leaves ≡ 0 → more ≡ leaves ++ own_page page ∷ [] → more ≡ own_page page ∷ []
+  first-leaves leaves more page none is = is ∙ ap (λ hs. hs ++ own_page page ∷ []) (no_leaves leaves none)
+
+  pub first-ok : (key : Value A) (v : Version A) (leaves more : List (Held A)) → length leaves ≡ 0 → more ≡ leaves ++ own_page (first_version key v ∷ []) ∷ [] → rows_in more ≡ put_version key v (rows_in leaves)
+  first-ok key v leaves more none is = ap rows_in (first-leaves leaves more (first_version key v ∷ []) none is) ∙ ap (λ hs. put_version key v (rows_in hs)) (sym (no_leaves leaves none))
+
+  pub first-laid_out : (key : Value A) (v : Version A) (leaves more : List (Held A)) → length leaves ≡ 0 → more ≡ leaves ++ own_page (first_version key v ∷ []) ∷ [] → AreLaidOut (pages_of more)
+  first-laid_out key v leaves more none is =
+      subst (λ hs. AreLaidOut (pages_of hs)) (sym (first-leaves leaves more (first_version key v ∷ []) none is)) (one-in_order (first_version key v) (first_version key v ∷ []) refl, (refl, tt))
+
+  pub first-undo : (commit : ℕ) (key : Value A) (fields : Option (List (Value A))) (leaves more : List (Held A)) → length leaves ≡ 0 → more ≡ leaves ++ own_page (first_version key (record { number = commit; fields = fields }) ∷ []) ∷ [] → undone_in commit more ≡ undone_in commit leaves
+  first-undo commit key fields leaves more none is =
+      ap (undone_in commit) (first-leaves leaves more (first_version key (record { number = commit; fields = fields }) ∷ []) none is)
+      ∙ append-nil (rows_before commit (first_version key (record { number = commit; fields = fields }) ∷ []))
+      ∙ before-put commit key (record { number = commit; fields = fields }) [] refl
+      ∙ ap (undone_in commit) (sym (no_leaves leaves none))
+
+  pub first-undoable : (commit : ℕ) (leaves more : List (Held A)) (page : VersionedRows A) → length leaves ≡ 0 → more ≡ leaves ++ own_page page ∷ [] → AreUndoable commit more
+  first-undoable commit leaves more page none is = subst (AreUndoable commit) (sym (first-leaves leaves more page none is)) (undoable-own commit (own_page page) refl, tt)
+
+  -- how many keys a page has
+  pub long-page : (leaves : List (Held A)) (i : ℕ) (h : Held A) → i < length leaves → h ≡ get_or leaves i h → 2 ≤ length h.rows → 2 ≤ length (get_or (pages_of leaves) i [])
+  long-page [] i h lt at two = absurd (omega arith)
+  long-page (g ∷ gs) zero h lt at two = subst (λ x. 2 ≤ length x.rows) at two
+  long-page (g ∷ gs) (suc i) h lt at two = long-page gs i h (omega arith) at two
+
+  pub page-long : (leaves : List (Held A)) (i : ℕ) (h : Held A) → i < length leaves → h ≡ get_or leaves i h → 2 ≤ length (get_or (pages_of leaves) i []) → 2 ≤ length h.rows
+  page-long [] i h lt at two = absurd (omega arith)
+  page-long (g ∷ gs) zero h lt at two = subst (λ x. 2 ≤ length x.rows) (sym at) two
+  page-long (g ∷ gs) (suc i) h lt at two = page-long gs i h (omega arith) at two
+
+  -- ---- the next row of pages
+
+  pub next-here : (n : ℕ) (bound : Bound (Bor (Key A))) (leaves : List (Held A)) (i : ℕ) (h : Held A) (page : VersionedRows A) (row : Row A) → i < length leaves → h ≡ get_or leaves i h → page ≡ h.rows → Some row ≡ next_row (shown_rows n page) bound
+      → next_row (shown_rows n (rows_in leaves)) bound ≡ next_row (shown_rows n (rows_in (drop i leaves))) bound → Some row ≡ next_row (shown_rows n (rows_in leaves)) bound
+  next-here n bound leaves i h page row lt at is found so_far = sym (
+      so_far ∙ ap (λ ls. next_row (shown_rows n (rows_in ls)) bound) (drop-item leaves i h lt at)
+      ∙ next-append n bound h.rows (rows_in (drop (i + 1) leaves))
+      ∙ ap (λ p. option_or (next_row (shown_rows n p) bound) (next_row (shown_rows n (rows_in (drop (i + 1) leaves))) bound)) (sym is)
+      ∙ ap (λ o. option_or o (next_row (shown_rows n (rows_in (drop (i + 1) leaves))) bound)) (sym found))
+
+  pub next-later : (n : ℕ) (bound : Bound (Bor (Key A))) (leaves : List (Held A)) (i : ℕ) (h : Held A) (page : VersionedRows A) → i < length leaves → h ≡ get_or leaves i h → page ≡ h.rows → next_row (shown_rows n page) bound ≡ None
+      → next_row (shown_rows n (rows_in leaves)) bound ≡ next_row (shown_rows n (rows_in (drop i leaves))) bound → next_row (shown_rows n (rows_in leaves)) bound ≡ next_row (shown_rows n (rows_in (drop (i + 1) leaves))) bound
+  next-later n bound leaves i h page lt at is found so_far =
+      so_far ∙ ap (λ ls. next_row (shown_rows n (rows_in ls)) bound) (drop-item leaves i h lt at)
+      ∙ next-append n bound h.rows (rows_in (drop (i + 1) leaves))
+      ∙ ap (λ p. option_or (next_row (shown_rows n p) bound) (next_row (shown_rows n (rows_in (drop (i + 1) leaves))) bound)) (sym is)
+      ∙ ap (λ o. option_or o (next_row (shown_rows n (rows_in (drop (i + 1) leaves))) bound)) found
+
+  pub next-past : (n : ℕ) (bound : Bound (Bor (Key A))) (leaves : List (Held A)) (i : ℕ) → length leaves ≤ i → next_row (shown_rows n (rows_in leaves)) bound ≡ next_row (shown_rows n (rows_in (drop i leaves))) bound → None ≡ next_row (shown_rows n (rows_in leaves)) bound
+  next-past n bound leaves i past so_far = sym (so_far ∙ ap (λ ls. next_row (shown_rows n (rows_in ls)) bound) (drop_all i leaves past))

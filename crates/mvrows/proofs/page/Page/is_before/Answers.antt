@@ -1,0 +1,19 @@
+use Rattle.std.proofs.Common.{ap, sym, subst, length, ◌-◌, ◌∙◌}
+use Rattle.std.specs.Prelude.{not, slice_get}
+use Rattle.schema.specs.Rows.{is_within}
+use Rattle.mvrows.specs.Versions.{IsInOrder}
+use Rattle.mvrows.specs.HeldRows.{is_before}
+use Rattle.mvrows.proofs.PageLemmas.{before-last, before-none}
+use Rattle.mvrows.proofs.page.Page.is_before.Goals as goal
+
+pub returns-in-Some : goal.returns-in-Some
+returns-in-Some g c =
+    c.comes_before.ensures
+    ∙ ap (λ k. not (is_within c.args.bound k)) c.key.ensures
+    ∙ before-last c.args.bound c.deref.result.now c.in-Some.chain.now (subst IsInOrder (sym c.deref.ensures.value) c.self.invariant) (sym c.in-Some.ensures.value)
+    ∙ ap (is_before c.args.bound) (c.deref.ensures.value ∙ c.self.view_is)
+
+pub returns-in-None : goal.returns-in-None
+returns-in-None g c =
+    before-none c.args.bound c.deref.result.now (sym c.in-None.ensures.value)
+    ∙ ap (is_before c.args.bound) (c.deref.ensures.value ∙ c.self.view_is)

@@ -1,6 +1,0 @@
-use Rattle.std.proofs.Common.{sym, subst, ◌++◌, ◌∷◌, [], ◌∙◌}
-use Rattle.mvrows.specs.Versions.{IsInOrder}
-use Rattle.mvrows.proofs.page.Page.open.Goals as goal
-
-pub invariant_of-self-2 : goal.invariant_of-self-2
-invariant_of-self-2 g c = subst IsInOrder (sym (c.in_ok-push.ensures.items ∙ (λ i. c.self.view_is i ++ c.in_ok-chain.ensures.ok i ∷ []))) c.requires

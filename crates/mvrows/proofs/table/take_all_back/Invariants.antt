@@ -1,0 +1,7 @@
+use Rattle.mvrows.specs.HeldRows.{Held, undone}
+use Rattle.mvrows.proofs.HeldLemmas.{SoFar}
+use Rattle.mvrows.proofs.table.take_all_back.Given as goal
+
+-- the pages so far, and the rest
+abbrev pub invariant-loop-leaf : goal.invariant-loop-leaf
+invariant-loop-leaf g l = SoFar (λ (h : Held _). h.rows) (undone l.commit) l.leaf-items l.initial.leaf-items l.leaf-index
