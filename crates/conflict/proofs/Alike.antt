@@ -1,14 +1,12 @@
 -- Trackers that answer alike, whatever is told of later.
 use Rattle.std.proofs.Common.{◌≡◌, refl, sym, ap, subst, ◌∙◌, ℕ, ◌+◌, ◌<◌, ◌≤◌, Bool, true, false, cond, not, ◌&&◌, ◌||◌, ◌⊎◌, inl, inr, List, [], ◌∷◌, ◌++◌, map, Option, Some, None, fold, eqb, nat_lt, arith, append-nil}
-use Rattle.std.proofs.lemmas.Bool.Decides.{nat_tests}
 use Rattle.std.proofs.lemmas.List.Elements.{filter-append}
 use Rattle.std.specs.List.{filter, find, list_any}
 use Rattle.std.specs.Option.{option_map, option_to_list}
-use Rattle.value.specs.declared.refusal.Mode.{Mode}
 use Rattle.value.specs.declared.refusal.Cause.{Cause}
-use Rattle.value.specs.Isolation.{cause_from, doom_of, dooms, earliest, bound, first_cause, is_doomed, is_first, is_live, is_other, with_doom}
+use Rattle.value.specs.Isolation.{cause_from, dooms, earliest, bound, first_cause, is_doomed, is_first, is_live, is_other, with_doom}
 use Rattle.value.proofs.IsolationLemmas.{In}
-use Rattle.conflict.specs.Tracked.{Party, Tracked, Each, IsNumbered, IsProper, node, reads, edge, opened, after_begin, after_edge, after_move, after_commit, after_drop, after_forget, cause_of, dooms_of, dooms_from, first_out, out_from, least_out, party_of, is_active, is_needed, is_recent, is_writer, with_out, with_snapshot, with_commit}
+use Rattle.conflict.specs.Tracked.{Party, Tracked, Each, IsNumbered, IsProper, node, reads, edge, opened, after_forget, cause_of, dooms_of, dooms_from, first_out, out_from, party_of, is_active, is_needed, is_recent, is_writer, with_out, with_snapshot, with_commit}
 use Rattle.conflict.specs.Later.{Told, Begins, Reads, Moves, Commits, Drops, told, all_told, has_committed, CanTell, CanTellAll, IsFrom, is_recent_from, AnswersAlike, Alike, IsOldest}
 use Rattle.conflict.proofs.Lists.{both_true, and_true, either, or_left, or_right, is_false, clash, Each-In, Each-all, In-filter, In-append, filter-In, In-any, any-In, In-map, filter_alike, filter-kept, filter-filter, filter-map, find-In, find-kept, find-alike, fold-kept, fold-alike}
 use Rattle.conflict.proofs.Proper.{one_of_number, proper_filter, proper_begin, proper_edge, proper_move, proper_commit}

@@ -1,15 +1,13 @@
 -- Every structure that a commit would make has the committer first or in its middle.
-use Rattle.std.proofs.Common.{◌≡◌, refl, sym, ap, subst, ◌∙◌, ℕ, ◌+◌, ◌<◌, ◌≤◌, Bool, true, false, cond, ◌&&◌, ◌⊎◌, inl, inr, List, [], ◌∷◌, map, Option, Some, None, is_some, eqb, nat_lt, arith}
+use Rattle.std.proofs.Common.{◌≡◌, refl, sym, ap, subst, ◌∙◌, ℕ, ◌+◌, ◌<◌, ◌≤◌, Bool, true, false, cond, ◌&&◌, inl, inr, List, [], ◌∷◌, Option, Some, None, is_some, eqb, nat_lt, arith}
 use Rattle.std.proofs.lemmas.Bool.Decides.{nat_tests}
-use Rattle.std.specs.List.{filter, find}
-use Rattle.value.specs.declared.refusal.Cause.{Cause}
-use Rattle.value.specs.Isolation.{caused, earliest, edge_of, first_cause, first_some, is_dangerous}
+use Rattle.value.specs.Isolation.{caused, earliest, edge_of, first_some, is_dangerous}
 use Rattle.value.proofs.IsolationLemmas.{In}
-use Rattle.conflict.specs.Tracked.{Party, Tracked, Each, IsNumbered, IsProper, Rising, after_commit, cause_of, edge, is_active, is_writer, node, node_after, reads, with_commit}
-use Rattle.conflict.specs.Through.{IsThrough, from_first, through}
-use Rattle.conflict.proofs.Lists.{both_true, and_true, clash, is_false, Each-In, Each-all, filter_none, find-In, first_some-none}
-use Rattle.conflict.proofs.Structures.{Danger, parts, whole, no_danger, no_cause, cause-map}
-use Rattle.conflict.proofs.Thinned.{above, commit_stays, lt_of, one_more, same_of}
+use Rattle.conflict.specs.Tracked.{Party, Tracked, Each, IsNumbered, IsProper, Rising, cause_of, edge, is_active, is_writer, node, node_after, reads, with_commit}
+use Rattle.conflict.specs.Through.{IsThrough, through}
+use Rattle.conflict.proofs.Lists.{and_true, clash, is_false, Each-In, Each-all, filter_none, first_some-none}
+use Rattle.conflict.proofs.Structures.{parts, no_danger, no_cause, cause-map}
+use Rattle.conflict.proofs.Thinned.{above, commit_stays, lt_of, one_more}
 
 -- of the one of a number alone it gives something
 only_one : {B : Type 0} (f : Party → Option B) (t : ℕ) (ps : List Party) (x : Party) → Rising ps → In x ps → x.number ≡ t → ((p : Party) → In p ps → eqb p.number t ≡ false → f p ≡ None) → first_some f ps ≡ f x

@@ -1,12 +1,11 @@
 -- Transactions that go one by one, none of which another is needed for.
-use Rattle.std.proofs.Common.{◌≡◌, refl, sym, ap, subst, ◌∙◌, ℕ, suc, ◌+◌, ◌<◌, ◌≤◌, Bool, true, false, cond, ◌&&◌, ◌||◌, List, [], ◌∷◌, ◌++◌, length, take, drop, get_or, arith, append-nil, drop-cons, length-append, length-drop, drop_of_length-le}
+use Rattle.std.proofs.Common.{◌≡◌, refl, sym, ap, ◌∙◌, ℕ, suc, ◌+◌, ◌<◌, ◌≤◌, Bool, true, false, cond, ◌&&◌, ◌||◌, List, [], ◌∷◌, ◌++◌, length, take, drop, get_or, arith, append-nil, drop-cons, length-append, length-drop, drop_of_length-le}
 use Rattle.std.proofs.lemmas.List.{take_all, take-append-drop}
 use Rattle.std.proofs.lemmas.List.Elements.{filter-append}
 use Rattle.std.proofs.lemmas.List.Folds.{list_any-append}
 use Rattle.std.specs.List.{filter, list_any, remove}
-use Rattle.value.proofs.IsolationLemmas.{In}
 use Rattle.conflict.specs.Tracked.{Party, edge, is_needed, is_recent}
-use Rattle.conflict.proofs.Lists.{clash, is_false, or_left, both_true}
+use Rattle.conflict.proofs.Lists.{clash, is_false, both_true}
 use Rattle.conflict.proofs.Thinned.{needed_recent}
 use Rattle.conflict.proofs.WalkLemmas.{take_next}
 

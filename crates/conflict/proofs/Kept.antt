@@ -7,9 +7,9 @@ use Rattle.value.specs.declared.refusal.Mode.{Mode}
 use Rattle.value.specs.declared.refusal.TxnNo.{TxnNo}
 use Rattle.value.specs.Isolation.{is_live}
 use Rattle.value.proofs.IsolationLemmas.{In}
-use Rattle.conflict.specs.Tracked.{Party, Tracked, Each, IsNumbered, IsProper, after_begin, after_commit, after_drop, after_edge, after_edges, after_forget, after_move, cause_of, is_active, is_needed, is_rival, is_writer, lesser, next_commit, node, opened, reads, rivals, with_commit, with_out, with_outs, with_snapshot}
+use Rattle.conflict.specs.Tracked.{Party, Tracked, Each, IsProper, after_commit, after_edge, after_edges, after_forget, cause_of, is_active, is_needed, is_rival, is_writer, lesser, next_commit, node, opened, reads, rivals, with_commit, with_out, with_outs, with_snapshot}
 use Rattle.conflict.specs.Later.{Alike, CanTellEdges, IsOldest, has_committed}
-use Rattle.conflict.proofs.Lists.{Each-In, Each-all, any-In, clash, find-In, is_false, both_true}
+use Rattle.conflict.proofs.Lists.{Each-all, clash, find-In}
 use Rattle.conflict.proofs.Proper.{proper_begin, proper_commit, proper_edge, proper_filter, proper_move}
 use Rattle.conflict.specs.Through.{IsThrough}
 use Rattle.conflict.proofs.Alike.{forgets_alike}

@@ -5,6 +5,7 @@ mod DoomLemmas
 mod Forgetting
 mod Kept
 pub mod Lists
+mod Mapped
 pub mod Places
 pub mod Proper
 pub mod Structures

@@ -1,14 +1,14 @@
 -- Transactions found and changed by their places.
-use Rattle.std.proofs.Common.{◌≡◌, refl, sym, ap, subst, ◌∙◌, ℕ, suc, zero, ◌+◌, ◌-◌, ◌<◌, ◌≤◌, Bool, true, false, true≢false, cond, not, ◌&&◌, ◌||◌, ◌⊎◌, inl, inr, List, [], ◌∷◌, ◌++◌, map, length, take, drop, set, get_or, Option, Some, None, Result, Ok, Err, IfOk, OnOk, OnErr, eqb, nat_lt, ltb, arith, append-nil}
+use Rattle.std.proofs.Common.{◌≡◌, refl, sym, ap, subst, ◌∙◌, ℕ, suc, zero, ◌+◌, ◌<◌, ◌≤◌, Bool, true, false, true≢false, cond, not, ◌&&◌, ◌||◌, inl, inr, List, [], ◌∷◌, ◌++◌, map, length, take, set, get_or, Some, None, Result, Ok, Err, IfOk, OnOk, OnErr, eqb, ltb, arith}
 use Rattle.std.proofs.lemmas.Bool.Decides.{nat_tests}
 use Rattle.std.proofs.lemmas.List.{take_more}
 use Rattle.std.proofs.lemmas.List.Quantifiers.{position-Some}
-use Rattle.std.specs.List.{filter, find, list_any, position, position_or_len, remove}
+use Rattle.std.specs.List.{filter, list_any, position, position_or_len, remove}
 use Rattle.value.specs.declared.refusal.TxnNo.{TxnNo}
 use Rattle.conflict.specs.Tracked.{Party, Rising, Each, is_active, with_out, with_outs}
-use Rattle.conflict.specs.Undo.{changed_at, reading, taken_back, taken_from, without_last}
-use Rattle.conflict.proofs.Lists.{clash, is_false, both_true, Each-In}
-use Rattle.conflict.proofs.Proper.{not_true, rising_map}
+use Rattle.conflict.specs.Undo.{changed_at, reading, taken_back, without_last}
+use Rattle.conflict.proofs.Lists.{both_true, Each-In}
+use Rattle.conflict.proofs.Proper.{rising_map}
 use Rattle.value.proofs.IsolationLemmas.{In}
 
 -- ---- results

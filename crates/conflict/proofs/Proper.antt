@@ -1,14 +1,14 @@
 -- What is told keeps the transactions in their order, and free of dangerous structures.
-use Rattle.std.proofs.Common.{◌≡◌, refl, sym, ap, subst, ◌∙◌, ℕ, ◌+◌, ◌<◌, ◌≤◌, Bool, true, false, true≢false, cond, not, ◌&&◌, ◌||◌, ◌⊎◌, inl, inr, List, [], ◌∷◌, ◌++◌, map, None, eqb, nat_lt, nat_le, arith}
+use Rattle.std.proofs.Common.{◌≡◌, refl, sym, ap, subst, ◌∙◌, ℕ, ◌+◌, ◌<◌, ◌≤◌, Bool, true, false, true≢false, cond, not, ◌&&◌, ◌||◌, ◌⊎◌, inl, inr, List, [], ◌∷◌, ◌++◌, map, None, eqb, nat_lt, arith}
 use Rattle.std.proofs.lemmas.Bool.Decides.{nat_tests}
 use Rattle.std.specs.List.{filter, list_any}
 use Rattle.value.specs.declared.refusal.Mode.{Mode}
-use Rattle.value.specs.Isolation.{bound, edge_of, first_cause, is_dangerous}
+use Rattle.value.specs.Isolation.{first_cause, is_dangerous}
 use Rattle.value.proofs.IsolationLemmas.{In}
-use Rattle.conflict.specs.Tracked.{Party, Tracked, Each, IsNumbered, IsProper, Rising, node, reads, edge, opened, after_begin, after_edge, after_move, after_commit, after_drop, after_forget, cause_of, is_active, is_writer, with_out, with_snapshot, with_commit}
+use Rattle.conflict.specs.Tracked.{Party, Tracked, Each, IsNumbered, IsProper, Rising, node, reads, edge, opened, after_begin, after_edge, after_move, after_commit, cause_of, is_active, is_writer, with_out, with_snapshot, with_commit}
 use Rattle.conflict.specs.Later.{has_committed}
-use Rattle.conflict.proofs.Lists.{both_true, and_true, either, or_left, or_right, is_false, clash, Each-In, Each-all, In-filter, In-append, In-any, any-In, In-map}
-use Rattle.conflict.proofs.Structures.{Danger, parts, whole, no_danger, no_cause}
+use Rattle.conflict.proofs.Lists.{both_true, and_true, is_false, clash, Each-In, Each-all, In-filter, In-append, In-any, In-map}
+use Rattle.conflict.proofs.Structures.{parts, whole, no_danger, no_cause}
 
 -- ---- tests
 

@@ -1,5 +1,5 @@
 -- Dangerous structures among transactions of which some go, or are seen otherwise.
-use Rattle.std.proofs.Common.{◌≡◌, refl, sym, ap, ◌∙◌, Bool, true, false, true≢false, cond, ◌&&◌, ◌⊎◌, List, [], ◌∷◌, map, Option, Some, None, nat_lt, nat_le}
+use Rattle.std.proofs.Common.{◌≡◌, refl, ap, ◌∙◌, Bool, true, false, cond, ◌&&◌, List, [], ◌∷◌, map, Option, Some, None, nat_lt, nat_le}
 use Rattle.std.specs.List.{filter}
 use Rattle.std.specs.Option.{option_map}
 use Rattle.value.specs.declared.refusal.Cause.{Cause}

@@ -1,10 +1,10 @@
 -- What is tracked of transactions that may be part of a dangerous structure (Ports and Grittner, "Serializable Snapshot Isolation in PostgreSQL", VLDB 2012, sections 3.2 and 5.3): their numbers, and for each those whose writes it has read.
 -- Structures, and those that a commit dooms, are of these as Isolation defines them of any transactions.
-use Rattle.std.specs.Prelude.{◌≡◌, ℕ, ◌+◌, ◌==◌, ◌<◌, ◌≤◌, nat_lt, nat_le, Bool, true, false, not, ◌&&◌, ◌||◌, if◌then◌else◌, Option, Some, None, List, [], ◌∷◌, ◌++◌, map}
+use Rattle.std.specs.Prelude.{◌≡◌, ℕ, ◌+◌, ◌==◌, ◌<◌, ◌≤◌, nat_lt, Bool, true, false, not, ◌&&◌, ◌||◌, if◌then◌else◌, Option, Some, None, List, [], ◌∷◌, ◌++◌, map}
 use Rattle.std.specs.List.{count_by, filter, find, list_any}
-use Rattle.std.specs.Option.{option_map, option_map_or}
+use Rattle.std.specs.Option.{option_map}
 use Rattle.value.specs.declared.refusal.Mode.{Mode}
-use Rattle.value.specs.declared.refusal.Mode.TheVariants.{ReadWrite, ReadOnly, Deferrable}
+use Rattle.value.specs.declared.refusal.Mode.TheVariants.{ReadWrite}
 use Rattle.value.specs.declared.refusal.Cause.{Cause}
 use Rattle.value.specs.declared.refusal.TxnNo.{TxnNo}
 use Rattle.value.specs.Isolation.{Node, bound, dooms, earliest, edge_of, first_cause}

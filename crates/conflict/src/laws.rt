@@ -1,8 +1,9 @@
 //! Laws of what is forgotten. Each function does nothing; what it ensures is the law.
 
-ghost use Rattle.std.specs.Prelude.{◌≡◌, ℕ, ◌≤◌};
+ghost use Rattle.std.specs.Prelude.{◌≡◌, ℕ, ◌≤◌, Bool, List, map};
+ghost use Rattle.value.specs.Isolation.{Node, first_cause, is_dangerous};
 ghost use Rattle.conflict.specs.Later.{Alike, AnswersAlike, CanTell, IsFrom, IsOldest, Told, told};
-ghost use Rattle.conflict.specs.Tracked.{IsProper, Tracked, after_forget};
+ghost use Rattle.conflict.specs.Tracked.{Each, IsProper, Party, Tracked, after_forget, edge, node};
 
 /// What is left by forgetting answers alike with all that was told, whatever is told later of
 /// snapshots from there on. Two that answer alike still do so once both are told the same, and from
@@ -20,4 +21,11 @@ pub fn forgetting_changes_no_answer()
 /// What is told keeps transactions in their order, and free of dangerous structures.
 pub fn what_is_told_is_proper()
     ensures { (s : Tracked) (x : Told) → IsProper s → CanTell x s → IsProper (told x s) }
+{}
+
+/// Where isolation knows the same of transactions of any kind and of those that are tracked, but for
+/// the places of their ends, and the same three of them are dangerous structures, the same structure
+/// is named of both. So what a tracker answers is what a history's transactions say.
+pub fn structures_are_those_of_the_tracked<T>()
+    ensures { (n : T → Node) (e : T → T → Bool) (f : T → Party) (ts : List T) → ((t : T) → record (n t) { place = 0 } ≡ node (f t)) → Each (λ a. Each (λ b. Each (λ c. is_dangerous n e a b c ≡ is_dangerous node edge (f a) (f b) (f c)) ts) ts) ts → first_cause n e ts ≡ first_cause node edge (map f ts) }
 {}

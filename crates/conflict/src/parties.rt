@@ -1,5 +1,5 @@
 // Transactions in the order of their numbers.
-ghost use Rattle.std.specs.Prelude.{◌≡◌, ◌==◌, ◌<◌, ◌≤◌, ◌&&◌, None, true, false, fold, length, map, not, IfSome, IfNone, IfOk, IfErr, OnErr, OnOk};
+ghost use Rattle.std.specs.Prelude.{◌≡◌, ◌==◌, ◌<◌, ◌&&◌, None, true, false, fold, length, map, not, IfSome, IfNone, IfOk, IfErr, OnErr, OnOk};
 ghost use Rattle.std.specs.List.{filter, find, list_any, position};
 ghost use Rattle.std.specs.Option.{option_map};
 ghost use Rattle.value.specs.Isolation.{earliest};

@@ -1,4 +1,4 @@
-use Rattle.std.proofs.Common.{ap, ◌∙◌, ◌≡◌, true, false}
+use Rattle.std.proofs.Common.{ap, ◌∙◌}
 use Rattle.std.proofs.Math.ListN.{set}
 use Rattle.conflict.specs.Undo.{reading, without_last}
 use Rattle.conflict.proofs.Places.{changed_at-set, changed_back, set_same, on_ok, on_err, if_ok}
