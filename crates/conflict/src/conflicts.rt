@@ -59,7 +59,7 @@ impl<A: Allocator> Conflicts<A> {
         Ok(())
     }
 
-    /// Of each pair the first has read what the second wrote. One that isn't tracked any more is
+    /// Of each pair the first has read what the second wrote. A pair whose reader isn't tracked is
     /// left out.
     pub fn edges(&mut self, alloc: A, pairs: &[(TxnNo, TxnNo)]) -> Result<(), Refusal>
         requires { CanTellEdges pairs.now self.old }
