@@ -5,5 +5,6 @@ pub mod LeavesLemmas
 pub mod NewestLemmas
 pub mod PageLemmas
 pub mod PruningLemmas
+pub mod TestLemmas
 pub mod VersionLemmas
 pub mod ViewLemmas

@@ -86,7 +86,7 @@ module _ {A : Type 0} where
   length-change : (commit : ℕ) (x : Change A) (tables : List (VersionedRows A)) → length (install_change commit x tables) ≡ length tables
   length-change commit x tables = length-set tables x.table _
 
-  length-installed : (commit : ℕ) (xs : List (Change A)) (tables : List (VersionedRows A)) → length (installed commit xs tables) ≡ length tables
+  pub length-installed : (commit : ℕ) (xs : List (Change A)) (tables : List (VersionedRows A)) → length (installed commit xs tables) ≡ length tables
   length-installed commit [] tables = refl
   length-installed commit (x ∷ xs) tables = length-installed commit xs (install_change commit x tables) ∙ length-change commit x tables
 
