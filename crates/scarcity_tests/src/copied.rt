@@ -1,15 +1,23 @@
-//! COPY text of rows, and the reading of a dump.
-use crate::driver::{Memory, refuse_each};
+//! COPY text of rows, and the reading of a dump, by one thread and by workers.
+ghost use Rattle.schema.specs.Rows.{HasTable};
+
+use crate::driver::{Call, Memory, assert_takes, is_out_of_memory};
 use crate::fixture::{Database, catalog, not_asked, row};
 use copytext::{read_row, write_row};
-use restore::restore_one;
+use dumpplan::{Jobs, NoGate};
+use restore::{RestoreFault, restore, restore_one};
 use scarce::Scarce;
+use schema::catalog::{Catalog, TableNo};
+use schema::reader::SnapshotReader;
 use schema::row::Row;
+use schema::tables::Tables;
 use std::alloc::{Allocator, Global};
 use std::process::Abort;
-use std::test::Fail;
+use std::thread::Threads;
+use value::key::Key;
 use value::kind::Kind;
 use value::refusal::Refusal;
+use value::value::Value;
 
 // A row, and a full list to which its text is appended.
 #[derive(Drop)]
@@ -19,44 +27,53 @@ struct Line<A: Allocator> {
     text: Vec<u8, A>,
 }
 
-fn full_line<A: Allocator + Copy>(alloc: A) -> Result<Line<A>, Refusal> {
-    let text = "INSERT INTO c VALUES (-5, 2, '\\x00ff')";
-    let (_, row) = row(alloc, &catalog(alloc)?, text)?;
-    Ok(Line {
-        row,
-        text: Vec::from_slice(alloc, b"full")?,
-    })
+// The writing of a row.
+#[derive(Drop)]
+struct WriteRow<A>(A);
+
+impl<A: Allocator + Copy> Call for WriteRow<A> {
+    type Lent = Line<A>;
+
+    type Answer = ();
+
+    fn lend(&self) -> Result<Line<A>, Refusal> {
+        let text = "INSERT INTO c VALUES (-5, 2, '\\x00ff')";
+        let (_, row) = row(self.0, &catalog(self.0)?, text)?;
+        let text = Vec::from_slice(self.0, b"full")?;
+        Ok(Line { row, text })
+    }
+
+    fn call(&self, lent: &mut Line<A>) -> Result<(), Refusal> {
+        write_row(&lent.row, &mut lent.text)
+    }
 }
 
-// A row's text, and its reading. Answers how many requests each makes.
-fn requests_of_rows<A: Allocator + Copy>(
-    rt: &impl Abort,
-    memory: &Memory,
-    alloc: A,
-) -> Result<[u64; 2], Fail> {
-    let kinds = [Kind::Bigint, Kind::Text, Kind::Bytea];
-    Ok([
-        refuse_each(
-            rt,
-            memory,
-            || full_line(alloc),
-            |lent: &mut Line<A>| write_row(&lent.row, &mut lent.text),
-        )?,
-        refuse_each(
-            rt,
-            memory,
-            || Ok(()),
-            |_: &mut ()| read_row(alloc, kinds.as_slice(), b"-5\ta\\tname\t\\\\x00ff"),
-        )?,
-    ])
+const KINDS: [Kind; 3] = [Kind::Bigint, Kind::Text, Kind::Bytea];
+
+// The reading of a row.
+#[derive(Drop)]
+struct Reading<A>(A);
+
+impl<A: Allocator + Copy> Call for Reading<A> {
+    type Lent = ();
+
+    type Answer = Vec<Value<A>, A>;
+
+    fn lend(&self) -> Result<(), Refusal> {
+        Ok(())
+    }
+
+    fn call(&self, _lent: &mut ()) -> Result<Vec<Value<A>, A>, Refusal> {
+        read_row(self.0, KINDS.as_slice(), b"-5\ta\\tname\t\\\\x00ff")
+    }
 }
 
 #[test]
-fn texts_of_rows(rt: HostRuntime) -> Result<(), Fail> {
+fn texts_of_rows(rt: HostRuntime) -> Result<(), Refusal> {
     let memory = Scarce::new(rt.alloc());
-    let [written, read] = requests_of_rows(&rt, &memory, &memory)?;
-    assert!(rt; 0 < written && 2 < read);
-    Ok(())
+    assert_takes(&rt, &memory, &WriteRow(&memory), 1)?;
+    // A text, a bytea, and the list of values.
+    assert_takes(&rt, &memory, &Reading(&memory), 3)
 }
 
 const DUMP: &str = "-- dump 2
@@ -75,53 +92,155 @@ COPY c (id, p, raw) FROM stdin;
 -- end
 ";
 
-// What a dump reads as. Want of memory is of no line.
-fn restored<A: Allocator + Copy>(alloc: A, dump: &str) -> Result<Database<A>, Refusal> {
-    match restore_one(alloc, dump.as_bytes()) {
+// What was read of a dump. Want of memory is of no line.
+fn database<A: Allocator>(
+    read: Result<(Catalog<A>, Tables<A>), RestoreFault>,
+) -> Result<Database<A>, Refusal> {
+    match read {
         Ok((catalog, tables)) => Ok(Database { catalog, tables }),
         Err(fault) if fault.line == 0 => Err(Refusal::of_code(fault.code)),
         Err(_) => Err(not_asked()),
     }
 }
 
-// How many requests the reading of a dump makes.
-fn requests_of_dump<A: Allocator + Copy>(
-    rt: &impl Abort,
-    memory: &Memory,
+// The reading of a dump.
+#[derive(Drop)]
+struct RestoreOne<'d, A> {
     alloc: A,
-    dump: &str,
-) -> Result<u64, Fail> {
-    refuse_each(rt, memory, || Ok(()), |_: &mut ()| restored(alloc, dump))
+    dump: &'d str,
+}
+
+impl<'d, A: Allocator + Copy> Call for RestoreOne<'d, A> {
+    type Lent = ();
+
+    type Answer = Database<A>;
+
+    fn lend(&self) -> Result<(), Refusal> {
+        Ok(())
+    }
+
+    fn call(&self, _lent: &mut ()) -> Result<Database<A>, Refusal> {
+        database(restore_one(self.alloc, self.dump.as_bytes()))
+    }
 }
 
 #[test]
-fn restored_dumps(rt: HostRuntime) -> Result<(), Fail> {
+fn restored_dumps(rt: HostRuntime) -> Result<(), Refusal> {
     let memory = Scarce::new(rt.alloc());
-    assert!(rt; restored(rt.alloc(), DUMP).is_ok());
-    assert!(rt; requests_of_dump(&rt, &memory, &memory, DUMP)? > 0);
-    Ok(())
+    let alloc = &memory;
+    assert!(rt; restore_one(rt.alloc(), DUMP.as_bytes()).is_ok());
+    assert_takes(&rt, &memory, &RestoreOne { alloc, dump: DUMP }, 12)
 }
 
-// The dump of 200 numbered names.
-fn two_hundred_names(alloc: Global) -> Result<String, Fail> {
+// The dump of so many numbers.
+fn numbers(alloc: Global, count: u32) -> Result<String, Refusal> {
     let head = "-- dump 2
-CREATE TABLE p (id bigint PRIMARY KEY, name text NOT NULL);
-COPY p (id, name) FROM stdin;
+CREATE TABLE p (id bigint PRIMARY KEY);
+COPY p (id) FROM stdin;
 ";
     let mut dump = String::from_str(alloc, head)?;
-    for number in 0..200 {
-        let line = format!(in alloc; "{number}\ta name\n")?;
+    for number in 0..count {
+        let line = format!(in alloc; "{number}\n")?;
         dump.push_str(line.as_str())?;
     }
-    dump.push_str("\\.\n-- rows 200\n-- end\n")?;
+    let end = format!(in alloc; "\\.\n-- rows {count}\n-- end\n")?;
+    dump.push_str(end.as_str())?;
     Ok(dump)
 }
 
 #[test]
-fn a_restored_dump_of_many_rows(rt: HostRuntime) -> Result<(), Fail> {
+fn a_restored_dump_of_many_rows(rt: HostRuntime) -> Result<(), Refusal> {
     let memory = Scarce::new(rt.alloc());
-    let dump = two_hundred_names(rt.alloc())?;
-    assert!(rt; restored(rt.alloc(), dump.as_str()).is_ok());
-    assert!(rt; requests_of_dump(&rt, &memory, &memory, dump.as_str())? > 400);
+    let alloc = &memory;
+    let dump = numbers(rt.alloc(), 200)?;
+    let dump = dump.as_str();
+    assert!(rt; restore_one(rt.alloc(), dump.as_bytes()).is_ok());
+    assert_takes(&rt, &memory, &RestoreOne { alloc, dump }, 200)
+}
+
+// How many of the numbers below 2000 are keys of the first table, and their sum.
+fn counted<A: Allocator>(tables: &Tables<A>) -> (u64, i64)
+    requires { HasTable tables.now 0 }
+{
+    let (mut rows, mut sum) = (0u64, 0i64);
+    for number in 0..2000 {
+        if let Some(key) = Key::new(Value::Int(number)) {
+            if tables.get(TableNo::at(0), &key).is_some() {
+                rows = rows.wrapping_add(1);
+                sum = sum.wrapping_add(number);
+            }
+        }
+    }
+    (rows, sum)
+}
+
+// What workers read of a dump of numbers: how many there are, and their sum.
+fn read_by_workers<A: Allocator + Copy + Send + Sync, R: Threads + Sync>(
+    rt: &R,
+    alloc: A,
+    dump: &str,
+    jobs: Jobs,
+) -> Result<(u64, i64), Refusal> {
+    let read = database(restore(rt, alloc, dump.as_bytes(), jobs, &NoGate))?;
+    if !read.tables.has(TableNo::at(0)) {
+        return Err(not_asked());
+    }
+    Ok(counted(&read.tables))
+}
+
+// Refuses one request of workers that read a dump. Whether they made as many; and whether they answered want of memory:
+// where only a worker wasn't started, the others do its work.
+fn refuse_workers<A: Allocator + Copy + Send + Sync, R: Abort + Threads + Sync>(
+    rt: &R,
+    (memory, alloc): (&Memory, A),
+    (dump, jobs): (&str, Jobs),
+    wanted: (u64, i64),
+    number: u64,
+) -> Result<(bool, bool), Refusal> {
+    let start = memory.requests();
+    memory.refuse(number);
+    let answer = read_by_workers(rt, alloc, dump, jobs);
+    memory.refuse(0);
+    let is_reached = memory.requests().wrapping_sub(start) >= number;
+    if is_reached && is_out_of_memory(&answer) {
+        return Ok((true, true));
+    }
+    assert!(rt; answer? == wanted, "request {number}");
+    Ok((is_reached, false))
+}
+
+// Refuses the first request of workers that read the dump of so many numbers, and each `step`-th behind it. They read it
+// as they should after each refusal.
+fn refuse_restore<A: Allocator + Copy + Send + Sync, R: Abort + Threads + Sync>(
+    rt: &R,
+    memory: &Memory,
+    alloc: A,
+    (count, sum, jobs, step): (u32, i64, u32, u64),
+) -> Result<u64, Refusal> {
+    let dump = numbers(memory.inner, count)?;
+    let dump = dump.as_str();
+    let jobs = Jobs::new(jobs).ok_or(not_asked())?;
+    let wanted = (u64::from(count), sum);
+    let mut needed = 0u64;
+    for place in 0..10_000 {
+        let number = step.wrapping_mul(place).wrapping_add(1);
+        let given = (dump, jobs);
+        let (is_reached, is_refused) = refuse_workers(rt, (memory, alloc), given, wanted, number)?;
+        if !is_reached {
+            return Ok(needed);
+        }
+        needed = needed.wrapping_add(u64::from(is_refused));
+        let again = read_by_workers(rt, alloc, dump, jobs)?;
+        assert!(rt; again == wanted, "after {number}");
+    }
+    Err(not_asked())
+}
+
+#[test]
+fn dumps_restored_by_workers(rt: HostRuntime) -> Result<(), Refusal> {
+    let memory = Scarce::new(rt.alloc());
+    for case in [(100, 4950, 1, 1), (100, 4950, 2, 1), (1001, 500_500, 2, 50)] {
+        assert!(rt; refuse_restore(&rt, &memory, &memory, case)? >= 20);
+    }
     Ok(())
 }

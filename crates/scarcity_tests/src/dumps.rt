@@ -1,8 +1,10 @@
-//! Dumps, of which a beginning may be written.
-use crate::driver::{Memory, refuse_each};
-use crate::fixture::{Database, not_asked, two_tables};
-use collector::{Device, DeviceError};
-use dumpplan::{Jobs, NoGate, PieceRows};
+//! Dumps, of which a beginning may be written, their plans and their collectors.
+ghost use Rattle.std.specs.Prelude.{◌≡◌, true, length};
+
+use crate::driver::{Call, Memory, assert_takes, is_out_of_memory};
+use crate::fixture::{Database, not_asked, some_tables};
+use collector::{Collector, Device, DeviceError};
+use dumpplan::{Jobs, NoGate, PieceRows, Plan, plan};
 use dumpworker::{DumpFault, dump};
 use scarce::Scarce;
 use schema::catalog::TableNo;
@@ -10,7 +12,6 @@ use schema::row::Row;
 use std::alloc::{Allocator, Global};
 use std::process::Abort;
 use std::sync::Wait;
-use std::test::Fail;
 use std::thread::Threads;
 use value::key::Key;
 use value::refusal::{Code, Refusal};
@@ -40,7 +41,42 @@ impl<'r, R: Abort> Device for Keeping<'r, R> {
     }
 }
 
-// The dump text of the tables. What is written before a refusal is a beginning of `text`.
+impl<'r, R: Abort> Keeping<'r, R> {
+    // A device that was given nothing.
+    fn new(rt: &'r R, alloc: Global) -> Keeping<'r, R> {
+        Keeping {
+            rt,
+            taken: Vec::new(alloc),
+            failures: 0,
+        }
+    }
+}
+
+// The tables, with so many numbered names more.
+fn with_names<A: Allocator + Copy>(alloc: A, count: u8) -> Result<Database<A>, Refusal> {
+    let mut database = some_tables(alloc)?;
+    for number in 0..count {
+        let mut fields = Vec::new(alloc);
+        fields.push(Value::Text(Text::from_str(alloc, "a name")?))?;
+        let key = Key::new(Value::Int(10 + i64::from(number))).ok_or(not_asked())?;
+        if !database.tables.has(TableNo::at(0)) {
+            return Err(not_asked());
+        }
+        database
+            .tables
+            .put(alloc, TableNo::at(0), Row::new(key, fields))?;
+    }
+    Ok(database)
+}
+
+// Whether tables are as many as the catalog's.
+fn is_whole<A: Allocator>(database: &Database<A>) -> bool
+    ensures { result ≡ true → length database.now.tables ≡ length database.now.catalog }
+{
+    database.tables.count() == database.catalog.len()
+}
+
+// The dump text of the tables, by two workers. What is written before a refusal is a beginning of `text`.
 fn dumped<A: Allocator + Copy + Send + Sync, R: Abort + Threads + Wait + Sync>(
     rt: &R,
     (ample, alloc): (Global, A),
@@ -49,12 +85,8 @@ fn dumped<A: Allocator + Copy + Send + Sync, R: Abort + Threads + Wait + Sync>(
 ) -> Result<Vec<u8>, Refusal> {
     let jobs = Jobs::new(2).ok_or(not_asked())?;
     let rows = PieceRows::new(7).ok_or(not_asked())?;
-    let mut device = Keeping {
-        rt,
-        taken: Vec::new(ample),
-        failures: 0,
-    };
-    if lent.tables.count() != lent.catalog.len() {
+    let mut device = Keeping::new(rt, ample);
+    if !is_whole(lent) {
         return Err(not_asked());
     }
     let done = dump(
@@ -76,48 +108,131 @@ fn dumped<A: Allocator + Copy + Send + Sync, R: Abort + Threads + Wait + Sync>(
     }
 }
 
-// The two tables, with so many numbered names more.
-fn with_names<A: Allocator + Copy>(alloc: A, count: u8) -> Result<Database<A>, Refusal> {
-    let mut database = two_tables(alloc)?;
-    for number in 0..count {
-        let mut fields = Vec::new(alloc);
-        fields.push(Value::Text(Text::from_str(alloc, "a name")?))?;
-        let key = Key::new(Value::Int(10 + i64::from(number))).ok_or(not_asked())?;
-        if !database.tables.has(TableNo::at(0)) {
-            return Err(not_asked());
-        }
-        database
-            .tables
-            .put(alloc, TableNo::at(0), Row::new(key, fields))?;
+// Refuses one request of a dump. Whether it made as many; if so it has answered want of memory, and else the text.
+fn refuse_dump<A: Allocator + Copy + Send + Sync, R: Abort + Threads + Wait + Sync>(
+    rt: &R,
+    (memory, alloc): (&Memory, A),
+    lent: &Database<A>,
+    text: &[u8],
+    number: u64,
+) -> Result<bool, Refusal> {
+    let start = memory.requests();
+    memory.refuse(number);
+    let answer = dumped(rt, (memory.inner, alloc), lent, text);
+    memory.refuse(0);
+    if memory.requests().wrapping_sub(start) < number {
+        assert!(rt; answer?.as_slice() == text);
+        return Ok(false);
     }
-    Ok(database)
+    assert!(rt; is_out_of_memory(&answer), "request {number}");
+    Ok(true)
 }
 
-// How many requests the dump makes of the two tables with so many names more.
-fn requests_of_dump<A: Allocator + Copy + Send + Sync, R: Abort + Threads + Wait + Sync>(
+// Refuses each request of the dump of the tables with so many names more. They are dumped so after each refusal.
+fn refuse_dumps<A: Allocator + Copy + Send + Sync, R: Abort + Threads + Wait + Sync>(
     rt: &R,
     memory: &Memory,
     alloc: A,
     count: u8,
-) -> Result<u64, Fail> {
-    let ample = memory.inner;
-    let text = dumped(rt, (ample, alloc), &with_names(alloc, count)?, b"")?;
-    refuse_each(
-        rt,
-        memory,
-        || with_names(alloc, count),
-        |lent: &mut Database<A>| dumped(rt, (ample, alloc), lent, text.as_slice()),
-    )
+) -> Result<u64, Refusal> {
+    let lent = with_names(alloc, count)?;
+    let text = dumped(rt, (memory.inner, alloc), &lent, b"")?;
+    for number in 1..10_000 {
+        if !refuse_dump(rt, (memory, alloc), &lent, text.as_slice(), number)? {
+            return Ok(number.wrapping_sub(1));
+        }
+        let again = dumped(rt, (memory.inner, alloc), &lent, b"")?;
+        assert!(rt; again == text, "after request {number}");
+    }
+    Err(not_asked())
 }
 
 #[test]
-fn dumps_of_few_and_of_many_rows(rt: HostRuntime) -> Result<(), Fail> {
+fn dumps_of_few_and_of_many_rows(rt: HostRuntime) -> Result<(), Refusal> {
     let memory = Scarce::new(rt.alloc());
     for count in [0, 200] {
-        assert!(rt;
-            requests_of_dump(&rt, &memory, &memory, count)? > 0,
-            "{count}"
-        );
+        assert!(rt; refuse_dumps(&rt, &memory, &memory, count)? > 8, "{count}");
     }
     Ok(())
+}
+
+// The plan of a dump in pieces of two rows.
+#[derive(Drop)]
+struct Pieces<A>(A);
+
+impl<A: Allocator + Copy> Call for Pieces<A> {
+    type Lent = Database<A>;
+
+    type Answer = Plan<A>;
+
+    fn lend(&self) -> Result<Database<A>, Refusal> {
+        with_names(self.0, 9)
+    }
+
+    fn call(&self, lent: &mut Database<A>) -> Result<Plan<A>, Refusal> {
+        let rows = PieceRows::new(2).ok_or(not_asked())?;
+        if !is_whole(lent) {
+            return Err(not_asked());
+        }
+        plan(self.0, &lent.tables, &lent.catalog, rows)
+    }
+}
+
+// What was written to a device that a collector gives back, and its failures: nothing.
+fn given_back<R: Abort>(device: &Keeping<'_, R>) -> u64 {
+    device.failures.wrapping_add(device.taken.len() as u64)
+}
+
+// The refusal of a collector that has done so much to its device.
+fn refusal_of(done: u64) -> Refusal {
+    if done == 0 {
+        Refusal::of_code(Code::OutOfMemory)
+    } else {
+        not_asked()
+    }
+}
+
+// The plan of a dump and the collector of its pieces.
+#[derive(Drop)]
+struct Collect<'r, A, R> {
+    rt: &'r R,
+    ample: Global,
+    alloc: A,
+}
+
+impl<'r, A: Allocator + Copy, R: Abort> Call for Collect<'r, A, R> {
+    type Lent = Database<A>;
+
+    type Answer = u64;
+
+    fn lend(&self) -> Result<Database<A>, Refusal> {
+        with_names(self.alloc, 9)
+    }
+
+    fn call(&self, lent: &mut Database<A>) -> Result<u64, Refusal> {
+        let rows = PieceRows::new(2).ok_or(not_asked())?;
+        if !is_whole(lent) {
+            return Err(not_asked());
+        }
+        let plan = plan(self.alloc, &lent.tables, &lent.catalog, rows)?;
+        let mut device = Keeping::new(self.rt, self.ample);
+        match Collector::new(self.alloc, &lent.tables, &lent.catalog, &plan, &mut device) {
+            Ok(collector) => Ok(given_back(collector.into_device())),
+            Err(device) => Err(refusal_of(given_back(device))),
+        }
+    }
+}
+
+#[test]
+fn plans_and_collectors(rt: HostRuntime) -> Result<(), Refusal> {
+    let memory = Scarce::new(rt.alloc());
+    let alloc = &memory;
+    let ample = rt.alloc();
+    assert_takes(&rt, &memory, &Pieces(alloc), 2)?;
+    let collect = Collect {
+        rt: &rt,
+        ample,
+        alloc,
+    };
+    assert_takes(&rt, &memory, &collect, 3)
 }

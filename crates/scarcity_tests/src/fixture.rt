@@ -10,17 +10,19 @@ use value::key::Key;
 use value::refusal::{Code, Refusal};
 use value::value::Value;
 
-/// A table, and another whose rows reference the first one's.
-pub const CREATES: [&str; 2] = [
+/// A table, another whose rows reference the first one's, and one whose key is a text.
+pub const CREATES: [&str; 3] = [
     "CREATE TABLE p (id bigint PRIMARY KEY, name text NOT NULL);",
     "CREATE TABLE c (id bigint PRIMARY KEY, p bigint REFERENCES p, raw bytea);",
+    "CREATE TABLE n (name text PRIMARY KEY, v bigint);",
 ];
 
-const INSERTS: [&str; 4] = [
+const INSERTS: [&str; 5] = [
     "INSERT INTO p VALUES (1, 'a name')",
     "INSERT INTO p VALUES (2, 'another')",
     "INSERT INTO c VALUES (5, 2, '\\x00ff')",
     "INSERT INTO c VALUES (6, NULL, NULL)",
+    "INSERT INTO n VALUES ('the one', 1)",
 ];
 
 /// A catalog and its tables.
@@ -36,7 +38,7 @@ pub fn not_asked() -> Refusal {
     Refusal::of_code(Code::SyntaxError)
 }
 
-/// The catalog of the two tables.
+/// The catalog of the tables.
 pub fn catalog<A: Allocator + Copy>(alloc: A) -> Result<Catalog<A>, Refusal> {
     let mut catalog = Catalog::new(alloc);
     for text in CREATES {
@@ -83,8 +85,8 @@ pub fn insert<A: Allocator + Copy>(
     database.tables.insert(alloc, &database.catalog, table, row)
 }
 
-/// The two tables with two rows each.
-pub fn two_tables<A: Allocator + Copy>(alloc: A) -> Result<Database<A>, Refusal> {
+/// The tables with some rows.
+pub fn some_tables<A: Allocator + Copy>(alloc: A) -> Result<Database<A>, Refusal> {
     let catalog = catalog(alloc)?;
     let tables = Tables::new(alloc, &catalog)?;
     let mut database = Database { catalog, tables };

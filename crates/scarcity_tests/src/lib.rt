@@ -11,10 +11,12 @@ mod dumps;
 #[cfg(test)]
 mod fixture;
 #[cfg(test)]
-mod statements;
+mod kept;
 #[cfg(test)]
-mod steps;
+mod statements;
 #[cfg(test)]
 mod tables;
 #[cfg(test)]
 mod values;
+#[cfg(test)]
+mod versions;

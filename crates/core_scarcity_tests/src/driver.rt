@@ -1,0 +1,274 @@
+//! How a call on a core is tried.
+use crate::fixture::{core_after, not_asked, reply};
+use audit::order::check_order;
+use audit::serial::{serial_keys, serial_order};
+use history::session_id::SessionId;
+use scarce::Scarce;
+use session::sessions::Core;
+use std::alloc::{Allocator, Global};
+use std::process::Abort;
+use value::refusal::{Code, Refusal, TxnNo};
+
+/// The allocator of what the tried calls are lent and answer.
+pub type Memory = Scarce<Global>;
+
+/// A call that is tried.
+#[derive(Clone, Copy, Debug, PartialEq, Eq)]
+pub enum Call {
+    /// A session's text.
+    Event,
+    /// A view of session 5.
+    View,
+    /// A checkpoint with room for 40 events.
+    Checkpoint,
+    SerialKeys,
+    SerialOrder,
+    /// Whether the transactions 1 and 2 are a serial order.
+    CheckOrder,
+}
+
+// The reply to a text.
+fn event<A: Allocator + Copy>(
+    ample: Global,
+    alloc: A,
+    core: &mut Core<A>,
+    text: &str,
+) -> Result<String, Refusal> {
+    let reply = reply(alloc, core, text)?;
+    Ok(format!(in ample; "{reply:?}")?)
+}
+
+fn view<A: Allocator + Copy>(ample: Global, alloc: A, core: &Core<A>) -> Result<String, Refusal> {
+    let session = SessionId::new(5).ok_or(not_asked())?;
+    let view = core.view(alloc, session)?;
+    Ok(format!(in ample; "{view:?}")?)
+}
+
+fn keys<A: Allocator + Copy>(ample: Global, alloc: A, core: &Core<A>) -> Result<String, Refusal> {
+    let keys = serial_keys(alloc, core)?;
+    Ok(format!(in ample; "{keys:?}")?)
+}
+
+fn order<A: Allocator + Copy>(ample: Global, alloc: A, core: &Core<A>) -> Result<String, Refusal> {
+    let order = serial_order(alloc, core)?;
+    Ok(format!(in ample; "{order:?}")?)
+}
+
+const NUMBERS: [TxnNo; 2] = [TxnNo(1), TxnNo(2)];
+
+fn check<A: Allocator + Copy>(ample: Global, alloc: A, core: &Core<A>) -> Result<String, Refusal> {
+    core.is_legal();
+    let is_serial = check_order(alloc, core.history(), NUMBERS.as_slice())?;
+    Ok(format!(in ample; "{is_serial}")?)
+}
+
+// The answer to a call that leaves the core in its place.
+fn answer<A: Allocator + Copy>(
+    ample: Global,
+    alloc: A,
+    core: &mut Core<A>,
+    (call, text): (Call, &str),
+) -> Result<String, Refusal> {
+    match call {
+        Call::Event => event(ample, alloc, core, text),
+        Call::View => view(ample, alloc, core),
+        Call::SerialKeys => keys(ample, alloc, core),
+        Call::SerialOrder => order(ample, alloc, core),
+        Call::CheckOrder | Call::Checkpoint => check(ample, alloc, core),
+    }
+}
+
+// The opening of a core, as a text.
+fn opening<A: Allocator>(ample: Global, core: &Core<A>) -> Result<String, Refusal> {
+    let history = core.history();
+    let (base, tables) = (history.base(), history.tables());
+    Ok(format!(in ample; "{base:?} {tables:?}")?)
+}
+
+fn checkpoint<A: Allocator + Copy>(
+    ample: Global,
+    alloc: A,
+    core: Core<A>,
+) -> (Core<A>, Result<String, Refusal>) {
+    match core.checkpoint(alloc, 40) {
+        Ok(core) => {
+            let answer = opening(ample, &core);
+            (core, answer)
+        }
+        Err((core, refusal)) => (core, Err(refusal)),
+    }
+}
+
+// The core behind a call, and what it answered, as a text of ample memory.
+fn call_on<A: Allocator + Copy>(
+    ample: Global,
+    alloc: A,
+    core: Core<A>,
+    call: (Call, &str),
+) -> (Core<A>, Result<String, Refusal>) {
+    if call.0 == Call::Checkpoint {
+        return checkpoint(ample, alloc, core);
+    }
+    let mut core = core;
+    let answer = answer(ample, alloc, &mut core, call);
+    (core, answer)
+}
+
+// Events behind the one that is tried. Their replies tell of what the core keeps.
+const LATER: &str = "\
+1 IMPORT 1
+1 SELECT * FROM p
+2 SELECT * FROM p
+4 INSERT INTO p VALUES (2, 'of four')
+4 BEGIN
+4 SELECT * FROM n
+2 COMMIT
+1 COMMIT
+3 POLL
+4 COMMIT";
+
+// A text, and behind it the core's replies to the later events.
+fn later<A: Allocator + Copy>(
+    ample: Global,
+    alloc: A,
+    core: Core<A>,
+    text: String,
+) -> Result<String, Refusal> {
+    let mut core = core;
+    let mut replies = text;
+    for text in LATER.split('\n') {
+        replies.push_str("; ")?;
+        let reply = event(ample, alloc, &mut core, text)?;
+        replies.push_str(reply.as_str())?;
+    }
+    Ok(replies)
+}
+
+// What a call answers, and the replies to the later events.
+fn told<A: Allocator + Copy>(
+    ample: Global,
+    alloc: A,
+    core: Core<A>,
+    call: (Call, &str),
+) -> Result<String, Refusal> {
+    let (core, answer) = call_on(ample, alloc, core, call);
+    let answer = answer?;
+    later(ample, alloc, core, answer)
+}
+
+// What is expected: what a call answers and the later replies, and the later replies without it.
+#[derive(Drop)]
+struct Wanted {
+    done: String,
+    untouched: String,
+}
+
+fn expected<A: Allocator + Copy>(
+    ample: Global,
+    alloc: A,
+    before: &str,
+    call: (Call, &str),
+) -> Result<Wanted, Refusal> {
+    let done = told(ample, alloc, core_after(alloc, before)?, call)?;
+    let untouched = later(ample, alloc, core_after(alloc, before)?, String::new(ample))?;
+    Ok(Wanted { done, untouched })
+}
+
+// The core behind a call one of whose requests is refused, what it answered, and whether it made as many.
+fn refused<A: Allocator + Copy>(
+    memory: &Memory,
+    alloc: A,
+    core: Core<A>,
+    call: (Call, &str),
+    number: u64,
+) -> (Core<A>, Result<String, Refusal>, bool) {
+    let start = memory.requests();
+    memory.refuse(number);
+    let (core, answer) = call_on(memory.inner, alloc, core, call);
+    memory.refuse(0);
+    let made = memory.requests().wrapping_sub(start);
+    (core, answer, made >= number)
+}
+
+// Whether the answer is want of memory.
+fn is_out_of_memory(answer: &Result<String, Refusal>) -> bool {
+    match answer {
+        Ok(_) => false,
+        Err(refusal) => *refusal == Refusal::of_code(Code::OutOfMemory),
+    }
+}
+
+// What is found where one request of a call is refused.
+#[derive(Clone, Copy, Debug, PartialEq, Eq)]
+enum Found {
+    /// The call made fewer, and did the same as ever.
+    Done,
+    /// The call answered want of memory, and the core answers what comes later as if it had not been made.
+    Refused,
+    /// None of these.
+    Wrong,
+}
+
+// Refuses one request of a call.
+fn refuse<A: Allocator + Copy>(
+    memory: &Memory,
+    alloc: A,
+    before: &str,
+    call: (Call, &str),
+    (number, wanted): (u64, &Wanted),
+) -> Result<Found, Refusal> {
+    let core = core_after(alloc, before)?;
+    let (core, answer, is_reached) = refused(memory, alloc, core, call, number);
+    if is_out_of_memory(&answer) && is_reached {
+        let text = later(memory.inner, alloc, core, String::new(memory.inner))?;
+        let is_untouched = text.as_str() == wanted.untouched.as_str();
+        return Ok(if is_untouched {
+            Found::Refused
+        } else {
+            Found::Wrong
+        });
+    }
+    let answer = answer?;
+    let text = later(memory.inner, alloc, core, answer)?;
+    let is_done = !is_reached && text.as_str() == wanted.done.as_str();
+    Ok(if is_done { Found::Done } else { Found::Wrong })
+}
+
+// Refuses one request of a call and repeats it: whether it then does the same as ever.
+fn repeats<A: Allocator + Copy>(
+    memory: &Memory,
+    alloc: A,
+    before: &str,
+    call: (Call, &str),
+    (number, wanted): (u64, &Wanted),
+) -> Result<bool, Refusal> {
+    let core = core_after(alloc, before)?;
+    let (core, _answer, _is_reached) = refused(memory, alloc, core, call, number);
+    let text = told(memory.inner, alloc, core, call)?;
+    Ok(text.as_str() == wanted.done.as_str())
+}
+
+// More requests than any tried call makes.
+const MOST_REQUESTS: u64 = 1000;
+
+/// Refuses each request of a call in turn, from the first until none is left, each time on a core after the same texts.
+/// Answers how many requests it makes.
+pub fn refuse_each<A: Allocator + Copy>(
+    rt: &impl Abort,
+    memory: &Memory,
+    alloc: A,
+    before: &str,
+    call: (Call, &str),
+) -> Result<u64, Refusal> {
+    let wanted = expected(memory.inner, alloc, before, call)?;
+    for number in 1..MOST_REQUESTS {
+        let found = refuse(memory, alloc, before, call, (number, &wanted))?;
+        assert!(rt; found != Found::Wrong, "request {number}");
+        if found == Found::Done {
+            return Ok(number.wrapping_sub(1));
+        }
+        let is_repeated = repeats(memory, alloc, before, call, (number, &wanted))?;
+        assert!(rt; is_repeated, "after request {number}");
+    }
+    Err(not_asked())
+}

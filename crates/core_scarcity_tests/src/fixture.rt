@@ -1,0 +1,85 @@
+//! Cores made of texts.
+ghost use Rattle.std.specs.Prelude.{IfOk};
+ghost use Rattle.history.specs.Answer.{Allowed};
+
+use history::event::{Action, Event};
+use history::session_id::SessionId;
+use schema::catalog::Catalog;
+use schema::tables::Tables;
+use session::sessions::Core;
+use sqltext::create::parse_create;
+use sqltext::parse::parse_statement;
+use statement::reply::Reply;
+use std::alloc::Allocator;
+use value::refusal::{Code, Mode, Refusal};
+
+const CREATES: [&str; 3] = [
+    "CREATE TABLE p (id bigint PRIMARY KEY, name text NOT NULL);",
+    "CREATE TABLE c (id bigint PRIMARY KEY, p bigint REFERENCES p, raw bytea);",
+    "CREATE TABLE n (name text PRIMARY KEY, v bigint);",
+];
+
+/// The refusal of a call that a test has no condition for. No tried call answers it.
+pub fn not_asked() -> Refusal {
+    Refusal::of_code(Code::SyntaxError)
+}
+
+// A core on empty tables.
+fn open<A: Allocator + Copy>(alloc: A) -> Result<Core<A>, Refusal> {
+    let mut catalog = Catalog::new(alloc);
+    for text in CREATES {
+        catalog.add(alloc, parse_create(alloc, text)?)?;
+    }
+    let tables = Tables::new(alloc, &catalog)?;
+    if !tables.sound(&catalog) {
+        return Err(not_asked());
+    }
+    Core::open(alloc, catalog, tables, 40)
+}
+
+// What a text asks for.
+fn action<A: Allocator + Copy>(
+    alloc: A,
+    catalog: &Catalog<A>,
+    text: &str,
+) -> Result<Action<A>, Refusal>
+    ensures { IfOk result (Allowed catalog.now) }
+{
+    match text {
+        "BEGIN" => Ok(Action::Begin(Mode::ReadWrite)),
+        "BEGIN READ ONLY" => Ok(Action::Begin(Mode::ReadOnly)),
+        "BEGIN DEFERRABLE" => Ok(Action::Begin(Mode::Deferrable)),
+        "POLL" => Ok(Action::Poll),
+        "EXPORT" => Ok(Action::Export),
+        "IMPORT 1" => Ok(Action::Import(1)),
+        "COMMIT" => Ok(Action::Commit),
+        "ROLLBACK" => Ok(Action::Rollback),
+        "PRUNE" => Ok(Action::Prune),
+        _ => Ok(Action::Run(parse_statement(alloc, catalog, text)?)),
+    }
+}
+
+/// The core's reply to a session's text: its number, a blank and what it asks for.
+pub fn reply<A: Allocator + Copy>(
+    alloc: A,
+    core: &mut Core<A>,
+    text: &str,
+) -> Result<Reply<A>, Refusal> {
+    let (number, text) = text.split_once(' ').ok_or(not_asked())?;
+    let number = number.parse::<u32>().ok().ok_or(not_asked())?;
+    let session = SessionId::new(number).ok_or(not_asked())?;
+    let action = action(alloc, core.history().catalog(), text)?;
+    match core.step(alloc, Event { session, action }) {
+        Reply::Refused(refusal) if refusal.code == Code::OutOfMemory => Err(refusal),
+        reply => Ok(reply),
+    }
+}
+
+/// A core after the sessions' texts, a line for each.
+pub fn core_after<A: Allocator + Copy>(alloc: A, texts: &str) -> Result<Core<A>, Refusal> {
+    let mut core = open(alloc)?;
+    for text in texts.trim_ascii().split('\n') {
+        reply(alloc, &mut core, text)?;
+    }
+    Ok(core)
+}

@@ -1,0 +1,236 @@
+//! Whole scripts. A script goes on behind an event that was refused, and ends where it can't be read or its replies
+//! can't be printed.
+use crate::driver::Memory;
+use crate::fixture::not_asked;
+use crate::sinks::Texts;
+use program::words::run_words;
+use scarce::Scarce;
+use std::alloc::{Allocator, Global};
+use std::process::Abort;
+use std::sync::Wait;
+use std::thread::Threads;
+use value::refusal::Refusal;
+
+const CREATES: &str = "\
+CREATE TABLE t (id bigint PRIMARY KEY, v bigint);
+CREATE TABLE n (name text PRIMARY KEY);
+";
+
+// The lines of a script.
+const REPLIES: &str = "\
+1 BEGIN;
+2 BEGIN;
+1 INSERT INTO t VALUES (1, 10);
+1 SELECT * FROM t;
+2 SELECT * FROM t WHERE id = 1;
+2 INSERT INTO n VALUES ('a name');
+1 COMMIT;
+1 nonsense;
+2 COMMIT;
+CHECKPOINT;
+3 BEGIN READ ONLY DEFERRABLE;
+3 POLL;
+3 DUMP 1 1 out;
+3 EXPORT;
+3 PRUNE;
+3 COMMIT;
+";
+
+const DUMP: &str = "-- dump 2
+CREATE TABLE t (id bigint PRIMARY KEY, v bigint);
+COPY t (id, v) FROM stdin;
+1\t10
+2\t20
+\\.
+-- rows 2
+-- end
+";
+
+// The lines of a script that is audited.
+const AUDITED: &str = "\
+1 BEGIN;
+2 BEGIN;
+1 SELECT v FROM t WHERE id = 1;
+2 UPDATE t SET v = 11 WHERE id = 1;
+2 COMMIT;
+1 UPDATE t SET v = 21 WHERE id = 2;
+1 COMMIT;
+CHECKPOINT;
+2 BEGIN;
+2 DELETE FROM t WHERE id = 2;
+2 COMMIT;
+";
+
+// A script: how it is done, what stands before its lines, and those.
+#[derive(Clone, Copy, Debug)]
+struct Script<'t> {
+    command: &'t str,
+    head: &'t str,
+    lines: &'t str,
+}
+
+// The exit status, and what is printed.
+#[derive(Drop, Debug, PartialEq)]
+struct Ended {
+    status: u8,
+    out: String,
+    err: String,
+}
+
+// Runs the program over a script.
+fn end_of<A: Allocator + Copy + Send + Sync, R: Threads + Wait + Sync>(
+    rt: &R,
+    ample: Global,
+    alloc: A,
+    command: &str,
+    input: &str,
+) -> Result<Ended, Refusal> {
+    let mut out = Vec::new(ample);
+    let mut err = Vec::new(ample);
+    let files = Texts { input, dump: DUMP };
+    let words = [command, "-"];
+    let status = run_words(
+        rt,
+        ample,
+        alloc,
+        words.as_slice(),
+        &files,
+        &mut out,
+        &mut err,
+    );
+    let out = String::from_utf8(out).ok().ok_or(not_asked())?;
+    let err = String::from_utf8(err).ok().ok_or(not_asked())?;
+    Ok(Ended { status, out, err })
+}
+
+// A script of the lines below a number; and of those above it too, where that is asked for.
+fn part(
+    ample: Global,
+    script: Script<'_>,
+    number: usize,
+    goes_on: bool,
+) -> Result<String, Refusal> {
+    let mut text = String::from_str(ample, script.head)?;
+    for (place, line) in script.lines.lines().enumerate() {
+        if place < number || (place > number && goes_on) {
+            text.push_str(line)?;
+            text.push_str("\n")?;
+        }
+    }
+    Ok(text)
+}
+
+// What is printed of a line that was refused for want of memory.
+fn refused_line(ample: Global, script: Script<'_>, line: &str) -> Result<String, Refusal> {
+    if script.command == "audit" {
+        return Ok(String::new(ample));
+    }
+    match line.split_once(' ') {
+        Some((session, _)) => Ok(format!(in ample; "{session} ERROR 53200\n")?),
+        None => Ok(String::from_str(ample, "ERROR 53200\n")?),
+    }
+}
+
+// What is printed where a line was refused for want of memory: what is printed without it, and its refusal in its place.
+fn without<R: Threads + Wait + Sync>(
+    rt: &R,
+    ample: Global,
+    script: Script<'_>,
+    number: usize,
+    line: &str,
+) -> Result<String, Refusal> {
+    let until = part(ample, script, number, false)?;
+    let until = end_of(rt, ample, ample, script.command, until.as_str())?;
+    let all = part(ample, script, number, true)?;
+    let all = end_of(rt, ample, ample, script.command, all.as_str())?;
+    if script.command == "audit" {
+        return Ok(all.out);
+    }
+    let rest = all
+        .out
+        .as_str()
+        .strip_prefix(until.out.as_str())
+        .ok_or(not_asked())?;
+    let refusal = refused_line(ample, script, line)?;
+    Ok(format!(in ample; "{}{}{rest}", until.out, refusal)?)
+}
+
+// What may be printed where one line was refused for want of memory, for each line.
+fn all_without<R: Threads + Wait + Sync>(
+    rt: &R,
+    ample: Global,
+    script: Script<'_>,
+) -> Result<Vec<String>, Refusal> {
+    let mut texts = Vec::new(ample);
+    for (number, line) in script.lines.lines().enumerate() {
+        texts.push(without(rt, ample, script, number, line)?)?;
+    }
+    Ok(texts)
+}
+
+// How a script may end of which a request was refused: it goes on behind the line that made it, or it has printed a
+// beginning and ends.
+fn is_right(ended: &Ended, wanted: &Ended, texts: &[String]) -> bool {
+    match ended.status {
+        0 => ended.err.is_empty() && texts.iter().any(|text| *text == ended.out),
+        1 => {
+            let err = ended.err.as_str();
+            (err == "script line 0\n" || err == "dump line 0: 53200\n")
+                && wanted.out.starts_with(ended.out.as_str())
+                && (ended.out.is_empty() || ended.out.ends_with("\n"))
+        }
+        _ => false,
+    }
+}
+
+// More requests than any tried script makes.
+const MOST_REQUESTS: u64 = 5000;
+
+// Refuses each request of a script in turn. Answers behind how many it went on, and by how many it ended.
+fn refuse_each<R: Abort + Threads + Wait + Sync, A: Allocator + Copy + Send + Sync>(
+    rt: &R,
+    memory: &Memory,
+    alloc: A,
+    script: Script<'_>,
+) -> Result<(u64, u64), Refusal> {
+    let ample = memory.inner;
+    let texts = all_without(rt, ample, script)?;
+    let whole = part(ample, script, usize::MAX, false)?;
+    let wanted = end_of(rt, ample, alloc, script.command, whole.as_str())?;
+    let (mut went_on, mut stopped) = (0u64, 0u64);
+    for number in 1..MOST_REQUESTS {
+        let start = memory.requests();
+        memory.refuse(number);
+        let found = end_of(rt, ample, alloc, script.command, whole.as_str())?;
+        memory.refuse(0);
+        if memory.requests().wrapping_sub(start) < number {
+            assert_eq!(rt; found, wanted);
+            return Ok((went_on, stopped));
+        }
+        assert!(rt;
+            is_right(&found, &wanted, texts.as_slice()),
+            "{number}: {found:?}"
+        );
+        if found.status == 0 {
+            went_on = went_on.wrapping_add(1);
+        } else {
+            stopped = stopped.wrapping_add(1);
+        }
+    }
+    Err(not_asked())
+}
+
+#[test]
+fn scripts(rt: HostRuntime) -> Result<(), Refusal> {
+    let memory = Scarce::new(rt.alloc());
+    for (command, head, lines) in [("run", CREATES, REPLIES), ("audit", "OPEN d;\n", AUDITED)] {
+        let script = Script {
+            command,
+            head,
+            lines,
+        };
+        let (went_on, stopped) = refuse_each(&rt, &memory, &memory, script)?;
+        assert!(rt; went_on > 20 && stopped > 20, "{went_on} {stopped}");
+    }
+    Ok(())
+}
