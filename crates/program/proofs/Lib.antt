@@ -1,4 +1,2 @@
 pub mod EndLemmas
 pub mod LineLemmas
-pub mod OrderLemmas
-pub mod ViewLemmas

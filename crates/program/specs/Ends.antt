@@ -1,5 +1,6 @@
 -- How the program ends (this project's own choice).
 use Rattle.std.specs.Prelude.{ℕ, Result, Ok, Err}
+use Rattle.restore.specs.declared.error.RestoreFault.{RestoreFault}
 use Rattle.program.specs.declared.fault.Fault.{Fault}
 use Rattle.program.specs.declared.fault.Fault.TheVariants as fault
 use Rattle.program.specs.declared.fault.Status.{Status}
@@ -17,6 +18,11 @@ abbrev pub status : Fault → Status
 status (fault.Script line) = Refused
 status (fault.Dump line c) = Refused
 status (fault.Device path) = Device
+
+-- what is read of a dump, with its first faulty line as the program's fault
+abbrev pub loaded : {X : Type 0} → Result X RestoreFault → Result X Fault
+loaded (Ok x) = Ok x
+loaded (Err f) = Err (fault.Dump f.line f.code)
 
 abbrev pub end : Result (Unit {0}) Fault → Status
 end (Ok done) = Done

@@ -1,4 +1,5 @@
 pub mod CommandLine
+pub mod Dumps
 pub mod Ends
 pub mod Lines
 pub mod Orders

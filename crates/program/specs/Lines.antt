@@ -34,6 +34,7 @@ module _ {A : Type 0} where
   abbrev pub Replies : Recorded A → Recorded A → ℕ → Command A → Reply A → Type 0
   Replies h k s (command.Begin m) r = IsStep h k s (action.Begin m) r
   Replies h k s command.Poll r = IsStep h k s action.Poll r
+  Replies h k s command.Wait r = IsStep h k s action.Poll r
   Replies h k s command.Export r = IsStep h k s action.Export r
   Replies h k s (command.Import i) r = IsStep h k s (action.Import i) r
   Replies h k s command.Commit r = IsStep h k s action.Commit r

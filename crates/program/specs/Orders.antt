@@ -17,10 +17,6 @@ abbrev pub check_line : Bool → List ℕ
 check_line true = codes "check yes\n"
 check_line false = codes "check no\n"
 
--- behind what was there the line of the check stands
-abbrev pub Checks : List ℕ → List ℕ → Type 0
-Checks before text = (is_one : Bool) × (text ≡ before ++ check_line is_one)
-
 -- the committed transactions of a world in the serial order
 abbrev pub order_lines : {A : Type 0} → World A → List ℕ
 order_lines w = key_lines (with_keys w (serial_order w))

@@ -3,7 +3,7 @@
 ghost use Rattle.std.specs.Prelude.{◌≡◌, [], IfOk};
 
 use collector::Device;
-use std::alloc::Allocator;
+use std::alloc::{AllocError, Allocator};
 
 /// Why a file wasn't read.
 #[derive(Clone, Copy, Debug, PartialEq, Eq)]
@@ -14,7 +14,7 @@ pub enum ReadError {
     Memory,
 }
 
-/// Where paths lead. What a file holds, no contract can say.
+/// Where paths lead. What a file holds that is read, no contract says.
 pub trait Files<A: Allocator> {
     type Out: Device + Send + Drop;
 
@@ -25,5 +25,7 @@ pub trait Files<A: Allocator> {
     fn read_input(&self, alloc: A) -> Result<Vec<u8, A>, ReadError>;
 
     /// A device that opens a path's file at its first write, and has taken nothing yet.
-    fn create(&self, alloc: A, path: &str) -> Result<Self::Out, ReadError>;
+    fn create(&self, alloc: A, path: &str) -> Result<Self::Out, AllocError>
+        ensures empty { IfOk result (λ file. Self.Out.taken file ≡ []) }
+        ensures sound { IfOk result (λ file. Self.Out.failures file ≡ 0) };
 }

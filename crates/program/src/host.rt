@@ -5,7 +5,7 @@ ghost use Rattle.std.specs.Prelude.{◌≡◌, ◌≢◌, ◌≤◌, ◌<◌, �
 use crate::files::{Files, ReadError};
 use collector::{Device, DeviceError};
 use http_server::Log;
-use std::alloc::Global;
+use std::alloc::{AllocError, Global};
 use std::fs::{self, File};
 use std::io::{self, ErrorKind, Read, Write};
 
@@ -128,10 +128,8 @@ impl<'r> Files<Global> for HostFiles<'r> {
         }
     }
 
-    fn create(&self, alloc: Global, path: &str) -> Result<HostFile<'r>, ReadError> {
-        let Ok(path) = String::from_str(alloc, path) else {
-            return Err(ReadError::Memory);
-        };
+    fn create(&self, alloc: Global, path: &str) -> Result<HostFile<'r>, AllocError> {
+        let path = String::from_str(alloc, path)?;
         Ok(HostFile {
             rt: self.rt,
             path,

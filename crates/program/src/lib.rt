@@ -1,6 +1,7 @@
 //! The program `pgserial`: scripts of sessions, and dumps, over files.
 #![tactic(auto)]
 
+mod dumping;
 mod fault;
 pub mod files;
 pub mod host;

@@ -6,6 +6,7 @@ ghost use Rattle.program.specs.CommandLine as spec;
 
 use clap::builder::ValueParser;
 use clap::{Arg, ArgAction, ArgMatches, Command, Error};
+use dumpplan::Jobs;
 use std::alloc::{AllocError, Global};
 
 /// What the command line asks for.
@@ -22,8 +23,7 @@ pub(crate) enum Request<'w> {
     /// A dump read, and written again.
     Restore {
         dump: &'w str,
-        /// 1 to 64.
-        jobs: u32,
+        jobs: Jobs,
         out: &'w str,
     },
 }
@@ -111,6 +111,24 @@ fn matches_of<'w>(alloc: Global, words: &'w [&'w str]) -> Result<ArgMatches<'w>,
     program.try_get_matches_from(words)
 }
 
+// One worker.
+fn one_job() -> Jobs
+    ensures { result ≡ 1 }
+{
+    let Some(jobs) = Jobs::new(1) else {
+        unreachable!()
+    };
+    jobs
+}
+
+// How many workers are asked for; one where nothing is said.
+fn jobs_of(restore: &ArgMatches<'_>) -> Jobs {
+    match restore.get_one::<u32>("jobs").and_then(Jobs::new) {
+        Some(jobs) => jobs,
+        None => one_job(),
+    }
+}
+
 // What a command with these matches asks for.
 fn request_of<'w>(matches: &ArgMatches<'w>) -> Request<'w> {
     match matches.subcommand() {
@@ -119,7 +137,7 @@ fn request_of<'w>(matches: &ArgMatches<'w>) -> Request<'w> {
         },
         Some(("restore", restore)) => Request::Restore {
             dump: restore.get_str("DUMP").unwrap_or("-"),
-            jobs: restore.get_one::<u32>("jobs").unwrap_or(1),
+            jobs: jobs_of(restore),
             out: restore.get_str("out").unwrap_or("-"),
         },
         Some((_, run)) => Request::Run {

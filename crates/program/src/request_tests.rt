@@ -7,7 +7,7 @@ fn told(rt: &HostRuntime, words: &[&str]) -> &'static str {
         Ok(Request::Run { .. }) => "run",
         Ok(Request::Audit { .. }) => "audit",
         Ok(Request::Restore { jobs, .. }) => {
-            if jobs == 1 {
+            if jobs.get() == 1 {
                 "restore"
             } else {
                 "restore by many"

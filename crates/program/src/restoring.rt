@@ -1,16 +1,19 @@
 //! A dump read, and written again.
 
-ghost use Rattle.std.specs.Prelude.{◌≡◌, IfOk, length, true};
+ghost use Rattle.std.specs.Prelude.{◌≡◌, ◌⊎◌, Err, IfOk, length, true};
 ghost use Rattle.schema.specs.Plain.{is_sound};
+ghost use Rattle.restore.specs.Reading.{read_dump};
+ghost use Rattle.restore.specs.Steps.{no_memory};
+ghost use Rattle.program.specs.Ends.{loaded};
 
 use crate::fault::Fault;
-use crate::files::{Files, ReadError};
+use crate::files::Files;
 use crate::output::{Printer, fault_of_print};
 use crate::run::read_path;
 use dumpplan::{Jobs, NoGate, PieceRows};
 use dumpworker::{DumpFault, dump};
 use itoa::Buffer;
-use restore::restore_one;
+use restore::{restore, restore_one};
 use schema::catalog::{Catalog, TableNo};
 use schema::tables::Tables;
 use std::alloc::Allocator;
@@ -26,6 +29,16 @@ const NO_MEMORY: Fault<'static> = Fault::Dump {
     line: 0,
     code: Code::OutOfMemory,
 };
+
+// The same, as a dump is asked for it.
+fn piece_rows() -> PieceRows
+    ensures { result ≡ 1000 }
+{
+    let Some(rows) = PieceRows::new(ROWS) else {
+        unreachable!()
+    };
+    rows
+}
 
 // How many rows there are in all tables.
 fn rows_of<A: Allocator>(catalog: &Catalog<A>, tables: &Tables<A>) -> u64
@@ -62,14 +75,38 @@ fn sound_tables_are_counted<A: Allocator>(_catalog: &Catalog<A>, _tables: &Table
     ensures { length _tables.now ≡ length _catalog.now }
 {}
 
-/// The catalog and the tables that a dump reads as.
+/// The catalog and the tables that a dump reads as, or the dump's first faulty line; read by the
+/// calling thread.
 pub(crate) fn read_dump<'p, A: Allocator + Copy>(
     alloc: A,
     dump: &[u8],
 ) -> Result<(Catalog<A>, Tables<A>), Fault<'p>>
-    ensures { IfOk result (λ x. is_sound x.0 x.1 ≡ true) }
+    ensures read { (result ≡ loaded (read_dump dump.now)) ⊎ (result ≡ loaded (Err no_memory)) }
+    ensures sound { IfOk result (λ x. is_sound x.0 x.1 ≡ true) }
 {
     match restore_one(alloc, dump) {
+        Ok(found) => Ok(found),
+        Err(fault) => Err(Fault::Dump {
+            line: fault.line,
+            code: fault.code,
+        }),
+    }
+}
+
+// The same, with the lines of its rows read by workers.
+fn read_by_workers<'p, A, T>(
+    rt: &T,
+    alloc: A,
+    dump: &[u8],
+    jobs: Jobs,
+) -> Result<(Catalog<A>, Tables<A>), Fault<'p>>
+where
+    A: Allocator + Copy + Send + Sync,
+    T: Threads + Sync,
+    ensures read { (result ≡ loaded (read_dump dump.now)) ⊎ (result ≡ loaded (Err no_memory)) }
+    ensures sound { IfOk result (λ x. is_sound x.0 x.1 ≡ true) }
+{
+    match restore(rt, alloc, dump, jobs, &NoGate) {
         Ok(found) => Ok(found),
         Err(fault) => Err(Fault::Dump {
             line: fault.line,
@@ -85,7 +122,7 @@ fn write_again<'p, A, F, T>(
     files: &F,
     catalog: &Catalog<A>,
     tables: &Tables<A>,
-    jobs: u32,
+    jobs: Jobs,
     out: &'p str,
 ) -> Result<(), Fault<'p>>
 where
@@ -94,14 +131,10 @@ where
     T: Threads + Wait + Sync,
     requires { length tables.now ≡ length catalog.now }
 {
-    let mut file = match files.create(alloc, out) {
-        Ok(file) => file,
-        Err(ReadError::Memory) => return Err(NO_MEMORY),
-        Err(ReadError::Device) => return Err(Fault::Device { path: out }),
+    let Ok(mut file) = files.create(alloc, out) else {
+        return Err(NO_MEMORY);
     };
-    let (Some(jobs), Some(rows)) = (Jobs::new(jobs), PieceRows::new(ROWS)) else {
-        return Err(Fault::Device { path: out });
-    };
+    let rows = piece_rows();
     match dump(rt, alloc, tables, catalog, jobs, rows, &mut file, &NoGate) {
         Ok(()) => Ok(()),
         Err(DumpFault::Memory) => Err(NO_MEMORY),
@@ -115,7 +148,7 @@ pub(crate) fn restore_file<'p, A, F, W, T>(
     alloc: A,
     files: &F,
     path: &'p str,
-    jobs: u32,
+    jobs: Jobs,
     out: &'p str,
     printer: &mut Printer<'_, W, A>,
 ) -> Result<(), Fault<'p>>
@@ -126,7 +159,7 @@ where
     T: Threads + Wait + Sync,
 {
     let bytes = read_path(alloc, files, path, NO_MEMORY)?;
-    let (catalog, tables) = read_dump(alloc, bytes.as_slice())?;
+    let (catalog, tables) = read_by_workers(rt, alloc, bytes.as_slice(), jobs)?;
     sound_tables_are_counted(&catalog, &tables);
     write_again(rt, alloc, files, &catalog, &tables, jobs, out)?;
     let Ok(text) = told(alloc, &catalog, &tables) else {

@@ -11,6 +11,7 @@ use crate::restoring::read_dump;
 use crate::sessions::{MOST_EVENTS, checkpoint, do_command};
 use schema::catalog::Catalog;
 use schema::tables::Tables;
+use script::schedule::Schedule;
 use script::script::{Line, Script, Step, read_script};
 use session::sessions::Core;
 use std::alloc::Allocator;
@@ -87,6 +88,25 @@ fn empty_tables<'p, A: Allocator + Copy>(
     }
 }
 
+// The tables that a script begins with: those of the dump that it opens, or those that it creates,
+// without rows.
+fn open_tables<'p, A, F>(
+    alloc: A,
+    files: &F,
+    opens: Option<&'p Text<A>>,
+    catalog: Catalog<A>,
+) -> Result<(Catalog<A>, Tables<A>), Fault<'p>>
+where
+    A: Allocator + Copy,
+    F: Files<A>,
+    ensures { IfOk result (λ x. is_sound x.0 x.1 ≡ true) }
+{
+    match opens {
+        Some(path) => open_dump(alloc, files, path.as_str()),
+        None => empty_tables(alloc, catalog),
+    }
+}
+
 // The core that a script begins with.
 fn open_core<'p, A, F>(
     alloc: A,
@@ -98,10 +118,7 @@ where
     A: Allocator + Copy,
     F: Files<A>,
 {
-    let (catalog, tables) = match opens {
-        Some(path) => open_dump(alloc, files, path.as_str())?,
-        None => empty_tables(alloc, catalog)?,
-    };
+    let (catalog, tables) = open_tables(alloc, files, opens, catalog)?;
     match Core::open(alloc, catalog, tables, MOST_EVENTS) {
         Ok(core) => Ok(core),
         Err(_) => Err(Fault::Script { line: 0 }),
@@ -267,7 +284,7 @@ where
         Ok(bytes) => bytes,
         Err(fault) => return tell(&fault, err),
     };
-    match read_script(alloc, bytes.as_slice()) {
+    match read_script(alloc, Schedule::InOrder, bytes.as_slice()) {
         Ok(script) => do_read(rt, alloc, files, script, shown, printer, err),
         Err(fault) => tell(&Fault::Script { line: fault.line }, err),
     }

@@ -1,22 +1,23 @@
 //! What a script's lines do, one after the other, to a core.
 
-ghost use Rattle.std.specs.Prelude.{◌≡◌, IfOk, length};
+ghost use Rattle.std.specs.Prelude.{IfOk};
 ghost use Rattle.history.specs.Answer.{Allowed};
+ghost use Rattle.program.specs.Dumps.{IsDumped, TellsDump};
 ghost use Rattle.program.specs.Lines.{Asks, IsRun, Replies, Tells};
 ghost use Rattle.session.specs.Core.{IsStep};
 ghost use Rattle.sqltext.specs.Parsed.{parsed};
 
+use crate::dumping::dump_text;
 use crate::fault::Fault;
-use crate::files::{Files, ReadError};
+use crate::files::Files;
+use backup::{BackupFault, dump_session};
 use dumpplan::NoGate;
-use dumpworker::{DumpFault, dump};
+use dumpworker::DumpFault;
 use history::event::{Action, Event};
 use history::session_id::SessionId;
-use mvrows::view::View;
 use schema::catalog::Catalog;
 use script::command::{Command, DumpRequest};
-use script::printing::{done_text, reply_text};
-use session::laws::views_are_sound;
+use script::printing::reply_text;
 use session::sessions::Core;
 use sqltext::parse::parse_statement;
 use statement::reply::Reply;
@@ -63,65 +64,34 @@ fn run_text<A: Allocator + Copy>(
     }
 }
 
-// What comes of a dump that was asked for.
-enum Dumped {
-    Whole,
-    Refused(Refusal),
-    Failed,
-}
-
-// A view of a session's safe snapshot, which has the catalog's tables.
-fn view_of<A: Allocator + Copy>(
-    alloc: A,
-    core: &Core<A>,
-    session: SessionId,
-) -> Result<View<A>, Refusal>
-    ensures { IfOk result (λ view. length view ≡ length core.now.opening.catalog) }
-{
-    core.is_legal();
-    views_are_sound::<A>();
-    core.view(alloc, session)
-}
-
 // Writes a dump of a session's safe snapshot to a file.
-fn dump_session<A, F, T>(
+fn dump_to_file<A, F, T>(
     rt: &T,
     alloc: A,
     files: &F,
     core: &Core<A>,
     session: SessionId,
     request: &DumpRequest<A>,
-) -> Dumped
+) -> Result<(), BackupFault>
 where
     A: Allocator + Copy + Send + Sync,
     F: Files<A>,
     T: Threads + Wait + Sync,
+    ensures { IsDumped core.now session result }
 {
-    let view = match view_of(alloc, core, session) {
-        Ok(view) => view,
-        Err(refusal) => return Dumped::Refused(refusal),
+    let Ok(mut file) = files.create(alloc, request.path.as_str()) else {
+        return Err(BackupFault::Dump(DumpFault::Memory));
     };
-    let mut file = match files.create(alloc, request.path.as_str()) {
-        Ok(file) => file,
-        Err(ReadError::Memory) => return Dumped::Refused(Refusal::of_code(Code::OutOfMemory)),
-        Err(ReadError::Device) => return Dumped::Failed,
-    };
-    let catalog = core.history().catalog();
-    let written = dump(
+    dump_session(
         rt,
         alloc,
-        &view,
-        catalog,
+        core,
+        session,
         request.jobs,
         request.rows,
         &mut file,
         &NoGate,
-    );
-    match written {
-        Ok(()) => Dumped::Whole,
-        Err(DumpFault::Memory) => Dumped::Refused(Refusal::of_code(Code::OutOfMemory)),
-        Err(DumpFault::Device) => Dumped::Failed,
-    }
+    )
 }
 
 // An event of a session.
@@ -137,25 +107,6 @@ fn step<A: Allocator + Copy>(
     core.step(alloc, Event { session, action })
 }
 
-// What is printed of a dump that was asked for; none where its file failed.
-fn dump_text<A: Allocator + Copy>(
-    alloc: A,
-    session: SessionId,
-    dumped: Dumped,
-) -> Result<Option<Vec<u8, A>>, Refusal> {
-    match dumped {
-        Dumped::Whole => {
-            let text = done_text(alloc, session)?;
-            Ok(Some(text))
-        }
-        Dumped::Refused(refusal) => {
-            let text = reply_text(alloc, session, &Reply::Refused(refusal))?;
-            Ok(Some(text))
-        }
-        Dumped::Failed => Ok(None),
-    }
-}
-
 // The reply to a command that is no dump.
 fn reply_to<A: Allocator + Copy>(
     alloc: A,
@@ -169,7 +120,7 @@ fn reply_to<A: Allocator + Copy>(
         Command::Sql(text) => run_text(alloc, core, session, text.as_str()),
         Command::Begin(mode) => step(alloc, core, session, Action::Begin(*mode)),
         Command::Import(identifier) => step(alloc, core, session, Action::Import(*identifier)),
-        Command::Poll => step(alloc, core, session, Action::Poll),
+        Command::Poll | Command::Wait => step(alloc, core, session, Action::Poll),
         Command::Export => step(alloc, core, session, Action::Export),
         Command::Commit => step(alloc, core, session, Action::Commit),
         Command::Rollback => step(alloc, core, session, Action::Rollback),
@@ -203,15 +154,10 @@ where
     A: Allocator + Copy + Send + Sync,
     F: Files<A>,
     T: Threads + Wait + Sync,
+    ensures { IfOk result (λ text. TellsDump core.now session text.items) }
 {
-    let dumped = dump_session(rt, alloc, files, core, session, request);
-    match dump_text(alloc, session, dumped) {
-        Ok(Some(text)) => Ok(text),
-        Ok(None) => Err(Fault::Device {
-            path: request.path.as_str(),
-        }),
-        Err(_) => Err(Fault::Script { line: 0 }),
-    }
+    let done = dump_to_file(rt, alloc, files, core, session, request);
+    dump_text(alloc, session, request.path.as_str(), done)
 }
 
 /// Does a session's command, and gives what is printed of it.

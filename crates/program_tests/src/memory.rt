@@ -4,11 +4,12 @@ ghost use Rattle.std.specs.Prelude.{◌≡◌, ◌+◌, ◌++◌, length, map};
 use collector::{Device, DeviceError};
 use http_server::Log;
 use program::files::{Files, ReadError};
-use std::alloc::Global;
+use std::alloc::{AllocError, Global};
 use std::sync::atomic::{AtomicBool, Ordering};
 
 /// Files with their bytes, what standard input has, the bytes that any file takes that is written,
-/// and whether one has taken all of these. A path `scarce` is one for which memory is wanting.
+/// and whether one has taken all of these. A path `scarce` is one for which memory is wanting, `nowhere`
+/// one whose file takes nothing.
 #[derive(Drop)]
 pub struct MemoryFiles<'f> {
     pub files: &'f [(&'f str, &'f [u8])],
@@ -93,16 +94,16 @@ impl<'f> Files<Global> for MemoryFiles<'f> {
         }
     }
 
-    fn create(&self, _alloc: Global, path: &str) -> Result<MemoryFile<'f>, ReadError> {
-        match path {
-            "scarce" => Err(ReadError::Memory),
-            "nowhere" => Err(ReadError::Device),
-            _ => Ok(MemoryFile {
-                left: self.room,
-                is_whole: self.is_whole,
-                taken: Log::new(),
-                failed: Log::new(),
-            }),
+    fn create(&self, _alloc: Global, path: &str) -> Result<MemoryFile<'f>, AllocError> {
+        if path == "scarce" {
+            return Err(AllocError);
         }
+        let left = if path == "nowhere" { b"" } else { self.room };
+        Ok(MemoryFile {
+            left,
+            is_whole: self.is_whole,
+            taken: Log::new(),
+            failed: Log::new(),
+        })
     }
 }

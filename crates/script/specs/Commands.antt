@@ -9,8 +9,10 @@ use Rattle.value.specs.declared.refusal.Mode.TheVariants.{ReadWrite, ReadOnly, D
 use Rattle.dumpplan.specs.declared.jobs.Jobs.{Jobs}
 use Rattle.dumpplan.specs.declared.jobs.PieceRows.{PieceRows}
 use Rattle.script.specs.declared.command.Command.{Command}
-use Rattle.script.specs.declared.command.Command.TheVariants.{Begin, Poll, Export, Import, Commit, Rollback, Prune, Dump, Sql}
+use Rattle.script.specs.declared.command.Command.TheVariants.{Begin, Poll, Export, Import, Commit, Rollback, Prune, Wait, Dump, Sql}
 use Rattle.script.specs.declared.command.DumpRequest.{DumpRequest}
+use Rattle.script.specs.declared.schedule.Schedule.{Schedule}
+use Rattle.script.specs.declared.schedule.Schedule.TheVariants.{InOrder, Free}
 use Rattle.script.specs.declared.error.LineError.{LineError}
 use Rattle.script.specs.declared.error.LineError.TheVariants.{Memory, Faulty}
 
@@ -90,9 +92,14 @@ None >>= f = None
 module _ {A : Type 0} where
   -- ---- commands
 
+  -- to wait, where other sessions go on meanwhile
+  abbrev pub wait_of : Schedule → Option (Command A)
+  wait_of InOrder = None
+  wait_of Free = Some Wait
+
   -- a command that takes nothing
-  abbrev pub of_words : List ℕ → Option (Command A)
-  of_words text =
+  abbrev pub of_words : Schedule → List ℕ → Option (Command A)
+  of_words schedule text =
       if bytes_eq text (codes "BEGIN") then Some (Begin ReadWrite)
       else if bytes_eq text (codes "BEGIN READ ONLY") then Some (Begin ReadOnly)
       else if bytes_eq text (codes "BEGIN READ ONLY DEFERRABLE") then Some (Begin Deferrable)
@@ -101,6 +108,7 @@ module _ {A : Type 0} where
       else if bytes_eq text (codes "COMMIT") then Some Commit
       else if bytes_eq text (codes "ROLLBACK") then Some Rollback
       else if bytes_eq text (codes "PRUNE") then Some Prune
+      else if bytes_eq text (codes "WAIT") then wait_of schedule
       else None
 
   -- `n`, the identifier of a snapshot
@@ -128,9 +136,9 @@ module _ {A : Type 0} where
   argued text = cut 32 text >>= λ p. with_argument p.0 p.1
 
   -- a command that begins with one of the words, and is in its form
-  abbrev pub worded : List ℕ → Option (Command A)
-  worded text = if is_some (of_words text) then of_words text else argued text
+  abbrev pub worded : Schedule → List ℕ → Option (Command A)
+  worded schedule text = if is_some (of_words schedule text) then of_words schedule text else argued text
 
-  -- the command of a session's line
-  unfoldable pub command_of : List ℕ → Option (Command A)
-  command_of text = if begins_command text then worded text else sql_of text
+  -- the command of a session's line, in a script that is run so
+  unfoldable pub command_of : Schedule → List ℕ → Option (Command A)
+  command_of schedule text = if begins_command text then worded schedule text else sql_of text

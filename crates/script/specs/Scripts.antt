@@ -14,6 +14,8 @@ use Rattle.script.specs.declared.error.LineError.{LineError}
 use Rattle.script.specs.declared.error.LineError.TheVariants.{Memory, Faulty}
 use Rattle.sqltext.specs.Creating.{created}
 use Rattle.script.specs.Commands.{◌>>=◌, command_of, cut, before_last, path_of, session_of, text_of}
+use Rattle.script.specs.declared.schedule.Schedule.{Schedule}
+use Rattle.script.specs.declared.schedule.Schedule.TheVariants.{InOrder, Free}
 use Rattle.script.specs.declared.script.Step.{Step}
 use Rattle.script.specs.declared.script.Step.TheVariants.{Session, Checkpoint}
 use Rattle.script.specs.declared.script.Line.{Line}
@@ -52,8 +54,8 @@ module _ {A : Type 0} where
   nothing = record { catalog = []; opens = None; lines = [] }
 
   -- a session's number, a space, a command, and `;`
-  unfoldable pub session_step : List ℕ → Option (Step A)
-  session_step line = cut 32 line >>= λ p. session_of p.0 >>= λ s. before_last 59 p.1 >>= λ text. command_of text >>= λ command. Some (Session s command)
+  unfoldable pub session_step : Schedule → List ℕ → Option (Step A)
+  session_step schedule line = cut 32 line >>= λ p. session_of p.0 >>= λ s. before_last 59 p.1 >>= λ text. command_of schedule text >>= λ command. Some (Session s command)
 
   -- one more thing to be done
   abbrev pub with_step : Said A → ℕ → Step A → Said A
@@ -72,32 +74,37 @@ module _ {A : Type 0} where
   created_in s line = if takes_tables s then (table_of line >>= λ d. result_ok (added s.catalog d) >>= λ c. Some (record s { catalog = c })) else None
 
   -- a session's line
-  abbrev pub with_session : Said A → ℕ → List ℕ → Option (Said A)
-  with_session s n line = session_step line >>= λ step. Some (with_step s n step)
+  abbrev pub with_session : Schedule → Said A → ℕ → List ℕ → Option (Said A)
+  with_session schedule s n line = session_step schedule line >>= λ step. Some (with_step s n step)
+
+  -- a checkpoint is made between the lines of all sessions: where these run freely there is no such place
+  abbrev pub with_checkpoint : Schedule → Said A → ℕ → Option (Said A)
+  with_checkpoint InOrder s n = Some (with_step s n Checkpoint)
+  with_checkpoint Free s n = None
 
   -- an empty line or a comment changes nothing, but must be text
   abbrev pub passed_over : Said A → List ℕ → Option (Said A)
   passed_over s line = if is_utf8 line then Some s else None
 
   -- what the script has said with one more line, the n-th; none where it may not come
-  abbrev pub with_line : Said A → ℕ → List ℕ → Option (Said A)
-  with_line s n line =
+  abbrev pub with_line : Schedule → Said A → ℕ → List ℕ → Option (Said A)
+  with_line schedule s n line =
       if is_passed_over line then passed_over s line
-      else if is_ascii_digit (slice_index line 0) then with_session s n line
+      else if is_ascii_digit (slice_index line 0) then with_session schedule s n line
       else if bytes_eq (take 5 line) (codes "OPEN ") then opened s line
-      else if bytes_eq line (codes "CHECKPOINT;") then Some (with_step s n Checkpoint)
+      else if bytes_eq line (codes "CHECKPOINT;") then with_checkpoint schedule s n
       else created_in s line
 
   -- With the lines from the n-th on: what is said, or the number of the first that may not come. Behind the last newline stands nothing.
-  abbrev pub said_from : Said A → ℕ → List (List ℕ) → Result (Said A) ℕ
-  said_from s n [] = Ok s
-  said_from s n (line ∷ more) =
+  abbrev pub said_from : Schedule → Said A → ℕ → List (List ℕ) → Result (Said A) ℕ
+  said_from schedule s n [] = Ok s
+  said_from schedule s n (line ∷ more) =
       if is_end more then (if length line == 0 then Ok s else Err n)
-      else option_map_or (λ t. said_from t (n + 1) more) (with_line s n line) (Err n)
+      else option_map_or (λ t. said_from schedule t (n + 1) more) (with_line schedule s n line) (Err n)
 
-  -- what a text says as a script
-  abbrev pub said : List ℕ → Result (Said A) ℕ
-  said text = said_from nothing 1 (slice_split (λ b. b == 10) text)
+  -- what a text says as a script that is run so
+  abbrev pub said : Schedule → List ℕ → Result (Said A) ℕ
+  said schedule text = said_from schedule nothing 1 (slice_split (λ b. b == 10) text)
 
 -- What a call returned, seen by view, is what is said, or the number of the first faulty line, counted from 1; or memory ran out, which is told of line 0.
 abbrev pub Says : {X Y : Type 0} → (X → Y) → Result X ScriptFault → Result Y ℕ → Type 0

@@ -6,6 +6,7 @@ ghost use Rattle.script.specs.Commands as spec;
 ghost use Rattle.script.specs.Commands.{Gives};
 
 use crate::error::LineError;
+use crate::schedule::Schedule;
 use crate::words::{begins_command, cut, number};
 use dumpplan::{Jobs, PieceRows};
 use std::alloc::{Allocator, Global};
@@ -38,15 +39,27 @@ pub enum Command<A: Allocator = Global> {
     Rollback,
     /// That versions which nobody sees are dropped.
     Prune,
+    /// That the session goes on once its snapshot is safe.
+    Wait,
     /// A dump of the safe snapshot.
     Dump(DumpRequest<A>),
     /// The text of a statement.
     Sql(Text<A>),
 }
 
+// To wait, where other sessions go on meanwhile.
+fn wait_of<A: Allocator>(schedule: Schedule) -> Option<Command<A>>
+    ensures { result ≡ spec.wait_of schedule }
+{
+    match schedule {
+        Schedule::InOrder => None,
+        Schedule::Free => Some(Command::Wait),
+    }
+}
+
 // A command that takes nothing.
-fn of_words<A: Allocator>(text: &[u8]) -> Option<Command<A>>
-    ensures { result ≡ spec.of_words text.now }
+fn of_words<A: Allocator>(schedule: Schedule, text: &[u8]) -> Option<Command<A>>
+    ensures { result ≡ spec.of_words schedule text.now }
 {
     if text == b"BEGIN".as_slice() {
         Some(Command::Begin(Mode::ReadWrite))
@@ -64,6 +77,8 @@ fn of_words<A: Allocator>(text: &[u8]) -> Option<Command<A>>
         Some(Command::Rollback)
     } else if text == b"PRUNE".as_slice() {
         Some(Command::Prune)
+    } else if text == b"WAIT".as_slice() {
+        wait_of(schedule)
     } else {
         None
     }
@@ -171,11 +186,10 @@ fn argued<A: Allocator>(alloc: A, text: &[u8]) -> Result<Command<A>, LineError>
 }
 
 // A command that begins with one of the words.
-
-fn worded<A: Allocator>(alloc: A, text: &[u8]) -> Result<Command<A>, LineError>
-    ensures { Gives (λ c. c) result (spec.worded text.now) }
+fn worded<A: Allocator>(alloc: A, schedule: Schedule, text: &[u8]) -> Result<Command<A>, LineError>
+    ensures { Gives (λ c. c) result (spec.worded schedule text.now) }
 {
-    match of_words(text) {
+    match of_words(schedule, text) {
         Some(command) => Ok(command),
         None => argued(alloc, text),
     }
@@ -192,11 +206,15 @@ fn sql_of<A: Allocator>(alloc: A, text: &[u8]) -> Result<Command<A>, LineError>
 
 /// The command of a session's line, without its `;`.
 #[tactic(auto, unfolding(crate::specs::Commands::command_of))]
-pub fn command_of<A: Allocator>(alloc: A, text: &[u8]) -> Result<Command<A>, LineError>
-    ensures { Gives (λ c. c) result (spec.command_of text.now) }
+pub fn command_of<A: Allocator>(
+    alloc: A,
+    schedule: Schedule,
+    text: &[u8],
+) -> Result<Command<A>, LineError>
+    ensures { Gives (λ c. c) result (spec.command_of schedule text.now) }
 {
     if begins_command(text) {
-        worded(alloc, text)
+        worded(alloc, schedule, text)
     } else {
         sql_of(alloc, text)
     }

@@ -7,6 +7,7 @@ pub mod fault;
 pub mod printing;
 #[cfg(test)]
 mod printing_tests;
+pub mod schedule;
 pub mod script;
 #[cfg(test)]
 mod script_tests;

@@ -13,6 +13,7 @@ ghost use Rattle.script.specs.Scripts.{Says};
 use crate::command::{Command, command_of, path_of, text_of};
 use crate::error::LineError;
 use crate::fault::ScriptFault;
+use crate::schedule::Schedule;
 use crate::words::{before_last, cut, session_of};
 use history::session_id::SessionId;
 use schema::catalog::Catalog;
@@ -82,8 +83,12 @@ fn table_of<A: Allocator + Copy>(alloc: A, line: &[u8]) -> Result<TableDef<A>, L
 
 // A session's number, a space, a command, and `;`.
 #[tactic(auto, unfolding(crate::specs::Scripts::session_step))]
-fn session_step<A: Allocator>(alloc: A, line: &[u8]) -> Result<Step<A>, LineError>
-    ensures { Gives (λ s. s) result (spec.session_step line.now) }
+fn session_step<A: Allocator>(
+    alloc: A,
+    schedule: Schedule,
+    line: &[u8],
+) -> Result<Step<A>, LineError>
+    ensures { Gives (λ s. s) result (spec.session_step schedule line.now) }
 {
     let Some((number, rest)) = cut(b' ', line) else {
         return Err(LineError::Faulty);
@@ -94,7 +99,7 @@ fn session_step<A: Allocator>(alloc: A, line: &[u8]) -> Result<Step<A>, LineErro
     let Some(text) = before_last(b';', rest) else {
         return Err(LineError::Faulty);
     };
-    let command = command_of(alloc, text)?;
+    let command = command_of(alloc, schedule, text)?;
     Ok(Step::Session(session, command))
 }
 
@@ -206,12 +211,29 @@ impl<A: Allocator> Script<A> {
     }
 
     // A session's line.
-    fn session(&mut self, alloc: A, number: u64, line: &[u8]) -> Result<(), LineError>
-        ensures ok { OnOk result (spec.with_session self.old number line.now ≡ Some self.new) }
-        ensures err { IfErr result (λ e. Lacks e (spec.with_session self.old number line.now)) }
+    fn session(
+        &mut self,
+        alloc: A,
+        schedule: Schedule,
+        number: u64,
+        line: &[u8],
+    ) -> Result<(), LineError>
+        ensures ok { OnOk result (spec.with_session schedule self.old number line.now ≡ Some self.new) }
+        ensures err { IfErr result (λ e. Lacks e (spec.with_session schedule self.old number line.now)) }
     {
-        let step = session_step(alloc, line)?;
+        let step = session_step(alloc, schedule, line)?;
         self.push(number, step)
+    }
+
+    // A line that makes a checkpoint.
+    fn checkpoint(&mut self, schedule: Schedule, number: u64) -> Result<(), LineError>
+        ensures ok { OnOk result (spec.with_checkpoint schedule self.old number ≡ Some self.new) }
+        ensures err { IfErr result (λ e. Lacks e (spec.with_checkpoint schedule self.old number)) }
+    {
+        match schedule {
+            Schedule::InOrder => self.push(number, Step::Checkpoint),
+            Schedule::Free => Err(LineError::Faulty),
+        }
     }
 
     // A line that is passed over.
@@ -226,20 +248,26 @@ impl<A: Allocator> Script<A> {
     }
 
     // One more line, the n-th.
-    fn read_line(&mut self, alloc: A, number: u64, line: &[u8]) -> Result<(), LineError>
+    fn read_line(
+        &mut self,
+        alloc: A,
+        schedule: Schedule,
+        number: u64,
+        line: &[u8],
+    ) -> Result<(), LineError>
     where
         A: Copy,
-        ensures ok { OnOk result (spec.with_line self.old number line.now ≡ Some self.new) }
-        ensures err { IfErr result (λ e. Lacks e (spec.with_line self.old number line.now)) }
+        ensures ok { OnOk result (spec.with_line schedule self.old number line.now ≡ Some self.new) }
+        ensures err { IfErr result (λ e. Lacks e (spec.with_line schedule self.old number line.now)) }
     {
         if is_passed_over(line) {
             self.pass_over(line)
         } else if begins_with_digit(line) {
-            self.session(alloc, number, line)
+            self.session(alloc, schedule, number, line)
         } else if begins_with_open(line) {
             self.open(alloc, line)
         } else if line == b"CHECKPOINT;".as_slice() {
-            self.push(number, Step::Checkpoint)
+            self.checkpoint(schedule, number)
         } else {
             self.create(alloc, line)
         }
@@ -281,16 +309,21 @@ impl<A: Allocator> Script<A> {
     }
 }
 
-/// What a text says as a script, or its first line that may not stand where it stands. Behind the
-/// last line's newline stands nothing; a text that doesn't end in a newline is faulty in its last line.
-pub fn read_script<A: Allocator + Copy>(alloc: A, text: &[u8]) -> Result<Script<A>, ScriptFault>
-    ensures { Says (λ s. s) result (spec.said text.now) }
+/// What a text says as a script that is run so, or its first line that may not stand where it stands.
+/// Behind the last line's newline stands nothing; a text that doesn't end in a newline is faulty in
+/// its last line.
+pub fn read_script<A: Allocator + Copy>(
+    alloc: A,
+    schedule: Schedule,
+    text: &[u8],
+) -> Result<Script<A>, ScriptFault>
+    ensures { Says (λ s. s) result (spec.said schedule text.now) }
 {
     let mut script = Script::nothing(alloc);
     let mut rest = text;
     let mut number = 1;
     while let Some((line, more)) = cut(b'\n', rest) {
-        if let Err(error) = script.read_line(alloc, number, line) {
+        if let Err(error) = script.read_line(alloc, schedule, number, line) {
             return Err(fault_of(error, number));
         }
         rest = more;

@@ -1,4 +1,5 @@
 use crate::command::Command;
+use crate::schedule::Schedule;
 use crate::script::{Script, Step, read_script};
 use std::alloc::Global;
 use std::test::Fail;
@@ -8,10 +9,10 @@ use value::refusal::Mode;
 const BEGINNING: &str = "CREATE TABLE t (id bigint PRIMARY KEY, v bigint);\n-- a comment\n\n";
 
 // The number of the first faulty line, and 0 where there is none, of the beginning with more behind it.
-fn fault_behind(alloc: Global, more: &str) -> Result<u64, Fail> {
+fn fault_behind(alloc: Global, schedule: Schedule, more: &str) -> Result<u64, Fail> {
     let mut text = String::from_str(alloc, BEGINNING)?;
     text.push_str(more)?;
-    match read_script(alloc, text.as_bytes()) {
+    match read_script(alloc, schedule, text.as_bytes()) {
         Ok(_) => Ok(0),
         Err(fault) => Ok(fault.line),
     }
@@ -52,7 +53,23 @@ fn lines_and_their_faults(rt: HostRuntime) -> Result<(), Fail> {
         ("OPEN dump;\n", 4),
         ("1 BEGIN;\n--\r\n2 BEGIN;\n3 x\n", 7),
     ] {
-        assert_eq!(rt; fault_behind(rt.alloc(), more)?, want, "{more}");
+        let fault = fault_behind(rt.alloc(), Schedule::InOrder, more)?;
+        assert_eq!(rt; fault, want, "{more}");
+    }
+    Ok(())
+}
+
+// Sessions that run freely may wait, and make no checkpoint.
+#[test]
+fn lines_of_free_sessions(rt: HostRuntime) -> Result<(), Fail> {
+    for (more, want) in [
+        ("1 BEGIN READ ONLY DEFERRABLE;\n1 WAIT;\n", 0),
+        ("1 CHECKPOINT;\n", 0),
+        ("1 WAIT 1;\n", 4),
+        ("1 BEGIN;\nCHECKPOINT;\n1 x\n", 5),
+    ] {
+        let fault = fault_behind(rt.alloc(), Schedule::Free, more)?;
+        assert_eq!(rt; fault, want, "{more}");
     }
     Ok(())
 }
@@ -71,7 +88,7 @@ fn text_that_is_none(rt: HostRuntime) -> Result<(), Fail> {
         ),
         (b"-- no newline".as_slice(), 1),
     ] {
-        match read_script(rt.alloc(), text) {
+        match read_script(rt.alloc(), Schedule::InOrder, text) {
             Ok(_) => return Err(Fail::from("a faulty script was read")),
             Err(fault) => assert_eq!(rt; fault.line, want),
         }
@@ -106,7 +123,7 @@ fn word(command: &Command) -> &str {
 fn what_lines_ask_for(rt: HostRuntime) -> Result<(), Fail> {
     let text =
         b"OPEN some/path;\n1 BEGIN READ ONLY DEFERRABLE;\n12 IMPORT 7;\nCHECKPOINT;\n2 DUMP 8 1000 out;\n3 select 1;\n";
-    let Ok(script) = read_script(rt.alloc(), text.as_slice()) else {
+    let Ok(script) = read_script(rt.alloc(), Schedule::InOrder, text.as_slice()) else {
         return Err(Fail::from("the script is refused"));
     };
     assert!(rt;

@@ -3,4 +3,4 @@ use Rattle.program.proofs.ordering.order_text.Goals as goal
 pub returns : goal.returns
 returns g c =
     let checked = c.in_ok-append_check.ensures in
-    (checked.0, rw (c.in_ok-text.ensures, c.as_slice.ensures.value, c.in_ok-keys.ensures.ok) at checked.1)
+    rw (c.in_ok-text.ensures, c.as_slice.ensures.value, c.in_ok-keys.ensures.ok) at checked

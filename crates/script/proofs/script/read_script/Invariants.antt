@@ -6,7 +6,7 @@ use Rattle.script.proofs.script.read_script.Given as goal
 -- the lines left are said after those before them
 abbrev pub invariant-loop-line : goal.invariant-loop-line
 invariant-loop-line g l =
-    (said_from l.script l.number (slice_split (λ b. b == 10) l.rest) ≡ said_from nothing 1 (slice_split (λ b. b == 10) l.text))
+    (said_from l.schedule l.script l.number (slice_split (λ b. b == 10) l.rest) ≡ said_from l.schedule nothing 1 (slice_split (λ b. b == 10) l.text))
     × (l.number + length l.rest ≤ 1 + length l.text)
 
 abbrev pub decreases-loop-line : goal.decreases-loop-line
