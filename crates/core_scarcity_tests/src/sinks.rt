@@ -4,7 +4,7 @@ ghost use Rattle.std.specs.Prelude.{◌≡◌, ◌+◌, ◌++◌, length, map};
 use collector::{Device, DeviceError};
 use http_server::Log;
 use program::files::{Files, ReadError};
-use std::alloc::Allocator;
+use std::alloc::{AllocError, Allocator};
 
 /// What standard input has, and what any other path's file has.
 #[derive(Drop)]
@@ -59,7 +59,7 @@ impl<'f, A: Allocator> Files<A> for Texts<'f> {
         bytes_of(alloc, self.input)
     }
 
-    fn create(&self, _alloc: A, _path: &str) -> Result<Sink, ReadError> {
+    fn create(&self, _alloc: A, _path: &str) -> Result<Sink, AllocError> {
         Ok(Sink { taken: Log::new() })
     }
 }
