@@ -3,6 +3,8 @@
 
 mod create;
 mod cutting;
+#[cfg(test)]
+mod example;
 mod gate;
 mod jobs;
 pub mod lines;
