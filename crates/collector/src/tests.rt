@@ -92,7 +92,6 @@ fn offer_each<W: Device>(
     offers: &[(u64, Result<(), OfferFault>)],
 ) -> Result<(), Refusal>
     requires { collector.old.texts ≡ head_text [] ∷ end_text ∷ [] }
-    ensures { collector.new.texts ≡ collector.old.texts }
 {
     for (number, wanted) in offers {
         let text = text_of(alloc, *number)?;
