@@ -1,1 +1,2 @@
-pub mod DumpedLemmas
+pub mod CounterLemmas
+pub mod Crossing

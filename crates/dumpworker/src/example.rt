@@ -111,3 +111,40 @@ pub fn no_names(alloc: Global) -> Result<(Catalog, Tables), Fail> {
     let tables = Tables::new(alloc, &catalog)?;
     Ok((catalog, tables))
 }
+
+// Adds a table of a name, which has a key alone.
+fn add_keys(alloc: Global, catalog: &mut Catalog, name: &str) -> Result<TableNo, Refusal> {
+    let mut columns = Vec::new(alloc);
+    columns.push(column(alloc, "id", Kind::Bigint, false, "")?)?;
+    catalog.add(
+        alloc,
+        TableDef::new(alloc, Text::from_str(alloc, name)?, columns)?,
+    )
+}
+
+// Puts the keys from 1 to a last one into the first table.
+fn put_keys(rt: &impl Abort, alloc: Global, tables: &mut Tables, last: i64) -> Result<(), Fail> {
+    for id in 1..=last {
+        let key = Key::new(Value::Int(id)).ok_or("a null key")?;
+        assert!(rt; tables.has(TableNo::at(0)));
+        tables.put(alloc, TableNo::at(0), Row::new(key, Vec::new(alloc)))?;
+    }
+    Ok(())
+}
+
+/// A table of the keys from 1 to a last one, and an empty table behind it where one is asked for.
+pub fn keys(
+    rt: &impl Abort,
+    alloc: Global,
+    last: i64,
+    with_empty: bool,
+) -> Result<(Catalog, Tables), Fail> {
+    let mut catalog = Catalog::new(alloc);
+    add_keys(alloc, &mut catalog, "t")?;
+    if with_empty {
+        add_keys(alloc, &mut catalog, "u")?;
+    }
+    let mut tables = Tables::new(alloc, &catalog)?;
+    put_keys(rt, alloc, &mut tables, last)?;
+    Ok((catalog, tables))
+}

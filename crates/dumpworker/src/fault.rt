@@ -1,7 +1,6 @@
 ghost use Rattle.std.specs.Prelude.{◌≡◌};
-ghost use Rattle.dumpworker.specs.declared.fault.DumpFault.TheVariants.{Device, Memory};
+ghost use Rattle.dumpworker.specs.declared.fault.DumpFault.TheVariants.{Memory};
 
-use collector::DeviceError;
 use value::refusal::Refusal;
 
 /// Why no whole dump was written.
@@ -18,13 +17,5 @@ impl From<Refusal> for DumpFault {
 
     fn from(_refusal: Refusal) -> DumpFault {
         DumpFault::Memory
-    }
-}
-
-impl From<DeviceError> for DumpFault {
-    ghost from_gives = { λ _ e. e ≡ Device };
-
-    fn from(_error: DeviceError) -> DumpFault {
-        DumpFault::Device
     }
 }

@@ -1,115 +1,93 @@
-ghost use Rattle.std.specs.Prelude.{◌≡◌, ◌<◌, ◌++◌, length, true};
-ghost use Rattle.schema.specs.Rows.{HasTable};
-ghost use Rattle.dumpplan.specs.Lines.{data_lines, dump_text};
-ghost use Rattle.dumpplan.specs.Parts.{ended, head_text, table_of, end_text};
+//! A dump's way from the tables to the device.
+ghost use Rattle.std.specs.Prelude.{◌≡◌, length, Err};
+ghost use Rattle.std.specs.List.{AllByRecursion};
+ghost use Rattle.dumpplan.specs.Lines.{dump_text};
+ghost use Rattle.dumpplan.specs.Pieces.{joined, piece_texts, IsPieceOf};
 ghost use Rattle.dumpworker.specs.Dumped.{Dumped};
 
+use crate::counter::Counter;
 use crate::fault::DumpFault;
-use collector::{Device, write_all};
-use dumpplan::text::{end_text, head_text, table_text};
-use dumpplan::{Gate, Jobs, PieceRows};
-use schema::catalog::{Catalog, TableNo};
+use crate::shelf::{Job, Shelf};
+use crate::source::Source;
+use crate::workers::work_in_scope;
+use collector::{Collector, Device, Finish};
+use dumpplan::{Gate, Jobs, PieceRows, Plan, plan};
+use schema::catalog::Catalog;
 use schema::reader::SnapshotReader;
 use std::alloc::Allocator;
-use std::sync::Wait;
+use std::marker::Brand;
+use std::sync::{Mutex, Wait};
 use std::thread::Threads;
 
-// Writes what stands before the tables.
-fn write_head<A: Allocator + Copy, W: Device>(
-    alloc: A,
-    catalog: &Catalog<A>,
-    device: &mut W,
-) -> Result<(), DumpFault>
-    ensures { Dumped (head_text catalog.now) (W.taken device.old) (W.failures device.old) result (W.taken device.new) (W.failures device.new) }
-{
-    let text = head_text(alloc, catalog)?;
-    write_all(device, text.as_slice())?;
-    Ok(())
+// A device that is lent.
+struct Lent<'a, W: Device> {
+    device: &'a mut W,
 }
 
-// Writes a table.
-fn write_table<A: Allocator + Copy, R: SnapshotReader<A>, W: Device>(
+// Writes the pieces of a plan. How it ended goes into the answer, which is want of memory at first.
+fn write_pieces<'a, A, R, W, G, T, D>(
+    rt: &T,
     alloc: A,
-    reader: &R,
-    catalog: &Catalog<A>,
-    table: TableNo,
-    device: &mut W,
-) -> Result<(), DumpFault>
-    requires known { table < length catalog.now }
-    requires has { HasTable (R.tables reader.now) table }
-    ensures { Dumped (table_of catalog.now (R.tables reader.now) table) (W.taken device.old) (W.failures device.old) result (W.taken device.new) (W.failures device.new) }
+    reader: &'a R,
+    catalog: &'a Catalog<A>,
+    plan: &'a Plan<A>,
+    jobs: Jobs,
+    lent: Lent<'a, W>,
+    gate: &G,
+    answer: &mut Result<(), DumpFault>,
+) -> Lent<'a, W>
+where
+    A: Allocator + Copy + Send + Sync,
+    R: SnapshotReader<A> + Sync,
+    W: Device + Send,
+    G: Gate,
+    T: Threads + Wait + Sync,
+    D: Job + Send + Sync,
+    requires unknown { answer.old ≡ Err DumpFault.Memory }
+    requires counted { length (R.tables reader.now) ≡ length catalog.now }
+    requires known { AllByRecursion (IsPieceOf (length catalog.now)) plan.now }
+    requires texts { piece_texts catalog.now (R.tables reader.now) plan.now ≡ D.texts }
+    requires name { lent.device.ghost_name ≡ D.name }
+    requires before { (W.taken lent.device.now ≡ D.before) × (W.failures lent.device.now ≡ D.failures) }
+    ensures name { result.device.ghost_name ≡ lent.entry.device.ghost_name }
+    ensures dumped { Dumped (joined D.texts) D.before D.failures answer.new (W.taken result.device.now) (W.failures result.device.now) }
 {
-    let text = table_text(alloc, reader, table, catalog.table(table))?;
-    write_all(device, text.as_slice())?;
-    Ok(())
-}
-
-// Writes the tables in the order of their creation.
-fn write_tables<A: Allocator + Copy, R: SnapshotReader<A>, W: Device>(
-    alloc: A,
-    reader: &R,
-    catalog: &Catalog<A>,
-    device: &mut W,
-) -> Result<(), DumpFault>
-    requires { length (R.tables reader.now) ≡ length catalog.now }
-    ensures { Dumped (ended (data_lines true catalog.now (R.tables reader.now))) (W.taken device.old) (W.failures device.old) result (W.taken device.new) (W.failures device.new) }
-{
-    for place in 0..catalog.len() as u32 {
-        write_table(alloc, reader, catalog, TableNo::at(place), device)?;
+    let Lent { device } = lent;
+    let Ok((counter, drawer)) = Counter::new(alloc) else {
+        return Lent { device };
+    };
+    let collector = match Collector::new(alloc, reader, catalog, plan, device) {
+        Ok(collector) => collector,
+        Err(device) => return Lent { device },
+    };
+    let source = Source::new(reader, catalog, plan);
+    let shelf: Mutex<Shelf<'a, R, W, A, D>> = Mutex::new(Shelf::new(collector));
+    work_in_scope(rt, alloc, &source, &shelf, &counter, drawer, jobs, gate);
+    let collector = shelf.into_inner().into_collector();
+    *answer = match collector.finish() {
+        Finish::Done => Ok(()),
+        Finish::Missing(_) => Err(DumpFault::Memory),
+        Finish::Failed => Err(DumpFault::Device),
+    };
+    Lent {
+        device: collector.into_device(),
     }
-    Ok(())
 }
 
-// Writes what stands after the tables.
-fn write_end<W: Device>(device: &mut W) -> Result<(), DumpFault>
-    ensures { Dumped end_text (W.taken device.old) (W.failures device.old) result (W.taken device.new) (W.failures device.new) }
-{
-    write_all(device, end_text())?;
-    Ok(())
-}
-
-// Writes the head and the tables.
-fn write_front<A: Allocator + Copy, R: SnapshotReader<A>, W: Device>(
-    alloc: A,
-    reader: &R,
-    catalog: &Catalog<A>,
-    device: &mut W,
-) -> Result<(), DumpFault>
-    requires { length (R.tables reader.now) ≡ length catalog.now }
-    ensures { Dumped (head_text catalog.now ++ ended (data_lines true catalog.now (R.tables reader.now))) (W.taken device.old) (W.failures device.old) result (W.taken device.new) (W.failures device.new) }
-{
-    write_head(alloc, catalog, device)?;
-    write_tables(alloc, reader, catalog, device)
-}
-
-// Writes all of it, on the calling thread.
-fn write_out<A: Allocator + Copy, R: SnapshotReader<A>, W: Device>(
-    alloc: A,
-    reader: &R,
-    catalog: &Catalog<A>,
-    device: &mut W,
-) -> Result<(), DumpFault>
-    requires { length (R.tables reader.now) ≡ length catalog.now }
-    ensures { Dumped (dump_text catalog.now (R.tables reader.now)) (W.taken device.old) (W.failures device.old) result (W.taken device.new) (W.failures device.new) }
-{
-    write_front(alloc, reader, catalog, device)?;
-    write_end(device)
-}
-
-/// Writes the dump text of a reader's tables, which are the catalog's. The calling thread is one of the workers. After a
-/// fault the device has a beginning of the text.
+/// Writes the dump text of a reader's tables, which are the catalog's. The calling thread is one of the workers, and the
+/// others are started; one that the machine doesn't start is left out. After a fault the device has a beginning of the text.
 pub fn dump<A, R, W, G, T>(
-    _rt: &T,
+    rt: &T,
     alloc: A,
     reader: &R,
     catalog: &Catalog<A>,
-    _jobs: Jobs,
-    _piece_rows: PieceRows,
+    jobs: Jobs,
+    piece_rows: PieceRows,
     device: &mut W,
-    _gate: &G,
+    gate: &G,
 ) -> Result<(), DumpFault>
 where
-    A: Allocator + Copy,
+    A: Allocator + Copy + Send + Sync,
     R: SnapshotReader<A> + Sync,
     W: Device + Send,
     G: Gate,
@@ -117,5 +95,18 @@ where
     requires { length (R.tables reader.now) ≡ length catalog.now }
     ensures { Dumped (dump_text catalog.now (R.tables reader.now)) (W.taken device.old) (W.failures device.old) result (W.taken device.new) (W.failures device.new) }
 {
-    write_out(alloc, reader, catalog, device)
+    let plan = plan(alloc, reader, catalog, piece_rows)?;
+    let mut answer = Err(DumpFault::Memory);
+    let Lent { device: _ } = write_pieces::<A, R, W, G, T, Brand>(
+        rt,
+        alloc,
+        reader,
+        catalog,
+        &plan,
+        jobs,
+        Lent { device },
+        gate,
+        &mut answer,
+    );
+    answer
 }

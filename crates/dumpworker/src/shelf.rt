@@ -1,0 +1,85 @@
+//! Where the workers of a dump hand its pieces over.
+ghost use Rattle.std.specs.Prelude.{◌≡◌, ◌-◌, [], ℕ, List, IfOk, slice_index_or};
+
+use collector::{Collector, Device};
+use schema::reader::SnapshotReader;
+use std::alloc::Allocator;
+use std::marker::{Brand, PhantomData};
+use value::refusal::Refusal;
+
+/// Which dump it is: the texts of its pieces, its device, and how that stood.
+pub trait Job {
+    ghost use Rattle.std.specs.Prelude.{ℕ, List};
+
+    ghost texts: { List (List ℕ) };
+
+    ghost name: { ℕ };
+
+    ghost before: { List ℕ };
+
+    ghost failures: { ℕ };
+}
+
+impl Job for Brand {
+    ghost use Rattle.std.specs.Prelude.{[]};
+
+    ghost texts = { [] };
+
+    ghost name = { 0 };
+
+    ghost before = { [] };
+
+    ghost failures = { 0 };
+}
+
+// The collector of a dump, which lies under a lock.
+pub(crate) struct Shelf<'a, R: SnapshotReader<A>, W: Device, A: Allocator, D: Job> {
+    collector: Collector<'a, R, W, A>,
+    // Whether a piece could not be made or written, so that the rest isn't made.
+    is_stopped: bool,
+    of: PhantomData<D>,
+    ghost texts_are: { collector.texts ≡ D.texts },
+    ghost name_is: { collector.name ≡ D.name },
+    ghost before_is: { collector.before ≡ D.before },
+    ghost failures_are: { collector.failures_before ≡ D.failures },
+}
+
+impl<'a, R: SnapshotReader<A>, W: Device, A: Allocator, D: Job> Shelf<'a, R, W, A, D> {
+    pub(crate) fn new(collector: Collector<'a, R, W, A>) -> Shelf<'a, R, W, A, D>
+        requires texts { collector.texts ≡ D.texts }
+        requires name { collector.name ≡ D.name }
+        requires before { (collector.before ≡ D.before) × (collector.failures_before ≡ D.failures) }
+    {
+        Shelf {
+            collector,
+            is_stopped: false,
+            of: PhantomData,
+        }
+    }
+
+    // Takes a piece that a worker has made, and answers whether the worker makes another one.
+    pub(crate) fn take(&mut self, number: u64, made: Result<Vec<u8, A>, Refusal>) -> bool
+        requires { IfOk made (λ text. text.items ≡ slice_index_or D.texts (number - 1) []) }
+    {
+        let is_taken = match made {
+            Ok(text) => self.collector.offer(number, text).is_ok(),
+            Err(_) => false,
+        };
+        self.is_stopped = self.is_stopped || !is_taken;
+        !self.is_stopped
+    }
+
+    // The collector, when the workers have ended.
+    pub(crate) fn into_collector(self) -> Collector<'a, R, W, A>
+        ensures texts { result.texts ≡ D.texts }
+        ensures name { result.name ≡ D.name }
+        ensures before { (result.before ≡ D.before) × (result.failures_before ≡ D.failures) }
+    {
+        let Shelf {
+            collector,
+            is_stopped: _,
+            of: _,
+        } = self;
+        collector
+    }
+}

@@ -1,0 +1,104 @@
+//! The workers of a dump: each draws a piece, makes its text, and hands it over.
+ghost use Rattle.std.specs.Prelude.{◌≡◌, ◌^◌, ◌<◌, ◌≤◌};
+ghost use Rattle.dumpworker.specs.Drawn.{first_hand};
+ghost use denote.Param.Send.{IsSend, IsSync, Frees};
+
+use crate::counter::{Counter, Drawer};
+use crate::shelf::{Job, Shelf};
+use crate::source::Source;
+use collector::Device;
+use dumpplan::{Gate, Jobs};
+use schema::reader::SnapshotReader;
+use std::alloc::Allocator;
+use std::sync::{Mutex, Wait};
+use std::thread;
+use std::thread::Threads;
+
+// More than any plan has pieces.
+const DRAWS: u64 = 1 << 57;
+
+// Draws pieces until there are none, or one could not be made or written.
+fn work<A, R, W, G, T, D>(
+    rt: &T,
+    alloc: A,
+    source: &Source<'_, R, A>,
+    shelf: &Mutex<Shelf<'_, R, W, A, D>>,
+    counter: &Counter<A>,
+    mut drawer: Drawer,
+    gate: &G,
+)
+where
+    A: Allocator + Copy,
+    R: SnapshotReader<A>,
+    W: Device,
+    G: Gate,
+    T: Wait,
+    D: Job,
+    requires texts { source.now ≡ D.texts }
+    requires table { drawer.seat.table_id ≡ counter.now.table.shared.table_id }
+    requires draws { 2 ^ 57 ≤ drawer.seat.me.0.left }
+{
+    for _ in 0..DRAWS {
+        let index = counter.draw(&mut drawer);
+        if index >= source.count() {
+            return;
+        }
+        let number = index + 1;
+        gate.before(number);
+        let made = source.text(alloc, number);
+        let goes_on = shelf.lock(rt).take(number, made);
+        gate.after(number);
+        if !goes_on {
+            return;
+        }
+    }
+}
+
+// Lets as many workers work as there are jobs. The calling thread is one; one that isn't started is left out.
+pub(crate) fn work_in_scope<A, R, W, G, T, D>(
+    rt: &T,
+    alloc: A,
+    source: &Source<'_, R, A>,
+    shelf: &Mutex<Shelf<'_, R, W, A, D>>,
+    counter: &Counter<A>,
+    mut drawer: Drawer,
+    jobs: Jobs,
+    gate: &G,
+)
+where
+    A: Allocator + Copy + Send + Sync,
+    R: SnapshotReader<A> + Sync,
+    W: Device + Send,
+    G: Gate,
+    T: Threads + Wait + Sync,
+    D: Job + Send + Sync,
+    requires texts { source.now ≡ D.texts }
+    requires table { drawer.seat.table_id ≡ counter.now.table.shared.table_id }
+    requires draws { drawer.seat.me.0 ≡ first_hand }
+{
+    let jobs = jobs.get();
+    thread::scope(
+        thread::scope_env(),
+        rt,
+        move |scope|
+            requires texts { source.now ≡ D.texts }
+            requires table { drawer.seat.table_id ≡ counter.now.table.shared.table_id }
+            requires draws { drawer.seat.me.0 ≡ first_hand }
+            requires jobs { (1 ≤ jobs) × (jobs ≤ 64) }
+            requires bounds { IsSend A.row × IsSync A.row × Frees A.Allocator A.dealloc_token × IsSync R.row × IsSend W.row × IsSync G.row × IsSync T.row × IsSend D.row × IsSync D.row }
+        {
+            for _ in 1..jobs {
+                let other = counter.another(&mut drawer);
+                let _ = scope.spawn(
+                    move ||
+                        requires texts { source.now ≡ D.texts }
+                        requires table { other.seat.table_id ≡ counter.now.table.shared.table_id }
+                        requires draws { other.seat.me.0.left ≡ 2 ^ 57 }
+                        requires bounds { IsSend A.row × IsSync A.row × Frees A.Allocator A.dealloc_token × IsSync R.row × IsSend W.row × IsSync G.row × IsSync T.row × IsSend D.row × IsSync D.row }
+                    { work(rt, alloc, source, shelf, counter, other, gate) },
+                );
+            }
+            work(rt, alloc, source, shelf, counter, drawer, gate);
+        },
+    );
+}
