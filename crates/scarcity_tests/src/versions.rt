@@ -2,16 +2,13 @@
 ghost use Rattle.std.specs.Prelude.{IfOk};
 ghost use Rattle.mvrows.specs.Versions.{TablesAreBelow};
 
-use crate::driver::{Call, Memory, assert_takes, is_out_of_memory, refuse_each};
+use crate::driver::{Memory, is_out_of_memory};
 use crate::fixture::{catalog, not_asked, row, some_tables};
 use mvrows::rows::Rows;
-use mvrows::view::View;
 use scarce::Scarce;
 use schema::catalog::Catalog;
 use schema::changes::{Change, Changes};
 use std::alloc::Allocator;
-use std::fmt;
-use std::fmt::{Debug, Formatter, Write};
 use std::process::Abort;
 use value::refusal::Refusal;
 
@@ -43,69 +40,6 @@ fn opening<A: Allocator + Copy>(alloc: A) -> Result<Rows<A>, Refusal>
         Ok(rows) => Ok(rows),
         Err(refusal) => Err(refusal),
     }
-}
-
-// Rows with a commit over the opening, and a view of what was there before it.
-#[derive(Drop)]
-#[derive_where(Debug)]
-struct Versions<A: Allocator> {
-    rows: Rows<A>,
-    view: View<A>,
-}
-
-fn one_commit<A: Allocator + Copy>(alloc: A) -> Result<Versions<A>, Refusal> {
-    let changes = changes(alloc)?;
-    let mut rows = opening(alloc)?;
-    rows.install(alloc, 1, changes.as_slice())?;
-    let view = rows.view(alloc, 0)?;
-    Ok(Versions { rows, view })
-}
-
-// A view of what a commit left.
-#[derive(Drop)]
-struct Show<A>(A);
-
-impl<A: Allocator + Copy> Call for Show<A> {
-    type Lent = Versions<A>;
-
-    type Answer = View<A>;
-
-    fn lend(&self) -> Result<Versions<A>, Refusal> {
-        one_commit(self.0)
-    }
-
-    fn call(&self, lent: &mut Versions<A>) -> Result<View<A>, Refusal> {
-        lent.rows.view(self.0, 1)
-    }
-}
-
-// The opening of the tables, as a view.
-#[derive(Drop)]
-struct Open<A>(A);
-
-impl<A: Allocator + Copy> Call for Open<A> {
-    type Lent = ();
-
-    type Answer = View<A>;
-
-    fn lend(&self) -> Result<(), Refusal> {
-        Ok(())
-    }
-
-    fn call(&self, _lent: &mut ()) -> Result<View<A>, Refusal> {
-        opening(self.0)?.view(self.0, 0)
-    }
-}
-
-#[test]
-fn openings_and_views(rt: HostRuntime) -> Result<(), Refusal> {
-    let memory = Scarce::new(rt.alloc());
-    // The pages that a view shares.
-    assert_takes(&rt, &memory, &Show(&memory), 1)?;
-    // A page that can't be shared is copied for the view.
-    let found = refuse_each(&rt, &memory, &Open(&memory))?;
-    assert!(rt; found.needed > 12 && found.spared <= 3, "{found:?}");
-    Ok(())
 }
 
 // All versions, as a text of ample memory. Whether views share them isn't shown.
@@ -165,50 +99,5 @@ fn commits(rt: HostRuntime) -> Result<(), Refusal> {
     let memory = Scarce::new(rt.alloc());
     // Two pages, each with its rows, are copied. Behind that only sharing them takes memory.
     assert!(rt; refuse_commits(&rt, &memory, &memory)? > 8);
-    Ok(())
-}
-
-// Rows with a commit over the opening, which show all their versions.
-#[derive(Drop)]
-struct Pruned<A: Allocator + Copy> {
-    alloc: A,
-    versions: Versions<A>,
-}
-
-impl<A: Allocator + Copy> Debug for Pruned<A> {
-    fn fmt<W: Write>(&self, f: &mut Formatter<W>) -> fmt::Result {
-        match self.versions.rows.view(self.alloc, 0) {
-            Ok(view) => write!(f, "{view:?} {:?}", self.versions.view),
-            Err(_) => Err(fmt::Error),
-        }
-    }
-}
-
-// A pruning, while a view shares the pages.
-#[derive(Drop)]
-struct Prune<A>(A);
-
-impl<A: Allocator + Copy> Call for Prune<A> {
-    type Lent = Pruned<A>;
-
-    type Answer = ();
-
-    fn lend(&self) -> Result<Pruned<A>, Refusal> {
-        let alloc = self.0;
-        let versions = one_commit(alloc)?;
-        Ok(Pruned { alloc, versions })
-    }
-
-    fn call(&self, lent: &mut Pruned<A>) -> Result<(), Refusal> {
-        lent.versions.rows.prune(self.0, 1)
-    }
-}
-
-#[test]
-fn prunings(rt: HostRuntime) -> Result<(), Refusal> {
-    let memory = Scarce::new(rt.alloc());
-    let found = refuse_each(&rt, &memory, &Prune(&memory))?;
-    // Two pages, each with its rows, are copied; where they can't be shared again, the next view copies them.
-    assert!(rt; found.needed > 8 && found.spared <= 3, "{found:?}");
     Ok(())
 }
