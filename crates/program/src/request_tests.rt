@@ -6,13 +6,7 @@ fn told(rt: &HostRuntime, words: &[&str]) -> &'static str {
     match read_words(rt.alloc(), words) {
         Ok(Request::Run { .. }) => "run",
         Ok(Request::Audit { .. }) => "audit",
-        Ok(Request::Restore { jobs, .. }) => {
-            if jobs.get() == 1 {
-                "restore"
-            } else {
-                "restore by many"
-            }
-        }
+        Ok(Request::Restore { .. }) => "restore",
         Err(error) if error.use_stderr() => "mistake",
         Err(_) => "help",
     }
@@ -26,7 +20,7 @@ fn words(rt: HostRuntime) -> Result<(), Fail> {
     assert_eq!(rt; told(&rt, &["restore", "d", "--out", "o"]), "restore");
     assert_eq!(rt;
         told(&rt, &["restore", "d", "--out", "o", "--jobs", "64"]),
-        "restore by many"
+        "restore"
     );
     assert_eq!(rt; told(&rt, &["restore", "d"]), "mistake");
     assert_eq!(rt;
