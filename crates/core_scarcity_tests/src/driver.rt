@@ -203,6 +203,8 @@ fn is_out_of_memory(answer: &Result<String, Refusal>) -> bool {
 enum Found {
     /// The call made fewer, and did the same as ever.
     Done,
+    /// The call made as many, and did the same as ever: it can do without.
+    Spared,
     /// The call answered want of memory, and the core answers what comes later as if it had not been made.
     Refused,
     /// None of these.
@@ -230,8 +232,14 @@ fn refuse<A: Allocator + Copy>(
     }
     let answer = answer?;
     let text = later(memory.inner, alloc, core, answer)?;
-    let is_done = !is_reached && text.as_str() == wanted.done.as_str();
-    Ok(if is_done { Found::Done } else { Found::Wrong })
+    if text.as_str() != wanted.done.as_str() {
+        return Ok(Found::Wrong);
+    }
+    Ok(if is_reached {
+        Found::Spared
+    } else {
+        Found::Done
+    })
 }
 
 // Refuses one request of a call and repeats it: whether it then does the same as ever.
@@ -267,7 +275,8 @@ pub fn refuse_each<A: Allocator + Copy>(
         if found == Found::Done {
             return Ok(number.wrapping_sub(1));
         }
-        let is_repeated = repeats(memory, alloc, before, call, (number, &wanted))?;
+        let is_repeated = found == Found::Spared
+            || repeats(memory, alloc, before, call, (number, &wanted))?;
         assert!(rt; is_repeated, "after request {number}");
     }
     Err(not_asked())

@@ -168,10 +168,11 @@ fn all_without<R: Threads + Wait + Sync>(
     Ok(texts)
 }
 
-// How a script may end of which a request was refused: it goes on behind the line that made it, or it has printed a
-// beginning and ends.
+// How a script may end of which a request was refused: it did without, or goes on behind the line that made it, or it
+// has printed a beginning and ends.
 fn is_right(ended: &Ended, wanted: &Ended, texts: &[String]) -> bool {
     match ended.status {
+        0 if ended.out == wanted.out => ended.err.is_empty(),
         0 => ended.err.is_empty() && texts.iter().any(|text| *text == ended.out),
         1 => {
             let err = ended.err.as_str();
