@@ -37,10 +37,10 @@ use Rattle.session.specs.Core.{HoldsKeys, IsKept, is_commit, recorded}
 use Rattle.session.proofs.CommitAlone.{none_committed}
 use Rattle.session.proofs.CommitOrder.{keys_push}
 use Rattle.session.proofs.KeptKeys.{at-kept}
-use Rattle.session.proofs.Legal.{current_in}
-use Rattle.session.proofs.Histories.{Legal-push, Legal-start, run-catalog}
-use Rattle.session.proofs.SerialTheorem.{good_world}
-use Rattle.session.proofs.AlwaysSound.{always_sound, own_sound}
+use Rattle.serial.proofs.Legal.{current_in}
+use Rattle.serial.proofs.Histories.{Legal-push, Legal-start, run-catalog}
+use Rattle.serial.proofs.SerialTheorem.{good_world}
+use Rattle.serial.proofs.AlwaysSound.{always_sound, own_sound}
 use Rattle.session.proofs.Kept.{kept_world, length_map, same_commits, same_current, same_tables, same_ready, same_reply, same_follows, has_own}
 
 pub opened_is : {T : Type 0} (b : Bool) (e : Refusal) (x y : T) → AnswersOrNoMemory (Ok x) (cond b (Err e) (Ok y)) → x ≡ y

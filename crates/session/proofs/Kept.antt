@@ -18,8 +18,8 @@ use Rattle.history.specs.Transactions.{Standing, Open, Doomed, Failed, Aborted, 
 use Rattle.history.specs.Events.{begun, ended, numbered, polled, with_snapshot, import, moved, turned_from, turned, causes, doomed_by, doomed_with, replaced, txns_after, log_after, exports_after, without_transaction, followed, follows}
 use Rattle.history.specs.Answer.{reply_in, reply_of, reply_from, open_reply, run_reply, commit_reply, meets_another, is_taken, is_refused, refuses, refuses_row}
 use Rattle.plain.specs.Ledger.{kept, written, ledger, world_on, with_own, ready, ready_for, logged, turned_all, kept_after}
-use Rattle.session.proofs.Legal.{current_in}
-use Rattle.session.proofs.SerialTheorem.{IsGood}
+use Rattle.serial.proofs.Legal.{current_in}
+use Rattle.serial.proofs.SerialTheorem.{IsGood}
 
 -- ---- lists whose members are seen through a function
 

@@ -2,7 +2,7 @@ use Rattle.std.proofs.Common.{◌∙◌, ℕ, sym, ap, map}
 use Rattle.value.specs.Isolation.{sorted}
 use Rattle.history.specs.Events.{world}
 use Rattle.history.specs.Serial.{committed, key}
-use Rattle.session.proofs.SerialTheorem.{legal_serial}
+use Rattle.serial.proofs.SerialTheorem.{legal_serial}
 use Rattle.plain.specs.Keys.{keyed}
 use Rattle.audit.proofs.StepLemmas.{if-ok}
 use Rattle.audit.proofs.SortingLemmas.{sorted-map}
