@@ -1,4 +1,5 @@
-// The serial order of a core's history.
+//! The serial order of a core's history.
+
 ghost use Rattle.std.specs.Prelude.{◌≡◌, ◌≤◌, true, None, Some, length, map, take, find, slice_get, IfOk, IfErr, OnOk};
 ghost use Rattle.std.specs.Ordering.{is_lt};
 ghost use Rattle.value.specs.Isolation as spec;

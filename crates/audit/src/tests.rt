@@ -1,3 +1,5 @@
+//! Tests of the serial order and its check.
+
 ghost use Rattle.std.specs.Prelude.{IfOk};
 ghost use Rattle.history.specs.Answer.{Allowed};
 

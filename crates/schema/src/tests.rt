@@ -1,3 +1,5 @@
+//! Tests of names, catalogs, tables, changes and readers.
+
 ghost use Rattle.schema.specs.Rows.{HasTable};
 
 use crate::catalog::{Catalog, TableNo};

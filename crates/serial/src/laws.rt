@@ -1,4 +1,5 @@
-// What holds of every history in which each reply is the answer.
+//! What holds of every history in which each reply is the answer.
+
 ghost use Rattle.std.specs.Prelude.{◌≡◌, ◌≤◌, ◌==◌, [], ◌∷◌, ◌++◌, ℕ, ◌+◌, Bool, true, false, length, IsTrue, List, Ok, Some, if◌then◌else◌};
 ghost use Rattle.schema.specs.Plain.{is_sound};
 ghost use Rattle.schema.specs.declared.tables.Tables.{Tables as AnyTables};

@@ -1,3 +1,5 @@
+//! Tests of overlays, row by row and key by key.
+
 ghost use Rattle.schema.specs.Rows.{HasTable};
 
 use crate::overlay::Overlay;

@@ -1,3 +1,5 @@
+//! Tests of refusals with their places, of reserved words and lengths, and of each kind of statement.
+
 use crate::create::parse_create;
 use crate::laws;
 use crate::parse::parse_statement;

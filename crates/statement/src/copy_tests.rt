@@ -1,3 +1,5 @@
+//! Tests of copies of statements and replies.
+
 use crate::condition::{Comparison, Condition, Conditions};
 use crate::reply::{Reply, RowList};
 use crate::statement::{Assignment, Assignments, ColumnList, Projection, Source, Statement};

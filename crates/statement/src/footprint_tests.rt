@@ -1,3 +1,5 @@
+//! Tests of footprints.
+
 use crate::condition::{Comparison, Condition, Conditions};
 use crate::footprint::footprint;
 use crate::statement::{Projection, Statement};

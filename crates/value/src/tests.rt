@@ -1,3 +1,5 @@
+//! Tests of literals, orders, codes and printed texts.
+
 use crate::bytes::Bytes;
 use crate::decimal::push_decimal;
 use crate::hexadecimal::push_hexadecimal;
