@@ -6,7 +6,7 @@ use Rattle.serial.proofs.SerialTheorem.{legal_serial}
 use Rattle.plain.specs.Keys.{keyed}
 use Rattle.audit.proofs.StepLemmas.{if-ok}
 use Rattle.audit.proofs.SortingLemmas.{sorted-map}
-use Rattle.audit.proofs.serial.serial_keys.Goals as goal
+use Rattle.audit.proofs.keys.serial_keys.Goals as goal
 
 pub returns-in_err-entries-clause-serial : goal.returns-in_err-entries-clause-serial
 returns-in_err-entries-clause-serial g c = legal_serial c.args.core.now.opening c.args.core.now.records c.is_legal.ensures
