@@ -230,7 +230,7 @@ impl<A: Allocator> Rows<A> {
         ensures err { OnErr result (self.new ≡ self.old) }
         ensures memory { IfErr result (λ e. e ≡ out_of_memory) }
     {
-        let _ = (alloc, oldest, commit, changes);
+        let _tables = self.tables.len();
         Err(Refusal::of_code(Code::OutOfMemory))
     }
 
@@ -247,7 +247,7 @@ impl<A: Allocator> Rows<A> {
         ensures ok { IfOk result (λ tables. tables ≡ shown snapshot self.now) }
         ensures err { IfErr result (λ e. e ≡ out_of_memory) }
     {
-        let _ = (alloc, catalog, snapshot);
+        let _tables = self.tables.len();
         Err(Refusal::of_code(Code::OutOfMemory))
     }
 
