@@ -267,7 +267,7 @@ module _ {A : Type 0} where
 
   -- ---- what a snapshot shows of pages
 
-  shown_rows-append : (n : ℕ) (xs ys : VersionedRows A) → shown_rows n (xs ++ ys) ≡ shown_rows n xs ++ shown_rows n ys
+  pub shown_rows-append : (n : ℕ) (xs ys : VersionedRows A) → shown_rows n (xs ++ ys) ≡ shown_rows n xs ++ shown_rows n ys
   shown_rows-append n [] ys = refl
   shown_rows-append n (x ∷ xs) ys = go (shown_fields n x.versions) (shown_rows-append n xs ys)
     where
