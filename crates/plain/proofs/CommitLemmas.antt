@@ -1,5 +1,5 @@
 -- What a commit, an export and a statement leave in the ledger.
-use Rattle.std.proofs.Common.{◌≡◌, refl, sym, ap, ◌∙◌, ℕ, suc, ◌+◌, ◌^◌, ◌<◌, Bool, true, false, true≢false, cond, List, [], ◌∷◌, ◌++◌, length, map, Option, Some, None, Result, Ok, Err, eqb, arith, length-append}
+use Rattle.std.proofs.Common.{◌≡◌, refl, sym, ap, ◌∙◌, ℕ, suc, ◌+◌, ◌^◌, ◌<◌, Bool, true, false, true≢false, subst, cond, List, [], ◌∷◌, ◌++◌, length, map, slice_get, Option, Some, None, Result, Ok, Err, eqb, arith, length-append}
 use Rattle.std.specs.List.{find}
 use Rattle.std.specs.Prelude.{OnOk, OnErr, IfOk, IsOk, is_ok}
 use Rattle.std.proofs.lemmas.List.{get_or_default}
@@ -20,9 +20,11 @@ use Rattle.history.specs.Events.{doomed_by, doomed_with, ended, fails, goes_on, 
 use Rattle.history.specs.Answer.{cause_of, is_refused}
 use Rattle.plain.specs.declared.course.Course.{Course}
 use Rattle.plain.specs.Courses.{on_course}
+use Rattle.history.specs.Needed.{HoldCommitter}
 use Rattle.plain.specs.Runs.{adds}
+use Rattle.plain.specs.Structures.{StructuresHold}
 use Rattle.plain.specs.Ledger.{Ledger, IsCounted, AreNumbered, committed_by, kept, nothing, with_own, world_on, after_owned, turned_at, txn_at}
-use Rattle.plain.proofs.LedgerLemmas.{turned_at-replaced, numbered-turned_at, length-turned_at, counted-as, counted-turned}
+use Rattle.plain.proofs.LedgerLemmas.{turned_at-replaced, numbered-turned_at, length-turned_at, counted-as, counted-turned, got-turned}
 
 pub open_is : (st : Standing) → is_open st ≡ true → st ≡ Open
 open_is Open e = refl
@@ -46,6 +48,14 @@ is_ok_so (Err v) h = h
 pub if_ok_map : {T E : Type 0} (P Q : T → Type 0) (r : Result T E) → ((x : T) → P x → Q x) → IfOk r P → IfOk r Q
 if_ok_map P Q (Ok v) f h = f v h
 if_ok_map P Q (Err v) f h = h
+
+-- what stands in it, if something does
+abbrev inside_or : {X : Type 0} → X → Option X → X
+inside_or d None = d
+inside_or d (Some x) = x
+
+some_is : {X : Type 0} (x y : X) → Some x ≡ Some y → x ≡ y
+some_is x y e = ap (inside_or x) e
 
 module _ {A : Type 0} where
   pub turned-open : (w : World A) (a : Action A) (r : Reply A) (t : Txn A) → is_open t.standing ≡ true → turned w a r t ≡ moved w a r t
@@ -75,6 +85,19 @@ module _ {A : Type 0} where
   pub cause_of-is : (l : Ledger A) (c : Catalog) (X : Tables A) (n : ℕ) (course : Course) → IsCounted l → n < length l.txns
       → on_course course (txn_at l.txns n) ≡ numbered (world_on c X l) (txn_at l.txns n) → first_cause node edge (turned_at n (on_course course) l.txns) ≡ cause_of (world_on c X l) (txn_at l.txns n)
   cause_of-is l c X n course counted h g = ap (first_cause node edge) (committing l c X n course counted h g)
+
+  -- each structure that the commit makes holds the transaction
+  pub holds-committing : (l : Ledger A) (c : Catalog) (X : Tables A) (n : ℕ) (course : Course) → IsCounted l → n < length l.txns
+      → on_course course (txn_at l.txns n) ≡ numbered (world_on c X l) (txn_at l.txns n) → HoldCommitter (world_on c X l) (txn_at l.txns n)
+      → StructuresHold node edge (on_course course (txn_at l.txns n)) (turned_at n (on_course course) l.txns)
+  holds-committing l c X n course counted h g holds =
+      subst (λ (y : Txn A). StructuresHold node edge y (turned_at n (on_course course) l.txns)) (sym g)
+      (subst (λ (ts : List (Txn A)). StructuresHold node edge (numbered (world_on c X l) (txn_at l.txns n)) ts) (sym (committing l c X n course counted h g)) holds)
+
+  pub holds-turned : (f : Txn A → Txn A) (ts us : List (Txn A)) (n : ℕ) → n < length ts → us ≡ turned_at n f ts → StructuresHold node edge (f (txn_at ts n)) (turned_at n f ts)
+      → (x : Txn A) → slice_get us n ≡ Some x → StructuresHold node edge x us
+  holds-turned f ts us n h e holds x = subst (λ (vs : List (Txn A)). slice_get vs n ≡ Some x → StructuresHold node edge x vs) (sym e)
+      (λ p. subst (λ (y : Txn A). StructuresHold node edge y (turned_at n f ts)) (some_is (f (txn_at ts n)) x (sym (got-turned f ts n h) ∙ p)) holds)
 
   -- an event that turns the course of an open transaction
   pub after-turned : (l : Ledger A) (w : World A) (a : Action A) (r : Reply A) (n : ℕ) (course : Course) → IsCounted l → n < length l.txns → is_open (txn_at l.txns n).standing ≡ true

@@ -203,3 +203,9 @@ module _ {A : Type 0} where
 
   pub found_none : (us ts : List (Txn A)) (s : ℕ) → us ≡ ts → find (is_of s) us ≡ None → find (is_of s) ts ≡ None
   found_none us ts s same none = subst (λ xs. find (is_of s) xs ≡ None) same none
+
+  -- the transaction at a place, turned
+  pub got-turned : (f : Txn A → Txn A) (ts : List (Txn A)) (n : ℕ) → n < length ts → slice_get (turned_at n f ts) n ≡ Some (f (txn_at ts n))
+  got-turned f [] n h = absurd (omega arith)
+  got-turned f (t ∷ ts) zero h = refl
+  got-turned f (t ∷ ts) (suc n) h = got-turned f ts n (omega arith)
