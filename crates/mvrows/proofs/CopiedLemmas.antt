@@ -1,5 +1,5 @@
 -- The rows that a snapshot shows, put into plain tables one after another.
-use Rattle.std.proofs.Common.{suc, zero, ◌≡◌, refl, sym, ap, subst, ◌∙◌, ℕ, ◌+◌, ◌<◌, ◌≤◌, List, [], ◌∷◌, ◌++◌, take, drop, map, length, Option, Some, None, get_or, set, arith, append_assoc, add-one}
+use Rattle.std.proofs.Common.{suc, zero, ◌≡◌, refl, sym, ap, subst, ◌∙◌, ℕ, ◌+◌, ◌<◌, ◌≤◌, List, [], ◌∷◌, ◌++◌, take, drop, map, length, Some, None, get_or, set, arith, append_assoc}
 use Rattle.std.specs.List.{AllByRecursion, cons_option}
 use Rattle.std.specs.List.Sorted.{IsStrictlySortedBy}
 use Rattle.std.specs.Ordering.{ordering_reverse}

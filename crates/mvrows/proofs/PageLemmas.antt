@@ -17,12 +17,11 @@ use Rattle.schema.specs.declared.reader.Bound.{Bound}
 use Rattle.schema.specs.Plain.{same}
 use Rattle.schema.specs.Rows.{is_within, next_row}
 use Rattle.schema.proofs.RowsInOrder.{later_within}
-use Rattle.mvrows.specs.Versions.{Version, KeyVersions, VersionedRows, IsInOrder, shown_fields, shown_row, shown_rows, newest_version}
+use Rattle.mvrows.specs.Versions.{Version, KeyVersions, VersionedRows, IsInOrder, shown_fields, shown_row, shown_rows}
 use Rattle.mvrows.specs.Installing.{first_version, newer, put_version}
 use Rattle.mvrows.specs.Pruning.{pruned_key, has_version, pruned_rows}
 use Rattle.mvrows.specs.HeldRows.{is_before, has_keys}
 use Rattle.mvrows.proofs.VersionLemmas.{IsLeast, put_version-in_order}
-use Rattle.mvrows.proofs.PruningLemmas.{not_above}
 
 -- ---- where a test turns
 

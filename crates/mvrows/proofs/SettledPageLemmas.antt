@@ -1,5 +1,5 @@
 -- A key pruned in the page that it belongs to.
-use Rattle.std.proofs.Common.{suc, zero, ◌≡◌, refl, sym, ap, subst, ◌∙◌, ℕ, ◌+◌, ◌<◌, ◌≤◌, Bool, true, false, true≢false, cond, List, [], ◌∷◌, ◌++◌, take, drop, map, length, Option, Some, None, get_or, set, arith, add-one}
+use Rattle.std.proofs.Common.{suc, zero, ◌≡◌, refl, sym, ap, subst, ◌∙◌, ℕ, ◌+◌, ◌<◌, Bool, true, false, true≢false, cond, List, [], ◌∷◌, ◌++◌, take, drop, length, Option, Some, None, get_or, set, arith, add-one}
 use Rattle.std.specs.Prelude.{IfSome, nat_le, slice_get}
 use Rattle.std.specs.List.{AllByRecursion}
 use Rattle.std.specs.Option.{option_map, option_map_or}
@@ -15,9 +15,9 @@ use Rattle.mvrows.specs.Versions.{Version, KeyVersions, VersionedRows, IsInOrder
 use Rattle.mvrows.specs.Pruning.{has_version, pruned_key}
 use Rattle.mvrows.specs.Settling.{found, if_version, settle_key}
 use Rattle.mvrows.specs.Fresh.{is_from, IsFreshIn, IsOwnKey}
-use Rattle.mvrows.specs.HeldRows.{Held, pages_of, joined, rows_in, has_keys, AreLaidOut, IsUndoable, AreUndoable}
+use Rattle.mvrows.specs.HeldRows.{Held, pages_of, joined, rows_in, has_keys, AreLaidOut, IsUndoable}
 use Rattle.mvrows.proofs.VersionLemmas.{IsLeast, all-set}
-use Rattle.mvrows.proofs.PageLemmas.{greater, less, equal, drop-at, slice_get-none, slice_get-below, slice_get-item, below-passed}
+use Rattle.mvrows.proofs.PageLemmas.{greater, less, equal, drop-at, slice_get-none, slice_get-item, below-passed}
 use Rattle.mvrows.proofs.HeldLemmas.{element-at}
 use Rattle.mvrows.proofs.JoinedLemmas.{flat-split, flat-set, find-in}
 use Rattle.mvrows.proofs.LeavesLemmas.{Placed, page-at}

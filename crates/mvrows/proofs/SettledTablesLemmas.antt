@@ -1,5 +1,5 @@
 -- Keys that a commit has changed, settled in all tables.
-use Rattle.std.proofs.Common.{suc, zero, ◌≡◌, refl, sym, ap, subst, ◌∙◌, ℕ, ◌+◌, ◌<◌, ◌≤◌, Bool, true, false, cond, List, [], ◌∷◌, drop, map, length, Option, Some, None, get_or, set, arith}
+use Rattle.std.proofs.Common.{suc, zero, ◌≡◌, refl, sym, ap, subst, ◌∙◌, ℕ, ◌+◌, ◌<◌, ◌≤◌, Bool, true, false, cond, List, [], ◌∷◌, drop, length, Some, None, get_or, set, arith}
 use Rattle.std.specs.Prelude.{IfSome, nat_le}
 use Rattle.std.specs.List.{AllByRecursion}
 use Rattle.std.specs.Ordering.{match_ordering}
@@ -8,11 +8,11 @@ use Rattle.std.specs.declared.cmp.Ordering.TheVariants.{Less, Equal, Greater}
 use Rattle.std.proofs.lemmas.Bool.{le-leb}
 use Rattle.std.proofs.lemmas.Cmp.{tied_itself}
 use Rattle.std.proofs.lemmas.List.{map-set, set_past, length-map, drop_all}
-use Rattle.value.specs.Order.{value_cmp, value_cmp-total, value_cmp-exact}
+use Rattle.value.specs.Order.{value_cmp, value_cmp-total}
 use Rattle.value.specs.declared.value.Value.{Value}
 use Rattle.schema.specs.declared.changes.Change.{Change}
 use Rattle.schema.specs.Plain.{same}
-use Rattle.mvrows.specs.Versions.{Version, KeyVersions, VersionedRows, versions_of}
+use Rattle.mvrows.specs.Versions.{Version, VersionedRows, versions_of}
 use Rattle.mvrows.specs.Installing.{first_version, newer, put_version, install_change, installed}
 use Rattle.mvrows.specs.Settling.{found, settle_key, settle_change, settled}
 use Rattle.mvrows.specs.Fresh.{is_from, IsFresh, IsFreshIn, AreFresh}

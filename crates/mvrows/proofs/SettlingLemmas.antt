@@ -1,25 +1,25 @@
 -- What snapshots show after keys are pruned by themselves, and what that leaves.
-use Rattle.std.proofs.Common.{suc, zero, ◌≡◌, refl, sym, ap, subst, ◌∙◌, ℕ, ◌<◌, ◌≤◌, Bool, true, false, true≢false, cond, List, [], ◌∷◌, map, length, Option, Some, None, get_or, set}
-use Rattle.std.specs.Prelude.{is_some, nat_le, find, IfSome, slice_get}
-use Rattle.std.specs.List.{AllByRecursion, cons_option}
+use Rattle.std.proofs.Common.{suc, zero, ◌≡◌, refl, sym, ap, subst, ◌∙◌, ℕ, ◌≤◌, Bool, true, false, cond, List, [], ◌∷◌, Option, Some, None, get_or, set}
+use Rattle.std.specs.Prelude.{is_some, nat_le, IfSome, slice_get}
+use Rattle.std.specs.List.{cons_option}
 use Rattle.std.specs.List.Sorted.{IsStrictlySortedBy}
 use Rattle.std.specs.Option.{option_map, option_map_or, option_and_then}
 use Rattle.std.specs.Ordering.{match_ordering, is_eq}
 use Rattle.std.specs.declared.cmp.Ordering.{Ordering}
 use Rattle.std.specs.declared.cmp.Ordering.TheVariants.{Less, Equal, Greater}
 use Rattle.std.proofs.lemmas.List.{map-set, set-get_or}
-use Rattle.value.specs.Order.{value_cmp, value_cmp-exact, value_cmp-total}
+use Rattle.value.specs.Order.{value_cmp, value_cmp-total}
 use Rattle.value.specs.declared.value.Value.{Value}
 use Rattle.schema.specs.declared.changes.Change.{Change}
 use Rattle.schema.specs.Plain.{same}
 use Rattle.schema.proofs.PlainLemmas.{same_value}
-use Rattle.mvrows.specs.Versions.{Version, KeyVersions, VersionedRows, versions_of, IsInOrder, AreInOrder, shown_fields, shown_row, shown_rows, shown, newest_version, newest_in, newest, AreBelow, RowsAreBelow, TablesAreBelow}
+use Rattle.mvrows.specs.Versions.{Version, KeyVersions, VersionedRows, versions_of, IsInOrder, AreInOrder, shown_fields, shown_row, shown_rows, shown, newest_version, newest_in, newest, RowsAreBelow, TablesAreBelow}
 use Rattle.mvrows.specs.Fresh.{is_from, IsFresh}
 use Rattle.mvrows.specs.Pruning.{if_row, pruned_versions, pruned_key, are_some, has_version, IsPruned, KeepsNewest}
 use Rattle.mvrows.specs.Settling.{found, if_version, settle_key, settle_change, settled, AreSettled}
 use Rattle.mvrows.specs.HeldRows.{AllVersioned, AreVersioned}
 use Rattle.mvrows.proofs.VersionLemmas.{IsLeast, all-set, all-get_or, get_or-map, table_in_order}
-use Rattle.mvrows.proofs.PruningLemmas.{shown-pruned_versions, one_left, pruned_versions-below, newest-pruned_versions, not_above}
+use Rattle.mvrows.proofs.PruningLemmas.{shown-pruned_versions, one_left, pruned_versions-below, newest-pruned_versions}
 
 -- what a table keeps, all tables keep where one is changed
 pub set-kept : {X : Type 0} (P : X → X → Type 0) → ((x : X) → P x x) → (xs : List X) (u t : ℕ) (d y : X) → P (get_or xs u d) y → P (get_or xs t d) (get_or (set xs u y) t d)

@@ -1,5 +1,5 @@
 -- Rows put into plain tables, one after another.
-use Rattle.std.specs.Prelude.{ℕ, List, [], ◌∷◌, slice_set}
+use Rattle.std.specs.Prelude.{ℕ, [], ◌∷◌, slice_set}
 use Rattle.schema.specs.declared.tables.Tables.{Tables}
 use Rattle.schema.specs.Plain.{rows_of}
 use Rattle.schema.specs.Rows.{Rows, put_row}

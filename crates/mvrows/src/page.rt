@@ -158,12 +158,7 @@ fn put<A: Allocator + Copy>(
 }
 
 // Prunes a key at its place, if it is there. It goes where no version of it is left.
-fn settle<A: Allocator>(
-    chains: &mut Vec<Chain<A>, A>,
-    place: usize,
-    oldest: u64,
-    key: &Key<A>,
-)
+fn settle<A: Allocator>(chains: &mut Vec<Chain<A>, A>, place: usize, oldest: u64, key: &Key<A>)
     requires within_length { place ≤ length chains.old.items }
     requires before { AllByRecursion (λ k. is_le (value_cmp key.now k.key) ≡ false) (take place chains.old.items) }
     requires within { AllByRecursion (λ k. is_le (value_cmp key.now k.key) ≡ true) (drop place chains.old.items) }

@@ -1,4 +1,4 @@
-use Rattle.std.proofs.Common.{ap, sym, arith, false, true, length, ◌<◌, ◌≡◌, ◌∙◌}
+use Rattle.std.proofs.Common.{ap, sym, arith, false, length, ◌<◌, ◌∙◌}
 use Rattle.std.specs.Prelude.{slice_get}
 use Rattle.std.specs.Option.{option_map_or}
 use Rattle.schema.specs.Plain.{same}

@@ -1,8 +1,7 @@
 use Rattle.std.proofs.Common.{arith}
-use Rattle.std.specs.Prelude.{length}
 use Rattle.mvrows.specs.Settling.{settled}
 use Rattle.mvrows.specs.HeldRows.{rows_held}
-use Rattle.mvrows.proofs.SettledTablesLemmas.{fresh-item, settled-step, settled-end}
+use Rattle.mvrows.proofs.SettledTablesLemmas.{fresh-item, settled-step}
 use Rattle.mvrows.proofs.rows.settle_all.Goals as goal
 
 pub settle_change-requires : goal.settle_change-requires

@@ -1,5 +1,5 @@
-use Rattle.std.proofs.Common.{arith, sym, ap, ◌<◌, length, ◌∙◌}
-use Rattle.mvrows.proofs.SettledTablesLemmas.{fresh-at, settled-held, fresh-set}
+use Rattle.std.proofs.Common.{arith, ◌<◌, length, ◌∙◌}
+use Rattle.mvrows.proofs.SettledTablesLemmas.{settled-held, fresh-set}
 use Rattle.mvrows.proofs.rows.settle_change.Goals as goal
 
 pub returns-then-place-len-clause-rows : goal.returns-then-place-len-clause-rows

@@ -1,6 +1,4 @@
 use Rattle.std.proofs.Common.{arith}
-use Rattle.mvrows.specs.Versions.{shown_rows}
-use Rattle.mvrows.specs.HeldRows.{rows_in}
 use Rattle.mvrows.proofs.CopiedLemmas.{page-shown}
 use Rattle.mvrows.proofs.table.copy_all_shown.Goals as goal
 

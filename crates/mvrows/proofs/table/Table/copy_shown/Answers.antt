@@ -10,6 +10,6 @@ pub returns-clause-ok : goal.returns-clause-ok
 returns-clause-ok g c =
     on_ok c.copy_all_shown.result _ _
     (λ made.
-      table-copied c.args.snapshot c.args.self.now c.args.copies.now c.copy_all_shown.new.copies c.args.table c.requires.none (subst (λ ls. IsInOrder (rows_in ls)) c.self.view_is c.self.invariant.0)
-      (made ∙ ap (λ ls. with_rows c.args.copies.now c.args.table (shown_rows c.args.snapshot (rows_in ls))) (c.as_slice.ensures.value ∙ c.self.view_is)))
+    table-copied c.args.snapshot c.args.self.now c.args.copies.now c.copy_all_shown.new.copies c.args.table c.requires.none (subst (λ ls. IsInOrder (rows_in ls)) c.self.view_is c.self.invariant.0)
+    (made ∙ ap (λ ls. with_rows c.args.copies.now c.args.table (shown_rows c.args.snapshot (rows_in ls))) (c.as_slice.ensures.value ∙ c.self.view_is)))
     c.copy_all_shown.ensures.ok

@@ -1,5 +1,4 @@
-use Rattle.std.proofs.Common.{ap, sym, subst, ◌∙◌}
-use Rattle.mvrows.specs.Settling.{settle_key}
+use Rattle.std.proofs.Common.{sym, subst}
 use Rattle.mvrows.specs.Fresh.{IsFresh}
 use Rattle.mvrows.specs.HeldRows.{rows_in, AreUndoable}
 use Rattle.mvrows.proofs.SettlingLemmas.{settle-fresh}
