@@ -1,5 +1,5 @@
 -- What a commit, an export and a statement leave in the ledger.
-use Rattle.std.proofs.Common.{◌≡◌, refl, sym, ap, ◌∙◌, ℕ, suc, ◌+◌, ◌^◌, ◌<◌, Bool, true, false, true≢false, subst, cond, List, [], ◌∷◌, ◌++◌, length, map, slice_get, Option, Some, None, Result, Ok, Err, eqb, arith, length-append}
+use Rattle.std.proofs.Common.{◌≡◌, refl, sym, ap, ◌∙◌, ℕ, suc, ◌+◌, ◌^◌, ◌<◌, ◌≤◌, Bool, true, false, true≢false, subst, cond, List, [], ◌∷◌, ◌++◌, length, map, slice_get, Option, Some, None, Result, Ok, Err, eqb, arith, length-append}
 use Rattle.std.specs.List.{find}
 use Rattle.std.specs.Prelude.{OnOk, OnErr, IfOk, IsOk, is_ok}
 use Rattle.std.proofs.lemmas.List.{get_or_default}
