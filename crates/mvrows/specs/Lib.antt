@@ -4,6 +4,7 @@ pub mod HeldRows
 pub mod Installing
 pub mod Laws
 pub mod Pruning
+pub mod Settling
 pub mod Sources
 pub mod Stored
 pub mod TakenBack

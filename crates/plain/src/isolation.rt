@@ -107,21 +107,27 @@ fn cause_from<T: Party>(first: &T, transactions: &[T]) -> Option<Cause>
     None
 }
 
-/// The dangerous structure that is named, of transactions in the order of their numbers: the one
-/// of the least first transaction, then of the least pivot, then of the first to commit. It takes
-/// no memory.
-pub fn first_cause<T: Party>(transactions: &[T]) -> Option<Cause>
-    ensures { result ≡ first_cause T.node (edge_of T.node T.reads) transactions.now }
+// Whether a transaction has an edge to one of these.
+fn has_any_edge<T: Party>(reader: &T, transactions: &[T]) -> bool
+    ensures { result ≡ list_any (edge_of T.node T.reads reader.now) transactions.now }
 {
-    for first in transactions {
-        let cause = cause_from(first, transactions);
-        if cause.is_some() {
-            return cause;
-        }
-    }
-    None
+    transactions.iter().any(|writer| has_edge(reader, writer))
 }
 
+// The structure that begins at a transaction, where each one has the committer as its first or its
+// middle: with the least pivot, if there is one.
+fn cause_through<T: Party>(committer: &T, first: &T, transactions: &[T]) -> Option<Cause>
+    requires committer { HoldIt T.node T.reads transactions.now committer.now }
+    requires holds { AllByRecursion }
+    ensures { result
+        ≡ first_some (λ b. caused T.node (edge_of T.node T.reads) first.now b (earliest T.node (edge_of T.node T.reads) (filter (is_dangerous T.node (edge_of T.node T.reads) first.now b) transactions.now))) transactions.now }
+{
+    if first.facts().number == committer.facts().number {
+        cause_from(first, transactions)
+    } else {
+        cause_between(first, committer, transactions)
+    }
+}
 /// The number of a transaction's commit.
 pub(crate) fn commit_of<T: Party>(transaction: &T) -> u64
     ensures { result ≡ (T.node transaction.now).commit }
