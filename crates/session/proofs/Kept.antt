@@ -24,7 +24,7 @@ use Rattle.plain.specs.Ledger.{kept, committed_by, counted, with_own, ready, rea
 -- ---- lists whose members are seen through a function
 
 module _ {T U : Type 0} (f : T → U) where
-  any_map : (p : U → Bool) (ts : List T) → list_any p (map f ts) ≡ list_any (λ t. p (f t)) ts
+  pub any_map : (p : U → Bool) (ts : List T) → list_any p (map f ts) ≡ list_any (λ t. p (f t)) ts
   any_map p [] = refl
   any_map p (t ∷ ts) = ap (λ b. p (f t) || b) (any_map p ts)
 
@@ -36,7 +36,7 @@ module _ {T U : Type 0} (f : T → U) where
       go true e = refl
       go false e = e
 
-  filter_map : (p : U → Bool) (ts : List T) → filter p (map f ts) ≡ map f (filter (λ t. p (f t)) ts)
+  pub filter_map : (p : U → Bool) (ts : List T) → filter p (map f ts) ≡ map f (filter (λ t. p (f t)) ts)
   filter_map p [] = refl
   filter_map p (t ∷ ts) = go (p (f t)) (filter_map p ts)
     where
@@ -52,7 +52,7 @@ module _ {T U : Type 0} (f : T → U) where
   fold_map g b [] = refl
   fold_map g b (t ∷ ts) = fold_map g (g b (f t)) ts
 
-  map_append : (ts us : List T) → map f (ts ++ us) ≡ map f ts ++ map f us
+  pub map_append : (ts us : List T) → map f (ts ++ us) ≡ map f ts ++ map f us
   map_append [] us = refl
   map_append (t ∷ ts) us = ap (λ ys. f t ∷ ys) (map_append ts us)
 
@@ -61,11 +61,11 @@ module _ {T U : Type 0} (f : T → U) where
   length_map (t ∷ ts) = ap suc (length_map ts)
 
 module _ {T : Type 0} where
-  any_same : (p q : T → Bool) → ((t : T) → p t ≡ q t) → (ts : List T) → list_any p ts ≡ list_any q ts
+  pub any_same : (p q : T → Bool) → ((t : T) → p t ≡ q t) → (ts : List T) → list_any p ts ≡ list_any q ts
   any_same p q h [] = refl
   any_same p q h (t ∷ ts) = ap (λ b. b || list_any p ts) (h t) ∙ ap (λ b. q t || b) (any_same p q h ts)
 
-  find_same : (p q : T → Bool) → ((t : T) → p t ≡ q t) → (ts : List T) → find p ts ≡ find q ts
+  pub find_same : (p q : T → Bool) → ((t : T) → p t ≡ q t) → (ts : List T) → find p ts ≡ find q ts
   find_same p q h [] = refl
   find_same p q h (t ∷ ts) = ap (λ b. cond b (Some t) (find p ts)) (h t) ∙ ap (λ o. cond (q t) (Some t) o) (find_same p q h ts)
 
@@ -132,10 +132,10 @@ module _ {A : Type 0} where
   pending_kept : (ts : List (Txn A)) (t : Txn A) → is_pending (all_kept ts) t ≡ is_pending ts t
   pending_kept ts t = any_map kept (λ u. was_active t u && is_open u.standing) ts
 
-  living_kept : (ts : List (Txn A)) (x : Exported_snapshot) → is_living (all_kept ts) x ≡ is_living ts x
+  pub living_kept : (ts : List (Txn A)) (x : Exported_snapshot) → is_living (all_kept ts) x ≡ is_living ts x
   living_kept ts x = any_map kept (λ t. eqb t.number x.exporter && is_open t.standing) ts
 
-  replaced_kept : (x : Txn A) (ts : List (Txn A)) → replaced (kept x) (all_kept ts) ≡ all_kept (replaced x ts)
+  pub replaced_kept : (x : Txn A) (ts : List (Txn A)) → replaced (kept x) (all_kept ts) ≡ all_kept (replaced x ts)
   replaced_kept x [] = refl
   replaced_kept x (t ∷ ts) = ap (λ us. cond (eqb t.number x.number) (kept x) (kept t) ∷ us) (replaced_kept x ts) ∙ ap (λ u. u ∷ all_kept (replaced x ts)) (go (eqb t.number x.number))
     where
