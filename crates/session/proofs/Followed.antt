@@ -14,17 +14,22 @@ use Rattle.history.specs.declared.event.Action.{Action}
 use Rattle.history.specs.declared.event.Record.{Record}
 use Rattle.history.specs.Opening.{Recorded}
 use Rattle.history.specs.Transactions.{Txn, World, Exported_snapshot, commits, current, is_living, is_owed}
-use Rattle.history.specs.Events.{follows, followed}
+use Rattle.history.specs.Events.{follows, followed, without_transaction}
+use Rattle.history.specs.declared.event.Action.TheVariants.{Begin}
+use Rattle.statement.specs.declared.reply.Reply.TheVariants.{Begun}
 use Rattle.history.specs.Answer.{Allowed, reply_in}
 use Rattle.history.specs.Needed.{IsOldest, Keeps, is_needed, kept_of}
 use Rattle.serial.proofs.Lowest.{HasBegun, commits_later, exporters_begun, lived_before}
 use Rattle.serial.proofs.NeededFrom.{oldest_later}
+use Rattle.serial.proofs.NeededKeys.{good_next, last_kept}
 use Rattle.serial.proofs.NeededLater.{needed_later}
 use Rattle.serial.proofs.SafePrefix.{all_by, by_all}
+use Rattle.plain.specs.Keys.{committed_at}
 use Rattle.plain.specs.Ledger.{Ledger, kept, kept_after, kept_current, ready_for, world_on}
 use Rattle.session.specs.Core.{IsKept}
 use Rattle.session.specs.Kept.{Represents}
 use Rattle.session.proofs.Becomes.{Becomes, becomes}
+use Rattle.session.proofs.KeysKept.{at-kept, committed_alike}
 use Rattle.session.proofs.Lent.{catalog_is, good, lent, lent_current, lent_is, r, w}
 
 same_or : (a b : Bool) → b ≡ false → (a || b) ≡ a
@@ -32,6 +37,17 @@ same_or true b e = refl
 same_or false b e = e
 
 module _ {A : Type 0} where
+  without_place : (w : World A) (s : ℕ) (a : Action A) (g : Reply A) → (without_transaction w s a g).place ≡ w.place + 1
+  without_place w s (Begin m) Begun = refl
+  without_place w s _ _ = refl
+
+  pub follows_place : (w : World A) (e : Record A) → (follows w e).place ≡ w.place + 1
+  follows_place w e = go (current w e.session)
+    where
+      go : (o : Option (Txn A)) → (followed w e o).place ≡ w.place + 1
+      go None = without_place w e.session e.action e.reply
+      go (Some t) = refl
+
   -- ---- the next transaction may be kept
 
   module _ (h : Recorded A) (l : Ledger A) (k : IsKept h l) where
@@ -130,13 +146,22 @@ module _ {A : Type 0} where
         from y (inl i) = kept_begun y i
         from y (inr i) = b.exporters y i
 
-  -- What a step leaves represents the world that the history has come to with it.
-  pub represents_after : (h : Recorded A) (l : Ledger A) (k : IsKept h l) (s : ℕ) (a : Action A) → Allowed h.opening.catalog a → (c : Catalog) (X : Tables A) → c ≡ h.opening.catalog → (tables : ℕ → Tables A)
+    -- what it committed
+    pub committed_next : (m : Ledger A) → (r h l k).keep (old.base.transactions + length old.txns + 1) ≡ true → Becomes (r h l k).keep old next_world l m → committed_at m.place m.txns ≡ committed_at next_world.place next_world.txns
+    committed_next m new b =
+        ap (λ n. committed_at n m.txns) b.place ∙ ap (committed_at next_world.place) b.txns ∙ at-kept next_world.place (kept_of (r h l k).keep next_world.txns)
+        ∙ committed_alike next_world (good_next h.opening h.records k.legal s a allowed) (r h l k).oldest (r h l k).keep (represents_next m new b).keeps
+        (λ x i d e. last_kept h.opening h.records k.legal s a allowed (r h l k).oldest (r h l k).keep (r h l k).keeps x i d (e ∙ follows_place old event))
+
+    -- It represents the world that the history has come to with the event, and has what that committed, with its key.
+    abbrev pub After : Ledger A → Type 0
+    After m = Represents next_world m × (committed_at m.place m.txns ≡ committed_at next_world.place next_world.txns)
+
+  -- So does what a step leaves.
+  pub comes_after : (h : Recorded A) (l : Ledger A) (k : IsKept h l) (s : ℕ) (a : Action A) (fits : Allowed h.opening.catalog a) (c : Catalog) (X : Tables A) → c ≡ h.opening.catalog → (tables : ℕ → Tables A)
       → ((t : Txn A) → current (w h l k) s ≡ Some t → t.own ≡ put_all t.changes (tables t.snapshot))
-      → Represents (follows (w h l k) (record { session = s; action = a; reply = reply_in (w h l k) s a })) (kept_after (world_on c X l) s a (reply_in (w h l k) s a) (ready_for tables a (kept_current c X l s)))
-  represents_after h l k s a fits c X p tables own = subst (Represents (follows (w h l k) (record { session = s; action = a; reply = g }))) (sym (lent_step))
-      (represents_next h l wide s a fits (kept_after (lent h l wide X) s a g (ready_for tables a (option_map kept (current (w h l k) s)))) (next_kept h l k)
-      (becomes h l wide X tables s a g (next_kept h l k) own (current (w h l k) s) refl))
+      → After h l k s a fits (kept_after (world_on c X l) s a (reply_in (w h l k) s a) (ready_for tables a (kept_current c X l s)))
+  comes_after h l k s a fits c X p tables own = subst (After h l k s a fits) (sym lent_step) (represents_next h l wide s a fits m (next_kept h l k) b, committed_next h l wide s a fits m (next_kept h l k) b)
     where
       g : Reply A
       g = reply_in (w h l k) s a
@@ -144,7 +169,13 @@ module _ {A : Type 0} where
       wide : IsKept h l
       wide = widened h l k
 
-      lent_step : kept_after (world_on c X l) s a g (ready_for tables a (kept_current c X l s)) ≡ kept_after (lent h l wide X) s a g (ready_for tables a (option_map kept (current (w h l k) s)))
+      m : Ledger A
+      m = kept_after (lent h l wide X) s a g (ready_for tables a (option_map kept (current (w h l k) s)))
+
+      b : Becomes (r h l wide).keep (w h l k) (follows (w h l k) (record { session = s; action = a; reply = g })) l m
+      b = becomes h l wide X tables s a g (next_kept h l k) own (current (w h l k) s) refl
+
+      lent_step : kept_after (world_on c X l) s a g (ready_for tables a (kept_current c X l s)) ≡ m
       lent_step =
           ap (λ (v : World A). kept_after v s a g (ready_for tables a (current v s))) (lent_is h l wide c X p)
           ∙ ap (λ o. kept_after (lent h l wide X) s a g (ready_for tables a o)) (lent_current h l wide X s)
