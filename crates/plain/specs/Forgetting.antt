@@ -1,7 +1,10 @@
 -- What is forgotten: transactions that no later question asks for, and identifiers that don't live.
-use Rattle.std.specs.Prelude.{◌≡◌, ℕ, ◌+◌, Bool, not, ◌&&◌, List, length, filter}
-use Rattle.history.specs.Transactions.{Txn, is_open, is_living}
-use Rattle.history.specs.Needed.{is_needed, is_safe_reader}
+use Rattle.std.specs.Prelude.{◌≡◌, ℕ, ◌+◌, nat_lt, Bool, not, ◌&&◌, ◌||◌, List, length, filter}
+use Rattle.std.specs.List.{list_any}
+use Rattle.history.specs.Transactions.{Txn, edge, is_done, is_living, is_open, is_owed}
+use Rattle.history.specs.Needed.{is_late_reader, is_needed, is_recent, is_safe_reader}
+use Rattle.plain.specs.declared.least.Which.{Which}
+use Rattle.plain.specs.declared.least.Which.TheVariants.{Owed, HoldingBack, Recent}
 use Rattle.plain.specs.Ledger.{Ledger}
 use Rattle.plain.specs.Versions.{least_snapshot}
 
@@ -17,6 +20,17 @@ module _ {A : Type 0} where
   -- the snapshot from which on questions are asked
   abbrev pub oldest : Ledger A → ℕ
   oldest l = oldest_of l.base.commits l.txns
+
+  -- those whose snapshots are looked at
+  abbrev pub is_looked_at : Which → Txn A → Bool
+  is_looked_at Owed t = is_owed t.standing
+  is_looked_at HoldingBack t = holds_back t
+  is_looked_at (Recent n) t = is_recent n t
+
+  -- It matters, where the recent ones are among these, and none has a snapshot below reach.
+  abbrev pub is_needed_among : ℕ → ℕ → List (Txn A) → Txn A → Bool
+  is_needed_among n reach ts u =
+      is_owed u.standing || is_recent n u || is_late_reader n u || is_done u.standing && (nat_lt reach u.commit && list_any (λ v. is_recent n v && edge v u) ts)
 
   -- Of the transactions those that matter are left, of the identifiers those that live, in their order; and as many numbers are used up as before.
   pub record IsThinned (l m : Ledger A) : Type 0 where

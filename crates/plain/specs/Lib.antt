@@ -8,5 +8,6 @@ pub mod Ledger
 pub mod Merged
 pub mod Runs
 pub mod Standings
+pub mod Structures
 pub mod Versions
 pub mod Views

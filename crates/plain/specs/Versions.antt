@@ -4,7 +4,7 @@ use Rattle.std.specs.Prelude.{◌≡◌, ℕ, ◌+◌, ◌≤◌, ◌<◌, Bool,
 use Rattle.schema.specs.declared.changes.Change.{Change}
 use Rattle.schema.specs.declared.tables.Tables.{Tables}
 use Rattle.schema.specs.Plain.{put_all}
-use Rattle.history.specs.Transactions.{Txn, is_open}
+use Rattle.history.specs.Transactions.{Txn, is_owed}
 use Rattle.mvrows.specs.Versions.{VersionedRows, AreInOrder, TablesAreBelow, shown}
 use Rattle.plain.specs.Ledger.{Ledger}
 
@@ -22,11 +22,11 @@ module _ {A : Type 0} where
   least_snapshot p n [] = n
   least_snapshot p n (t ∷ ts) = if p t then min t.snapshot (least_snapshot p n ts) else least_snapshot p n ts
 
-  -- the least snapshot of an open transaction, n where none has one below that
+  -- the least snapshot of a transaction that its session has still to end, n where none has one below that
   abbrev pub lowest_of : ℕ → List (Txn A) → ℕ
-  lowest_of n ts = least_snapshot (λ t. is_open t.standing) n ts
+  lowest_of n ts = least_snapshot (λ t. is_owed t.standing) n ts
 
-  -- the least snapshot that may still be read: an open transaction's, or that of all commits where none is open
+  -- the least snapshot that may still be read: that of all commits where no session has a transaction
   abbrev pub lowest : Ledger A → ℕ
   lowest l = lowest_of l.base.commits l.txns
 

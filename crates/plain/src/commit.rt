@@ -12,15 +12,15 @@ ghost use Rattle.history.specs.Needed.{HoldCommitter};
 ghost use Rattle.plain.specs.Answers.{both};
 ghost use Rattle.plain.specs.Courses.{on_course};
 ghost use Rattle.mvrows.specs.Versions.{AreInOrder, TablesAreBelow};
-ghost use Rattle.plain.specs.Earliest.{HoldIt};
 ghost use Rattle.plain.specs.Ledger.{after_owned, committed_by, turned_at, txn_at, world_on};
+ghost use Rattle.plain.specs.Structures.{StructuresHold};
 ghost use Rattle.plain.specs.Versions.{AreCurrent, HasSameCommits, IsInstalled, StayShown, lowest_of, next_commit};
 
 use crate::answered::Answered;
 use crate::course::Course;
 use crate::dooms::dooms;
-use crate::forgetting::{Which, least_snapshot};
 use crate::isolation::cause_at;
+use crate::least::{Which, least_snapshot};
 use crate::own::OwnChanges;
 use crate::reply::of_cause;
 use crate::transaction::{Standing, Transaction, is_read_write};
@@ -73,7 +73,7 @@ fn try_course<A: Allocator>(
     course: Course,
 ) -> Option<Cause>
     requires within { at < length transactions.old.items }
-    requires committer { HoldIt (turned_at at (on_course course) transactions.old.items) (on_course course (txn_at transactions.old.items at)) }
+    requires committer { StructuresHold node edge (on_course course (txn_at transactions.old.items at)) (turned_at at (on_course course) transactions.old.items) }
     ensures cause { result ≡ first_cause node edge (turned_at at (on_course course) transactions.old.items) }
     ensures same { transactions.new.items ≡ transactions.old.items }
 {
@@ -84,7 +84,7 @@ fn try_course<A: Allocator>(
     cause
 }
 
-// The least snapshot of a transaction that would be open with the one at a place on another course.
+// The least snapshot that may still be read with the transaction at a place on another course.
 // The transactions stay; it takes no memory.
 fn lowest_with<A: Allocator>(
     transactions: &mut Vec<Transaction<A>, A>,
@@ -98,27 +98,50 @@ fn lowest_with<A: Allocator>(
 {
     let before = transactions[at].course();
     turn(transactions, at, course);
-    let least = least_snapshot(transactions.as_slice(), Which::Open, most);
+    let least = least_snapshot(transactions.as_slice(), Which::Owed, most);
     turn(transactions, at, before);
     least
 }
 
-// Puts in the versions of a commit, and drops of its keys what no snapshot from the oldest on shows.
+// Puts in the versions of a commit, of each key the last, and drops of its keys what no snapshot from
+// the oldest on shows. The changes stay.
 fn install<A: Allocator + Copy>(
     alloc: A,
     rows: &mut Rows<A>,
     oldest: u64,
     number: u64,
-    changes: &OwnChanges<A>,
+    changes: &mut OwnChanges<A>,
 ) -> Result<(), Refusal>
     requires order { AreInOrder rows.old }
     requires below { TablesAreBelow number rows.old }
-    ensures ok { OnOk result (IsInstalled oldest number changes.now rows.old rows.new) }
+    ensures ok { OnOk result (IsInstalled oldest number changes.old rows.old rows.new) }
     ensures err { OnErr result (rows.new ≡ rows.old) }
+    ensures same { changes.new ≡ changes.old }
     ensures memory { IfErr result (λ e. e ≡ out_of_memory) }
 {
-    let _oldest = oldest;
-    rows.install(alloc, number, changes.as_slice())
+    let last = changes.last_changes(alloc)?;
+    rows.install(alloc, oldest, number, last.as_slice())
+}
+
+// Puts in the versions of the commit of the transaction at a place. The transactions stay.
+fn install_at<A: Allocator + Copy>(
+    alloc: A,
+    rows: &mut Rows<A>,
+    oldest: u64,
+    number: u64,
+    transactions: &mut Vec<Transaction<A>, A>,
+    at: usize,
+) -> Result<(), Refusal>
+    requires within { at < length transactions.old.items }
+    requires order { AreInOrder rows.old }
+    requires below { TablesAreBelow number rows.old }
+    ensures ok { OnOk result (IsInstalled oldest number (txn_at transactions.old.items at).changes rows.old rows.new) }
+    ensures err { OnErr result (rows.new ≡ rows.old) }
+    ensures same { transactions.new.items ≡ transactions.old.items }
+    ensures memory { IfErr result (λ e. e ≡ out_of_memory) }
+{
+    let committer = &mut transactions[at];
+    install(alloc, rows, oldest, number, &mut committer.changes)
 }
 
 // The answer to a COMMIT, by the structure that it would make.
@@ -193,9 +216,9 @@ impl<A: Allocator> World<A> {
     {
         let oldest = self.lowest_after(at, committed);
         let number = self.commits() + 1;
-        let transaction = &self.transactions[at];
-        let causes = dooms(alloc, self.transactions.as_slice(), transaction)?;
-        install(alloc, rows, oldest, number, &transaction.changes)?;
+        let committer = &self.transactions[at];
+        let causes = dooms(alloc, self.transactions.as_slice(), committer)?;
+        install_at(alloc, rows, oldest, number, &mut self.transactions, at)?;
         self.turn_committer(at, committed, causes.as_slice());
         Ok(())
     }

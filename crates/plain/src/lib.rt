@@ -17,6 +17,7 @@ pub mod isolation;
 #[cfg(test)]
 mod isolation_tests;
 pub mod keys;
+pub mod least;
 pub mod own;
 pub mod party;
 pub mod reader;
