@@ -1,6 +1,8 @@
 -- The versions that a core keeps beside its history.
-use Rattle.std.proofs.Common.{◌≡◌, refl, sym, ap, subst, ◌∙◌, ℕ, suc, ◌+◌, ◌-◌, Bool, true, false, true≢false, ◌&&◌, List, [], ◌∷◌, map, take, arith}
+use Rattle.std.proofs.Common.{◌≡◌, refl, sym, ap, subst, ◌∙◌, ℕ, suc, ◌+◌, ◌-◌, Bool, true, false, true≢false, ◌&&◌, Result, Ok, Err, List, [], ◌∷◌, map, take, arith}
 use Rattle.std.specs.List.{AllByRecursion}
+use Rattle.std.specs.Result.{OnErr, OnOk}
+use Rattle.value.specs.declared.refusal.Refusal.{Refusal}
 use Rattle.std.specs.List.Sorted.{IsStrictlySortedBy}
 use Rattle.std.specs.FinMap.{is_sorted}
 use Rattle.std.specs.FinMap.Entries.{below_all}
@@ -82,3 +84,8 @@ module _ {A : Type 0} where
     current = record { order = pruned-in_order (lowest l) rows held.current.order; below = pruned-below (next_commit l) (lowest l) rows held.current.below };
     shown = λ n above. shown-pruned (lowest l) n rows above ∙ held.shown n above;
   }
+
+  -- done, or refused for want of memory
+  pub rows_prune : {T : Type 0} (h : Recorded A) (l : Ledger A) (rows more : List (VersionedRows A)) (n : ℕ) (g : Result T Refusal) → n ≡ lowest l → HoldsRows h l rows → OnOk g (more ≡ pruned n rows) → OnErr g (more ≡ rows) → HoldsRows h l more
+  rows_prune h l rows more n (Ok x) e held done back = subst (HoldsRows h l) (sym (done ∙ ap (λ k. pruned k rows) e)) (rows_pruned h l rows held)
+  rows_prune h l rows more n (Err x) e held done back = subst (HoldsRows h l) (sym back) held
