@@ -107,20 +107,17 @@ module _ {A : Type 0} where
     step_room m = let p = run_place (start h.opening) h.records in let q = place_is in let e = k.room in omega (arith, m, p, q, e)
 
     module _ (rows : List (VersionedRows A)) (held : HoldsRows h l rows) (s : ℕ) (a : Action A) (c : Catalog) (p : c ≡ h.opening.catalog) (fits : Allowed h.opening.catalog a) where
-      event : Reply A → Record A
+      abbrev pub event : Reply A → Record A
       event g = record { session = s; action = a; reply = g }
 
-      -- what a step of the world makes of it
-      abbrev pub Stepped : Answered A → Ledger A → Type 0
-      Stepped given m = ((X : Tables A) → given ≡ both (reply_of (world_on c X l) (ready_for (versions_at rows) a (kept_current c X l s)) a))
-          × ((X : Tables A) → m ≡ kept_after (world_on c X l) s a given.reply (ready_for (versions_at rows) a (kept_current c X l s)))
-
-      module _ (given : Answered A) (m : Ledger A) (done : Stepped given m) where
+      -- given and m are what a step of the world answers and leaves
+      module _ (given : Answered A) (m : Ledger A) (answers : (X : Tables A) → given ≡ both (reply_of (world_on c X l) (ready_for (versions_at rows) a (kept_current c X l s)) a))
+          (leaves : (X : Tables A) → m ≡ kept_after (world_on c X l) s a given.reply (ready_for (versions_at rows) a (kept_current c X l s))) where
         pub replied : given.reply ≡ answer h.opening h.records s a
-        replied = ap (λ (y : Answered A). y.reply) (done.0 []) ∙ reply_is h l k rows held c [] p s a
+        replied = ap (λ (y : Answered A). y.reply) (answers []) ∙ reply_is h l k rows held c [] p s a
 
         pub recorded_so : given.recorded ≡ given.reply
-        recorded_so = ap (λ (y : Answered A). y.recorded) (done.0 []) ∙ sym (ap (λ (y : Answered A). y.reply) (done.0 []))
+        recorded_so = ap (λ (y : Answered A). y.recorded) (answers []) ∙ sym (ap (λ (y : Answered A). y.reply) (answers []))
 
         pub due : given.reply ≡ reply_in (w h l k) s a
         unfolding answer
@@ -130,7 +127,7 @@ module _ {A : Type 0} where
         world_is = run_push (start h.opening) h.records (event given.recorded) ∙ ap (λ g. follows (w h l k) (event g)) (recorded_so ∙ due)
 
         after : After h l k s a fits m
-        after = subst (After h l k s a fits) (sym (done.1 [] ∙ ap (λ g. kept_after (world_on c [] l) s a g (ready_for (versions_at rows) a (kept_current c [] l s))) due))
+        after = subst (After h l k s a fits) (sym (leaves [] ∙ ap (λ g. kept_after (world_on c [] l) s a g (ready_for (versions_at rows) a (kept_current c [] l s))) due))
             (comes_after h l k s a fits c [] p (versions_at rows) (λ t e. has_own h l k rows held s t e))
 
         pub kept_now : IsKept (recorded h s a given.recorded) m

@@ -51,10 +51,10 @@ module _ {A : Type 0} where
   -- ---- the next transaction may be kept
 
   module _ (h : Recorded A) (l : Ledger A) (k : IsKept h l) where
-    next : ℕ
+    abbrev pub next : ℕ
     next = (w h l k).base.transactions + length (w h l k).txns + 1
 
-    more : ℕ → Bool
+    abbrev pub more : ℕ → Bool
     more i = (r h l k).keep i || eqb i next
 
     same_kept : kept_of more (w h l k).txns ≡ kept_of (r h l k).keep (w h l k).txns
@@ -85,7 +85,8 @@ module _ {A : Type 0} where
       room = k.room;
     }
 
-    pub next_kept : more next ≡ true
+    pub next_kept : widened.represents.keep next ≡ true
+    unfolding widened
     next_kept = or_right ((r h l k).keep next) (eqb next next) (eq-eqb next next refl)
 
   -- ---- an event
@@ -116,14 +117,17 @@ module _ {A : Type 0} where
         ∙ ap (filter (is_living next_world.txns)) (r h l k).exports
         ∙ filter-kept (is_living next_world.txns) (is_living old.txns) old.exports (λ y i. (begun_lived y (exporters_begun h.opening h.records k.legal y i)).1)
 
+    keeps_next : (r h l k).keep (old.base.transactions + length old.txns + 1) ≡ true → Keeps next_world (r h l k).oldest (r h l k).keep
+    keeps_next new = record {
+      oldest = oldest_later h.opening h.records k.legal s a (r h l k).oldest allowed (r h l k).keeps.oldest (r h l k).seen;
+      needed = needed_later h.opening h.records k.legal s a (r h l k).oldest (r h l k).keep allowed (r h l k).keeps new;
+    }
+
     pub represents_next : (m : Ledger A) → (r h l k).keep (old.base.transactions + length old.txns + 1) ≡ true → Becomes (r h l k).keep old next_world l m → Represents next_world m
     represents_next m new b = record {
       oldest = (r h l k).oldest;
       keep = (r h l k).keep;
-      keeps = record {
-        oldest = oldest_later h.opening h.records k.legal s a (r h l k).oldest allowed (r h l k).keeps.oldest (r h l k).seen;
-        needed = needed_later h.opening h.records k.legal s a (r h l k).oldest (r h l k).keep allowed (r h l k).keeps new;
-      };
+      keeps = keeps_next new;
       seen = let p = (r h l k).seen in let q = commits_later h.opening h.records k.legal s a allowed in omega (arith, p, q);
       txns = b.txns;
       exports =
@@ -150,7 +154,7 @@ module _ {A : Type 0} where
     pub committed_next : (m : Ledger A) → (r h l k).keep (old.base.transactions + length old.txns + 1) ≡ true → Becomes (r h l k).keep old next_world l m → committed_at m.place m.txns ≡ committed_at next_world.place next_world.txns
     committed_next m new b =
         ap (λ n. committed_at n m.txns) b.place ∙ ap (committed_at next_world.place) b.txns ∙ at-kept next_world.place (kept_of (r h l k).keep next_world.txns)
-        ∙ committed_alike next_world (good_next h.opening h.records k.legal s a allowed) (r h l k).oldest (r h l k).keep (represents_next m new b).keeps
+        ∙ committed_alike next_world (good_next h.opening h.records k.legal s a allowed) (r h l k).oldest (r h l k).keep (keeps_next new)
         (λ x i d e. last_kept h.opening h.records k.legal s a allowed (r h l k).oldest (r h l k).keep (r h l k).keeps x i d (e ∙ follows_place old event))
 
     -- It represents the world that the history has come to with the event, and has what that committed, with its key.

@@ -68,7 +68,7 @@ module _ {A : Type 0} where
   -- ---- and those that are kept have what the last event committed, with its key
 
   -- It holds of the world v after an event, n being the oldest snapshot before it: what committed last may be kept, and reads from n on, if it writes.
-  pub NewIsKept : World A → ℕ → (ℕ → Bool) → Type 0
+  abbrev pub NewIsKept : World A → ℕ → (ℕ → Bool) → Type 0
   NewIsKept v n keep = (x : Txn A) → In x v.txns → is_done x.standing ≡ true → x.end ≡ v.place → (keep x.number ≡ true) × (is_read_write x.mode ≡ true → n ≤ x.snapshot)
 
   pub committed_alike : (v : World A) → IsGood v → (n : ℕ) (keep : ℕ → Bool) → Keeps v n keep → NewIsKept v n keep → committed_at v.place (kept_of keep v.txns) ≡ committed_at v.place v.txns

@@ -11,7 +11,7 @@ use Rattle.serial.proofs.NeededLater.{shrunk}
 use Rattle.serial.proofs.NeededRaised.{least_is, least_kept, raised}
 use Rattle.serial.proofs.SafePrefix.{all_by, by_all}
 use Rattle.mvrows.specs.Versions.{VersionedRows, TablesAreBelow}
-use Rattle.plain.specs.Forgetting.{IsThinned, oldest}
+use Rattle.plain.specs.Forgetting.{IsThinned, holds_back, oldest}
 use Rattle.plain.specs.Ledger.{Ledger, kept}
 use Rattle.plain.specs.Versions.{AreCurrent, least_snapshot, lowest, next_commit}
 use Rattle.session.specs.Core.{HoldsRows, IsKept}
@@ -35,16 +35,13 @@ module _ {A : Type 0} where
     abbrev ts : List (Txn A)
     ts = kept_of (r h l k).keep old.txns
 
-    waits : Txn A → Bool
-    waits u = is_open u.standing && not (is_safe_reader u)
-
     is_oldest : IsOldest old n
-    is_oldest = all_by _ old.txns (λ u i o s. least_of waits l.base.commits l.txns (kept u) (owed_in h l k u i (open_owed u.standing o)) (and_true (is_open u.standing) (not (is_safe_reader u)) o (ap not s)))
+    is_oldest = all_by _ old.txns (λ u i o s. least_of holds_back l.base.commits l.txns (kept u) (owed_in h l k u i (open_owed u.standing o)) (and_true (is_open u.standing) (not (is_safe_reader u)) o (ap not s)))
 
     older : (r h l k).oldest ≤ n
-    older = least_from waits l.base.commits l.txns (r h l k).oldest (let p = (r h l k).seen in let q = (r h l k).commits in omega (arith, p, q)) (λ u i e. from u (subst (In u) (r h l k).txns i) e)
+    older = least_from holds_back l.base.commits l.txns (r h l k).oldest (let p = (r h l k).seen in let q = (r h l k).commits in omega (arith, p, q)) (λ u i e. from u (subst (In u) (r h l k).txns i) e)
       where
-        from : (u : Txn A) → In u (map kept ts) → waits u ≡ true → (r h l k).oldest ≤ u.snapshot
+        from : (u : Txn A) → In u (map kept ts) → holds_back u ≡ true → (r h l k).oldest ≤ u.snapshot
         from u i e = go (Rattle.session.proofs.Lent.map-In kept ts u i)
           where
             both : (is_open u.standing ≡ true) × (not (is_safe_reader u) ≡ true)
@@ -66,7 +63,7 @@ module _ {A : Type 0} where
       oldest = n;
       keep = needed_numbers n old.txns;
       keeps = least_kept old n is_oldest;
-      seen = let p = least_most waits l.base.commits l.txns in let q = (r h l k).commits in omega (arith, p, q);
+      seen = let p = least_most holds_back l.base.commits l.txns in let q = (r h l k).commits in omega (arith, p, q);
       txns =
         t.txns ∙ ap (λ us. filter (is_needed n us) us) (r h l k).txns ∙ filter_map kept (is_needed n (map kept ts)) ts
         ∙ ap (map kept) (filter_alike (λ u. is_needed n (map kept ts) (kept u)) (is_needed n ts) ts (λ u i. needed_kept n ts u) ∙ shrunk old n (r h l k).keep still ∙ sym (least_is h.opening h.records k.legal n));

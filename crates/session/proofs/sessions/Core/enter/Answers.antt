@@ -25,20 +25,19 @@ invariant_of-self-2 g c =
     let l = c.self.inside.world in
     let k = c.self.invariant.0 in
     let fits = subst (λ (x : Recorded _). Allowed x.opening.catalog c.args.event.action) (sym c.self.view_is) c.requires.allowed in
-    let done = (c.in_ok-answered.ensures.reply, c.in_ok-answered.ensures.world) in
     rw c.push.ensures (
-      kept_now h l k c.self.inside.rows c.self.invariant.2 c.args.event.session c.args.event.action c.catalog.result.now c.catalog.ensures fits c.in_ok-answered.answered c.step.new.self done,
-      keys_now h l k c.self.inside.rows c.self.invariant.2 c.args.event.session c.args.event.action c.catalog.result.now c.catalog.ensures fits c.in_ok-answered.answered c.step.new.self done
+      kept_now h l k c.self.inside.rows c.self.invariant.2 c.args.event.session c.args.event.action c.catalog.result.now c.catalog.ensures fits c.in_ok-answered.answered c.step.new.self c.in_ok-answered.ensures.reply c.in_ok-answered.ensures.world,
+      keys_now h l k c.self.inside.rows c.self.invariant.2 c.args.event.session c.args.event.action c.catalog.result.now c.catalog.ensures fits c.in_ok-answered.answered c.step.new.self c.in_ok-answered.ensures.reply c.in_ok-answered.ensures.world
       c.self.inside.keys.items c.add_last.new.keys.items (vec_capacity c.self.inside.keys) (vec_capacity c.add_last.new.keys) c.self.invariant.1 (subst HasRoom (sym c.self.view_is) c.requires.room)
       c.add_last.ensures.keys c.add_last.ensures.few c.add_last.ensures.room,
-      rows_now h l k c.self.inside.rows c.self.invariant.2 c.args.event.session c.args.event.action c.catalog.result.now c.catalog.ensures fits c.in_ok-answered.answered c.step.new.self done c.step.new.rows c.in_ok-answered.ensures.rows,
+      rows_now h l k c.self.inside.rows c.self.invariant.2 c.args.event.session c.args.event.action c.catalog.result.now c.catalog.ensures fits c.in_ok-answered.answered c.step.new.self c.in_ok-answered.ensures.reply c.in_ok-answered.ensures.world c.step.new.rows c.in_ok-answered.ensures.rows,
     )
 
 pub returns-clause-reply : goal.returns-clause-reply
 returns-clause-reply g c =
     let fits = subst (λ (x : Recorded _). Allowed x.opening.catalog c.args.event.action) (sym c.self.view_is) c.requires.allowed in
     replied c.self.inside.history c.self.inside.world c.self.invariant.0 c.self.inside.rows c.self.invariant.2 c.args.event.session c.args.event.action c.catalog.result.now c.catalog.ensures fits
-    c.in_ok-answered.answered c.step.new.self (c.in_ok-answered.ensures.reply, c.in_ok-answered.ensures.world)
+    c.in_ok-answered.answered c.step.new.self c.in_ok-answered.ensures.reply c.in_ok-answered.ensures.world
     ∙ ap (λ (x : Recorded _). answer x.opening x.records c.args.event.session c.args.event.action) c.self.view_is
 
 pub returns-clause-history : goal.returns-clause-history
@@ -47,5 +46,5 @@ returns-clause-history g c =
     c.push.ensures
     ∙ ap (λ y. recorded c.self.inside.history c.args.event.session c.args.event.action y)
     (recorded_so c.self.inside.history c.self.inside.world c.self.invariant.0 c.self.inside.rows c.self.invariant.2 c.args.event.session c.args.event.action c.catalog.result.now c.catalog.ensures fits
-    c.in_ok-answered.answered c.step.new.self (c.in_ok-answered.ensures.reply, c.in_ok-answered.ensures.world))
+    c.in_ok-answered.answered c.step.new.self c.in_ok-answered.ensures.reply c.in_ok-answered.ensures.world)
     ∙ ap (λ (x : Recorded _). recorded x c.args.event.session c.args.event.action c.in_ok-answered.answered.reply) c.self.view_is
