@@ -1,18 +1,17 @@
 -- The serial key of a committed transaction, from the transactions that matter alone.
-use Rattle.std.proofs.Common.{◌≡◌, refl, sym, ap, subst, ◌∙◌, ℕ, ◌+◌, ◌<◌, ◌≤◌, Bool, true, false, true≢false, cond, not, ◌&&◌, ◌⊎◌, inl, inr, List, [], ◌∷◌, ◌++◌, eqb, Option, Some, None, nat_lt, arith}
+use Rattle.std.proofs.Common.{◌≡◌, refl, sym, ap, subst, ◌∙◌, ℕ, ◌+◌, ◌<◌, ◌≤◌, Bool, true, false, true≢false, cond, not, ◌&&◌, ◌⊎◌, inl, inr, List, [], ◌∷◌, eqb, Option, Some, None, nat_lt, arith}
 use Rattle.std.proofs.lemmas.Bool.Decides.{nat_tests}
 use Rattle.std.specs.List.{filter}
 use Rattle.value.specs.Isolation.{first_part, serial_key, write_key}
 use Rattle.value.proofs.IsolationLemmas.{In}
 use Rattle.value.proofs.SerialLemmas.{In-append}
 use Rattle.conflict.proofs.Lists.{In-filter, and_true, both_true, clash, filter-filter, or_left, or_right}
-use Rattle.statement.specs.declared.reply.Reply.{Reply}
 use Rattle.history.specs.declared.event.Action.{Action}
 use Rattle.history.specs.declared.event.Action.TheVariants.{Begin}
 use Rattle.history.specs.declared.event.Record.{Record}
 use Rattle.history.specs.Opening.{Opening}
 use Rattle.history.specs.Transactions.{Standing, Open, Doomed, Failed, Aborted, Done, Txn, World, current, edge, is_done, is_open, is_owed, is_read_write, node}
-use Rattle.history.specs.Events.{begun, causes, doomed_by, followed, follows, numbered, replaced, settled, told, turned_from, world_of}
+use Rattle.history.specs.Events.{begun, causes, followed, follows, numbered, replaced, settled, told, turned_from, world_of}
 use Rattle.history.specs.Answer.{Allowed, Legal, open_reply, reply_from, reply_in, reply_of}
 use Rattle.history.specs.Needed.{Keeps, is_needed, kept_of}
 use Rattle.serial.proofs.Legal.{current_in, legal_steps, open_move, settled_is, told_is}

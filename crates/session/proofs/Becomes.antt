@@ -1,9 +1,7 @@
 -- What one event makes of what is kept, beside what it makes of the world.
-use Rattle.std.proofs.Common.{◌≡◌, refl, sym, ap, ◌∙◌, ℕ, suc, ◌+◌, ◌≤◌, Bool, true, false, cond, inl, inr, ◌⊎◌, List, [], ◌∷◌, ◌++◌, length, length-append, map, Option, Some, None, arith}
-use Rattle.std.proofs.lemmas.Bool.{eq-eqb}
+use Rattle.std.proofs.Common.{◌≡◌, refl, sym, ap, ◌∙◌, ℕ, ◌+◌, Bool, true, cond, List, [], ◌∷◌, ◌++◌, length, length-append, map, Option, Some, None, arith}
 use Rattle.std.proofs.lemmas.List.{append-nil}
 use Rattle.std.proofs.lemmas.List.Elements.{filter-append}
-use Rattle.std.specs.List.{filter}
 use Rattle.std.specs.Option.{option_map}
 use Rattle.value.specs.declared.refusal.Mode.{Mode}
 use Rattle.value.proofs.IsolationLemmas.{In}
@@ -12,20 +10,19 @@ use Rattle.statement.specs.declared.reply.Reply.{Reply}
 use Rattle.statement.specs.declared.reply.Reply.TheVariants.{Begun}
 use Rattle.history.specs.declared.event.Action.{Action}
 use Rattle.history.specs.declared.event.Action.TheVariants.{Begin}
-use Rattle.history.specs.declared.event.Record.{Record}
 use Rattle.history.specs.Opening.{Recorded}
 use Rattle.history.specs.Transactions.{Txn, World, Exported_snapshot, commits, current}
-use Rattle.history.specs.Events.{begun, causes, doomed_by, exports_after, followed, log_after, replaced, turned, txns_after, without_transaction}
+use Rattle.history.specs.Events.{begun, causes, exports_after, followed, replaced, turned, txns_after, without_transaction}
 use Rattle.history.specs.Needed.{kept_of}
 use Rattle.serial.proofs.Dooms.{length-doomed}
 use Rattle.serial.proofs.EndsSeen.{ends_seen}
 use Rattle.serial.proofs.Lowest.{HasBegun}
 use Rattle.serial.proofs.Numbers.{length-replaced}
 use Rattle.serial.proofs.NeededEvents.{exports_alike, log_alike, txns_alike}
-use Rattle.plain.specs.Ledger.{Ledger, after_owned, counted, kept, kept_after, ready, ready_for}
+use Rattle.plain.specs.Ledger.{Ledger, after_owned, kept, kept_after, ready, ready_for}
 use Rattle.session.specs.Core.{IsKept}
 use Rattle.session.proofs.Kept.{HasOwn, counted_rest, length_map, same_counted, same_exports, same_turned_all}
-use Rattle.session.proofs.Lent.{good, lent, like, owed_of, r, thinned, thinned_current, w}
+use Rattle.session.proofs.Lent.{good, lent, like, owed_of, r, thinned, w}
 
 module _ {A : Type 0} where
   -- u and m are what an event makes of the world w and of what is kept of it, l.
@@ -72,10 +69,10 @@ module _ {A : Type 0} where
       world_exports = sym (exports_alike keep now t a g) ∙ x.2;
       exporters = λ y j. let p = x.3 y j in let q = (good h l k).numbered.bounded t (owed_of h l k s t e).0 in omega (arith, p, q);
       transactions =
-        let p = (counted_rest thin_now X l.base l.exports tables (like h l k X) (ready tables a (kept t)) a g).0 in
-        let n = ap length same ∙ length_map kept (txns_after thin_now a g t) ∙ length-after thin_now a g t ∙ sym same_length in
-        let m = length-after now a g t in
-        let c = (r h l k).transactions in omega (arith, p, n, m, c);
+          let p = (counted_rest thin_now X l.base l.exports tables (like h l k X) (ready tables a (kept t)) a g).0 in
+          let n = ap length same ∙ length_map kept (txns_after thin_now a g t) ∙ length-after thin_now a g t ∙ sym same_length in
+          let m = length-after now a g t in
+          let c = (r h l k).transactions in omega (arith, p, n, m, c);
       counted = same_counted thin_now X l.base l.exports tables (like h l k X) t a g ∙ ap (λ ts. now.base.commits + length ts) (log_alike keep now t a g);
       identifiers = ((counted_rest thin_now X l.base l.exports tables (like h l k X) (ready tables a (kept t)) a g).1, refl);
       place = refl;
@@ -101,10 +98,10 @@ module _ {A : Type 0} where
       world_exports = sym (append-nil now.exports);
       exporters = λ y j. absurd j;
       transactions =
-        let p = length-append {A = Txn A} (map kept (kept_of keep now.txns)) (kept (begun v s m) ∷ []) in
-        let q = length-append {A = Txn A} now.txns (begun now s m ∷ []) in
-        let n = ap length (r h l k).txns in
-        let c = (r h l k).transactions in omega (arith, p, q, n, c);
+          let p = length-append {A = Txn A} (map kept (kept_of keep now.txns)) (kept (begun v s m) ∷ []) in
+          let q = length-append {A = Txn A} now.txns (begun now s m ∷ []) in
+          let n = ap length (r h l k).txns in
+          let c = (r h l k).transactions in omega (arith, p, q, n, c);
       counted = (r h l k).commits;
       identifiers = (refl, refl);
       place = refl;

@@ -1,5 +1,5 @@
 -- A step of the core, from what it keeps.
-use Rattle.std.proofs.Common.{◌≡◌, ◌==◌, refl, sym, ap, subst, ◌∙◌, ℕ, suc, ◌+◌, ◌^◌, ◌<◌, ◌≤◌, true, Bool, false, cond, not, ◌&&◌, ◌||◌, nat_le, true≢false, inl, inr, Result, Ok, Err, List, [], ◌∷◌, ◌++◌, length, map, Option, Some, None, arith}
+use Rattle.std.proofs.Common.{◌≡◌, ◌==◌, refl, sym, ap, subst, ◌∙◌, ℕ, suc, ◌+◌, ◌^◌, ◌<◌, ◌≤◌, true, Bool, false, cond, not, ◌&&◌, ◌||◌, nat_le, true≢false, inl, inr, Result, Ok, Err, List, [], ◌∷◌, ◌++◌, length, map, arith}
 use Rattle.std.specs.List.{filter, list_all}
 use Rattle.std.specs.Option.{option_to_list}
 use Rattle.std.specs.Result.{IfOk, IfErr}
@@ -23,7 +23,7 @@ use Rattle.history.specs.declared.event.Action.{Action}
 use Rattle.history.specs.declared.event.Record.{Record}
 use Rattle.history.specs.declared.key.SerialKey.{SerialKey}
 use Rattle.history.specs.Opening.{Opening, Recorded}
-use Rattle.history.specs.Transactions.{Txn, World, commits, current, is_owed, is_quiet, tables_at}
+use Rattle.history.specs.Transactions.{Txn, World, commits, is_owed, is_quiet, tables_at}
 use Rattle.history.specs.Events.{follows, run, start, world}
 use Rattle.history.specs.Checkpoint.{base_after, opening_after}
 use Rattle.history.specs.Serial.{keys_by_commit}
@@ -142,7 +142,7 @@ module _ {A : Type 0} where
         rows_now more stay = record {
           current = stay.current;
           shown = λ n above. shown_next h l k s a fits rows held m more after.0 c [] p
-            (subst (λ g. StayShown l rows (committed_by a g (kept_current c [] l s)) m more) due stay) n above ∙ sym (ap (λ (v : World A). tables_at v n) world_is);
+              (subst (λ g. StayShown l rows (committed_by a g (kept_current c [] l s)) m more) due stay) n above ∙ sym (ap (λ (v : World A). tables_at v n) world_is);
         }
 
         -- what the event committed
@@ -163,7 +163,7 @@ module _ {A : Type 0} where
             → map keyed more ≡ map keyed ks ++ cond (is_commit a) (option_to_list (committed_at m.place m.txns)) [] → length more ≤ length ks + 1 → capacity ≡ room → HoldsKeys (recorded h s a given.recorded) more capacity
         keys_now ks more room capacity keys few e n q = record {
           keys = e ∙ ap (λ xs. map keyed ks ++ xs) by_commit ∙ ap (λ xs. xs ++ option_to_list (committed_at m.place m.txns)) keys.keys ∙ ap (λ o. keys_by_commit (w h l k) ++ option_to_list o) last_is
-            ∙ sym (keys_push h.opening h.records (event given.recorded) kept_now.legal (ap (λ (v : World A). v.place) world_is ∙ follows_place (w h l k) (event (reply_in (w h l k) s a))));
+              ∙ sym (keys_push h.opening h.records (event given.recorded) kept_now.legal (ap (λ (v : World A). v.place) world_is ∙ follows_place (w h l k) (event (reply_in (w h l k) s a))));
           few = let i : length (h.records ++ event given.recorded ∷ []) ≡ length h.records + 1 = length_push h.records (event given.recorded) in let j = keys.few in omega (arith, i, j, n);
           room = let j = keys.room in omega (arith, j, q);
         }

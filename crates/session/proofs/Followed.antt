@@ -1,5 +1,5 @@
 -- What is kept after an event represents the world after it.
-use Rattle.std.proofs.Common.{◌≡◌, refl, sym, ap, subst, ◌∙◌, ℕ, ◌+◌, ◌≤◌, Bool, true, false, ◌||◌, inl, inr, ◌⊎◌, List, [], ◌∷◌, ◌++◌, length, length-append, map, eqb, Option, Some, None, arith}
+use Rattle.std.proofs.Common.{◌≡◌, refl, sym, ap, subst, ◌∙◌, ℕ, ◌+◌, ◌≤◌, Bool, true, false, ◌||◌, inl, inr, ◌⊎◌, ◌++◌, length, length-append, map, eqb, Option, Some, None, arith}
 use Rattle.std.proofs.lemmas.Bool.{eqb-true, eq-eqb}
 use Rattle.std.proofs.lemmas.List.Elements.{filter-append}
 use Rattle.std.specs.List.{filter}
@@ -13,12 +13,12 @@ use Rattle.statement.specs.declared.reply.Reply.{Reply}
 use Rattle.history.specs.declared.event.Action.{Action}
 use Rattle.history.specs.declared.event.Record.{Record}
 use Rattle.history.specs.Opening.{Recorded}
-use Rattle.history.specs.Transactions.{Txn, World, Exported_snapshot, commits, current, is_living, is_owed}
+use Rattle.history.specs.Transactions.{Txn, World, Exported_snapshot, current, is_living}
 use Rattle.history.specs.Events.{follows, followed, without_transaction}
 use Rattle.history.specs.declared.event.Action.TheVariants.{Begin}
 use Rattle.statement.specs.declared.reply.Reply.TheVariants.{Begun}
 use Rattle.history.specs.Answer.{Allowed, reply_in}
-use Rattle.history.specs.Needed.{IsOldest, Keeps, is_needed, kept_of}
+use Rattle.history.specs.Needed.{Keeps, is_needed, kept_of}
 use Rattle.serial.proofs.Lowest.{HasBegun, commits_later, exporters_begun, lived_before}
 use Rattle.serial.proofs.NeededFrom.{oldest_later}
 use Rattle.serial.proofs.NeededKeys.{good_next, last_kept}
@@ -131,15 +131,15 @@ module _ {A : Type 0} where
       seen = let p = (r h l k).seen in let q = commits_later h.opening h.records k.legal s a allowed in omega (arith, p, q);
       txns = b.txns;
       exports =
-        ap (filter lives) b.exports ∙ filter-append lives l.exports b.more ∙ ap (λ ys. ys ++ filter lives b.more) still
-        ∙ sym (filter-append lives old.exports b.more) ∙ sym (ap (filter lives) b.world_exports);
+          ap (filter lives) b.exports ∙ filter-append lives l.exports b.more ∙ ap (λ ys. ys ++ filter lives b.more) still
+          ∙ sym (filter-append lives old.exports b.more) ∙ sym (ap (filter lives) b.world_exports);
       exporters = all_by _ m.exports (λ y i. (begun_lived y (from y (In-append y l.exports b.more (subst (In y) b.exports i)))).0);
       transactions = b.transactions;
       commits = b.counted;
       identifiers =
-        let p = ap length b.exports ∙ length-append l.exports b.more in
-        let q = ap length b.world_exports ∙ length-append old.exports b.more in
-        let c = (r h l k).identifiers in omega (arith, p, q, c, b.identifiers.0, b.identifiers.1);
+          let p = ap length b.exports ∙ length-append l.exports b.more in
+          let q = ap length b.world_exports ∙ length-append old.exports b.more in
+          let c = (r h l k).identifiers in omega (arith, p, q, c, b.identifiers.0, b.identifiers.1);
       place = b.place;
     }
       where

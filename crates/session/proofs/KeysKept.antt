@@ -1,20 +1,13 @@
 -- The key of what an event commits, from what is kept.
-use Rattle.std.proofs.Common.{◌≡◌, refl, sym, ap, subst, ◌∙◌, ℕ, ◌+◌, ◌≤◌, ◌&&◌, ◌==◌, Bool, true, false, true≢false, cond, not, ◌⊎◌, inl, inr, List, [], ◌∷◌, map, min, nat_lt, eqb, Option, Some, None, arith}
+use Rattle.std.proofs.Common.{◌≡◌, refl, sym, ap, ◌∙◌, ℕ, ◌≤◌, ◌&&◌, ◌==◌, Bool, true, false, cond, List, [], ◌∷◌, map, min, nat_lt, Option, Some, None}
 use Rattle.std.proofs.lemmas.Bool.{eqb-true}
 use Rattle.std.specs.List.{filter, find}
 use Rattle.std.specs.Option.{option_map}
 use Rattle.value.specs.Isolation.{first_part, serial_key, write_key}
 use Rattle.value.proofs.IsolationLemmas.{In}
-use Rattle.conflict.proofs.Lists.{both_true, clash, filter-In, find-alike, find-In, find-kept, is_false}
-use Rattle.statement.specs.declared.reply.Reply.{Reply}
-use Rattle.history.specs.declared.event.Action.{Action}
-use Rattle.history.specs.declared.event.Record.{Record}
-use Rattle.history.specs.Opening.{Recorded}
-use Rattle.history.specs.Transactions.{Txn, World, current, edge, is_done, is_open, is_owed, is_read_write, node}
-use Rattle.history.specs.Events.{causes, doomed_by, followed, follows, replaced, turned, turned_from, txns_after, without_transaction}
-use Rattle.history.specs.Answer.{Allowed, reply_in}
-use Rattle.history.specs.Needed.{Keeps, is_needed, is_safe_reader, kept_of}
-use Rattle.serial.proofs.SafePrefix.{by_all}
+use Rattle.conflict.proofs.Lists.{both_true, clash, find-alike, find-In, is_false}
+use Rattle.history.specs.Transactions.{Txn, World, edge, is_done, is_read_write, node}
+use Rattle.history.specs.Needed.{Keeps, kept_of}
 use Rattle.serial.proofs.SerialTheorem.{IsGood}
 use Rattle.serial.proofs.NeededKeys.{same_key}
 use Rattle.plain.specs.Keys.{committed_at}

@@ -1,5 +1,5 @@
 -- The least snapshot of those that pass a test.
-use Rattle.std.proofs.Common.{◌≡◌, refl, sym, ap, subst, ◌∙◌, ℕ, ◌≤◌, Bool, true, false, cond, min, inl, inr, ◌⊎◌, List, [], ◌∷◌, arith}
+use Rattle.std.proofs.Common.{◌≡◌, refl, ap, ◌∙◌, ℕ, ◌≤◌, Bool, true, false, cond, min, inl, inr, ◌⊎◌, List, [], ◌∷◌, arith}
 use Rattle.std.proofs.Math.Nat.{min-le_left, min-le_right}
 use Rattle.value.proofs.IsolationLemmas.{In}
 use Rattle.conflict.proofs.Lists.{clash}

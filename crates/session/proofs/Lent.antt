@@ -1,5 +1,5 @@
 -- What is kept of a legal history's world answers as the world does.
-use Rattle.std.proofs.Common.{◌≡◌, refl, sym, ap, subst, ◌∙◌, ℕ, ◌+◌, ◌<◌, ◌≤◌, Bool, true, false, true≢false, cond, ◌&&◌, ◌⊎◌, inl, inr, Result, Ok, Err, List, [], ◌∷◌, length, map, eqb, Option, Some, None, arith}
+use Rattle.std.proofs.Common.{◌≡◌, refl, sym, ap, subst, ◌∙◌, ℕ, ◌+◌, Bool, true, false, true≢false, cond, ◌&&◌, ◌⊎◌, inl, inr, Result, Ok, Err, List, [], ◌∷◌, map, eqb, Option, Some, None, arith}
 use Rattle.std.specs.List.{filter, find}
 use Rattle.std.specs.Option.{option_map}
 use Rattle.value.specs.declared.refusal.Code.TheVariants as code
@@ -18,7 +18,7 @@ use Rattle.statement.proofs.HeldLemmas.{held_sound}
 use Rattle.history.specs.declared.event.Action.{Action}
 use Rattle.history.specs.declared.event.Action.TheVariants.{Run}
 use Rattle.history.specs.Opening.{Recorded}
-use Rattle.history.specs.Transactions.{Standing, Open, Doomed, Failed, Aborted, Done, Txn, World, Exported_snapshot, current, edge, exported, is_living, is_of, is_open, is_owed, must_wait, node, tables_at}
+use Rattle.history.specs.Transactions.{Standing, Open, Doomed, Failed, Aborted, Done, Txn, World, Exported_snapshot, current, edge, is_living, is_open, is_owed, must_wait, node, tables_at}
 use Rattle.history.specs.Events.{numbered, replaced, start, world}
 use Rattle.history.specs.Answer.{answer, committing, reader_answer, reader_from, reader_of, reply_of, view_answer, view_from, view_of}
 use Rattle.history.specs.Needed.{HoldCommitter, kept_of, thin}
@@ -33,7 +33,7 @@ use Rattle.serial.proofs.NeededWorld.{replies_kept}
 use Rattle.mvrows.specs.Versions.{VersionedRows, shown}
 use Rattle.plain.specs.Ledger.{Ledger, kept, kept_current, ready_for, with_own, world_on}
 use Rattle.plain.specs.Runs.{HoldsCommitter, HoldsCurrent, IsFoundFor}
-use Rattle.plain.specs.Versions.{least_snapshot, lowest, versions_at}
+use Rattle.plain.specs.Versions.{versions_at}
 use Rattle.plain.specs.Views.{reader_on, view_at, view_on}
 use Rattle.session.specs.Core.{HoldsRows, IsFoundReply, IsKept}
 use Rattle.session.specs.Kept.{Represents}
@@ -110,9 +110,9 @@ module _ {A : Type 0} where
       commits = omega (arith, r.commits);
       next = ap (λ n. n + 1) r.identifiers;
       exported = λ n.
-        find_same _ _ (λ x. ap (λ b. eqb x.id n && b) (living_is x)) l.exports
-        ∙ sym (sought n l.exports) ∙ ap (find (λ x. eqb x.id n && is_living w.txns x)) r.exports ∙ sought n w.exports
-        ∙ sym (find_same (λ x. eqb x.id n && is_living (kept_of r.keep w.txns) x) (λ x. eqb x.id n && is_living w.txns x) (λ x. ap (λ b. eqb x.id n && b) (living_of_kept w r.oldest r.keep r.keeps x)) w.exports);
+          find_same _ _ (λ x. ap (λ b. eqb x.id n && b) (living_is x)) l.exports
+          ∙ sym (sought n l.exports) ∙ ap (find (λ x. eqb x.id n && is_living w.txns x)) r.exports ∙ sought n w.exports
+          ∙ sym (find_same (λ x. eqb x.id n && is_living (kept_of r.keep w.txns) x) (λ x. eqb x.id n && is_living w.txns x) (λ x. ap (λ b. eqb x.id n && b) (living_of_kept w r.oldest r.keep r.keeps x)) w.exports);
     }
 
     pub thinned_current : (s : ℕ) → current thinned s ≡ current w s

@@ -1,5 +1,5 @@
 -- The tables after an event: those before it, and from the number of a commit on with its changes put in.
-use Rattle.std.proofs.Common.{◌≡◌, refl, sym, ap, subst, ◌∙◌, ℕ, ◌+◌, ◌-◌, ◌<◌, ◌≤◌, Bool, true, false, cond, ◌⊎◌, inl, inr, List, [], ◌∷◌, ◌++◌, length, length-append, map, take, Option, Some, None, arith}
+use Rattle.std.proofs.Common.{◌≡◌, refl, sym, ap, subst, ◌∙◌, ℕ, ◌+◌, ◌-◌, ◌≤◌, Bool, true, false, cond, ◌⊎◌, inl, inr, List, [], ◌∷◌, ◌++◌, length, length-append, take, Option, Some, None, arith}
 use Rattle.std.proofs.lemmas.List.{append-nil, take-append-le, take_all}
 use Rattle.std.specs.Option.{option_map}
 use Rattle.value.proofs.IsolationLemmas.{In}
@@ -20,12 +20,12 @@ use Rattle.history.specs.Answer.{Allowed, reply_in}
 use Rattle.history.specs.Needed.{kept_of}
 use Rattle.serial.proofs.Lowest.{commits_later, lowest_later}
 use Rattle.mvrows.specs.Versions.{VersionedRows, shown}
-use Rattle.plain.specs.Ledger.{Ledger, committed_by, kept, kept_current, world_on}
-use Rattle.plain.specs.Versions.{StayShown, least_snapshot, lowest, next_commit}
+use Rattle.plain.specs.Ledger.{Ledger, committed_by, kept, kept_current}
+use Rattle.plain.specs.Versions.{StayShown, lowest}
 use Rattle.session.specs.Core.{HoldsRows, IsKept}
 use Rattle.session.specs.Kept.{Represents}
 use Rattle.session.proofs.Least.{least_from, least_most, least_of}
-use Rattle.session.proofs.Lent.{catalog_is, lent, lent_current, lent_is, map-In, owed_in, r, w}
+use Rattle.session.proofs.Lent.{catalog_is, lent_current, lent_is, map-In, owed_in, r, w}
 
 compared : (a b : ℕ) → (a ≤ b) ⊎ (b + 1 ≤ a)
 compared a b = grind arith

@@ -1,6 +1,6 @@
 -- What is left after forgetting represents the same world.
-use Rattle.std.proofs.Common.{◌≡◌, refl, sym, ap, subst, ◌∙◌, ℕ, ◌+◌, ◌≤◌, Bool, true, false, true≢false, not, ◌&&◌, ◌||◌, List, length, map, arith}
-use Rattle.std.specs.List.{filter, list_any, AllByRecursion}
+use Rattle.std.proofs.Common.{◌≡◌, sym, ap, subst, ◌∙◌, ℕ, ◌+◌, ◌≤◌, true, false, not, ◌&&◌, ◌||◌, List, length, map, arith}
+use Rattle.std.specs.List.{filter}
 use Rattle.value.proofs.IsolationLemmas.{In}
 use Rattle.conflict.proofs.Lists.{In-filter, and_true, filter-kept, filter_alike, or_left}
 use Rattle.history.specs.Opening.{Recorded}
@@ -13,7 +13,7 @@ use Rattle.serial.proofs.SafePrefix.{all_by, by_all}
 use Rattle.mvrows.specs.Versions.{VersionedRows, TablesAreBelow}
 use Rattle.plain.specs.Forgetting.{IsThinned, holds_back, oldest}
 use Rattle.plain.specs.Ledger.{Ledger, kept}
-use Rattle.plain.specs.Versions.{AreCurrent, least_snapshot, lowest, next_commit}
+use Rattle.plain.specs.Versions.{lowest}
 use Rattle.session.specs.Core.{HoldsRows, IsKept}
 use Rattle.session.specs.Kept.{Represents}
 use Rattle.session.proofs.Kept.{any_map, filter_map}
@@ -65,11 +65,11 @@ module _ {A : Type 0} where
       keeps = least_kept old n is_oldest;
       seen = let p = least_most holds_back l.base.commits l.txns in let q = (r h l k).commits in omega (arith, p, q);
       txns =
-        t.txns ∙ ap (λ us. filter (is_needed n us) us) (r h l k).txns ∙ filter_map kept (is_needed n (map kept ts)) ts
-        ∙ ap (map kept) (filter_alike (λ u. is_needed n (map kept ts) (kept u)) (is_needed n ts) ts (λ u i. needed_kept n ts u) ∙ shrunk old n (r h l k).keep still ∙ sym (least_is h.opening h.records k.legal n));
+          t.txns ∙ ap (λ us. filter (is_needed n us) us) (r h l k).txns ∙ filter_map kept (is_needed n (map kept ts)) ts
+          ∙ ap (map kept) (filter_alike (λ u. is_needed n (map kept ts) (kept u)) (is_needed n ts) ts (λ u i. needed_kept n ts u) ∙ shrunk old n (r h l k).keep still ∙ sym (least_is h.opening h.records k.legal n));
       exports =
-        ap (filter (is_living old.txns)) (t.exports ∙ filter_alike (is_living l.txns) (is_living old.txns) l.exports (λ x i. lives x))
-        ∙ filter-kept (is_living old.txns) (is_living old.txns) l.exports (λ x i e. e) ∙ (r h l k).exports;
+          ap (filter (is_living old.txns)) (t.exports ∙ filter_alike (is_living l.txns) (is_living old.txns) l.exports (λ x i. lives x))
+          ∙ filter-kept (is_living old.txns) (is_living old.txns) l.exports (λ x i e. e) ∙ (r h l k).exports;
       exporters = all_by _ m.exports (λ x i. by_all (λ y. y.exporter ≤ old.base.transactions + length old.txns) l.exports x (r h l k).exporters (In-filter (is_living l.txns) x l.exports (subst (In x) t.exports i)).0);
       transactions = t.transactions ∙ (r h l k).transactions;
       commits = t.commits ∙ (r h l k).commits;

@@ -1,7 +1,7 @@
 -- What a core keeps of the world of its history.
-use Rattle.std.specs.Prelude.{◌≡◌, ℕ, ◌+◌, ◌≤◌, Bool, List, length, map}
+use Rattle.std.specs.Prelude.{◌≡◌, ℕ, ◌+◌, ◌≤◌, Bool, length, map}
 use Rattle.std.specs.List.{filter, AllByRecursion}
-use Rattle.history.specs.Transactions.{Txn, World, commits, is_living}
+use Rattle.history.specs.Transactions.{World, commits, is_living}
 use Rattle.history.specs.Needed.{Keeps, kept_of}
 use Rattle.plain.specs.Ledger.{Ledger, kept}
 

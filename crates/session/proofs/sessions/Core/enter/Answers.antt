@@ -1,4 +1,4 @@
-use Rattle.std.proofs.Common.{ap, subst, sym, refl, ◌∙◌, []}
+use Rattle.std.proofs.Common.{ap, subst, sym, ◌∙◌, []}
 use Rattle.std.specs.Prelude.{vec_capacity}
 use Rattle.history.specs.Opening.{Recorded}
 use Rattle.history.specs.Answer.{Allowed, answer}
@@ -28,8 +28,8 @@ invariant_of-self-2 g c =
     rw c.push.ensures (
       kept_now h l k c.self.inside.rows c.self.invariant.2 c.args.event.session c.args.event.action c.catalog.result.now c.catalog.ensures fits c.in_ok-answered.answered c.step.new.self c.in_ok-answered.ensures.reply c.in_ok-answered.ensures.world,
       keys_now h l k c.self.inside.rows c.self.invariant.2 c.args.event.session c.args.event.action c.catalog.result.now c.catalog.ensures fits c.in_ok-answered.answered c.step.new.self c.in_ok-answered.ensures.reply c.in_ok-answered.ensures.world
-      c.self.inside.keys.items c.add_last.new.keys.items (vec_capacity c.self.inside.keys) (vec_capacity c.add_last.new.keys) c.self.invariant.1 (subst HasRoom (sym c.self.view_is) c.requires.room)
-      c.add_last.ensures.keys c.add_last.ensures.few c.add_last.ensures.room,
+          c.self.inside.keys.items c.add_last.new.keys.items (vec_capacity c.self.inside.keys) (vec_capacity c.add_last.new.keys) c.self.invariant.1 (subst HasRoom (sym c.self.view_is) c.requires.room)
+          c.add_last.ensures.keys c.add_last.ensures.few c.add_last.ensures.room,
       rows_now h l k c.self.inside.rows c.self.invariant.2 c.args.event.session c.args.event.action c.catalog.result.now c.catalog.ensures fits c.in_ok-answered.answered c.step.new.self c.in_ok-answered.ensures.reply c.in_ok-answered.ensures.world c.step.new.rows c.in_ok-answered.ensures.rows,
     )
 

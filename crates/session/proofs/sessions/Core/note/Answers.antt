@@ -29,8 +29,8 @@ invariant_of-self-2 g c =
     rw c.push.ensures (
       kept_now h l k c.self.inside.rows c.self.invariant.2 c.args.session (Run c.args.statement) c.catalog.result.now c.catalog.ensures fits c.in_ok-answered.answered c.record.new.self c.in_ok-answered.ensures.reply c.in_ok-answered.ensures.world,
       keys_now h l k c.self.inside.rows c.self.invariant.2 c.args.session (Run c.args.statement) c.catalog.result.now c.catalog.ensures fits c.in_ok-answered.answered c.record.new.self c.in_ok-answered.ensures.reply c.in_ok-answered.ensures.world
-      c.self.inside.keys.items c.self.inside.keys.items (vec_capacity c.self.inside.keys) (vec_capacity c.self.inside.keys) c.self.invariant.1 (subst HasRoom (sym c.self.view_is) c.requires.room)
-      (sym (append-nil (map keyed c.self.inside.keys.items))) (omega arith) refl,
+          c.self.inside.keys.items c.self.inside.keys.items (vec_capacity c.self.inside.keys) (vec_capacity c.self.inside.keys) c.self.invariant.1 (subst HasRoom (sym c.self.view_is) c.requires.room)
+          (sym (append-nil (map keyed c.self.inside.keys.items))) (omega arith) refl,
       rows_now h l k c.self.inside.rows c.self.invariant.2 c.args.session (Run c.args.statement) c.catalog.result.now c.catalog.ensures fits c.in_ok-answered.answered c.record.new.self c.in_ok-answered.ensures.reply c.in_ok-answered.ensures.world c.self.inside.rows c.in_ok-answered.ensures.rows,
     )
 
