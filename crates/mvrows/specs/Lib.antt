@@ -1,4 +1,6 @@
 pub mod Commits
+pub mod Copied
+pub mod Fresh
 pub mod Held
 pub mod HeldRows
 pub mod Installing

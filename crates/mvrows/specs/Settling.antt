@@ -1,14 +1,20 @@
 -- What a commit leaves of the keys that it changes, when no snapshot below a number will be read any more.
 -- Source: PostgreSQL manual, Routine Vacuuming, on recovering disk space.
-use Rattle.std.specs.Prelude.{ℕ, if◌then◌else◌, List, [], ◌∷◌, slice_set}
+use Rattle.std.specs.Prelude.{ℕ, if◌then◌else◌, Option, IfSome, List, [], ◌∷◌, find, slice_set}
+use Rattle.std.specs.List.{AllByRecursion}
 use Rattle.std.specs.Ordering.{match_ordering}
 use Rattle.value.specs.Order.{value_cmp}
 use Rattle.value.specs.declared.value.Value.{Value}
 use Rattle.schema.specs.declared.changes.Change.{Change}
 use Rattle.mvrows.specs.Versions.{KeyVersions, VersionedRows, versions_of}
-use Rattle.mvrows.specs.Pruning.{has_version, pruned_key}
+use Rattle.schema.specs.Plain.{same}
+use Rattle.mvrows.specs.Pruning.{has_version, pruned_key, IsPruned}
 
 module _ {A : Type 0} where
+  -- a key of a table, with its versions
+  abbrev pub found : Value A → VersionedRows A → Option (KeyVersions A)
+  found key rows = find (λ k. same key k.key) rows
+
   -- a key before others, if it has a version
   abbrev pub if_version : KeyVersions A → VersionedRows A → VersionedRows A
   if_version k ks = if has_version k then k ∷ ks else ks
@@ -26,3 +32,9 @@ module _ {A : Type 0} where
   abbrev pub settled : ℕ → List (Change A) → List (VersionedRows A) → List (VersionedRows A)
   settled oldest [] tables = tables
   settled oldest (x ∷ xs) tables = settled oldest xs (settle_change oldest x tables)
+
+  -- ---- what settling leaves
+
+  -- of the key of each change at most one version isn't above the number
+  abbrev pub AreSettled : ℕ → List (Change A) → List (VersionedRows A) → Type 0
+  AreSettled oldest xs tables = AllByRecursion (λ x. IfSome (found x.key (versions_of tables x.table)) (IsPruned oldest)) xs

@@ -96,7 +96,7 @@ module _ {A : Type 0} where
   over_reply w tables _ t e = refl
 
   pub over_after : (w : World A) (tables : ℕ → Tables A) (a : Action A) (r : Reply A) (t : Txn A) → is_open t.standing ≡ false → after_owned w a r t ≡ after_owned w a r (ready tables a t)
-  over_after w tables (Run q) r t e = ap (λ x. record { base = w.base; log = w.log; txns = Rattle.history.specs.Events.replaced x w.txns; exports = w.exports; place = w.place + 1 }) (go t.standing e)
+  over_after w tables (Run q) r t e = ap (λ x. record { base = w.base; txns = Rattle.history.specs.Events.replaced x w.txns; exports = w.exports; place = w.place + 1 }) (go t.standing e)
     where
       go : (st : Standing) → is_open st ≡ false → kept (turned_from st w (Run q) r t) ≡ kept (turned_from st w (Run q) r (with_own tables t))
       go Open f = absurd (true≢false f)
