@@ -41,6 +41,10 @@ pub on_err_map : {T E : Type 0} (P Q : Type 0) (r : Result T E) → (P → Q) �
 on_err_map P Q (Ok v) f h = h
 on_err_map P Q (Err v) f h = f h
 
+pub on_if_map : {T E : Type 0} (P : Type 0) (Q : T → Type 0) (r : Result T E) → ((x : T) → P → Q x) → OnOk r P → IfOk r Q
+on_if_map P Q (Ok v) f h = f v h
+on_if_map P Q (Err v) f h = h
+
 pub is_ok_so : {T E : Type 0} (r : Result T E) → IsOk r → is_ok r ≡ true
 is_ok_so (Ok v) h = refl
 is_ok_so (Err v) h = h
