@@ -23,7 +23,7 @@ use Rattle.plain.specs.Courses.{on_course}
 use Rattle.history.specs.Needed.{HoldCommitter}
 use Rattle.plain.specs.Runs.{adds}
 use Rattle.plain.specs.Structures.{StructuresHold}
-use Rattle.plain.specs.Ledger.{Ledger, IsCounted, AreNumbered, committed_by, kept, nothing, with_own, world_on, after_owned, turned_at, txn_at}
+use Rattle.plain.specs.Ledger.{Ledger, IsCounted, AreNumbered, kept, nothing, with_own, world_on, after_owned, turned_at, txn_at}
 use Rattle.plain.proofs.LedgerLemmas.{turned_at-replaced, numbered-turned_at, length-turned_at, counted-as, counted-turned, got-turned}
 
 pub open_is : (st : Standing) → is_open st ≡ true → st ≡ Open
