@@ -1,5 +1,5 @@
 -- Versions after an event: with a commit installed, or as they were.
-use Rattle.std.proofs.Common.{◌≡◌, refl, sym, ap, subst, ◌∙◌, ℕ, ◌+◌, ◌<◌, ◌≤◌, min, Bool, true, false, cond, List, [], ◌∷◌, map, Option, Some, None, arith}
+use Rattle.std.proofs.Common.{◌≡◌, refl, sym, ap, subst, ◌∙◌, ℕ, ◌+◌, ◌≤◌, min, Bool, true, false, cond, List, [], ◌∷◌, map, Option, Some, None, arith}
 use Rattle.std.specs.Prelude.{◌==◌}
 use Rattle.std.specs.List.{find}
 use Rattle.std.proofs.lemmas.Bool.{le-leb, lt-leb}
@@ -29,7 +29,7 @@ module _ {A : Type 0} where
   -- ---- no commit
 
   pub stay-same : (l m : Ledger A) (rows more : List (VersionedRows A)) → HasSameCommits l m → more ≡ rows → AreCurrent l rows → StayShown l rows [] m more
-  stay-same l m rows more same e current = subst (StayShown l rows []) (sym e) (record {
+  stay-same l m rows more same e current = subst (λ k. StayShown l rows [] m k) (sym e) (record {
     current = record {
       order = current.order;
       below = subst (λ n. TablesAreBelow (n + 1) rows) (sym (ap (λ b. b.commits) same)) current.below;
@@ -58,7 +58,7 @@ module _ {A : Type 0} where
   installs oldest number ys xs rows more merged e order below = subst (IsInstalled oldest number xs rows) (sym e) (record {
     order = settled-in_order oldest ys (installed number ys rows) (installed-in_order number ys rows order);
     below = settled-below (number + 1) oldest ys (installed number ys rows) (installed-below (number + 1) number ys rows (omega arith) (below_more number (number + 1) rows (omega arith) below));
-    earlier = λ n from before. shown-settled oldest n ys (installed number ys rows) from ∙ shown-hidden_install n number ys rows (lt-leb n number before);
+    earlier = λ n from before. shown-settled oldest n ys (installed number ys rows) from ∙ shown-hidden_install n number ys rows (lt-leb number n before);
     later = λ n from after.
         shown-settled oldest n ys (installed number ys rows) from ∙ shown-installed n number ys rows order (le-leb number n after)
         ∙ merged.same (shown n rows) (shown_in_key_order n rows order);

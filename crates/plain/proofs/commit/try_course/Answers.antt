@@ -3,11 +3,16 @@ use Rattle.value.specs.Isolation.{first_cause}
 use Rattle.history.specs.Transactions.{edge, node}
 use Rattle.plain.specs.Courses.{on_course}
 use Rattle.plain.specs.Ledger.{turned_at}
+use Rattle.plain.proofs.CommitLemmas.{holds-turned}
 use Rattle.plain.proofs.LedgerLemmas.{length-turned_at, turned_at-again, turned_at-same}
 use Rattle.plain.proofs.commit.try_course.Goals as goal
 
-pub cause_at-requires : goal.cause_at-requires
-cause_at-requires g c = ?
+pub cause_at-cause-requires-clause-within : goal.cause_at-cause-requires-clause-within
+cause_at-cause-requires-clause-within g c = rw (c.as_slice.ensures.value, c.turn.ensures, length-turned_at) c.requires.within
+
+pub cause_at-cause-requires-clause-committer : goal.cause_at-cause-requires-clause-committer
+cause_at-cause-requires-clause-committer g c =
+    holds-turned (on_course c.args.course) c.args.transactions.now.items c.as_slice.result.now c.args.at c.requires.within (c.as_slice.ensures.value ∙ c.turn.ensures) c.requires.committer
 
 pub turn-requires-2 : goal.turn-requires-2
 turn-requires-2 g c = rw c.turn.ensures (rw length-turned_at c.requires.within)
