@@ -23,7 +23,7 @@ use Rattle.plain.specs.Courses.{on_course}
 use Rattle.history.specs.Needed.{HoldCommitter}
 use Rattle.plain.specs.Runs.{adds}
 use Rattle.plain.specs.Structures.{StructuresHold}
-use Rattle.plain.specs.Ledger.{Ledger, IsCounted, AreNumbered, committed_by, kept, nothing, with_own, world_on, after_owned, turned_at, txn_at}
+use Rattle.plain.specs.Ledger.{Ledger, IsCounted, AreNumbered, kept, nothing, with_own, world_on, after_owned, turned_at, txn_at}
 use Rattle.plain.proofs.LedgerLemmas.{turned_at-replaced, numbered-turned_at, length-turned_at, counted-as, counted-turned, got-turned}
 
 pub open_is : (st : Standing) → is_open st ≡ true → st ≡ Open
@@ -40,6 +40,10 @@ on_ok_map P Q (Err v) f h = h
 pub on_err_map : {T E : Type 0} (P Q : Type 0) (r : Result T E) → (P → Q) → OnErr r P → OnErr r Q
 on_err_map P Q (Ok v) f h = h
 on_err_map P Q (Err v) f h = f h
+
+pub on_if_map : {T E : Type 0} (P : Type 0) (Q : T → Type 0) (r : Result T E) → ((x : T) → P → Q x) → OnOk r P → IfOk r Q
+on_if_map P Q (Ok v) f h = f v h
+on_if_map P Q (Err v) f h = h
 
 pub is_ok_so : {T E : Type 0} (r : Result T E) → IsOk r → is_ok r ≡ true
 is_ok_so (Ok v) h = refl

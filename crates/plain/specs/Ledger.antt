@@ -1,5 +1,5 @@
 -- What the plain body keeps of a world: some of its transactions, without statements and tables of their own, some of its identifiers, and all numbers.
-use Rattle.std.specs.Prelude.{◌≡◌, ℕ, zero, suc, ◌+◌, ◌≤◌, ◌<◌, ◌^◌, nat_lt, Bool, false, ◌&&◌, ◌||◌, if◌then◌else◌, Option, Some, None, List, [], ◌∷◌, ◌++◌, length, map, slice_index_or}
+use Rattle.std.specs.Prelude.{ℕ, zero, suc, ◌+◌, ◌≤◌, ◌<◌, ◌^◌, nat_lt, Bool, false, ◌&&◌, ◌||◌, if◌then◌else◌, Option, Some, None, List, [], ◌∷◌, ◌++◌, length, map, slice_index_or}
 use Rattle.std.specs.List.{list_any}
 use Rattle.value.specs.declared.refusal.Mode.TheVariants.{ReadWrite}
 use Rattle.schema.specs.declared.changes.Change.{Change}

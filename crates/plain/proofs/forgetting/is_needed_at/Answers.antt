@@ -1,6 +1,5 @@
 use Rattle.std.proofs.Common.{ap, sym, ◌∙◌, ◌++◌, drop}
 use Rattle.plain.specs.Forgetting.{is_needed_among}
-use Rattle.plain.specs.Ledger.{txn_at}
 use Rattle.plain.proofs.LedgerLemmas.{txn_at-is}
 use Rattle.plain.proofs.forgetting.is_needed_at.Goals as goal
 

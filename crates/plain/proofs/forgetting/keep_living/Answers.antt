@@ -1,5 +1,5 @@
-use Rattle.std.proofs.Common.{ap, sym, ◌∙◌, ◌<◌, length, arith}
-use Rattle.std.proofs.lemmas.List.Filters.{FiltersInPlace-all, FiltersInPlace-more_no, FiltersInPlace-more_set}
+use Rattle.std.proofs.Common.{sym, ◌∙◌, ◌<◌, length, arith}
+use Rattle.std.proofs.lemmas.List.Filters.{FiltersInPlace-more_no, FiltersInPlace-more_set}
 use Rattle.plain.proofs.forgetting.keep_living.Goals as goal
 use Rattle.plain.proofs.forgetting.keep_living.Goals.{then-is_living, else-is_living}
 

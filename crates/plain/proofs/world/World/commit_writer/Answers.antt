@@ -1,6 +1,6 @@
 use Rattle.std.proofs.Common.{ap, sym, ◌∙◌, ◌+◌, ◌≡◌, map, get_or}
 use Rattle.value.specs.Isolation.{dooms}
-use Rattle.history.specs.Transactions.{Txn, node, reads_from}
+use Rattle.history.specs.Transactions.{node, reads_from}
 use Rattle.history.specs.Events.{doomed_by}
 use Rattle.plain.specs.Courses.{on_course}
 use Rattle.plain.specs.Ledger.{Ledger, turned_at, txn_at}
