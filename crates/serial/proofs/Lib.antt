@@ -24,6 +24,7 @@ mod LegalExample
 mod PivotExamples
 pub mod ViewSound
 pub mod Sourced
+pub mod Promised
 pub mod ViewSafe
 pub mod Elsewhere
 pub mod NeededStructures

@@ -2,17 +2,16 @@ use Rattle.std.proofs.Common.{◌∙◌, ℕ, sym, ap, map}
 use Rattle.value.specs.Isolation.{sorted}
 use Rattle.history.specs.Events.{world}
 use Rattle.history.specs.Serial.{committed, key}
-use Rattle.serial.proofs.SerialTheorem.{legal_serial}
 use Rattle.plain.specs.Keys.{keyed}
 use Rattle.audit.proofs.StepLemmas.{if-ok}
 use Rattle.audit.proofs.SortingLemmas.{sorted-map}
 use Rattle.audit.proofs.serial.serial_keys.Goals as goal
 
-pub returns-in_err-entries-clause-serial : goal.returns-in_err-entries-clause-serial
-returns-in_err-entries-clause-serial g c = legal_serial c.args.core.now.opening c.args.core.now.records c.is_legal.ensures
+pub returns-in_err-entries-clause-serializable : goal.returns-in_err-entries-clause-serializable
+returns-in_err-entries-clause-serializable g c = c.legal_histories_are_serializable.ensures c.args.core.now.opening c.args.core.now.records c.is_legal.ensures
 
-pub returns-clause-serial : goal.returns-clause-serial
-returns-clause-serial g c = legal_serial c.args.core.now.opening c.args.core.now.records c.is_legal.ensures
+pub returns-clause-serializable : goal.returns-clause-serializable
+returns-clause-serializable g c = c.legal_histories_are_serializable.ensures c.args.core.now.opening c.args.core.now.records c.is_legal.ensures
 
 pub returns-clause-ok : goal.returns-clause-ok
 returns-clause-ok g c =
