@@ -22,6 +22,7 @@ pub mod Play
 mod Examples
 mod LegalExample
 mod PivotExamples
+mod SourceExamples
 pub mod ViewSound
 pub mod Sourced
 pub mod Promised

@@ -1,10 +1,10 @@
 -- Every legal history is serializable.
-use Rattle.std.proofs.Common.{◌≡◌, sym, subst, ℕ, ◌≤◌, true, List, [], ◌∷◌, ◌++◌}
+use Rattle.std.proofs.Common.{◌≡◌, sym, subst, true, List, [], ◌∷◌, ◌++◌}
 use Rattle.schema.specs.Definition.{Catalog}
 use Rattle.schema.specs.Plain.{is_sound}
 use Rattle.history.specs.declared.event.Record.{Record}
 use Rattle.history.specs.Opening.{Opening}
-use Rattle.history.specs.Transactions.{World, commits, tables_at}
+use Rattle.history.specs.Transactions.{tables_at}
 use Rattle.history.specs.Events.{start, world_of}
 use Rattle.history.specs.Serial.{IsSafeReply}
 use Rattle.history.specs.Answer.{Legal}

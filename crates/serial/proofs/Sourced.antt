@@ -109,9 +109,9 @@ module _ {A : Type 0} where
 
   named : (w : World A) (t x : Txn A) (log : List (Txn A)) (exports : List Exported_snapshot) → Move w t x log exports → (y : Exported_snapshot) → In y exports → Named w t y
   named w t x log exports (Asks a) y i = elim (In-append (λ (_ : Exported_snapshot). (0, 0, 0)) y w.exports _ i) [
-      | inl j ↦ inl j
-      | inr j ↦ elim j [ inl p ↦ inr (ap (λ (v : Exported_snapshot). v.known) p, ap (λ (v : Exported_snapshot). v.taken) p, ap (λ (v : Exported_snapshot). v.snapshot) p) | inr k ↦ absurd k ]
-    ]
+    | inl j ↦ inl j
+    | inr j ↦ elim j [ inl p ↦ inr (ap (λ (v : Exported_snapshot). v.known) p, ap (λ (v : Exported_snapshot). v.taken) p, ap (λ (v : Exported_snapshot). v.snapshot) p) | inr k ↦ absurd k ]
+  ]
   named w t x log exports Stays y i = inl i
   named w t x log exports Fails y i = inl i
   named w t x log exports Aborts y i = inl i

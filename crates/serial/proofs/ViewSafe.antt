@@ -75,13 +75,18 @@ module _ {A : Type 0} where
 
     -- The source of a snapshot that is known to be safe.
     pub source : (t : Txn A) → In t w.txns → t.known ≡ true → (d : Txn A) × In d w.txns × (d.imported ≡ false) × IsSource w t d
-    source t i k = (d, found.1, found.2.own, record {
-      took_it = filter_one (λ (u : Txn A). u.number) (took t) w.txns d g.rising.rising found.1 (took_so t d found.2.own found.2.taken) only;
-      is_deferrable = found.2.deferrable;
-      is_known = found.2.known;
-      snapshot = found.2.snapshot;
-      own = λ m. sym (only t i (took_so t t m refl));
-    })
+    source t i k = (
+      d,
+      found.1,
+      found.2.own,
+      record {
+        took_it = filter_one (λ (u : Txn A). u.number) (took t) w.txns d g.rising.rising found.1 (took_so t d found.2.own found.2.taken) only;
+        is_deferrable = found.2.deferrable;
+        is_known = found.2.known;
+        snapshot = found.2.snapshot;
+        own = λ m. sym (only t i (took_so t t m refl));
+      },
+    )
       where
         g : IsGood w
         g = good_world o es legal
@@ -105,11 +110,14 @@ module _ {A : Type 0} where
       is_source = d.3;
       serializable = legal_serializable o es legal;
       state = record { tables = x; safe = (safe t t_in k).0; has_earlier = (safe d.0 d.1 d.3.is_known).1 d.2 };
-      stays = λ more l. (legal_serializable o (es ++ more) l, record {
-        tables = x ∙ sym ((legal_stays o es more l).tables t.snapshot within);
-        safe = (by_all _ w.txns t (legal_stays o es more l).safe t_in k).0;
-        has_earlier = (by_all _ w.txns d.0 (legal_stays o es more l).safe d.1 d.3.is_known).1 d.2;
-      });
+      stays = λ more l. (
+        legal_serializable o (es ++ more) l,
+        record {
+          tables = x ∙ sym ((legal_stays o es more l).tables t.snapshot within);
+          safe = (by_all _ w.txns t (legal_stays o es more l).safe t_in k).0;
+          has_earlier = (by_all _ w.txns d.0 (legal_stays o es more l).safe d.1 d.3.is_known).1 d.2;
+        },
+      );
     }
       where
         t_in : In t w.txns
@@ -124,21 +132,18 @@ module _ {A : Type 0} where
         safe : (u : Txn A) → In u w.txns → u.known ≡ true → IsSafeFor w u
         safe u i q = by_all _ w.txns u (safe_are_safe o es legal) i q
 
-  module _ (o : Opening A) (es : List (Record A)) (legal : Legal o es) (session : ℕ) (X : Tables A) where
-    abbrev w : World A
-    w = world_of o es
+    module _ (session : ℕ) (X : Tables A) where
+      by_known : (t : Txn A) → current w session ≡ Some t → (b : Bool) → t.known ≡ b → (if b then Ok (tables_at w t.snapshot) else Err (of_code code.ObjectNotInPrerequisiteState)) ≡ Ok X → IsBackup o es session X
+      by_known t e true k h = backup session X t e k (sym (ap (ok_or X) h))
+      by_known t e false k h = absurd (false≢true (ap is_ok h))
 
-    by_known : (t : Txn A) → current w session ≡ Some t → (b : Bool) → t.known ≡ b → (if b then Ok (tables_at w t.snapshot) else Err (of_code code.ObjectNotInPrerequisiteState)) ≡ Ok X → IsBackup o es session X
-    by_known t e true k h = backup o es legal session X t e k (sym (ap (ok_or X) h))
-    by_known t e false k h = absurd (false≢true (ap is_ok h))
+      by_standing : (t : Txn A) → current w session ≡ Some t → (st : Standing) → view_from st w t ≡ Ok X → IsBackup o es session X
+      by_standing t e Failed h = absurd (false≢true (ap is_ok h))
+      by_standing t e _ h = by_known t e t.known refl h
 
-    by_standing : (t : Txn A) → current w session ≡ Some t → (st : Standing) → view_from st w t ≡ Ok X → IsBackup o es session X
-    by_standing t e Failed h = absurd (false≢true (ap is_ok h))
-    by_standing t e _ h = by_known t e t.known refl h
+      by_current : (c : Option (Txn A)) → current w session ≡ c → view_of w c ≡ Ok X → IsBackup o es session X
+      by_current None e h = absurd (false≢true (ap is_ok h))
+      by_current (Some t) e h = by_standing t e t.standing h
 
-    by_current : (c : Option (Txn A)) → current w session ≡ c → view_of w c ≡ Ok X → IsBackup o es session X
-    by_current None e h = absurd (false≢true (ap is_ok h))
-    by_current (Some t) e h = by_standing t e t.standing h
-
-    pub view_is_backup : view_answer o es session ≡ Ok X → IsBackup o es session X
-    view_is_backup h = by_current (current w session) refl h
+      pub view_is_backup : view_answer o es session ≡ Ok X → IsBackup o es session X
+      view_is_backup h = by_current (current w session) refl h
