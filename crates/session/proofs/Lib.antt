@@ -5,3 +5,4 @@ pub mod CommitAlone
 pub mod CoreLemmas
 pub mod RowsKept
 pub mod Reading
+pub mod OpenLemmas
