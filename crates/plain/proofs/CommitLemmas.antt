@@ -186,8 +186,8 @@ module _ {A : Type 0} where
     where
       all : IsCounted (record l { txns = map (doomed_by place cs) (turned_at n (on_course course) l.txns); place = l.place + 1 })
       all = counted-as l (map (doomed_by place cs) (turned_at n (on_course course) l.txns)) h
-        (numbered-doomed place cs 0 (l.base.transactions + length l.txns) (turned_at n (on_course course) l.txns) (numbered-turned_at (on_course course) (λ t. refl) 0 (l.base.transactions + length l.txns) l.txns n h.numbered))
-        (length-doomed place cs (turned_at n (on_course course) l.txns) ∙ length-turned_at (on_course course) l.txns n) fits
+          (numbered-doomed place cs 0 (l.base.transactions + length l.txns) (turned_at n (on_course course) l.txns) (numbered-turned_at (on_course course) (λ t. refl) 0 (l.base.transactions + length l.txns) l.txns n h.numbered))
+          (length-doomed place cs (turned_at n (on_course course) l.txns) ∙ length-turned_at (on_course course) l.txns n) fits
 
   -- ---- exports
 

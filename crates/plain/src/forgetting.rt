@@ -92,8 +92,9 @@ fn is_needed_at<A: Allocator>(
     is_needed_among(before, left, &transactions[at], oldest, reach)
 }
 
-// Leaves the transactions that matter, in their order.
-fn keep_needed<A: Allocator>(transactions: &mut Vec<Transaction<A>, A>, oldest: u64)
+/// Leaves the transactions that matter where no question to come is asked at a snapshot below the
+/// oldest, in their order.
+pub(crate) fn keep_needed<A: Allocator>(transactions: &mut Vec<Transaction<A>, A>, oldest: u64)
     ensures { transactions.new.items ≡ filter (spec.is_needed oldest transactions.old.items) transactions.old.items }
 {
     let reach = least_snapshot(transactions.as_slice(), Which::Recent(oldest), u64::MAX);
@@ -107,8 +108,8 @@ fn keep_needed<A: Allocator>(transactions: &mut Vec<Transaction<A>, A>, oldest: 
     transactions.truncate(kept);
 }
 
-// Leaves the identifiers that live, in their order.
-fn keep_living<A: Allocator>(
+/// Leaves the identifiers that live, in their order.
+pub(crate) fn keep_living<A: Allocator>(
     exports: &mut Vec<ExportedSnapshot, A>,
     transactions: &[Transaction<A>],
 )

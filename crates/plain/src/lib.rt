@@ -13,6 +13,8 @@ pub mod dooms;
 mod export;
 mod extent;
 mod forgetting;
+#[cfg(test)]
+mod forgetting_tests;
 pub mod isolation;
 #[cfg(test)]
 mod isolation_tests;

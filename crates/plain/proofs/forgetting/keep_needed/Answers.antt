@@ -17,8 +17,8 @@ loop-at-preserved g c =
     let inv = c.loop-at.invariant in
     let within : c.loop-at.at < length us = omega (arith, inv.0.long, inv.1, c.loop-at-test.true) in
     let told : c.is_needed_at.result ≡ is_needed c.args.oldest ts (txn_at us c.loop-at.at) =
-      c.is_needed_at.ensures ∙ ap (λ (vs : List (Txn _)). is_needed_among c.args.oldest reach (take c.loop-at.kept vs ++ drop c.loop-at.at vs) (txn_at vs c.loop-at.at)) c.as_slice-in-loop-at.ensures.value
-      ∙ needed-told c.args.oldest _ reach ts us c.loop-at.kept c.loop-at.at (txn_at us c.loop-at.at) inv.0 inv.2 in
+    c.is_needed_at.ensures ∙ ap (λ (vs : List (Txn _)). is_needed_among c.args.oldest reach (take c.loop-at.kept vs ++ drop c.loop-at.at vs) (txn_at vs c.loop-at.at)) c.as_slice-in-loop-at.ensures.value
+    ∙ needed-told c.args.oldest _ reach ts us c.loop-at.kept c.loop-at.at (txn_at us c.loop-at.at) inv.0 inv.2 in
     let found = get_or_default us c.loop-at.at nothing (txn_at us c.loop-at.at) within in
     elim c.if-is_needed_at.branch [
       | then-is_needed_at w ↦ rw (w.transactions-is, w.kept-is) (FiltersInPlace-more_swap inv.0 within (sym told ∙ w.if-is_needed_at.true) found w.swap.ensures.by_index, inv.1, inv.2)
