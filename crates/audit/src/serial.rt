@@ -1,66 +1,38 @@
 // The serial order of a core's history.
-ghost use Rattle.std.specs.Prelude.{◌≡◌, ◌≤◌, true, None, Some, length, map, take, find, slice_get, IfOk, IfErr, OnOk};
-ghost use Rattle.std.specs.Ordering.{is_lt};
+ghost use Rattle.std.specs.Prelude.{◌≡◌, map, IfOk, IfErr};
+ghost use Rattle.std.specs.List.Sorted.{IsSortedBy, IsStableBy};
 ghost use Rattle.value.specs.Isolation as spec;
 ghost use Rattle.value.specs.Refusals.{out_of_memory};
 ghost use Rattle.history.specs.Events.{world};
 ghost use Rattle.history.specs.Serial as serial;
 ghost use Rattle.plain.specs.Keys.{keyed, parts};
-ghost use Rattle.audit.specs.Sorting.{Entry, key_of};
+ghost use Rattle.audit.specs.Sorting.{comes_before};
 
 use history::key::SerialKey;
 use session::sessions::Core;
 use std::alloc::Allocator;
+use std::cmp::Ordering;
 use value::refusal::{Refusal, TxnNo};
 
-// Whether a key comes before another.
-fn is_before(left: SerialKey, right: SerialKey) -> bool
-    ensures { result ≡ is_lt (spec.key_cmp (parts left) (parts right)) }
+// How two keys compare.
+fn compare(left: SerialKey, right: SerialKey) -> Ordering
+    ensures { result ≡ spec.key_cmp (parts left) (parts right) }
 {
     let last = left.1.cmp(&right.1).then(left.2.cmp(&right.2));
-    left.0.cmp(&right.0).then(last).is_lt()
+    left.0.cmp(&right.0).then(last)
 }
 
-// The place of the first entry with a greater key; the end, where there is none.
-fn place_before(order: &[(TxnNo, SerialKey)], key: SerialKey) -> usize
-    ensures within { result ≤ length order.now }
-    ensures least { find (λ e. is_lt (spec.key_cmp (parts key) (key_of e))) (take result order.now) ≡ None }
-    ensures greater { (e : Entry) → slice_get order.now result ≡ Some e → is_lt (spec.key_cmp (parts key) (key_of e)) ≡ true }
-{
-    for (place, entry) in order.iter().enumerate() {
-        if is_before(key, entry.1) {
-            return place;
-        }
-    }
-    order.len()
-}
-
-// Puts an entry before the first that has a greater key.
-fn place_in<A: Allocator>(
-    order: &mut Vec<(TxnNo, SerialKey), A>,
-    entry: (TxnNo, SerialKey),
-) -> Result<(), Refusal>
-    ensures ok { OnOk result (order.new.items ≡ spec.place_in key_of entry order.old.items) }
-    ensures memory { IfErr result (λ e. e ≡ out_of_memory) }
-{
-    let place = place_before(order.as_slice(), entry.1);
-    order.insert(place, entry)?;
-    Ok(())
-}
-
-// Entries in the order of their keys.
+// Entries in the order of their keys; those of one key as they were.
 fn sorted<A: Allocator>(
     alloc: A,
-    entries: Vec<(TxnNo, SerialKey), A>,
+    entries: &[(TxnNo, SerialKey)],
 ) -> Result<Vec<(TxnNo, SerialKey), A>, Refusal>
-    ensures ok { IfOk result (λ order. order.items ≡ spec.sorted key_of entries.items) }
+    ensures order { IfOk result (λ order. IsSortedBy comes_before order.items) }
+    ensures stable { IfOk result (λ order. IsStableBy comes_before entries.now order.items) }
     ensures memory { IfErr result (λ e. e ≡ out_of_memory) }
 {
-    let mut left = entries;
-    let mut order = Vec::new(alloc);
-    while let Some(entry) = left.pop() {
-        place_in(&mut order, entry)?;
-    }
+    let mut order = Vec::from_slice(alloc, entries)?;
+    order.sort_by(|left, right| compare(left.1, right.1))?;
     Ok(order)
 }
 
@@ -75,8 +47,7 @@ pub fn serial_keys<A: Allocator + Copy>(
     ensures serial { serial.IsSerial (world core.now) (serial.serial_order (world core.now)) }
 {
     core.is_legal();
-    let entries = core.committed_keys(alloc)?;
-    sorted(alloc, entries)
+    sorted(alloc, core.keys())
 }
 
 // The numbers of entries.

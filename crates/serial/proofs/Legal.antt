@@ -186,14 +186,14 @@ module _ {A : Type 0} where
   failed_exports w Export t = refl
   failed_exports w _ t = refl
 
-  told_is : (a : Action A) (st : Standing) → is_open st ≡ false → is_done st ≡ false → (is_open (told a st) ≡ false) × (is_done (told a st) ≡ false)
+  pub told_is : (a : Action A) (st : Standing) → is_open st ≡ false → is_done st ≡ false → (is_open (told a st) ≡ false) × (is_done (told a st) ≡ false)
   told_is (Begin m) st o d = (o, d)
   told_is Prune st o d = (o, d)
   told_is Commit st o d = (refl, refl)
   told_is Rollback st o d = (refl, refl)
   told_is _ st o d = (refl, refl)
 
-  settled_is : (a : Action A) (st : Standing) → is_open st ≡ false → is_done st ≡ false → (is_open (settled a st) ≡ false) × (is_done (settled a st) ≡ false)
+  pub settled_is : (a : Action A) (st : Standing) → is_open st ≡ false → is_done st ≡ false → (is_open (settled a st) ≡ false) × (is_done (settled a st) ≡ false)
   settled_is Commit st o d = (refl, refl)
   settled_is Rollback st o d = (refl, refl)
   settled_is _ st o d = (o, d)

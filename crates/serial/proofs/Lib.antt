@@ -37,3 +37,5 @@ pub mod NeededEvents
 pub mod NeededRaised
 pub mod NeededOldest
 pub mod NeededFrom
+pub mod Lowest
+pub mod NeededKeys

@@ -24,11 +24,11 @@ module _ {A : Type 0} where
   import_same keep w t None = refl
   import_same keep w t (Some x) = refl
 
-  log_alike : (keep : ℕ → Bool) (w : World A) (t : Txn A) (a : Action A) (r : Reply A) → log_after (thin keep w) a r t ≡ log_after w a r t
+  pub log_alike : (keep : ℕ → Bool) (w : World A) (t : Txn A) (a : Action A) (r : Reply A) → log_after (thin keep w) a r t ≡ log_after w a r t
   log_alike keep w t Commit Committed = refl
   log_alike keep w t _ _ = refl
 
-  exports_alike : (keep : ℕ → Bool) (w : World A) (t : Txn A) (a : Action A) (r : Reply A) → exports_after (thin keep w) a r t ≡ exports_after w a r t
+  pub exports_alike : (keep : ℕ → Bool) (w : World A) (t : Txn A) (a : Action A) (r : Reply A) → exports_after (thin keep w) a r t ≡ exports_after w a r t
   exports_alike keep w t Export (Exported i) = refl
   exports_alike keep w t _ _ = refl
 
@@ -65,7 +65,7 @@ module _ {A : Type 0} where
     causes_alike Commit Committed = ap (λ cs. cond (is_read_write t.mode) cs []) (dooms_of_kept w n keep h t self)
     causes_alike _ _ = refl
 
-    txns_alike : (a : Action A) (r : Reply A) → txns_after (thin keep w) a r t ≡ kept_of keep (txns_after w a r t)
+    pub txns_alike : (a : Action A) (r : Reply A) → txns_after (thin keep w) a r t ≡ kept_of keep (txns_after w a r t)
     txns_alike a r =
         ap (λ cs. Rattle.std.proofs.Common.map (doomed_by (w.place + 1) cs) (replaced (turned_from t.standing (thin keep w) a r t) (kept_of keep w.txns))) (causes_alike a r)
         ∙ ap (λ (x : Txn A). Rattle.std.proofs.Common.map (doomed_by (w.place + 1) (causes w a r t)) (replaced x (kept_of keep w.txns))) (turned_alike t.standing refl a r)

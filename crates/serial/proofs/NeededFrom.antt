@@ -15,7 +15,7 @@ use Rattle.serial.proofs.SerialTheorem.{IsGood, good_start, good_step, good_step
 use Rattle.serial.proofs.NeededOldest.{Exporting, Oldest, exporting_step, oldest_step}
 
 module _ {A : Type 0} where
-  commits_step : (w v : World A) → IsGood w → Step w v → commits w ≤ commits v
+  pub commits_step : (w v : World A) → IsGood w → Step w v → commits w ≤ commits v
   commits_step w v g Nothing = omega arith
   commits_step w v g (Begins s m) = omega arith
   commits_step w v g (Moves s t x log exports c o move) = go (adds w t x log exports g.numbered o (none (g.numbered.kind t i)) (g.numbered.shown t i) move).log_is
@@ -60,7 +60,7 @@ module _ {A : Type 0} where
       next = subst (λ r. IsGood (follows w (record { session = e.session; action = e.action; reply = r })) × Exporting (follows w (record { session = e.session; action = e.action; reply = r }))) (sym l.1)
           (good_steps w now g steps, exporting_steps w now g h steps)
 
-  exporting : (o : Opening A) (es : List (Record A)) → Legal o es → Exporting (world_of o es)
+  pub exporting : (o : Opening A) (es : List (Record A)) → Legal o es → Exporting (world_of o es)
   unfolding Legal
   exporting o es l = exporting_run (start o) es (good_start o (sound_proper o.catalog o.tables l.0)) (record { begun_before = λ y i. absurd i; stood = λ y i. absurd i }) l.1
 

@@ -78,7 +78,7 @@ module _ {A : Type 0} where
           go t u i (Over c o) r = absurd (true≢false (sym r))
 
   -- what a move leaves committed
-  moved_done : (w : World A) (t x : Txn A) (log : List (Txn A)) (exports : List Exported_snapshot) → is_open t.standing ≡ true → Move w t x log exports → is_done x.standing ≡ true → x ≡ numbered w t
+  pub moved_done : (w : World A) (t x : Txn A) (log : List (Txn A)) (exports : List Exported_snapshot) → is_open t.standing ≡ true → Move w t x log exports → is_done x.standing ≡ true → x ≡ numbered w t
   moved_done w t x log exports o (Commits e) d = refl
   moved_done w t x log exports o Stays d = absurd (not_done t.standing o d)
   moved_done w t x log exports o Fails d = absurd (true≢false (sym d))

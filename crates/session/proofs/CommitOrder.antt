@@ -59,7 +59,7 @@ abbrev entry : ℕ → ℕ × ℕ × ℕ → ℕ × (ℕ × ℕ × ℕ)
 entry n k = (n, k)
 
 module _ {A : Type 0} where
-  abbrev by_end : Txn A → ℕ × ℕ × ℕ
+  abbrev pub by_end : Txn A → ℕ × ℕ × ℕ
   by_end t = (t.end, 0, 0)
 
   abbrev done : Txn A → Bool
@@ -83,7 +83,7 @@ module _ {A : Type 0} where
       same : (u : Txn A) → t ≡ u → Tied (key x t) (key x u)
       same u p = (ap (λ (y : Txn A). (key x y).0) p, ap (λ (y : Txn A). (key x y).1) p, ap (λ (y : Txn A). (key x y).2) p)
 
-  ordered : (x : World A) → IsGood x → InOrder by_end (in_commit_order x)
+  pub ordered : (x : World A) → IsGood x → InOrder by_end (in_commit_order x)
   ordered x g = sorted-InOrder by_end (committed x) (ends_apart x g (committed x) (λ t i. i) (isolated_world x g).keys_apart)
 
   InOrder-push : (xs : List (Txn A)) (t : Txn A) → InOrder by_end xs → ((x : Txn A) → In x xs → x.end < t.end) → InOrder by_end (xs ++ t ∷ [])

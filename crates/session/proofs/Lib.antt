@@ -1,7 +1,12 @@
 pub mod Kept
-pub mod KeptKeys
+pub mod Least
+pub mod Lent
+pub mod Becomes
+pub mod KeysKept
+pub mod Followed
+pub mod Thinned
+pub mod RowsNext
 pub mod CommitOrder
 pub mod CommitAlone
 pub mod CoreLemmas
 pub mod RowsKept
-pub mod Reading

@@ -1,12 +1,14 @@
-use Rattle.std.proofs.Common.{◌∙◌, sym, ap}
-use Rattle.audit.specs.Sorting.{sorted_onto}
-use Rattle.audit.proofs.SortingLemmas.{onto-nothing, onto-push}
+use Rattle.std.proofs.Common.{of_calls, rules, subst}
+use Rattle.std.proofs.lemmas.Fn.{always_returns_same}
+use Rattle.std.specs.List.Sorted.{IsStableBy}
+use Rattle.audit.specs.Sorting.{comes_before}
+use Rattle.audit.proofs.SortingLemmas.{keys_order}
 use Rattle.audit.proofs.serial.sorted.Goals as goal
 
-pub loop-entry-init : goal.loop-entry-init
-loop-entry-init g c = ap (sorted_onto c.args.entries.items) c.new-order.ensures.items ∙ onto-nothing c.args.entries.items
+pub returns-clause-order : goal.returns-clause-order
+returns-clause-order g c = c.in_ok-sort_by.ensures.sorted comes_before keys_order (always_returns_same _ _ _ (λ a r f k. search (rules, of_calls)))
 
-pub loop-entry-preserved : goal.loop-entry-preserved
-loop-entry-preserved g c =
-    ap (sorted_onto c.pop.new.self.items) c.in_ok-place_in.ensures.ok ∙ sym (onto-push c.pop.new.self.items c.in-Some.entry c.loop-entry.order.items)
-    ∙ ap (λ xs. sorted_onto xs c.loop-entry.order.items) (sym c.in-Some.ensures.items) ∙ c.loop-entry.invariant
+pub returns-clause-stable : goal.returns-clause-stable
+returns-clause-stable g c =
+    subst (λ es. IsStableBy comes_before es c.sort_by.new.self.items) c.in_ok-order.ensures.items
+    (c.in_ok-sort_by.ensures.stable comes_before keys_order (always_returns_same _ _ _ (λ a r f k. search (rules, of_calls))))
