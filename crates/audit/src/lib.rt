@@ -2,8 +2,8 @@
 #![tactic(auto)]
 
 mod answer;
+pub mod by_key;
 mod course;
 pub mod order;
-pub mod serial;
 #[cfg(test)]
 mod tests;

@@ -1,8 +1,8 @@
 ghost use Rattle.std.specs.Prelude.{IfOk};
 ghost use Rattle.history.specs.Answer.{Allowed};
 
+use crate::by_key::{serial_keys, serial_order};
 use crate::order::check_order;
-use crate::serial::{serial_keys, serial_order};
 use history::event::{Action, Event};
 use history::key::SerialKey;
 use history::session_id::SessionId;

@@ -4,7 +4,7 @@ use Rattle.std.specs.Ordering.{is_lt}
 use Rattle.value.specs.Isolation.{key_cmp}
 use Rattle.plain.specs.Keys.{parts}
 use Rattle.audit.specs.Sorting.{key_of}
-use Rattle.audit.proofs.serial.place_before.Given as goal
+use Rattle.audit.proofs.by_key.place_before.Given as goal
 
 -- none so far has a greater key
 abbrev pub invariant-loop-place : goal.invariant-loop-place

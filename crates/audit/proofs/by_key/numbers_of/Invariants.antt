@@ -1,5 +1,5 @@
 use Rattle.std.proofs.Common.{◌≡◌, map, take}
-use Rattle.audit.proofs.serial.numbers_of.Given as goal
+use Rattle.audit.proofs.by_key.numbers_of.Given as goal
 
 -- the numbers so far
 abbrev pub invariant-loop-entry : goal.invariant-loop-entry

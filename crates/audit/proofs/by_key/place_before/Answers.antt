@@ -5,7 +5,7 @@ use Rattle.plain.specs.Keys.{parts}
 use Rattle.plain.proofs.WalkLemmas.{find-next}
 use Rattle.audit.specs.Sorting.{Entry, key_of}
 use Rattle.audit.proofs.SortingLemmas.{at_default, none_at_end}
-use Rattle.audit.proofs.serial.place_before.Goals as goal
+use Rattle.audit.proofs.by_key.place_before.Goals as goal
 
 pub loop-place-preserved : goal.loop-place-preserved
 loop-place-preserved c =

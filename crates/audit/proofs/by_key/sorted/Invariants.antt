@@ -1,7 +1,7 @@
 use Rattle.std.proofs.Common.{◌≡◌, vec_len}
 use Rattle.value.specs.Isolation.{sorted}
 use Rattle.audit.specs.Sorting.{key_of, sorted_onto}
-use Rattle.audit.proofs.serial.sorted.Given as goal
+use Rattle.audit.proofs.by_key.sorted.Given as goal
 
 -- those left are still to be put into the order
 abbrev pub invariant-loop-entry : goal.invariant-loop-entry

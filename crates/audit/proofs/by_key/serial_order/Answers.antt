@@ -4,7 +4,7 @@ use Rattle.history.specs.Serial.{serial_order}
 use Rattle.audit.specs.Sorting.{Entry}
 use Rattle.audit.proofs.StepLemmas.{if-ok}
 use Rattle.audit.proofs.SortingLemmas.{numbers-seen, numbers-with}
-use Rattle.audit.proofs.serial.serial_order.Goals as goal
+use Rattle.audit.proofs.by_key.serial_order.Goals as goal
 
 pub returns-clause-ok : goal.returns-clause-ok
 returns-clause-ok g c =

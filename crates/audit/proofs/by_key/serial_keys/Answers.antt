@@ -5,7 +5,7 @@ use Rattle.history.specs.Serial.{committed, key}
 use Rattle.plain.specs.Keys.{keyed}
 use Rattle.audit.proofs.StepLemmas.{if-ok}
 use Rattle.audit.proofs.SortingLemmas.{sorted-map}
-use Rattle.audit.proofs.serial.serial_keys.Goals as goal
+use Rattle.audit.proofs.by_key.serial_keys.Goals as goal
 
 pub returns-in_err-entries-clause-serializable : goal.returns-in_err-entries-clause-serializable
 returns-in_err-entries-clause-serializable g c = c.legal_histories_are_serializable.ensures c.args.core.now.opening c.args.core.now.records c.is_legal.ensures

@@ -1,6 +1,6 @@
 use Rattle.std.proofs.Common.{◌∙◌}
 use Rattle.audit.proofs.SortingLemmas.{entry-placed}
-use Rattle.audit.proofs.serial.place_in.Goals as goal
+use Rattle.audit.proofs.by_key.place_in.Goals as goal
 
 pub returns-clause-ok : goal.returns-clause-ok
 returns-clause-ok g c =

@@ -1,7 +1,7 @@
 use Rattle.std.proofs.Common.{◌∙◌, sym, ap}
 use Rattle.audit.specs.Sorting.{sorted_onto}
 use Rattle.audit.proofs.SortingLemmas.{onto-nothing, onto-push}
-use Rattle.audit.proofs.serial.sorted.Goals as goal
+use Rattle.audit.proofs.by_key.sorted.Goals as goal
 
 pub loop-entry-init : goal.loop-entry-init
 loop-entry-init g c = ap (sorted_onto c.args.entries.items) c.new-order.ensures.items ∙ onto-nothing c.args.entries.items
