@@ -1,9 +1,14 @@
 -- What becomes of a piece that a worker hands over.
-use Rattle.std.specs.Prelude.{ℕ, ◌≡◌, Bool, not, ◌||◌, Result, is_ok}
+use Rattle.std.specs.Prelude.{ℕ, ◌≡◌, Bool, true, Result, Ok, Err}
 use Rattle.collector.specs.declared.answers.OfferFault.{OfferFault}
 use Rattle.collector.specs.Gathered.{Gathering}
 use Rattle.collector.specs.Offers.{Offered}
 
--- The piece of this number was offered to the collector. Where it wasn't taken, work is stopped; once stopped, it stays so.
+-- whether work is stopped, once a piece was answered so: one that isn't taken stops it, and it stays stopped
+abbrev pub StopsAfter : Result (Unit {0}) OfferFault → Bool → Bool → Type 0
+StopsAfter (Ok done) stopped now = now ≡ stopped
+StopsAfter (Err fault) stopped now = now ≡ true
+
+-- The piece of this number was offered to the collector c, which is d then.
 abbrev pub IsOffered : Gathering → ℕ → Bool → Gathering → Bool → Type 0
-IsOffered c number stopped d stopped_now = (answer : Result (Unit {0}) OfferFault) × Offered c number answer d × (stopped_now ≡ (stopped || not (is_ok answer)))
+IsOffered c number stopped d now = (answer : Result (Unit {0}) OfferFault) × Offered c number answer d × StopsAfter answer stopped now

@@ -77,11 +77,34 @@ impl<'a, R: SnapshotReader<A>, W: Device, A: Allocator, D: Job> Shelf<'a, R, W, 
         ensures goes_on { OnOk result (self.new.is_stopped ≡ false) }
         ensures stopped { OnErr result (self.new.is_stopped ≡ true) }
     {
-        let is_taken = match made {
-            Ok(text) => self.collector.offer(number, text).is_ok(),
-            Err(_) => false,
-        };
-        self.is_stopped = self.is_stopped || !is_taken;
+        match made {
+            Ok(text) => {
+                self.offer(number, text);
+                self.goes_on()
+            }
+            Err(_) => {
+                self.is_stopped = true;
+                self.goes_on()
+            }
+        }
+    }
+
+    // Offers a piece to the collector. Where that doesn't take it, the shelf is stopped.
+    fn offer(&mut self, number: u64, text: Vec<u8, A>)
+        requires { text.items ≡ slice_index_or D.texts (number - 1) [] }
+        ensures { IsOffered self.old.collector number self.old.is_stopped self.new.collector self.new.is_stopped }
+    {
+        match self.collector.offer(number, text) {
+            Ok(()) => {}
+            Err(_) => self.is_stopped = true,
+        }
+    }
+
+    // Whether the workers go on.
+    fn goes_on(&self) -> Result<(), Stopped>
+        ensures goes_on { OnOk result (self.now.is_stopped ≡ false) }
+        ensures stopped { OnErr result (self.now.is_stopped ≡ true) }
+    {
         if self.is_stopped {
             return Err(Stopped { by_shelf: () });
         }

@@ -1,8 +1,7 @@
 -- What calls of a server leave in a pass.
-use Rattle.std.specs.Prelude.{ℕ, suc, ◌≡◌, ◌≢◌, ◌⊎◌, ◌==◌, nat_lt, Bool, true, ◌||◌, if◌then◌else◌, List, [], ◌∷◌, ◌++◌, length, replicate, slice_get, Some}
+use Rattle.std.specs.Prelude.{ℕ, suc, ◌≡◌, ◌≢◌, ◌⊎◌, ◌==◌, nat_lt, Bool, true, ◌||◌, List, [], ◌∷◌, ◌++◌, length, replicate, slice_get, Some}
 use mathlib.Core.List.{IsPrefix}
 use Rattle.value.specs.declared.refusal.Code.TheVariants.{ProgramLimitExceeded}
-use Rattle.value.specs.declared.refusal.Refusal.{Refusal}
 use Rattle.value.specs.Refusals.{of_code, out_of_memory}
 use Rattle.statement.specs.declared.reply.Reply.{Reply}
 use Rattle.statement.specs.declared.reply.Reply.TheVariants.{Wait, Refused}
@@ -16,10 +15,6 @@ use Rattle.pass.specs.Knowing.{Known}
 -- there can't be so many sessions: there are 1 to 64
 abbrev pub is_no_count : ℕ → Bool
 is_no_count n = n == 0 || nat_lt 64 n
-
--- why no server was opened: a number is outside its limits, or else a growth was refused
-abbrev pub opening_refusal : Bool → Refusal
-opening_refusal outside = if outside then of_code ProgramLimitExceeded else out_of_memory
 
 module _ {A : Type 0} where
   -- the passes of sessions 1, 2, .., which have seen and done nothing

@@ -3,10 +3,10 @@ ghost use Rattle.std.specs.Prelude.{◌≡◌, ◌≢◌, ◌≤◌, ◌==◌, �
 ghost use mathlib.Core.List.{IsPrefix};
 ghost use Rattle.value.specs.Refusals.{AnswersOrNoMemory, out_of_memory};
 ghost use Rattle.schema.specs.Plain.{is_sound};
-ghost use Rattle.history.specs.Opening.{zero_base};
+ghost use Rattle.history.specs.Opening.{opening_refusal, zero_base};
 ghost use Rattle.history.specs.Answer.{Allowed, IsLegal, Legal, of_session, view_answer};
 ghost use Rattle.server.specs.Requests.{asked};
-ghost use Rattle.server.specs.Calls.{AreFresh, HasClosed, HasPolled, IsCall, is_no_count, opening_refusal};
+ghost use Rattle.server.specs.Calls.{AreFresh, HasClosed, HasPolled, IsCall, is_no_count};
 
 use crate::locked::Locked;
 use crate::request::Request;
