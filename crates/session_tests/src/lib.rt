@@ -12,6 +12,8 @@ mod own_changes;
 #[cfg(test)]
 mod pivots;
 #[cfg(test)]
+mod prunings;
+#[cfg(test)]
 mod snapshots;
 #[cfg(test)]
 mod states;
