@@ -1,5 +1,5 @@
 -- What snapshots show after keys are pruned by themselves, and what that leaves.
-use Rattle.std.proofs.Common.{suc, zero, ◌≡◌, refl, sym, ap, subst, ◌∙◌, ℕ, ◌≤◌, Bool, true, false, cond, List, [], ◌∷◌, Option, Some, None, get_or, set}
+use Rattle.std.proofs.Common.{suc, zero, ◌≡◌, refl, sym, ap, subst, ◌∙◌, ℕ, ◌≤◌, Bool, true, false, cond, List, [], ◌∷◌, length, Option, Some, None, get_or, set}
 use Rattle.std.specs.Prelude.{is_some, nat_le, IfSome, slice_get}
 use Rattle.std.specs.List.{cons_option}
 use Rattle.std.specs.List.Sorted.{IsStrictlySortedBy}
@@ -7,7 +7,7 @@ use Rattle.std.specs.Option.{option_map, option_map_or, option_and_then}
 use Rattle.std.specs.Ordering.{match_ordering, is_eq}
 use Rattle.std.specs.declared.cmp.Ordering.{Ordering}
 use Rattle.std.specs.declared.cmp.Ordering.TheVariants.{Less, Equal, Greater}
-use Rattle.std.proofs.lemmas.List.{map-set, set-get_or}
+use Rattle.std.proofs.lemmas.List.{map-set, set-get_or, length-set}
 use Rattle.value.specs.Order.{value_cmp, value_cmp-total}
 use Rattle.value.specs.declared.value.Value.{Value}
 use Rattle.schema.specs.declared.changes.Change.{Change}
@@ -267,3 +267,9 @@ module _ {A : Type 0} where
 
   pub settle-fresh : (oldest commit : ℕ) (key k : Value A) (rows : VersionedRows A) → IsInOrder rows → IsFresh commit k rows → IsFresh commit k (settle_key oldest key rows)
   settle-fresh oldest commit key k rows sorted = found-settle oldest (λ r. is_from commit r ≡ true) (pruned-from oldest commit) key k rows sorted
+
+  -- ---- the tables are as many
+
+  pub length-settled : (oldest : ℕ) (xs : List (Change A)) (tables : List (VersionedRows A)) → length (settled oldest xs tables) ≡ length tables
+  length-settled oldest [] tables = refl
+  length-settled oldest (x ∷ xs) tables = length-settled oldest xs (settle_change oldest x tables) ∙ length-set tables x.table _

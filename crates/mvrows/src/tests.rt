@@ -2,6 +2,8 @@ ghost use Rattle.std.specs.Prelude.{◌≡◌, ◌<◌, ◌+◌, length, IfOk, O
 ghost use Rattle.schema.specs.Rows.{HasTable};
 ghost use Rattle.mvrows.specs.Versions.{TablesAreBelow};
 
+mod pages;
+
 use crate::rows::Rows;
 use crate::view::View;
 use schema::catalog::{Catalog, TableNo};
@@ -111,7 +113,24 @@ fn changes(alloc: Global, all: &[(i64, Option<i64>)]) -> Result<Vec<Change>, Fai
     Ok(changes.into_list(alloc)?)
 }
 
-// Installs changes as the commit of a number.
+// Installs changes as the commit of a number, where no snapshot below the oldest is read any more.
+fn settle(
+    alloc: Global,
+    versions: &mut Rows,
+    oldest: u64,
+    number: u64,
+    all: &[(i64, Option<i64>)],
+) -> Result<(), Fail>
+    requires { TablesAreBelow number versions.old }
+    ensures below { OnOk result (TablesAreBelow (number + 1) versions.new) }
+    ensures count { OnOk result (length versions.new ≡ length versions.old) }
+{
+    let list = changes(alloc, all)?;
+    versions.install(alloc, oldest, number, list.as_slice())?;
+    Ok(())
+}
+
+// Installs changes as the commit of a number, where all snapshots are read.
 fn commit(
     alloc: Global,
     versions: &mut Rows,
@@ -122,9 +141,7 @@ fn commit(
     ensures below { OnOk result (TablesAreBelow (number + 1) versions.new) }
     ensures count { OnOk result (length versions.new ≡ length versions.old) }
 {
-    let list = changes(alloc, all)?;
-    versions.install(alloc, 0, number, list.as_slice())?;
-    Ok(())
+    settle(alloc, versions, 0, number, all)
 }
 
 // What a snapshot shows, lent and as a view: the same.
@@ -195,5 +212,71 @@ fn a_view_has_the_rows_of_its_tables(rt: HostRuntime) -> Result<(), Fail> {
     ] {
         assert_eq!(rt; met(&view, table, &key(number)?), want, "{number}");
     }
+    Ok(())
+}
+
+// Writes a key by a thousand commits, each of them the oldest snapshot: beside it stands the commit's number.
+fn write_again_and_again(alloc: Global, versions: &mut Rows) -> Result<(), Fail>
+    requires { TablesAreBelow 1 versions.old }
+    ensures { OnOk result (length versions.new ≡ length versions.old) }
+{
+    for number in 1..1001u64 {
+        settle(
+            alloc,
+            versions,
+            number,
+            number,
+            [(5, Some(number as i64))].as_slice(),
+        )?;
+    }
+    Ok(())
+}
+
+#[test]
+fn a_key_written_a_thousand_times_keeps_one_version(rt: HostRuntime) -> Result<(), Fail> {
+    let alloc = rt.alloc();
+    let mut versions = opening(&rt, alloc, 0)?;
+    write_again_and_again(alloc, &mut versions)?;
+    for number in [0, 1, 2, 500, 998, 999] {
+        let shown = shown(&rt, alloc, &versions, number)?;
+        assert_eq!(rt; shown.len(), 0, "{number}");
+    }
+    assert_eq!(rt;
+        shown(&rt, alloc, &versions, 1000)?.as_slice(),
+        [(5, 1000)].as_slice()
+    );
+    Ok(())
+}
+
+#[test]
+fn a_settled_key_stays_what_a_view_shows(rt: HostRuntime) -> Result<(), Fail> {
+    let alloc = rt.alloc();
+    let mut versions = opening(&rt, alloc, 2)?;
+    settle(alloc, &mut versions, 1, 1, [(1, Some(10))].as_slice())?;
+    let view = versions.view(alloc, 1)?;
+    settle(
+        alloc,
+        &mut versions,
+        1,
+        2,
+        [(0, None), (1, Some(20))].as_slice(),
+    )?;
+    let both = [(0, 0), (1, 10)];
+    assert_eq!(rt;
+        shown(&rt, alloc, &versions, 1)?.as_slice(),
+        both.as_slice()
+    );
+    settle(
+        alloc,
+        &mut versions,
+        3,
+        3,
+        [(0, None), (1, None)].as_slice(),
+    )?;
+    assert_eq!(rt; shown(&rt, alloc, &versions, 3)?.len(), 0);
+    let table = TableNo::at(0);
+    assert_eq!(rt; versions.newest(table, &key(0)?), None);
+    assert_eq!(rt; versions.newest(table, &key(1)?), None);
+    assert_eq!(rt; rows(alloc, &view)?.as_slice(), both.as_slice());
     Ok(())
 }
