@@ -1,4 +1,5 @@
 -- What is forgotten: transactions that no later question asks for, and identifiers that don't live.
+-- Source: Ports and Grittner, "Serializable Snapshot Isolation in PostgreSQL" (VLDB 2012), section 6, on what may be cleaned up.
 use Rattle.std.specs.Prelude.{◌≡◌, ℕ, ◌+◌, nat_lt, Bool, not, ◌&&◌, ◌||◌, List, length, filter}
 use Rattle.std.specs.List.{list_any}
 use Rattle.history.specs.Transactions.{Txn, edge, is_done, is_living, is_open, is_owed}

@@ -1,4 +1,5 @@
 -- Dangerous structures that all have one transaction among their first two.
+-- Source: Ports and Grittner, "Serializable Snapshot Isolation in PostgreSQL" (VLDB 2012), section 3.2.
 use Rattle.std.specs.Prelude.{◌≡◌, ◌⊎◌, Bool, true, List}
 use Rattle.std.specs.List.{AllByRecursion}
 use Rattle.value.specs.Isolation.{Node, is_dangerous}

@@ -101,7 +101,9 @@ pub(crate) fn keep_needed<A: Allocator>(transactions: &mut Vec<Transaction<A>, A
     let mut kept = 0;
     for at in 0..transactions.len() {
         if is_needed_at(transactions.as_slice(), kept, at, oldest, reach) {
-            transactions.swap(kept, at);
+            if kept < at {
+                transactions.swap(kept, at);
+            }
             kept += 1;
         }
     }

@@ -12,7 +12,8 @@ use value::key::Key;
 use value::refusal::{Code, Mode, Refusal};
 use value::value::Value;
 
-// A transaction of a number, with its snapshot and the number of its commit.
+// A transaction of a number, with its snapshot and the number of its commit. The deferrable ones are
+// known to be safe.
 fn transaction(
     alloc: Global,
     number: u64,
@@ -25,6 +26,7 @@ fn transaction(
     let mut begun = Transaction::begun(alloc, session, mode, number, number, snapshot);
     begun.standing = standing;
     begun.commit = commit;
+    begun.known = matches!(mode, Mode::Deferrable);
     Ok(begun)
 }
 
@@ -60,7 +62,6 @@ fn nine(alloc: Global) -> Result<Vec<Transaction>, Refusal> {
     ] {
         all.push(transaction(alloc, number, mode, standing, snapshot, commit)?)?;
     }
-    all[4].known = true;
     Ok(all)
 }
 
@@ -94,6 +95,8 @@ fn identifiers_of_open_exporters_are_kept(rt: HostRuntime) -> Result<(), Fail> {
     }
     keep_living(&mut exports, all.as_slice());
     assert_eq!(rt; exports.len(), 1);
-    assert_eq!(rt; exports[0].id, 2);
+    for kept in exports.as_slice() {
+        assert_eq!(rt; kept.id, 2);
+    }
     Ok(())
 }

@@ -1,3 +1,4 @@
+pub mod BehindLemmas
 pub mod CatalogLemmas
 pub mod CreateLemmas
 pub mod DumpAgain
@@ -12,4 +13,5 @@ pub mod SoundReading
 pub mod SpellingLemmas
 pub mod StepLemmas
 pub mod TablesAgain
+pub mod TakingLemmas
 pub mod TextLemmas

@@ -1,15 +1,14 @@
 -- Lines of rows, read by pieces and inserted one after another.
-use Rattle.std.proofs.Common.{◌≡◌, ℕ, suc, ◌+◌, ◌*◌, ◌<◌, ◌≤◌, Bool, true, false, not, ◌&&◌, Bor, List, [], ◌∷◌, ◌++◌, length, map, take, drop, get_or, Some, Result, Ok, IfOk, refl, sym, ap, subst, ◌∙◌, arith, append_assoc, append-nil}
-use Rattle.std.specs.List.{list_all}
+use Rattle.std.proofs.Common.{◌≡◌, ℕ, suc, ◌+◌, ◌*◌, ◌<◌, ◌≤◌, Bool, true, false, not, ◌&&◌, Bor, List, [], ◌∷◌, ◌++◌, length, map, take, drop, get_or, Some, Result, Ok, Err, IfOk, refl, sym, ap, subst, ◌∙◌, arith, append_assoc, append-nil}
+use Rattle.std.specs.List.{AllByRecursion, list_all}
 use Rattle.std.specs.Str.{bytes_eq}
 use Rattle.std.proofs.lemmas.Bool.{and_parts}
 use Rattle.std.proofs.lemmas.List.{take_more, take-append-drop, take-map, drop-map, drop-drop, map-append, length-append, length-map, length-drop}
 use Rattle.std.proofs.lemmas.List.Folds.{list_all-append}
 use Rattle.value.specs.declared.kind.Kind.{Kind}
-use Rattle.value.specs.declared.value.Value.{Value}
-use Rattle.schema.specs.Definition.{Catalog}
+use Rattle.schema.specs.Definition.{Column, Catalog}
+use Rattle.schema.specs.declared.row.Row.{Row}
 use Rattle.schema.specs.declared.tables.Tables.{Tables}
-use Rattle.copytext.specs.Reading.{line_values}
 use Rattle.dumpplan.specs.Lines.{end_of_rows}
 use Rattle.restore.specs.declared.error.LineError.{LineError}
 use Rattle.restore.specs.declared.lines.Line.{Line}
@@ -17,7 +16,8 @@ use Rattle.restore.specs.declared.lines.Lines.{Lines}
 use Rattle.restore.specs.CreateLine.{parted}
 use Rattle.restore.specs.Lines.{AreRowLines, is_row_line}
 use Rattle.restore.specs.Reading.{Within, lines_of, kinds_of, with_row, read_lines}
-use Rattle.restore.specs.Rows.{AreRead}
+use Rattle.restore.specs.declared.rows.ReadPiece.{ReadPiece}
+use Rattle.restore.specs.Rows.{row_of_line, rise, AreRead, IsPiece, ArePieces}
 use Rattle.restore.specs.Steps.{◌>>=◌, Gives, Fails, Stops, read_error}
 use Rattle.restore.proofs.StepLemmas.{stops}
 use Rattle.restore.proofs.ReadingLemmas.{row_is, stops_at, stepped_on, refused_on}
@@ -64,34 +64,34 @@ row_lines-more first rows more left rest line before at next row pushed =
 
 -- ---- what lines read as
 
-module _ {A T : Type 0} (view : T → List (Value A)) (kinds : List Kind) where
-  pub read-length : (rows : List (Result T LineError)) (lines : List (List ℕ)) → AreRead view kinds rows lines → length rows ≡ length lines
+module _ {A : Type 0} (kinds : List Kind) where
+  pub read-length : (rows : List (Result (Row A) LineError)) (lines : List (List ℕ)) → AreRead kinds rows lines → length rows ≡ length lines
   read-length [] [] h = refl
   read-length [] (l ∷ ls) h = absurd h
   read-length (r ∷ rs) [] h = absurd h
   read-length (r ∷ rs) (l ∷ ls) h = ap (λ n. suc n) (read-length rs ls h.1)
 
-  pub read-append : (rows more : List (Result T LineError)) (lines others : List (List ℕ)) → AreRead view kinds rows lines → AreRead view kinds more others → AreRead view kinds (rows ++ more) (lines ++ others)
+  pub read-append : (rows more : List (Result (Row A) LineError)) (lines others : List (List ℕ)) → AreRead kinds rows lines → AreRead kinds more others → AreRead kinds (rows ++ more) (lines ++ others)
   read-append [] more [] others h k = k
   read-append [] more (l ∷ ls) others h k = absurd h
   read-append (r ∷ rs) more [] others h k = absurd h
   read-append (r ∷ rs) more (l ∷ ls) others h k = (h.0, read-append rs more ls others h.1 k)
 
   -- one line more
-  pub read-next : (rows more : List (Result T LineError)) (lines : List (Bor (List ℕ))) (i : ℕ) (d : Bor (List ℕ)) (r : Result T LineError) → i < length lines → Gives view r (line_values kinds (get_or lines i d).now) → more ≡ rows ++ r ∷ []
-      → AreRead view kinds rows (map (λ l. l.now) (take i lines)) → AreRead view kinds more (map (λ l. l.now) (take (i + 1) lines))
+  pub read-next : (rows more : List (Result (Row A) LineError)) (lines : List (Bor (List ℕ))) (i : ℕ) (d : Bor (List ℕ)) (r : Result (Row A) LineError) → i < length lines → Gives (λ x. x) r (row_of_line kinds (get_or lines i d).now) → more ≡ rows ++ r ∷ []
+      → AreRead kinds rows (map (λ l. l.now) (take i lines)) → AreRead kinds more (map (λ l. l.now) (take (i + 1) lines))
   read-next rows more lines i d r lt gives pushed before =
       let now : Bor (List ℕ) → List ℕ = λ l. l.now in
       let taken : map now (take (i + 1) lines) ≡ map now (take i lines) ++ (get_or lines i d).now ∷ [] =
       ap (map now) (take_more lines i d lt) ∙ map-append now (take i lines) (get_or lines i d ∷ []) in
-      subst (λ (rs : List (Result T LineError)). AreRead view kinds rs (map now (take (i + 1) lines))) (sym pushed)
-      (subst (λ (ls : List (List ℕ)). AreRead view kinds (rows ++ r ∷ []) ls) (sym taken) (read-append rows (r ∷ []) (map now (take i lines)) ((get_or lines i d).now ∷ []) before (gives, tt)))
+      subst (λ (rs : List (Result (Row A) LineError)). AreRead kinds rs (map now (take (i + 1) lines))) (sym pushed)
+      (subst (λ (ls : List (List ℕ)). AreRead kinds (rows ++ r ∷ []) ls) (sym taken) (read-append rows (r ∷ []) (map now (take i lines)) ((get_or lines i d).now ∷ []) before (gives, tt)))
 
-module _ {A T : Type 0} (view : T → List (Value A)) where
+module _ {A : Type 0} where
   -- the same kinds and lines
-  pub read-same : (kinds others : List Kind) (rows : List (Result T LineError)) (shown lines : List (Bor (List ℕ))) → kinds ≡ others → shown ≡ lines → AreRead view kinds rows (map (λ l. l.now) shown) → AreRead view others rows (map (λ l. l.now) lines)
+  pub read-same : (kinds others : List Kind) (rows : List (Result (Row A) LineError)) (shown lines : List (Bor (List ℕ))) → kinds ≡ others → shown ≡ lines → AreRead kinds rows (map (λ l. l.now) shown) → AreRead others rows (map (λ l. l.now) lines)
   read-same kinds others rows shown lines e f h =
-      subst (λ (ks : List Kind). AreRead view ks rows (map (λ l. l.now) lines)) e (subst (λ (ls : List (Bor (List ℕ))). AreRead view kinds rows (map (λ l. l.now) ls)) f h)
+      subst (λ (ks : List Kind). AreRead ks rows (map (λ l. l.now) lines)) e (subst (λ (ls : List (Bor (List ℕ))). AreRead kinds rows (map (λ l. l.now) ls)) f h)
 
 -- ---- by pieces of a size
 
@@ -99,98 +99,66 @@ none_left : (lines : List (List ℕ)) → length lines ≤ 0 → lines ≡ []
 none_left [] h = refl
 none_left (l ∷ ls) h = absurd (omega arith)
 
-module _ {A T P E : Type 0} (view : T → List (Value A)) (items : P → List (Result T LineError)) (kinds : List Kind) (size : ℕ) where
-  -- each piece is what so many lines read as, the last what the rest do
-  abbrev pub ArePieces : List (Result P E) → List (List ℕ) → Type 0
-  ArePieces [] lines = lines ≡ []
-  ArePieces (piece ∷ pieces) lines = IfOk piece (λ rows. AreRead view kinds (items rows) (take size lines)) × ArePieces pieces (drop size lines)
+module _ {A E : Type 0} (columns : List Column) (kinds : List Kind) (size : ℕ) where
+  ok_same : (piece : Result (ReadPiece A) E) (ls ms : List (List ℕ)) → ls ≡ ms → IfOk piece (λ p. IsPiece columns kinds p ls) → IfOk piece (λ p. IsPiece columns kinds p ms)
+  ok_same piece ls ms e h = subst (λ (xs : List (List ℕ)). IfOk piece (λ p. IsPiece columns kinds p xs)) e h
 
-  ok_same : (piece : Result P E) (ls ms : List (List ℕ)) → ls ≡ ms → IfOk piece (λ rows. AreRead view kinds (items rows) ls) → IfOk piece (λ rows. AreRead view kinds (items rows) ms)
-  ok_same piece ls ms e h = subst (λ (xs : List (List ℕ)). IfOk piece (λ rows. AreRead view kinds (items rows) xs)) e h
-
-  pub are_pieces : (pieces : List (Result P E)) (lines : List (Bor (List ℕ))) → length lines ≤ length pieces * size
-      → ((n : ℕ) (d : Result P E) → n < length pieces → IfOk (get_or pieces n d) (λ rows. AreRead view kinds (items rows) (map (λ l. l.now) (take size (drop (n * size) lines)))))
-      → ArePieces pieces (map (λ l. l.now) lines)
+  pub are_pieces : (pieces : List (Result (ReadPiece A) E)) (lines : List (Bor (List ℕ))) → length lines ≤ length pieces * size
+      → ((n : ℕ) (d : Result (ReadPiece A) E) → n < length pieces → IfOk (get_or pieces n d) (λ p. IsPiece columns kinds p (map (λ l. l.now) (take size (drop (n * size) lines)))))
+      → ArePieces size columns kinds pieces (map (λ l. l.now) lines)
   are_pieces [] lines few each = none_left (map (λ l. l.now) lines) (omega (arith, length-map lines (λ l. l.now)))
   are_pieces (piece ∷ pieces) lines few each =
       let now : Bor (List ℕ) → List ℕ = λ l. l.now in (
         ok_same piece (map now (take size (drop (0 * size) lines))) (take size (map now lines)) (ap (λ n. map now (take size (drop n lines))) (zero-mul size) ∙ sym (take-map now size lines)) (each 0 piece (omega arith)),
-        subst (ArePieces pieces) (sym (drop-map now size lines))
+        subst (ArePieces size columns kinds pieces) (sym (drop-map now size lines))
             (are_pieces pieces (drop size lines) (let count = length-drop size lines in let more : suc (length pieces) * size ≡ size + length pieces * size = suc_times (length pieces) size in omega (arith, few, count, more))
             (λ n d lt. ok_same (get_or pieces n d) (map now (take size (drop (suc n * size) lines))) (map now (take size (drop (n * size) (drop size lines))))
             (ap (λ m. map now (take size (drop m lines))) (suc_times n size) ∙ ap (λ ls. map now (take size ls)) (sym (drop-drop (n * size) size lines)))
             (each (suc n) d (omega arith)))),
       )
 
-  -- what the pieces so far read as, and the pieces left
-  pub record IsJoined (rows : List (Result T LineError)) (left : List (Result P E)) (lines : List (List ℕ)) : Type 0 where
-    pub first : List (List ℕ)
-    pub last : List (List ℕ)
-    pub all : first ++ last ≡ lines
-    pub read : AreRead view kinds rows first
-    pub pieces : ArePieces left last
-
-  pub joined-first : (rows : List (Result T LineError)) (left pieces : List (Result P E)) (lines : List (List ℕ)) → rows ≡ [] → left ≡ pieces → ArePieces pieces lines → IsJoined rows left lines
-  joined-first rows left pieces lines none same are = record {
-    first = [];
-    last = lines;
-    all = refl;
-    read = subst (λ (rs : List (Result T LineError)). AreRead view kinds rs []) (sym none) tt;
-    pieces = subst (λ (ps : List (Result P E)). ArePieces ps lines) (sym same) are;
-  }
-
-  pub joined-next : (rows more : List (Result T LineError)) (left rest : List (Result P E)) (lines : List (List ℕ)) (piece : P) → IsJoined rows left lines → left ≡ Ok piece ∷ rest → more ≡ rows ++ items piece → IsJoined more rest lines
-  joined-next rows more left rest lines piece j e pushed =
-      let h : ArePieces (Ok piece ∷ rest) j.last = subst (λ (ps : List (Result P E)). ArePieces ps j.last) e j.pieces in
-      record {
-        first = j.first ++ take size j.last;
-        last = drop size j.last;
-        all = append_assoc j.first (take size j.last) (drop size j.last) ∙ ap (λ ls. j.first ++ ls) (take-append-drop size j.last) ∙ j.all;
-        read = subst (λ (rs : List (Result T LineError)). AreRead view kinds rs (j.first ++ take size j.last)) (sym pushed) (read-append view kinds rows (items piece) j.first (take size j.last) j.read h.0);
-        pieces = h.1;
-      }
-
-  pub joined-all : (rows : List (Result T LineError)) (left : List (Result P E)) (lines : List (List ℕ)) → IsJoined rows left lines → left ≡ [] → AreRead view kinds rows lines
-  joined-all rows left lines j e =
-      let none : j.last ≡ [] = subst (λ (ps : List (Result P E)). ArePieces ps j.last) e j.pieces in
-      subst (AreRead view kinds rows) (sym (append-nil j.first) ∙ ap (λ ls. j.first ++ ls) (sym none) ∙ j.all) j.read
+  -- of each piece it is known whether its rows rise
+  pub rise_known : (pieces : List (Result (ReadPiece A) E)) (lines : List (List ℕ)) → ArePieces size columns kinds pieces lines → AllByRecursion (λ p. IfOk p (λ piece. piece.rise ≡ rise columns piece.rows.items)) pieces
+  rise_known [] lines h = tt
+  rise_known (Ok piece ∷ pieces) lines h = (h.0.1, rise_known pieces (drop size lines) h.1)
+  rise_known (Err e ∷ pieces) lines h = (tt, rise_known pieces (drop size lines) h.1)
 
 -- ---- inserted one after another
 
-module _ {A T : Type 0} (view : T → List (Value A)) where
+pub some_more : (last more : List (List ℕ)) → (more ≡ [] → ⊥) → (last ++ more) ≡ [] → ⊥
+some_more [] more some e = some e
+some_more (l ∷ last) more some e = absurd cc
+
+module _ {A : Type 0} where
   -- what is left to insert, from a line's number on: the answer from here is the answer from there
-  pub record IsInserting (counted : Bool) (c : Catalog) (t : ℕ) (more : List (List ℕ)) (start : ℕ) (lines : List (List ℕ)) (X : Tables A) (number : ℕ) (left : List (Result T LineError)) (Y : Tables A) : Type 0 where
+  pub record IsInserting (counted : Bool) (c : Catalog) (t : ℕ) (more : List (List ℕ)) (start : ℕ) (lines : List (List ℕ)) (X : Tables A) (number : ℕ) (left : List (Result (Row A) LineError)) (Y : Tables A) : Type 0 where
     pub last : List (List ℕ)
-    pub read : AreRead view (kinds_of c t) left last
+    pub read : AreRead (kinds_of c t) left last
     pub rows : list_all is_row_line last ≡ true
     pub numbers : number + length last ≡ start + length lines
     pub answer : read_lines number (Within counted c Y t) (last ++ more) ≡ read_lines start (Within counted c X t) (lines ++ more)
 
-  pub inserting-first : (counted : Bool) (c : Catalog) (t : ℕ) (more : List (List ℕ)) (start : ℕ) (lines : List (List ℕ)) (X : Tables A) (left rows : List (Result T LineError)) → left ≡ rows → AreRead view (kinds_of c t) rows lines → list_all is_row_line lines ≡ true
+  pub inserting-first : (counted : Bool) (c : Catalog) (t : ℕ) (more : List (List ℕ)) (start : ℕ) (lines : List (List ℕ)) (X : Tables A) (left rows : List (Result (Row A) LineError)) → left ≡ rows → AreRead (kinds_of c t) rows lines → list_all is_row_line lines ≡ true
       → IsInserting counted c t more start lines X start left X
   inserting-first counted c t more start lines X left rows same read alone = record {
     last = lines;
-    read = subst (λ (rs : List (Result T LineError)). AreRead view (kinds_of c t) rs lines) (sym same) read;
+    read = subst (λ (rs : List (Result (Row A) LineError)). AreRead (kinds_of c t) rs lines) (sym same) read;
     rows = alone;
     numbers = refl;
     answer = refl;
   }
-
-  some_more : (last more : List (List ℕ)) → (more ≡ [] → ⊥) → (last ++ more) ≡ [] → ⊥
-  some_more [] more some e = some e
-  some_more (l ∷ last) more some e = absurd cc
 
   taken_on : (counted : Bool) (c : Catalog) (t : ℕ) (n : ℕ) (X Y : Tables A) (row : List ℕ) (lines : List (List ℕ)) → (lines ≡ [] → ⊥) → is_row_line row ≡ true → with_row c X t row ≡ Ok Y
       → read_lines n (Within counted c X t) (row ∷ lines) ≡ read_lines (n + 1) (Within counted c Y t) lines
   taken_on counted c t n X Y row lines some is h =
       stepped_on n (Within counted c X t) (Within counted c Y t) row lines some (row_is counted c X t row (is_false (bytes_eq row end_of_rows) is) ∙ ap (λ r. r >>= λ Z. Ok (Within counted c Z t)) h)
 
-  pub inserted-next : (counted : Bool) (c : Catalog) (t : ℕ) (more : List (List ℕ)) (start : ℕ) (lines : List (List ℕ)) (X : Tables A) (n : ℕ) (left rest : List (Result T LineError)) (Y Z : Tables A) (row : Result T LineError)
-      → (more ≡ [] → ⊥) → left ≡ row ∷ rest → ((l : List ℕ) → Gives view row (line_values (kinds_of c t) l) → with_row c Y t l ≡ Ok Z)
+  pub inserted-next : (counted : Bool) (c : Catalog) (t : ℕ) (more : List (List ℕ)) (start : ℕ) (lines : List (List ℕ)) (X : Tables A) (n : ℕ) (left rest : List (Result (Row A) LineError)) (Y Z : Tables A) (row : Result (Row A) LineError)
+      → (more ≡ [] → ⊥) → left ≡ row ∷ rest → ((l : List ℕ) → Gives (λ r. r) row (row_of_line (kinds_of c t) l) → with_row c Y t l ≡ Ok Z)
       → IsInserting counted c t more start lines X n left Y → IsInserting counted c t more start lines X (n + 1) rest Z
-  inserted-next counted c t more start lines X n left rest Y Z row some e taken j = go j.last (subst (λ (rs : List (Result T LineError)). AreRead view (kinds_of c t) rs j.last) e j.read) j.rows j.numbers j.answer
+  inserted-next counted c t more start lines X n left rest Y Z row some e taken j = go j.last (subst (λ (rs : List (Result (Row A) LineError)). AreRead (kinds_of c t) rs j.last) e j.read) j.rows j.numbers j.answer
     where
-      go : (last : List (List ℕ)) → AreRead view (kinds_of c t) (row ∷ rest) last → list_all is_row_line last ≡ true → n + length last ≡ start + length lines
+      go : (last : List (List ℕ)) → AreRead (kinds_of c t) (row ∷ rest) last → list_all is_row_line last ≡ true → n + length last ≡ start + length lines
           → read_lines n (Within counted c Y t) (last ++ more) ≡ read_lines start (Within counted c X t) (lines ++ more) → IsInserting counted c t more start lines X (n + 1) rest Z
       go [] h r m a = absurd h
       go (l ∷ last) h r m a =
@@ -203,12 +171,12 @@ module _ {A T : Type 0} (view : T → List (Value A)) where
             answer = sym (taken_on counted c t n Y Z l (last ++ more) (some_more last more some) p.0 (taken l h.0)) ∙ a;
           }
 
-  pub inserted-stops : (counted : Bool) (c : Catalog) (t : ℕ) (more : List (List ℕ)) (start : ℕ) (lines : List (List ℕ)) (X : Tables A) (n : ℕ) (left rest : List (Result T LineError)) (Y : Tables A) (row : Result T LineError) (e : LineError)
-      → (more ≡ [] → ⊥) → left ≡ row ∷ rest → ((l : List ℕ) → Gives view row (line_values (kinds_of c t) l) → Fails e (with_row c Y t l))
+  pub inserted-stops : (counted : Bool) (c : Catalog) (t : ℕ) (more : List (List ℕ)) (start : ℕ) (lines : List (List ℕ)) (X : Tables A) (n : ℕ) (left rest : List (Result (Row A) LineError)) (Y : Tables A) (row : Result (Row A) LineError) (e : LineError)
+      → (more ≡ [] → ⊥) → left ≡ row ∷ rest → ((l : List ℕ) → Gives (λ r. r) row (row_of_line (kinds_of c t) l) → Fails e (with_row c Y t l))
       → IsInserting counted c t more start lines X n left Y → Stops (read_error n e) (read_lines start (Within counted c X t) (lines ++ more))
-  inserted-stops counted c t more start lines X n left rest Y row e some is fails j = go j.last (subst (λ (rs : List (Result T LineError)). AreRead view (kinds_of c t) rs j.last) is j.read) j.rows j.answer
+  inserted-stops counted c t more start lines X n left rest Y row e some is fails j = go j.last (subst (λ (rs : List (Result (Row A) LineError)). AreRead (kinds_of c t) rs j.last) is j.read) j.rows j.answer
     where
-      go : (last : List (List ℕ)) → AreRead view (kinds_of c t) (row ∷ rest) last → list_all is_row_line last ≡ true
+      go : (last : List (List ℕ)) → AreRead (kinds_of c t) (row ∷ rest) last → list_all is_row_line last ≡ true
           → read_lines n (Within counted c Y t) (last ++ more) ≡ read_lines start (Within counted c X t) (lines ++ more) → Stops (read_error n e) (read_lines start (Within counted c X t) (lines ++ more))
       go [] h r a = absurd h
       go (l ∷ last) h r a =
@@ -217,11 +185,11 @@ module _ {A T : Type 0} (view : T → List (Value A)) where
           (refused_on e n (Within counted c Y t) l (last ++ more) (some_more last more some)
           (rw (row_is counted c Y t l (is_false (bytes_eq l end_of_rows) p.0)) (stops e (with_row c Y t l) (λ Z. Ok (Within counted c Z t)) (fails l h.0)))) a
 
-  pub inserted-all : (counted : Bool) (c : Catalog) (t : ℕ) (more : List (List ℕ)) (start : ℕ) (lines : List (List ℕ)) (X : Tables A) (n : ℕ) (left : List (Result T LineError)) (Y : Tables A) → left ≡ []
+  pub inserted-all : (counted : Bool) (c : Catalog) (t : ℕ) (more : List (List ℕ)) (start : ℕ) (lines : List (List ℕ)) (X : Tables A) (n : ℕ) (left : List (Result (Row A) LineError)) (Y : Tables A) → left ≡ []
       → IsInserting counted c t more start lines X n left Y → read_lines start (Within counted c X t) (lines ++ more) ≡ read_lines (start + length lines) (Within counted c Y t) more
-  inserted-all counted c t more start lines X n left Y e j = go j.last (subst (λ (rs : List (Result T LineError)). AreRead view (kinds_of c t) rs j.last) e j.read) j.numbers j.answer
+  inserted-all counted c t more start lines X n left Y e j = go j.last (subst (λ (rs : List (Result (Row A) LineError)). AreRead (kinds_of c t) rs j.last) e j.read) j.numbers j.answer
     where
-      go : (last : List (List ℕ)) → AreRead view (kinds_of c t) [] last → n + length last ≡ start + length lines
+      go : (last : List (List ℕ)) → AreRead {A = A} (kinds_of c t) [] last → n + length last ≡ start + length lines
           → read_lines n (Within counted c Y t) (last ++ more) ≡ read_lines start (Within counted c X t) (lines ++ more) → read_lines start (Within counted c X t) (lines ++ more) ≡ read_lines (start + length lines) (Within counted c Y t) more
       go [] h m a = let same : n ≡ start + length lines = omega (arith, m) in sym a ∙ ap (λ k. read_lines k (Within counted c Y t) more) same
       go (l ∷ last) h m a = absurd h

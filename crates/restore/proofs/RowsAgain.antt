@@ -29,7 +29,7 @@ use Rattle.schema.specs.WellFormed.{references_key}
 use Rattle.restore.proofs.CatalogLemmas.{key_there, not_true}
 use Rattle.restore.proofs.SpellingLemmas.{nor}
 
-lt_is : (o : Ordering) → is_lt o ≡ true → o ≡ Less
+pub lt_is : (o : Ordering) → is_lt o ≡ true → o ≡ Less
 lt_is Less h = refl
 lt_is Equal h = absurd (true≢false (sym h))
 lt_is Greater h = absurd (true≢false (sym h))
@@ -37,7 +37,7 @@ lt_is Greater h = absurd (true≢false (sym h))
 module _ {A : Type 0} where
   -- ---- values of their columns' kinds
 
-  kind_is : (k : Kind) (v : Value A) → has_kind k v ≡ true → is_of_kind k v ≡ true
+  pub kind_is : (k : Kind) (v : Value A) → has_kind k v ≡ true → is_of_kind k v ≡ true
   kind_is k Null h = refl
   kind_is kind.Bigint (Int n) h = refl
   kind_is kind.Bigint (Text t) h = absurd cc
@@ -49,7 +49,7 @@ module _ {A : Type 0} where
   kind_is kind.Bytea (Text t) h = absurd cc
   kind_is kind.Bytea (Bytes b) h = refl
 
-  no_zero : (k : Kind) (v : Value A) → has_kind k v ≡ true → has_zero_byte v ≡ false
+  pub no_zero : (k : Kind) (v : Value A) → has_kind k v ≡ true → has_zero_byte v ≡ false
   no_zero k Null h = refl
   no_zero k (Int n) h = refl
   no_zero kind.Bigint (Text t) h = absurd cc
@@ -152,10 +152,10 @@ module _ {A : Type 0} where
 
   -- ---- a row is inserted again
 
-  inserted_by : (c : Catalog) (X : Tables A) (t : ℕ) (row : Row A) → inserting_fault c X t row ≡ None → inserted c X t row ≡ Ok (set X t (put_row (rows_of X t) row))
+  pub inserted_by : (c : Catalog) (X : Tables A) (t : ℕ) (row : Row A) → inserting_fault c X t row ≡ None → inserted c X t row ≡ Ok (set X t (put_row (rows_of X t) row))
   inserted_by c X t row h = rw h refl
 
-  no_fault : (c : Catalog) (Y : Tables A) (t : ℕ) (row : Row A) (ds : List Column) → columns_of c t ≡ ds → are_of_kinds ds (cells row) ≡ true → list_any has_zero_byte (cells row) ≡ false → lacks_value ds (cells row) ≡ false
+  pub no_fault : (c : Catalog) (Y : Tables A) (t : ℕ) (row : Row A) (ds : List Column) → columns_of c t ≡ ds → are_of_kinds ds (cells row) ≡ true → list_any has_zero_byte (cells row) ≡ false → lacks_value ds (cells row) ≡ false
       → row_at Y t row.0 ≡ None → dangles Y ds (cells row) ≡ false → inserting_fault c Y t row ≡ None
   no_fault c Y t row ds columns kinds zeros null key reference = rw (columns, kinds, zeros, null, key, reference) refl
 

@@ -35,7 +35,7 @@ both_of false b e = absurd cc
 abbrev done : {T E : Type 0} → T → Result T E
 done x = Ok x
 
-bind_ok : {X Y : Type 0} (r : Result X Code) (f : X → Result Y Code) (y : Y) → (r >>= f) ≡ Ok y → (x : X) × (r ≡ Ok x) × (f x ≡ Ok y)
+pub bind_ok : {X Y : Type 0} (r : Result X Code) (f : X → Result Y Code) (y : Y) → (r >>= f) ≡ Ok y → (x : X) × (r ≡ Ok x) × (f x ≡ Ok y)
 bind_ok (Ok x) f y e = (x, refl, e)
 bind_ok (Err code) f y e = absurd cc
 
@@ -107,7 +107,7 @@ module _ {A : Type 0} where
   values_kept c X Y t (Text x ∷ fields) kept made h = inserted_kept c X Y t (row_of (Text x) fields) kept refl made h
   values_kept c X Y t (Bytes b ∷ fields) kept made h = inserted_kept c X Y t (row_of (Bytes b) fields) kept refl made h
 
-  row_kept : (c : Catalog) (X Y : Tables A) (t : ℕ) (line : List ℕ) → Kept c X → with_row c X t line ≡ Ok Y → Kept c Y
+  pub row_kept : (c : Catalog) (X Y : Tables A) (t : ℕ) (line : List ℕ) → Kept c X → with_row c X t line ≡ Ok Y → Kept c Y
   row_kept c X Y t line kept h =
       let b = bind_ok (line_values {A = A} (kinds_of c t) line) (λ values. with_values c X t values) Y h in
       values_kept c X Y t b.0 kept (line_made (kinds_of c t) line b.0 b.1) b.2

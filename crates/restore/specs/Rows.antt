@@ -1,14 +1,79 @@
--- What the lines of rows read as, one after another and by pieces.
-use Rattle.std.specs.Prelude.{ℕ, List, [], ◌∷◌, Result}
+-- What the lines of rows read as, one after another and by pieces, and which rows may be put behind those of a table.
+use Rattle.std.specs.Prelude.{◌≡◌, ℕ, Bool, true, false, not, ◌&&◌, is_some, List, [], ◌∷◌, find, take, drop, Result, Ok, Err, IfOk}
+use Rattle.std.specs.List.{list_any}
+use Rattle.std.specs.Ordering.{is_le, is_lt}
 use Rattle.value.specs.declared.kind.Kind.{Kind}
+use Rattle.value.specs.declared.refusal.Code.{Code}
+use Rattle.value.specs.declared.refusal.Code.TheVariants.{BadCopyFileFormat, NotNullViolation}
 use Rattle.value.specs.declared.value.Value.{Value}
+use Rattle.value.specs.declared.value.Value.TheVariants.{Null}
+use Rattle.value.specs.Order.{value_cmp}
+use Rattle.schema.specs.Definition.{Column}
+use Rattle.schema.specs.declared.row.Row.{Row}
+use Rattle.schema.specs.Inserting.{lacks_value}
+use Rattle.schema.specs.Plain.{cells}
+use Rattle.schema.specs.Rows.{Rows}
 use Rattle.copytext.specs.Reading.{line_values}
 use Rattle.restore.specs.declared.error.LineError.{LineError}
-use Rattle.restore.specs.Steps.{Gives}
+use Rattle.restore.specs.declared.rows.ReadPiece.{ReadPiece}
+use Rattle.restore.specs.Steps.{◌>>=◌, Gives}
 
-module _ {A T : Type 0} (view : T → List (Value A)) (kinds : List Kind) where
-  -- each row, seen by view, is what its line reads as
-  abbrev pub AreRead : List (Result T LineError) → List (List ℕ) → Type 0
-  AreRead [] [] = Unit {0}
-  AreRead (row ∷ rows) (line ∷ lines) = Gives view row (line_values kinds line) × AreRead rows lines
-  AreRead _ _ = ⊥
+module _ {A : Type 0} where
+  -- the row of some values, of which the first is the key
+  abbrev pub row_of_values : List (Value A) → Result (Row A) Code
+  row_of_values [] = Err BadCopyFileFormat
+  row_of_values (Null ∷ fields) = Err NotNullViolation
+  row_of_values (key ∷ fields) = Ok (key, fields)
+
+  -- the row of a line
+  abbrev pub row_of_line : List Kind → List ℕ → Result (Row A) Code
+  row_of_line kinds line = line_values kinds line >>= λ values. row_of_values values
+
+  -- ---- rows that may be put behind those of a table
+
+  -- nothing but a key that is there stands against a row: no column references a table, and no value is null that mustn't be
+  abbrev pub is_free : List Column → Row A → Bool
+  is_free columns row = not (list_any (λ d. is_some d.references) columns) && not (lacks_value columns (cells row))
+
+  -- each row of a table comes before a key
+  abbrev pub is_behind : Rows A → Value A → Bool
+  is_behind table key = not (is_some (find (λ row. is_le (value_cmp key row.0)) table))
+
+  -- a row may be put behind those of a table
+  abbrev pub IsNext : List Column → Rows A → Row A → Type 0
+  IsNext columns table row = (is_free columns row ≡ true) × (is_behind table row.0 ≡ true)
+
+  -- each of some lines was read, their keys rise from one on, and nothing else stands against their rows
+  abbrev pub rise_from : List Column → Value A → List (Result (Row A) LineError) → Bool
+  rise_from columns key [] = true
+  rise_from columns key (Ok row ∷ rows) = is_lt (value_cmp key row.0) && is_free columns row && rise_from columns row.0 rows
+  rise_from columns key (Err e ∷ rows) = false
+
+  -- the same from the key of the first
+  abbrev pub rise : List Column → List (Result (Row A) LineError) → Bool
+  rise columns [] = false
+  rise columns (Ok row ∷ rows) = is_free columns row && rise_from columns row.0 rows
+  rise columns (Err e ∷ rows) = false
+
+  -- the first of some rows comes behind a table
+  abbrev pub follows : Rows A → List (Result (Row A) LineError) → Bool
+  follows table [] = false
+  follows table (Ok row ∷ rows) = is_behind table row.0
+  follows table (Err e ∷ rows) = false
+
+  -- ---- lines
+
+  -- each row is that of its line
+  abbrev pub AreRead : List Kind → List (Result (Row A) LineError) → List (List ℕ) → Type 0
+  AreRead kinds [] [] = Unit {0}
+  AreRead kinds (row ∷ rows) (line ∷ lines) = Gives (λ r. r) row (row_of_line kinds line) × AreRead kinds rows lines
+  AreRead kinds _ _ = ⊥
+
+  -- the rows of a piece are those of its lines, and it is known whether they rise
+  abbrev pub IsPiece : List Column → List Kind → ReadPiece A → List (List ℕ) → Type 0
+  IsPiece columns kinds piece lines = AreRead kinds piece.rows.items lines × (piece.rise ≡ rise columns piece.rows.items)
+
+  -- each piece is that of so many lines, the last that of the rest
+  abbrev pub ArePieces : {E : Type 0} → ℕ → List Column → List Kind → List (Result (ReadPiece A) E) → List (List ℕ) → Type 0
+  ArePieces size columns kinds [] lines = lines ≡ []
+  ArePieces size columns kinds (piece ∷ pieces) lines = IfOk piece (λ p. IsPiece columns kinds p (take size lines)) × ArePieces size columns kinds pieces (drop size lines)

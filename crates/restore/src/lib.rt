@@ -3,8 +3,11 @@
 
 mod create;
 mod error;
+#[cfg(test)]
+mod hostile_tests;
 mod law;
 mod lines;
+mod pieces;
 mod reading;
 mod rows;
 mod sound;

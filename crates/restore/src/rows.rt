@@ -1,10 +1,10 @@
 //! The rows of a table.
 ghost use Rattle.std.specs.Prelude.{◌≡◌, ◌≢◌, ◌+◌, ◌<◌, ◌^◌, ℕ, Bool, List, [], ◌∷◌, ◌++◌, length, vec_len, map, true, MatchOption, IfOk, IfErr, OnErr};
-ghost use Rattle.schema.specs.Definition.{columns_of};
 ghost use Rattle.schema.specs.Plain.{is_sound};
-ghost use Rattle.restore.specs.Reading.{Within, kinds_of, with_values, with_row, read_lines};
+ghost use Rattle.schema.specs.Inserting.{inserted};
+ghost use Rattle.restore.specs.Reading.{Within, kinds_of, with_row, read_lines};
 ghost use Rattle.restore.specs.Lines.{is_row_line};
-ghost use Rattle.restore.specs.Rows.{AreRead};
+ghost use Rattle.restore.specs.Rows.{row_of_values, row_of_line, AreRead};
 ghost use Rattle.std.specs.List.{list_all};
 ghost use Rattle.restore.specs.Steps.{Gives, Reads};
 ghost use Rattle.restore.specs.declared.error.ReadError.TheVariants as error;
@@ -33,29 +33,26 @@ pub fn kinds_of<A: Allocator>(alloc: A, columns: &[Column<A>]) -> Result<Vec<Kin
     Ok(kinds)
 }
 
-/// The values of a row's line, or why it isn't taken.
-pub type ReadRow<A> = Result<Vec<Value<A>, A>, LineError>;
+/// The row of a line, or why it isn't taken.
+pub type ReadRow<A> = Result<Row<A>, LineError>;
+
+/// The rows of a piece's lines.
+#[derive(Drop)]
+pub struct ReadPiece<A: Allocator> {
+    pub rows: Vec<ReadRow<A>, A>,
+    /// Whether they all were read, their keys rise, and nothing else stands against them but a key that is there.
+    pub rise: bool,
+}
 
 // The values of a line.
-fn values_of<A: Allocator + Copy>(alloc: A, kinds: &[Kind], line: &[u8]) -> ReadRow<A>
+fn values_of<A: Allocator + Copy>(
+    alloc: A,
+    kinds: &[Kind],
+    line: &[u8],
+) -> Result<Vec<Value<A>, A>, LineError>
     ensures { Gives (λ values. values.items) result (line_values kinds.now line.now) }
 {
     Ok(read_row(alloc, kinds, line)?)
-}
-
-/// What each of some lines of rows reads as.
-pub fn read_each<A: Allocator + Copy>(
-    alloc: A,
-    kinds: &[Kind],
-    lines: &[&[u8]],
-) -> Result<Vec<ReadRow<A>, A>, AllocError>
-    ensures { IfOk result (λ rows. AreRead (λ values. values.items) kinds.now rows.items (map (λ line. line.now) lines.now)) }
-{
-    let mut rows = Vec::with_capacity(alloc, lines.len())?;
-    for line in lines {
-        rows.push(values_of(alloc, kinds, line))?;
-    }
-    Ok(rows)
 }
 
 // The first of some values, and the others.
@@ -66,31 +63,62 @@ fn first_value<A: Allocator>(mut values: Vec<Value<A>, A>) -> Option<(Value<A>, 
         return None;
     }
     let first = values.remove(0);
+    values.shrink_to_fit();
     Some((first, values))
 }
 
-// Inserts the row of some values, of which the first is the key.
-fn insert_values<A: Allocator + Copy>(
-    alloc: A,
-    catalog: &Catalog<A>,
-    tables: &mut Tables<A>,
-    table: TableNo,
-    values: Vec<Value<A>, A>,
-) -> Result<(), LineError>
-    requires has { table < length catalog.now }
-    requires same_tables { length tables.old ≡ length catalog.now }
-    ensures row { Gives (λ _. tables.new) result (with_values catalog.now tables.old table values.items) }
-    ensures err { OnErr result (tables.new ≡ tables.old) }
-    ensures same_tables { length tables.new ≡ length catalog.now }
-    ensures sound { is_sound catalog.now tables.old ≡ true → is_sound catalog.now tables.new ≡ true }
+// The row of some values, of which the first is the key.
+fn row_of_values<A: Allocator>(values: Vec<Value<A>, A>) -> ReadRow<A>
+    ensures { Gives (λ row. row) result (row_of_values values.items) }
 {
     let Some((first, fields)) = first_value(values) else {
         return Err(LineError::Refused(Code::BadCopyFileFormat));
     };
-    let Some(key) = Key::new(first) else {
-        return Err(LineError::Refused(Code::NotNullViolation));
-    };
-    match tables.insert(alloc, catalog, table, Row::new(key, fields)) {
+    match Key::new(first) {
+        Some(key) => Ok(Row::new(key, fields)),
+        None => Err(LineError::Refused(Code::NotNullViolation)),
+    }
+}
+
+// The row of a line.
+fn row_of_line<A: Allocator + Copy>(alloc: A, kinds: &[Kind], line: &[u8]) -> ReadRow<A>
+    ensures { Gives (λ row. row) result (row_of_line kinds.now line.now) }
+{
+    let values = values_of(alloc, kinds, line)?;
+    row_of_values(values)
+}
+
+/// What each of some lines of rows reads as.
+pub fn read_each<A: Allocator + Copy>(
+    alloc: A,
+    kinds: &[Kind],
+    lines: &[&[u8]],
+) -> Result<Vec<ReadRow<A>, A>, AllocError>
+    ensures { IfOk result (λ rows. AreRead kinds.now rows.items (map (λ line. line.now) lines.now)) }
+{
+    let mut rows = Vec::with_capacity(alloc, lines.len())?;
+    for line in lines {
+        rows.push(row_of_line(alloc, kinds, line))?;
+    }
+    Ok(rows)
+}
+
+// Inserts a row.
+fn insert_row<A: Allocator + Copy>(
+    alloc: A,
+    catalog: &Catalog<A>,
+    tables: &mut Tables<A>,
+    table: TableNo,
+    row: Row<A>,
+) -> Result<(), LineError>
+    requires has { table < length catalog.now }
+    requires same_tables { length tables.old ≡ length catalog.now }
+    ensures row { Gives (λ _. tables.new) result (inserted catalog.now tables.old table row) }
+    ensures err { OnErr result (tables.new ≡ tables.old) }
+    ensures same_tables { length tables.new ≡ length catalog.now }
+    ensures sound { is_sound catalog.now tables.old ≡ true → is_sound catalog.now tables.new ≡ true }
+{
+    match tables.insert(alloc, catalog, table, row) {
         Ok(()) => Ok(()),
         Err(refusal) => Err(LineError::from(refusal)),
     }
@@ -106,12 +134,13 @@ fn insert_read<A: Allocator + Copy>(
 ) -> Result<(), LineError>
     requires has { table < length catalog.now }
     requires same_tables { length tables.old ≡ length catalog.now }
-    ensures row { (line : List ℕ) → Gives (λ values. values.items) row (line_values (kinds_of catalog.now table) line) → Gives (λ _. tables.new) result (with_row catalog.now tables.old table line) }
+    ensures row { (line : List ℕ) → Gives (λ r. r) row (row_of_line (kinds_of catalog.now table) line) → Gives (λ _. tables.new) result (with_row catalog.now tables.old table line) }
+    ensures err { OnErr result (tables.new ≡ tables.old) }
     ensures same_tables { length tables.new ≡ length catalog.now }
     ensures sound { is_sound catalog.now tables.old ≡ true → is_sound catalog.now tables.new ≡ true }
 {
-    let values = row?;
-    insert_values(alloc, catalog, tables, table, values)
+    let row = row?;
+    insert_row(alloc, catalog, tables, table, row)
 }
 
 /// Inserts the row of a line into a table, whose columns have the kinds.
@@ -131,8 +160,8 @@ pub fn insert_line<A: Allocator + Copy>(
     ensures same_tables { length tables.new ≡ length catalog.now }
     ensures sound { is_sound catalog.now tables.old ≡ true → is_sound catalog.now tables.new ≡ true }
 {
-    let values = values_of(alloc, kinds, line)?;
-    insert_values(alloc, catalog, tables, table, values)
+    let row = row_of_line(alloc, kinds, line);
+    insert_read(alloc, catalog, tables, table, row)
 }
 
 /// Inserts rows, each as its line read, into a table, up to the first that isn't taken. The first stands in the line of a number.
@@ -147,7 +176,7 @@ pub fn insert_rows<A: Allocator + Copy>(
     requires has { table < length catalog.now }
     requires same_tables { length tables.old ≡ length catalog.now }
     requires numbers { number + vec_len rows < 2 ^ 64 }
-    ensures rows { (counted : Bool) (lines more : List (List ℕ)) → AreRead (λ values. values.items) (kinds_of catalog.now table) rows.items lines → list_all is_row_line lines ≡ true → more ≢ [] → Reads (λ _. read_lines (number + length lines) (Within counted catalog.now tables.new table) more) result (read_lines number (Within counted catalog.now tables.old table) (lines ++ more)) }
+    ensures rows { (counted : Bool) (lines more : List (List ℕ)) → AreRead (kinds_of catalog.now table) rows.items lines → list_all is_row_line lines ≡ true → more ≢ [] → Reads (λ _. read_lines (number + length lines) (Within counted catalog.now tables.new table) more) result (read_lines number (Within counted catalog.now tables.old table) (lines ++ more)) }
     ensures same_tables { length tables.new ≡ length catalog.now }
     ensures sound { is_sound catalog.now tables.old ≡ true → is_sound catalog.now tables.new ≡ true }
 {

@@ -1,19 +1,21 @@
 //! Lines of rows read by several threads.
-ghost use Rattle.std.specs.Prelude.{◌≡◌, ◌⊎◌, ◌+◌, ◌<◌, ◌≤◌, ◌^◌, ◌∷◌, Bool, true, false, map, length, vec_len, IfOk, IfErr};
+ghost use Rattle.std.specs.Prelude.{◌≡◌, ◌⊎◌, ◌+◌, ◌<◌, ◌≤◌, ◌^◌, ◌∷◌, Bool, true, false, map, length, IfOk, IfErr};
 ghost use Rattle.std.specs.Str.{bytes_eq};
+ghost use Rattle.schema.specs.Definition.{columns_of};
 ghost use Rattle.schema.specs.Plain.{is_sound};
 ghost use Rattle.dumpplan.specs.Lines.{end_of_rows};
 ghost use Rattle.restore.specs.Reading.{Before, Within, ended, kinds_of, lines_of, read_lines, read_dump};
-ghost use Rattle.restore.specs.Rows.{AreRead};
+ghost use Rattle.restore.specs.Rows.{IsPiece, ArePieces};
 ghost use Rattle.restore.specs.Steps.{Reads, no_memory};
 ghost use Rattle.restore.specs.declared.error.ReadError.TheVariants as error;
 
 use crate::error::{ReadError, RestoreFault};
 use crate::lines::{Line, Lines, next_line, row_lines};
+use crate::pieces::{read_piece, take_pieces};
 use crate::reading::{empty_tables, read_copy_line, read_count, read_end, read_head};
-use crate::rows::{ReadRow, insert_rows, kinds_of, read_each};
+use crate::rows::{ReadPiece, kinds_of};
 use dumpplan::{Gate, Jobs};
-use schema::catalog::{Catalog, TableNo};
+use schema::catalog::{Catalog, Column, TableNo};
 use schema::tables::Tables;
 use std::alloc::{AllocError, Allocator};
 use std::thread;
@@ -46,13 +48,14 @@ impl<'w, R: Threads + Sync, G: Gate, A: Allocator + Copy + Send + Sync> Workers<
         }
     }
 
-    // What each of some lines of rows reads as, each piece of them in a thread of its own.
+    // The pieces of some lines of rows, each read in a thread of its own.
     fn read_pieces(
         &mut self,
+        columns: &[Column<A>],
         kinds: &[Kind],
         lines: &[&[u8]],
-    ) -> Result<Vec<ReadRow<A>, A>, ReadError>
-        ensures ok { IfOk result (λ rows. AreRead (λ values. values.items) kinds.now rows.items (map (λ line. line.now) lines.now)) }
+    ) -> Result<Vec<Result<ReadPiece<A>, AllocError>, A>, ReadError>
+        ensures ok { IfOk result (λ pieces. ArePieces 1000 columns.now kinds.now pieces.items (map (λ line. line.now) lines.now)) }
         ensures memory { IfErr result (λ e. e ≡ error.Memory) }
     {
         let (alloc, gate, before) = (self.alloc, self.gate, self.pieces);
@@ -61,17 +64,12 @@ impl<'w, R: Threads + Sync, G: Gate, A: Allocator + Copy + Send + Sync> Workers<
             alloc,
             lines,
             PIECE_LINES,
-            &|start, lines| -> Result<Vec<ReadRow<A>, A>, AllocError>
-                ensures { IfOk result (λ rows. AreRead (λ values. values.items) kinds.entry.now rows.items (map (λ line. line.now) lines.entry.now)) }
-            { read_piece(alloc, kinds, lines, gate, number_of(before, start)) },
+            &|start, lines| -> Result<ReadPiece<A>, AllocError>
+                ensures { IfOk result (λ piece. IsPiece columns.entry.now kinds.entry.now piece (map (λ line. line.now) lines.entry.now)) }
+            { read_at_gate(alloc, columns, kinds, lines, gate, number_of(before, start)) },
         )?;
         self.pieces = self.pieces.saturating_add(pieces.len() as u64);
-        let mut rows = Vec::with_capacity(alloc, lines.len())?;
-        for piece in pieces {
-            let mut read = piece?;
-            rows.append(&mut read)?;
-        }
-        Ok(rows)
+        Ok(pieces)
     }
 
     // Inserts the row of a line, and those of lines behind it, into a table whose columns have the kinds. What is left are the
@@ -96,9 +94,9 @@ impl<'w, R: Threads + Sync, G: Gate, A: Allocator + Copy + Send + Sync> Workers<
     {
         let most = self.jobs.get() as usize * PIECE_LINES;
         let (lines, left) = row_lines(self.alloc, line, most)?;
-        let rows = self.read_pieces(kinds, lines.as_slice())?;
-        is_number(left.number);
-        insert_rows(self.alloc, catalog, tables, table, line.number, rows)?;
+        let columns = columns_of(catalog, table);
+        let pieces = self.read_pieces(columns, kinds, lines.as_slice())?;
+        take_pieces(self.alloc, catalog, tables, table, line.number, pieces)?;
         Ok(left)
     }
 
@@ -187,10 +185,13 @@ impl<'w, R: Threads + Sync, G: Gate, A: Allocator + Copy + Send + Sync> Workers<
     }
 }
 
-// The number of a line is one of 64 bits. Nothing is done.
-fn is_number(number: u64)
-    ensures { number < 2 ^ 64 }
-{}
+// The columns of a table.
+fn columns_of<A: Allocator>(catalog: &Catalog<A>, table: TableNo) -> &[Column<A>]
+    requires { table < length catalog.now }
+    ensures { result.now ≡ columns_of catalog.now table }
+{
+    catalog.table(table).columns()
+}
 
 // The number of the piece that begins at a place, where so many pieces were before.
 fn number_of(before: u64, start: usize) -> u64 {
@@ -199,20 +200,21 @@ fn number_of(before: u64, start: usize) -> u64 {
         .saturating_add(1)
 }
 
-// What each line of a piece reads as.
-fn read_piece<A: Allocator + Copy, G: Gate>(
+// The piece of some lines, for which the gate is asked.
+fn read_at_gate<A: Allocator + Copy, G: Gate>(
     alloc: A,
+    columns: &[Column<A>],
     kinds: &[Kind],
     lines: &[&[u8]],
     gate: &G,
     number: u64,
-) -> Result<Vec<ReadRow<A>, A>, AllocError>
-    ensures { IfOk result (λ rows. AreRead (λ values. values.items) kinds.now rows.items (map (λ line. line.now) lines.now)) }
+) -> Result<ReadPiece<A>, AllocError>
+    ensures { IfOk result (λ piece. IsPiece columns.now kinds.now piece (map (λ line. line.now) lines.now)) }
 {
     gate.before(number);
-    let rows = read_each(alloc, kinds, lines);
+    let piece = read_piece(alloc, columns, kinds, lines);
     gate.after(number);
-    rows
+    piece
 }
 
 /// Reads a dump as `restore_one` does. Up to `jobs` threads read the lines of a table's rows, in pieces of 1000 lines that

@@ -1,13 +1,13 @@
 use Rattle.std.proofs.Common.{ap, sym, ◌∙◌, ◌≡◌, ◌<◌, ◌++◌, length, take, drop, arith, List}
 use Rattle.std.proofs.lemmas.List.{get_or_default}
-use Rattle.std.proofs.lemmas.List.Filters.{FiltersInPlace-more_no, FiltersInPlace-more_swap}
+use Rattle.std.proofs.lemmas.List.Filters.{FiltersInPlace-more_here, FiltersInPlace-more_no, FiltersInPlace-more_swap}
 use Rattle.history.specs.Transactions.{Txn}
 use Rattle.history.specs.Needed.{is_needed}
 use Rattle.plain.specs.Forgetting.{is_needed_among}
 use Rattle.plain.specs.Ledger.{nothing, txn_at}
 use Rattle.plain.proofs.ForgettingLemmas.{needed-told}
 use Rattle.plain.proofs.forgetting.keep_needed.Goals as goal
-use Rattle.plain.proofs.forgetting.keep_needed.Goals.{then-is_needed_at, else-is_needed_at}
+use Rattle.plain.proofs.forgetting.keep_needed.Goals.{then-is_needed_at, else-is_needed_at, then-kept-at, else-kept-at}
 
 pub loop-at-preserved : goal.loop-at-preserved
 loop-at-preserved g c =
@@ -21,6 +21,11 @@ loop-at-preserved g c =
     ∙ needed-told c.args.oldest _ reach ts us c.loop-at.kept c.loop-at.at (txn_at us c.loop-at.at) inv.0 inv.2 in
     let found = get_or_default us c.loop-at.at nothing (txn_at us c.loop-at.at) within in
     elim c.if-is_needed_at.branch [
-      | then-is_needed_at w ↦ rw (w.transactions-is, w.kept-is) (FiltersInPlace-more_swap inv.0 within (sym told ∙ w.if-is_needed_at.true) found w.swap.ensures.by_index, inv.1, inv.2)
+      | then-is_needed_at w ↦
+          let passes = sym told ∙ w.if-is_needed_at.true in
+          elim w.if-kept-at.branch [
+            | then-kept-at v ↦ rw (w.transactions-is, v.transactions-is, w.kept-is) (FiltersInPlace-more_swap inv.0 within passes found v.swap.ensures.by_index, inv.1, inv.2)
+            | else-kept-at v ↦ rw (w.transactions-is, v.transactions-is, w.kept-is) (FiltersInPlace-more_here inv.0 within passes found (omega (arith, inv.0.behind, v.if-kept-at.false)), inv.1, inv.2)
+          ]
       | else-is_needed_at w ↦ rw (w.transactions-is, w.kept-is) (FiltersInPlace-more_no inv.0 within (sym told ∙ w.if-is_needed_at.false) found, inv.1, inv.2)
     ]

@@ -6,7 +6,7 @@ use Rattle.restore.proofs.rows.insert_rows.Goals as goal
 pub loop-row-init : goal.loop-row-init
 loop-row-init g c = record {
   rows = λ counted lines more read alone some.
-      inserting-first _ counted c.args.catalog.now c.args.table more c.args.number lines c.args.tables.now c.into_iter-row-iterator.result.rest.items c.args.rows.items c.into_iter-row-iterator.ensures.into_iter_gives.0 read alone;
+      inserting-first counted c.args.catalog.now c.args.table more c.args.number lines c.args.tables.now c.into_iter-row-iterator.result.rest.items c.args.rows.items c.into_iter-row-iterator.ensures.into_iter_gives.0 read alone;
   room = omega (arith, ap length c.into_iter-row-iterator.ensures.into_iter_gives.0, c.args.rows.ok.0);
   same_tables = c.requires.same_tables;
   sound = λ h. h;
@@ -15,7 +15,7 @@ loop-row-init g c = record {
 pub loop-row-preserved : goal.loop-row-preserved
 loop-row-preserved g c = record {
   rows = λ counted lines more read alone some.
-      inserted-next _ counted c.args.catalog.now c.args.table more c.args.number lines c.args.tables.now c.loop-row.line c.loop-row.row-iterator.rest.items c.next.new.self.rest.items c.loop-row.tables c.insert_read.new.tables c.in-Some.row
+      inserted-next counted c.args.catalog.now c.args.table more c.args.number lines c.args.tables.now c.loop-row.line c.loop-row.row-iterator.rest.items c.next.new.self.rest.items c.loop-row.tables c.insert_read.new.tables c.in-Some.row
       some c.in-Some.ensures.steps.0 c.in_default.ensures.row (c.loop-row.invariant.rows counted lines more read alone some);
   room = omega (arith, c.loop-row.invariant.room, ap length c.in-Some.ensures.steps.0);
   same_tables = c.insert_read.ensures.same_tables;
@@ -24,11 +24,11 @@ loop-row-preserved g c = record {
 
 pub returns-in-Err-clause-rows : goal.returns-in-Err-clause-rows
 returns-in-Err-clause-rows g c = λ counted lines more read alone some.
-    rw c.at.ensures (inserted-stops _ counted c.args.catalog.now c.args.table more c.args.number lines c.args.tables.now c.loop-row.line c.loop-row.row-iterator.rest.items c.next.new.self.rest.items c.loop-row.tables c.in-Some.row c.in-Err.error
+    rw c.at.ensures (inserted-stops counted c.args.catalog.now c.args.table more c.args.number lines c.args.tables.now c.loop-row.line c.loop-row.row-iterator.rest.items c.next.new.self.rest.items c.loop-row.tables c.in-Some.row c.in-Err.error
     some c.in-Some.ensures.steps.0 c.in-Err.ensures.row (c.loop-row.invariant.rows counted lines more read alone some))
 
 pub returns-clause-rows : goal.returns-clause-rows
 returns-clause-rows g c = λ counted lines more read alone some.
     let rest = c.loop-row.row-iterator.rest in
-    inserted-all _ counted c.args.catalog.now c.args.table more c.args.number lines c.args.tables.now c.loop-row.line rest.items c.loop-row.tables
+    inserted-all counted c.args.catalog.now c.args.table more c.args.number lines c.args.tables.now c.loop-row.line rest.items c.loop-row.tables
     (nil_from_length rest.items (omega (arith, rest.ok.0, c.in-None.ensures.steps.0))) (c.loop-row.invariant.rows counted lines more read alone some)

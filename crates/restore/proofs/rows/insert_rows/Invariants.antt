@@ -10,8 +10,8 @@ use Rattle.restore.proofs.rows.insert_rows.Given as goal
 -- the rows so far, and those left
 abbrev pub invariant-loop-row : goal.invariant-loop-row
 invariant-loop-row g l = record {
-  rows : (counted : Bool) (lines more : List (List ℕ)) → AreRead (λ values. values.items) (kinds_of l.catalog l.table) l.fn.rows.items lines → list_all is_row_line lines ≡ true → more ≢ []
-      → IsInserting (λ values. values.items) counted l.catalog l.table more l.number lines l.fn.tables l.line l.row-iterator.rest.items l.tables;
+  rows : (counted : Bool) (lines more : List (List ℕ)) → AreRead (kinds_of l.catalog l.table) l.fn.rows.items lines → list_all is_row_line lines ≡ true → more ≢ []
+      → IsInserting counted l.catalog l.table more l.number lines l.fn.tables l.line l.row-iterator.rest.items l.tables;
   room : l.line + length l.row-iterator.rest.items ≡ l.number + vec_len l.fn.rows;
   same_tables : length l.tables ≡ length l.catalog;
   sound : is_sound l.catalog l.fn.tables ≡ true → is_sound l.catalog l.tables ≡ true;

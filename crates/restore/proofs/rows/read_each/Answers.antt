@@ -4,4 +4,4 @@ use Rattle.restore.proofs.rows.read_each.Goals as goal
 
 pub loop-line-preserved : goal.loop-line-preserved
 loop-line-preserved g c =
-    read-next _ c.args.kinds.now c.loop-line.rows.items c.push.new.self.items c.args.lines.now c.loop-line.line-index (record { ref_ptr = (0, 0); now = [] }) c.values_of.result c.loop-line-test.true c.values_of.ensures c.in_ok-push.ensures.items c.loop-line.invariant
+    read-next c.args.kinds.now c.loop-line.rows.items c.push.new.self.items c.args.lines.now c.loop-line.line-index (record { ref_ptr = (0, 0); now = [] }) c.row_of_line.result c.loop-line-test.true c.row_of_line.ensures c.in_ok-push.ensures.items c.loop-line.invariant
