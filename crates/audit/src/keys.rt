@@ -5,10 +5,12 @@ ghost use Rattle.value.specs.Isolation as spec;
 ghost use Rattle.value.specs.Refusals.{out_of_memory};
 ghost use Rattle.history.specs.Events.{world};
 ghost use Rattle.history.specs.Serial as serial;
+ghost use Rattle.serial.specs.Serializable.{IsSerializable};
 ghost use Rattle.plain.specs.Keys.{keyed, parts};
 ghost use Rattle.audit.specs.Sorting.{comes_before};
 
 use history::key::SerialKey;
+use serial::laws::legal_histories_are_serializable;
 use session::sessions::Core;
 use std::alloc::Allocator;
 use std::cmp::Ordering;
@@ -36,17 +38,18 @@ fn sorted<A: Allocator>(
     Ok(order)
 }
 
-/// The committed transactions in the serial order, each with its serial key. In that order they are
-/// serial, whatever the answer.
+/// The committed transactions in the serial order, each with its serial key. Whatever the answer, the
+/// history is serializable, by that order.
 pub fn serial_keys<A: Allocator + Copy>(
     alloc: A,
     core: &Core<A>,
 ) -> Result<Vec<(TxnNo, SerialKey), A>, Refusal>
     ensures ok { IfOk result (λ keys. map keyed keys.items ≡ serial.with_keys (world core.now) (serial.serial_order (world core.now))) }
     ensures memory { IfErr result (λ e. e ≡ out_of_memory) }
-    ensures serial { serial.IsSerial (world core.now) (serial.serial_order (world core.now)) }
+    ensures serializable { IsSerializable core.now.opening core.now.records }
 {
     core.is_legal();
+    legal_histories_are_serializable::<A>();
     sorted(alloc, core.keys())
 }
 
@@ -65,12 +68,12 @@ fn numbers_of<A: Allocator>(
     Ok(numbers)
 }
 
-/// The committed transactions in the serial order. In that order they are serial, whatever the
-/// answer.
+/// The committed transactions in the serial order. Whatever the answer, the history is serializable,
+/// by that order.
 pub fn serial_order<A: Allocator + Copy>(alloc: A, core: &Core<A>) -> Result<Vec<TxnNo, A>, Refusal>
     ensures ok { IfOk result (λ numbers. map (λ n. n.0) numbers.items ≡ map (λ t. t.number) (serial.serial_order (world core.now))) }
     ensures memory { IfErr result (λ e. e ≡ out_of_memory) }
-    ensures serial { serial.IsSerial (world core.now) (serial.serial_order (world core.now)) }
+    ensures serializable { IsSerializable core.now.opening core.now.records }
 {
     let keys = serial_keys(alloc, core)?;
     numbers_of(alloc, keys.as_slice())

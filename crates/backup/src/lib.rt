@@ -4,6 +4,8 @@
 mod fault;
 mod safe;
 #[cfg(test)]
+mod served_tests;
+#[cfg(test)]
 mod tests;
 mod write;
 

@@ -2,7 +2,7 @@
 
 ghost use Rattle.std.specs.Prelude.{◌≡◌, ◌+◌, ◌-◌, ◌<◌, ◌≤◌, [], ℕ, length, true, false, None, IfOk, IfErr, slice_index_or};
 ghost use Rattle.dumpplan.specs.Pieces.{piece_texts};
-ghost use Rattle.collector.specs.Gathered.{IsInTurn, IsSameJob, is_given};
+ghost use Rattle.collector.specs.Gathered.{IsInTurn, IsSameJob, LacksNext, is_given};
 ghost use Rattle.collector.specs.Offers.{Offered, Finished};
 
 use crate::answers::{Finish, OfferFault};
@@ -60,9 +60,11 @@ impl<'a, R: SnapshotReader<A>, W: Device, A: Allocator> Collector<'a, R, W, A> {
         self.pieces.offer(number, bytes)
     }
 
-    /// Whatever was offered, what is written is in turn.
+    /// Whatever was offered, what is written is in turn: the first pieces, up to the first that is
+    /// missing.
     pub fn in_turn(&self)
-        ensures { IsInTurn self.now }
+        ensures turn { IsInTurn self.now }
+        ensures lacks { LacksNext self.now }
     {
         self.pieces.in_turn();
     }

@@ -1,5 +1,6 @@
 //! Where the workers of a dump hand its pieces over.
-ghost use Rattle.std.specs.Prelude.{◌≡◌, ◌-◌, [], ℕ, List, IfOk, slice_index_or};
+ghost use Rattle.std.specs.Prelude.{◌≡◌, ◌-◌, [], ℕ, List, true, false, IfOk, OnOk, OnErr, slice_index_or};
+ghost use Rattle.dumpworker.specs.Shelved.{IsOffered};
 
 use collector::{Collector, Device};
 use schema::reader::SnapshotReader;
@@ -32,6 +33,12 @@ impl Job for Brand {
     ghost failures = { 0 };
 }
 
+// That a shelf is stopped: it alone says so.
+#[derive(Drop)]
+pub(crate) struct Stopped {
+    by_shelf: (),
+}
+
 // The collector of a dump, which lies under a lock.
 pub(crate) struct Shelf<'a, R: SnapshotReader<A>, W: Device, A: Allocator, D: Job> {
     collector: Collector<'a, R, W, A>,
@@ -57,16 +64,28 @@ impl<'a, R: SnapshotReader<A>, W: Device, A: Allocator, D: Job> Shelf<'a, R, W, 
         }
     }
 
-    // Takes a piece that a worker has made, and answers whether the worker makes another one.
-    pub(crate) fn take(&mut self, number: u64, made: Result<Vec<u8, A>, Refusal>) -> bool
+    // Takes a piece that a worker has made. Where it could not be made, or the collector doesn't
+    // take it, the shelf is stopped; and it stays so.
+    pub(crate) fn take(
+        &mut self,
+        number: u64,
+        made: Result<Vec<u8, A>, Refusal>,
+    ) -> Result<(), Stopped>
         requires { IfOk made (λ text. text.items ≡ slice_index_or D.texts (number - 1) []) }
+        ensures offered { OnOk made (IsOffered self.old.collector number self.old.is_stopped self.new.collector self.new.is_stopped) }
+        ensures unmade { OnErr made ((self.new.collector ≡ self.old.collector) × (self.new.is_stopped ≡ true)) }
+        ensures goes_on { OnOk result (self.new.is_stopped ≡ false) }
+        ensures stopped { OnErr result (self.new.is_stopped ≡ true) }
     {
         let is_taken = match made {
             Ok(text) => self.collector.offer(number, text).is_ok(),
             Err(_) => false,
         };
         self.is_stopped = self.is_stopped || !is_taken;
-        !self.is_stopped
+        if self.is_stopped {
+            return Err(Stopped { by_shelf: () });
+        }
+        Ok(())
     }
 
     // The collector, when the workers have ended.

@@ -188,6 +188,31 @@ fn an_empty_table_is_a_piece(rt: HostRuntime) -> Result<(), Fail> {
     draws(&rt, alloc, &two_tables, SEVEN_KEYS_AND_NONE, 3, 1111110)
 }
 
+#[test]
+fn one_worker_makes_thousands_of_pieces(rt: HostRuntime) -> Result<(), Fail> {
+    let alloc = rt.alloc();
+    let (catalog, tables) = keys(&rt, alloc, 3000, false)?;
+    let jobs = Jobs::new(1).ok_or("1 job")?;
+    let rows = PieceRows::new(1).ok_or("one row a piece")?;
+    let mut device = Flaky::new(&rt, alloc, 0, false);
+    assert!(rt; tables.count() == catalog.len());
+    let done = dump(
+        &rt,
+        alloc,
+        &tables,
+        &catalog,
+        jobs,
+        rows,
+        &mut device,
+        &NoGate,
+    );
+    assert!(rt; done.is_ok());
+    let text = device.taken.as_slice();
+    assert_eq!(rt; text.iter().filter(|byte| **byte == b'\n').count(), 3006);
+    assert!(rt; text.ends_with(b"2999\n3000\n\\.\n-- rows 3000\n-- end\n"));
+    Ok(())
+}
+
 // Dumps tables by pieces of a row to a device that fails at one of its writes, and looks at what came of it. Answers whether it failed.
 fn dump_to<R: Abort + Threads + Wait + Sync>(
     rt: &R,

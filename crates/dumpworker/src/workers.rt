@@ -1,10 +1,10 @@
 //! The workers of a dump: each draws a piece, makes its text, and hands it over.
-ghost use Rattle.std.specs.Prelude.{◌≡◌, ◌^◌, ◌<◌, ◌≤◌};
-ghost use Rattle.dumpworker.specs.Drawn.{first_hand};
+ghost use Rattle.std.specs.Prelude.{◌≡◌, ◌^◌, ◌<◌, ◌≤◌, length, OnOk};
+ghost use Rattle.dumpworker.specs.Drawn.{HasNoneLeft, first_hand};
 ghost use denote.Param.Send.{IsSend, IsSync, Frees};
 
 use crate::counter::{Counter, Drawer};
-use crate::shelf::{Job, Shelf};
+use crate::shelf::{Job, Shelf, Stopped};
 use crate::source::Source;
 use collector::Device;
 use dumpplan::{Gate, Jobs};
@@ -17,7 +17,8 @@ use std::thread::Threads;
 // More than any plan has pieces.
 const DRAWS: u64 = 1 << 57;
 
-// Draws pieces until there are none, or one could not be made or written.
+// Draws pieces until there are none, or the shelf is stopped. Gives its right back, with all that it
+// has drawn.
 fn work<A, R, W, G, T, D>(
     rt: &T,
     alloc: A,
@@ -26,7 +27,7 @@ fn work<A, R, W, G, T, D>(
     counter: &Counter<A>,
     mut drawer: Drawer,
     gate: &G,
-)
+) -> (Drawer, Result<(), Stopped>)
 where
     A: Allocator + Copy,
     R: SnapshotReader<A>,
@@ -37,21 +38,23 @@ where
     requires texts { source.now ≡ D.texts }
     requires table { drawer.seat.table_id ≡ counter.now.table.shared.table_id }
     requires draws { 2 ^ 57 ≤ drawer.seat.me.0.left }
+    ensures { OnOk result.1 (HasNoneLeft (length source.now) result.0.seat.me.0) }
 {
     for _ in 0..DRAWS {
         let index = counter.draw(&mut drawer);
         if index >= source.count() {
-            return;
+            return (drawer, Ok(()));
         }
         let number = index + 1;
         gate.before(number);
         let made = source.text(alloc, number);
-        let goes_on = shelf.lock(rt).take(number, made);
+        let taken = shelf.lock(rt).take(number, made);
         gate.after(number);
-        if !goes_on {
-            return;
+        if let Err(stopped) = taken {
+            return (drawer, Err(stopped));
         }
     }
+    (drawer, Ok(()))
 }
 
 // Lets as many workers work as there are jobs. The calling thread is one; one that isn't started is left out.
@@ -95,10 +98,12 @@ where
                         requires table { other.seat.table_id ≡ counter.now.table.shared.table_id }
                         requires draws { other.seat.me.0.left ≡ 2 ^ 57 }
                         requires bounds { IsSend A.row × IsSync A.row × Frees A.Allocator A.dealloc_token × IsSync R.row × IsSend W.row × IsSync G.row × IsSync T.row × IsSend D.row × IsSync D.row }
-                    { work(rt, alloc, source, shelf, counter, other, gate) },
+                    {
+                        let _ = work(rt, alloc, source, shelf, counter, other, gate);
+                    },
                 );
             }
-            work(rt, alloc, source, shelf, counter, drawer, gate);
+            let _ = work(rt, alloc, source, shelf, counter, drawer, gate);
         },
     );
 }

@@ -1,5 +1,5 @@
 -- The serial order, and what it means that a history has one.
-use Rattle.std.specs.Prelude.{◌≡◌, ℕ, ◌≤◌, nat_lt, nat_le, Bool, true, not, ◌&&◌, ◌||◌, Some, List, [], ◌∷◌, ◌++◌, map}
+use Rattle.std.specs.Prelude.{◌≡◌, ℕ, ◌≤◌, nat_lt, nat_le, Bool, true, false, not, ◌&&◌, ◌||◌, Some, List, [], ◌∷◌, ◌++◌, map}
 use Rattle.std.specs.List.{filter, list_all, AllByRecursion}
 use Rattle.std.specs.List.Sorted.{IsPermutation}
 use Rattle.schema.specs.Definition.{Catalog}
@@ -12,7 +12,7 @@ use Rattle.schema.specs.declared.changes.Change.{Change}
 use Rattle.statement.specs.Evaluation.{outcome, after}
 use Rattle.statement.specs.Footprint.{footprint}
 use Rattle.value.specs.Isolation.{serial_key, sorted}
-use Rattle.history.specs.Transactions.{Txn, World, node, edge, is_done, is_read_write, commits, tables_at, current}
+use Rattle.history.specs.Transactions.{Txn, World, node, edge, is_done, is_read_write, is_deferrable, commits, tables_at, current}
 
 module _ {A : Type 0} where
   -- ---- keys and order
@@ -100,23 +100,31 @@ module _ {A : Type 0} where
 
   -- The prefix at t's snapshot has each transaction that had committed before t began.
   abbrev pub HasEarlier : World A → Txn A → Type 0
-  HasEarlier w t = AllByRecursion (λ u. precedes u t ≡ true → nat_le (key w u).0 t.snapshot ≡ true) (committed w)
+  HasEarlier w t = AllByRecursion (λ u. nat_lt u.end t.begin ≡ true → nat_le (key w u).0 t.snapshot ≡ true) (committed w)
+
+  -- What is promised of a transaction whose snapshot is known to be safe: it is, and where the transaction has not imported it, its prefix has all that had committed before the transaction began.
+  -- Of an importer that isn't so: commits may lie between the snapshot and its own begin.
+  abbrev pub IsSafeFor : World A → Txn A → Type 0
+  IsSafeFor w t = IsSafe w t.snapshot × (t.imported ≡ false → HasEarlier w t)
 
   -- Each snapshot that is known to be safe is.
   abbrev pub SafeAreSafe : World A → Type 0
-  SafeAreSafe w = AllByRecursion (λ t. t.known ≡ true → IsSafe w t.snapshot × HasEarlier w t) w.txns
+  SafeAreSafe w = AllByRecursion (λ t. t.known ≡ true → IsSafeFor w t) w.txns
 
   -- What stays so after more events, where v is what the world w has become: keys, the order of those that had ended, tables, and what is known to be safe.
   pub record Stays (w v : World A) : Type 0 where
     pub keys : AllByRecursion (λ t. key v t ≡ key w t) (committed w)
     pub order : serial_order w ≡ filter (λ t. nat_le t.end w.place) (serial_order v)
     pub tables : (n : ℕ) → n ≤ commits w → tables_at v n ≡ tables_at w n
-    pub safe : AllByRecursion (λ t. t.known ≡ true → IsSafe v t.snapshot × HasEarlier v t) w.txns
+    pub safe : AllByRecursion (λ t. t.known ≡ true → IsSafeFor v t) w.txns
 
   -- What is promised where a POLL of session s was answered Safe n: w is the world after it, and v what that has become.
+  -- The transaction so answered is deferrable and has imported nothing; its snapshot n is safe, and the prefix has all that had committed before it began.
   pub record IsSafeReply (w v : World A) (s n : ℕ) : Type 0 where
     pub transaction : Txn A
     pub is_current : current w s ≡ Some transaction
+    pub is_deferrable : is_deferrable transaction.mode ≡ true
+    pub is_own : transaction.imported ≡ false
     pub snapshot : transaction.snapshot ≡ n
     pub safe : IsSafe v n
     pub has_earlier : HasEarlier v transaction

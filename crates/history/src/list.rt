@@ -1,8 +1,8 @@
 //! A history: what a server opened with, and each event since with its reply.
 
-ghost use Rattle.std.specs.Prelude.{◌≡◌, ◌<◌, ◌≤◌, [], ◌∷◌, ◌++◌, List, length, Ok, Err, IfSome, IfNone, if◌then◌else◌, ◌==◌};
-ghost use Rattle.value.specs.Refusals.{AnswersOrNoMemory, of_code};
+ghost use Rattle.std.specs.Prelude.{◌≡◌, ◌≢◌, ◌<◌, ◌≤◌, [], ◌∷◌, ◌++◌, List, length, IfOk, IfErr, IfSome, IfNone, OnOk, ◌==◌};
 ghost use Rattle.history.specs.declared.event.Record.{Record as AnyRecord};
+ghost use Rattle.history.specs.Opening.{opening_refusal};
 
 use crate::base::Base;
 use crate::event::Record;
@@ -35,7 +35,8 @@ impl<A: Allocator> Model for History<A> {
 }
 
 impl<A: Allocator> History<A> {
-    /// The history of nothing yet, with room for `max_events` events; refused with 54000 where that is none.
+    /// The history of nothing yet, with room for `max_events` events; refused with 54000 where that
+    /// is none, and only then.
     pub fn open(
         alloc: A,
         catalog: Catalog<A>,
@@ -43,10 +44,9 @@ impl<A: Allocator> History<A> {
         base: Base,
         max_events: u32,
     ) -> Result<History<A>, Refusal>
-        ensures { AnswersOrNoMemory result
-            (if max_events == 0
-            then Err (of_code Code.ProgramLimitExceeded)
-            else Ok (record { opening = record { catalog = catalog; tables = tables; base = base }; records = []; most = max_events })) }
+        ensures ok { IfOk result (λ made. made ≡ record { opening = record { catalog = catalog; tables = tables; base = base }; records = []; most = max_events }) }
+        ensures within { OnOk result (max_events ≢ 0) }
+        ensures refused { IfErr result (λ e. e ≡ opening_refusal (max_events == 0)) }
     {
         if max_events == 0 {
             return Err(Refusal::of_code(Code::ProgramLimitExceeded));

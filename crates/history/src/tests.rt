@@ -8,7 +8,7 @@ use schema::catalog::Catalog;
 use schema::tables::Tables;
 use statement::reply::Reply;
 use std::test::Fail;
-use value::refusal::Refusal;
+use value::refusal::{Code, Refusal};
 
 #[test]
 fn sessions(rt: HostRuntime) -> Result<(), Fail> {
@@ -31,7 +31,10 @@ fn history(rt: &HostRuntime, most: u32) -> Result<History, Refusal> {
 
 #[test]
 fn no_room_is_refused(rt: HostRuntime) -> Result<(), Fail> {
-    assert!(rt; history(&rt, 0).is_err());
+    let Err(refusal) = history(&rt, 0) else {
+        return Err(Fail::from("a history of no events"));
+    };
+    assert_eq!(rt; refusal, Refusal::of_code(Code::ProgramLimitExceeded));
     Ok(())
 }
 

@@ -75,7 +75,7 @@ impl<'w, J: Naming<A>, A: Allocator> Keeper<'w, J, A> {
     }
 
     /// The event that a session has just done is recorded, and its pass has seen the history with
-    /// it.
+    /// it. Beside the fetch_add it is four loads and a compare_exchange that changes nothing.
     #[tactic(auto, using(crate::proofs::Legality::legal_next, crate::proofs::Prefixes::of_session_own))]
     pub fn record(&mut self, pass: &mut Pass<'w, J, A>, entry: &Record<A>)
         requires session { entry.now.session ≡ pass.old.session }
@@ -95,7 +95,7 @@ impl<'w, J: Naming<A>, A: Allocator> Keeper<'w, J, A> {
         unite(self.word.words(), &mut pass.seat, token);
     }
 
-    /// Nothing was recorded, and a pass has seen the history.
+    /// Nothing was recorded, and a pass has seen the history. It is five loads.
     pub fn show(&mut self, pass: &mut Pass<'w, J, A>)
         ensures keeper { self.new ≡ self.old }
         ensures pass { pass.new ≡ record { session = pass.old.session; seen = self.old.records; mine = pass.old.mine } }

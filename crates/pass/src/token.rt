@@ -75,7 +75,7 @@ impl<'w, J: Naming<A>, A: Allocator> Pass<'w, J, A> {
     }
 
     /// Both have then seen the longer of what they had seen, of which the other is a beginning. It
-    /// is one load a pass, and waits for nobody.
+    /// is six loads of one word, three for each pass, and waits for nobody.
     pub fn meet(&mut self, other: &mut Pass<'w, J, A>)
         ensures pass { self.new ≡ record { session = self.old.session; seen = longer self.old.seen other.old.seen; mine = self.old.mine } }
         ensures other { other.new ≡ record { session = other.old.session; seen = longer self.old.seen other.old.seen; mine = other.old.mine } }

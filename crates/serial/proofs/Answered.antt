@@ -13,9 +13,9 @@ use Rattle.serial.proofs.Legal.{current_in}
 use Rattle.serial.proofs.Numbers.{polled_keeps}
 
 module _ {A : Type 0} where
-  -- The session's transaction has the snapshot n, which is known to be safe.
+  -- The session's transaction is deferrable and has the snapshot n, which is known to be safe.
   abbrev pub Known : World A → ℕ → ℕ → Type 0
-  Known w s n = (t : Txn A) × (current w s ≡ Some t) × (t.known ≡ true) × (t.snapshot ≡ n)
+  Known w s n = (t : Txn A) × (current w s ≡ Some t) × (t.known ≡ true) × (t.snapshot ≡ n) × (is_deferrable t.mode ≡ true)
 
   -- without causes none is doomed
   spared : (place : ℕ) (ts : List (Txn A)) → map (doomed_by place []) ts ≡ ts
@@ -58,6 +58,14 @@ module _ {A : Type 0} where
       first true f = second t.known refl f
       first false f = cc
 
+  -- it is answered to deferrable ones alone
+  poll_deferrable : (w : World A) (t : Txn A) (n : ℕ) → poll_reply w t ≡ Safe n → is_deferrable t.mode ≡ true
+  poll_deferrable w t n e = go (is_deferrable t.mode) refl e
+    where
+      go : (b : Bool) → is_deferrable t.mode ≡ b → cond {A = Reply A} (not b) (refuses code.ObjectNotInPrerequisiteState) (cond t.known (Safe t.snapshot) (cond {A = Reply A} (is_pending w.txns (polled w t)) Wait (Safe (polled w t).snapshot))) ≡ Safe n → is_deferrable t.mode ≡ true
+      go true p f = p
+      go false p f = cc
+
   poll_followed : (w : World A) (s n : ℕ) (o : Option (Txn A)) → current w s ≡ o → reply_of w o Poll ≡ Safe n → Known (followed w (record { session = s; action = Poll; reply = Safe n }) o) s n
   poll_followed w s n None c e = cc
   poll_followed w s n (Some t) c e = go t.standing e
@@ -68,11 +76,14 @@ module _ {A : Type 0} where
       number : t.number ≡ x.number
       number = polled_keeps (λ y. t.number ≡ y.number) w t refl refl
 
+      mode : x.mode ≡ t.mode
+      mode = polled_keeps (λ y. y.mode ≡ t.mode) w t refl refl
+
       is_its : is_of s x ≡ true
       is_its = polled_keeps (λ y. is_of s y ≡ true) w t (current_in w s t c).1 (current_in w s t c).1
 
       go : (st : Standing) → reply_from st w t Poll ≡ Safe n → Known (record w { log = w.log; txns = map (doomed_by (w.place + 1) []) (replaced (turned_from st w Poll (Safe n) t) w.txns); exports = w.exports; place = w.place + 1 }) s n
-      go Open g = (x, ap (find (is_of s)) (spared (w.place + 1) (replaced x w.txns)) ∙ find_new s t x w.txns c is_its number, refl, poll_shows w t n g)
+      go Open g = (x, ap (find (is_of s)) (spared (w.place + 1) (replaced x w.txns)) ∙ find_new s t x w.txns c is_its number, refl, poll_shows w t n g, ap is_deferrable mode ∙ poll_deferrable w t n g)
       go (Doomed cause) g = cc
       go Failed g = cc
       go Aborted g = cc

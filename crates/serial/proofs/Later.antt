@@ -12,7 +12,7 @@ use Rattle.history.specs.Opening.{Opening}
 use Rattle.history.specs.Transactions.{Txn, World, Exported_snapshot, node, edge, is_done, is_read_write, commits, tables_at, with_all}
 use Rattle.history.specs.Events.{begun, replaced, start, follows, run, world_of}
 use Rattle.history.specs.declared.base.Base.{Base}
-use Rattle.history.specs.Serial.{committed, key, serial_order, precedes, HasEarlier, Stays}
+use Rattle.history.specs.Serial.{committed, key, serial_order, HasEarlier, Stays}
 use Rattle.history.proofs.Alone.{In-filter, filter-In, in_order}
 use Rattle.history.specs.Answer.{reply_in, Legal, IsAnswered}
 use Rattle.serial.proofs.Legal.{Step, Nothing, Begins, Moves, Settles, Dooms, Steps, One, Two, current_in, legal_steps}
@@ -272,14 +272,14 @@ module _ {A : Type 0} where
         ∙ ap (λ ts. with_all ts w.opening) (ap (take (n - w.base.commits)) g.log.1 ∙ same_take (n - w.base.commits) w.log g.log.0 (omega (arith, h)))
 
     -- what had committed before a transaction of w began is of w
-    still_earlier : (t : Txn A) → In t w.txns → HasEarlier v t
-    still_earlier t i = all_by _ (committed v) (λ u j p. side u (g.new u (done v u j).0 (done v u j).1) (done v u j).1 p)
+    still_earlier : (t : Txn A) → In t w.txns → t.imported ≡ false → HasEarlier v t
+    still_earlier t i m = all_by _ (committed v) (λ u j p. side u (g.new u (done v u j).0 (done v u j).1) (done v u j).1 (is_less u.end t.begin p) p)
       where
-        side : (u : Txn A) → In u w.txns ⊎ (w.place < u.end) × ((u.commit ≡ 0) ⊎ (commits w < u.commit)) → is_done u.standing ≡ true → precedes u t ≡ true → nat_le (key v u).0 t.snapshot ≡ true
-        side u (inl j) d p =
+        side : (u : Txn A) → In u w.txns ⊎ (w.place < u.end) × ((u.commit ≡ 0) ⊎ (commits w < u.commit)) → is_done u.standing ≡ true → u.end < t.begin → nat_lt u.end t.begin ≡ true → nat_le (key v u).0 t.snapshot ≡ true
+        side u (inl j) d l p =
             let k : In u (committed w) = filter-In (λ (y : Txn A). is_done y.standing) w.txns u j d in
-            ap (λ (q : ℕ × ℕ × ℕ). nat_le q.0 t.snapshot) (same_key u k) ∙ by_all (λ y. precedes y t ≡ true → nat_le (key w y).0 t.snapshot ≡ true) (committed w) u (has_earlier w gw t i) k p
-        side u (inr h) d p = absurd (let l : u.end < t.begin = is_less u.end t.begin (two_of (nat_lt u.end t.begin) (not t.imported) p).0 in let b : t.begin ≤ w.place = gw.time.begun_by t i in omega (arith, h.0))
+            ap (λ (q : ℕ × ℕ × ℕ). nat_le q.0 t.snapshot) (same_key u k) ∙ by_all (λ y. nat_lt y.end t.begin ≡ true → nat_le (key w y).0 t.snapshot ≡ true) (committed w) u (has_earlier w gw t i m) k p
+        side u (inr h) d l p = absurd (let b : t.begin ≤ w.place = gw.time.begun_by t i in omega (arith, h.0, l))
 
     stays : Stays w v
     stays = record {

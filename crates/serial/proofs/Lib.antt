@@ -22,8 +22,10 @@ pub mod Play
 mod Examples
 mod LegalExample
 mod PivotExamples
+mod SourceExamples
 pub mod ViewSound
 pub mod Sourced
+pub mod Promised
 pub mod ViewSafe
 pub mod Elsewhere
 pub mod NeededStructures

@@ -52,10 +52,6 @@ not_so : (b : Bool) → (b ≡ true → ⊥) → not b ≡ true
 not_so true f = absurd (f refl)
 not_so false f = refl
 
-was_not : (b : Bool) → not b ≡ true → b ≡ false
-was_not true e = absurd (true≢false (sym e))
-was_not false e = refl
-
 module _ {A : Type 0} (w : World A) (g : IsGood w) where
   iso : IsIsolatedWorld w
   iso = isolated_world w g
@@ -107,14 +103,14 @@ module _ {A : Type 0} (w : World A) (g : IsGood w) where
     pub is_safe : IsSafe w s
     is_safe = record { safe_at = safe_at; is_beginning = prefix_begins w iso s based front all; has_commits = has_commits; runs_to = prefix_runs w iso s based front all }
 
-  pub has_earlier : (t : Txn A) → In t w.txns → HasEarlier w t
-  has_earlier t i = all_by _ (committed w) (λ u j p. each u j (two_of (nat_lt u.end t.begin) (not t.imported) p))
+  pub has_earlier : (t : Txn A) → In t w.txns → t.imported ≡ false → HasEarlier w t
+  has_earlier t i m = all_by _ (committed w) (λ u j p. each u j (is_less u.end t.begin p))
     where
-      each : (u : Txn A) → In u (committed w) → (nat_lt u.end t.begin ≡ true) × (not t.imported ≡ true) → nat_le (key w u).0 t.snapshot ≡ true
+      each : (u : Txn A) → In u (committed w) → u.end < t.begin → nat_le (key w u).0 t.snapshot ≡ true
       each u j p = go (is_read_write u.mode) refl
         where
           h : Shows u t
-          h = g.time.shows u t (done u j).0 i (done u j).1 (is_less u.end t.begin p.0) (was_not t.imported p.1)
+          h = g.time.shows u t (done u j).0 i (done u j).1 p m
 
           go : (b : Bool) → is_read_write u.mode ≡ b → nat_le (key w u).0 t.snapshot ≡ true
           go true r = least_so (key w u).0 t.snapshot (let q = first_is u r in let l = first_part-least node edge u (committed w) in let m = h.0 in omega arith)

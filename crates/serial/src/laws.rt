@@ -18,6 +18,7 @@ ghost use Rattle.history.specs.Answer.{Allowed, Legal, answer, cause_of, committ
 ghost use Rattle.serial.specs.Backups.{IsBackup};
 ghost use Rattle.history.specs.Needed.{HoldCommitter, IsOldest, IsOpenOf, Keeps, needed_numbers, is_needed, is_safe_reader, kept_of, thin};
 ghost use Rattle.serial.specs.Laws.{AfterCheckpoint, AfterLegal, AfterMore, AfterSafe};
+ghost use Rattle.serial.specs.Serializable.{IsSerializable};
 
 use std::alloc::Allocator;
 
@@ -37,13 +38,16 @@ pub fn faithful<A: Allocator>()
 
 /// Each snapshot that is known to be safe, by its own answer or by an import, is safe: its prefix is
 /// a beginning of the serial order, has of the transactions that may write those that it shows, and
-/// each that had committed before its transaction began, and runs from the opening tables to those
-/// that it shows.
+/// runs from the opening tables to those that it shows. Where its transaction has not imported it,
+/// the prefix has each that had committed before the transaction began; an importer may begin after
+/// commits that its snapshot doesn't show.
 pub fn safe_prefixes<A: Allocator>()
     ensures { AfterLegal (λ (w : World A). SafeAreSafe w) }
 {}
 
-/// Each snapshot that was answered to be safe is safe, and stays so, whatever is done later.
+/// Each snapshot that a POLL answered to be safe is safe, and stays so, whatever is done later: its
+/// prefix is a beginning of the serial order and has each transaction that had committed before the
+/// one so answered began, which is deferrable and has imported nothing.
 pub fn safe_replies<A: Allocator>()
     ensures { AfterSafe (λ (w v : World A) (s n : ℕ). IsSafeReply w v s n) }
 {}
@@ -52,6 +56,12 @@ pub fn safe_replies<A: Allocator>()
 /// what was known to be safe stays so.
 pub fn later_events<A: Allocator>()
     ensures { AfterMore (λ (w v : World A). Stays w v) }
+{}
+
+/// Every legal history is serializable: it has its serial order, safe snapshots are prefixes of it,
+/// more events only add to it, and the tables of each commit are sound.
+pub fn legal_histories_are_serializable<A: Allocator>()
+    ensures { (o : Opening A) → (es : List (AnyRecord A)) → Legal o es → IsSerializable o es }
 {}
 
 /// No event over sound tables is a legal history, and a further allowed event with its answer makes
@@ -100,8 +110,9 @@ pub fn readers_are_sound<A: Allocator>()
 {}
 
 /// The tables that a session may view are a state of the serial order, that of the prefix at its
-/// transaction's snapshot, which holds each transaction that had committed before the deferrable one
-/// began that found it safe; and they stay one, whatever is done later.
+/// transaction's snapshot. It holds each transaction that had committed before the session's own
+/// began, or, where that one has imported its snapshot, before the deferrable one began from which
+/// the snapshot comes, through however many imports. And they stay one, whatever is done later.
 pub fn views_are_backups<A: Allocator>()
     ensures { (o : Opening A) → (es : List (AnyRecord A)) → (s : ℕ) → (X : AnyTables A) → Legal o es → view_answer o es s ≡ Ok X → IsBackup o es s X }
 {}

@@ -49,18 +49,6 @@ use Rattle.session.proofs.Least.{least_most}
 use Rattle.session.proofs.Lent.{catalog_is, good, has_own, r, reply_is, w}
 use Rattle.session.proofs.RowsNext.{shown_next}
 
-pub opened_is : {T : Type 0} (b : Bool) (e : Refusal) (x y : T) → AnswersOrNoMemory (Ok x) (cond b (Err e) (Ok y)) → x ≡ y
-opened_is true e x y (inl p) = cc
-opened_is true e x y (inr p) = cc
-opened_is false e x y (inl p) = cc
-opened_is false e x y (inr p) = cc
-
--- an answer, passed on or given up for want of memory
-pub passed_on : {T : Type 0} (r : Result T Refusal) (x : T) (g : Result T Refusal) → AnswersOrNoMemory (Ok x) g → IfOk r (λ y. y ≡ x) → IfErr r (λ e. e ≡ out_of_memory) → AnswersOrNoMemory r g
-passed_on (Ok y) x g (inl p) e m = inl (ap Ok e ∙ p)
-passed_on (Ok y) x g (inr p) e m = cc
-passed_on (Err v) x g p e m = inr (ap Err m)
-
 pub answered_ok : {T : Type 0} (x : T) (r : Result T Refusal) → AnswersOrNoMemory (Ok x) r → r ≡ Ok x
 answered_ok x r (inl e) = sym e
 answered_ok x r (inr e) = cc

@@ -10,3 +10,4 @@ pub mod CommitOrder
 pub mod CommitAlone
 pub mod CoreLemmas
 pub mod RowsKept
+pub mod OpenLemmas

@@ -1,9 +1,9 @@
 // The core: a history, what is kept of its world, and the keys of what has committed.
-ghost use Rattle.std.specs.Prelude.{◌≡◌, ◌<◌, ◌≤◌, ◌+◌, ◌^◌, ◌==◌, ◌||◌, ◌++◌, nat_le, [], true, length, map, vec_capacity, IsTrue, Ok, Err, IfOk, IfErr, OnErr, if◌then◌else◌};
+ghost use Rattle.std.specs.Prelude.{◌≡◌, ◌≢◌, ◌<◌, ◌≤◌, ◌+◌, ◌^◌, ◌==◌, ◌||◌, ◌++◌, nat_le, [], true, length, map, vec_capacity, IsTrue, Ok, Err, IfOk, IfErr, OnErr, OnOk, if◌then◌else◌};
 ghost use Rattle.std.specs.Option.{option_to_list};
 ghost use Rattle.value.specs.Refusals.{AnswersOrNoMemory, of_code, out_of_memory};
 ghost use Rattle.schema.specs.Plain.{is_sound};
-ghost use Rattle.history.specs.Opening.{zero_base};
+ghost use Rattle.history.specs.Opening.{opening_refusal, zero_base};
 ghost use Rattle.history.specs.Answer.{Allowed, answer, checkpoint_answer, view_answer};
 ghost use Rattle.plain.specs.Courses.{takes_memory};
 ghost use Rattle.plain.specs.Keys.{committed_at, keyed};
@@ -106,16 +106,13 @@ fn open_on<A: Allocator + Copy>(
     requires sound { IsTrue (is_sound catalog tables) }
     requires within { (base.transactions ≤ base.events) × (base.commits ≤ base.events) × (base.identifiers ≤ base.events) }
     requires room { base.events + max_events < 2 ^ 64 }
-    ensures { AnswersOrNoMemory result
-        (if max_events == 0
-        then Err (of_code Code.ProgramLimitExceeded)
-        else Ok (record { opening = record { catalog = catalog; tables = tables; base = base }; records = []; most = max_events })) }
+    ensures ok { IfOk result (λ made. made ≡ record { opening = record { catalog = catalog; tables = tables; base = base }; records = []; most = max_events }) }
+    ensures within { OnOk result (max_events ≢ 0) }
+    ensures refused { IfErr result (λ e. e ≡ opening_refusal (max_events == 0)) }
 {
+    let history = History::open(alloc, catalog, tables, base, max_events)?;
     let keys = Vec::with_capacity(alloc, max_events as usize)?;
-    match History::open(alloc, catalog, tables, base, max_events) {
-        Ok(history) => open_history(alloc, history, keys),
-        Err(refusal) => Err(refusal),
-    }
+    open_history(alloc, history, keys)
 }
 
 // Whether it is the action by which transactions commit.
@@ -197,7 +194,7 @@ fn go_on<A: Allocator + Copy>(
 
 impl<A: Allocator> Core<A> {
     /// A core on a catalog and its tables, with room for `max_events` events; refused with 54000
-    /// where that is none.
+    /// where that is none, and only then.
     pub fn open(
         alloc: A,
         catalog: Catalog<A>,
@@ -207,10 +204,9 @@ impl<A: Allocator> Core<A> {
     where
         A: Copy,
         requires { IsTrue (is_sound catalog tables) }
-        ensures { AnswersOrNoMemory result
-            (if max_events == 0
-            then Err (of_code Code.ProgramLimitExceeded)
-            else Ok (record { opening = record { catalog = catalog; tables = tables; base = zero_base }; records = []; most = max_events })) }
+        ensures ok { IfOk result (λ made. made ≡ record { opening = record { catalog = catalog; tables = tables; base = zero_base }; records = []; most = max_events }) }
+        ensures within { OnOk result (max_events ≢ 0) }
+        ensures refused { IfErr result (λ e. e ≡ opening_refusal (max_events == 0)) }
     {
         open_on(alloc, catalog, tables, Base::zero(), max_events)
     }

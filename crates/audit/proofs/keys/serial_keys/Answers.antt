@@ -1,10 +1,10 @@
 use Rattle.history.specs.Events.{world}
-use Rattle.serial.proofs.SerialTheorem.{good_world, legal_serial}
+use Rattle.serial.proofs.SerialTheorem.{good_world}
 use Rattle.audit.proofs.SortingLemmas.{if-both, sorted_keys}
 use Rattle.audit.proofs.keys.serial_keys.Goals as goal
 
-pub returns-clause-serial : goal.returns-clause-serial
-returns-clause-serial g c = legal_serial c.args.core.now.opening c.args.core.now.records c.is_legal.ensures
+pub returns-clause-serializable : goal.returns-clause-serializable
+returns-clause-serializable g c = c.legal_histories_are_serializable.ensures c.args.core.now.opening c.args.core.now.records c.is_legal.ensures
 
 pub returns-clause-ok : goal.returns-clause-ok
 returns-clause-ok g c =

@@ -1,30 +1,24 @@
-use Rattle.std.proofs.Common.{ap, sym, subst, arith, ◌==◌, ◌+◌, ◌^◌, ◌<◌, ◌≤◌}
+use Rattle.std.proofs.Common.{ap, sym, subst, arith, ◌+◌, ◌^◌, ◌<◌, ◌≤◌}
 use Rattle.std.specs.Prelude.{IsTrue}
 use Rattle.schema.specs.Plain.{is_sound}
-use Rattle.value.specs.Refusals.{of_code}
-use Rattle.value.specs.declared.refusal.Code.TheVariants.{ProgramLimitExceeded}
 use Rattle.history.specs.Opening.{Recorded}
-use Rattle.session.proofs.CoreLemmas.{opened_is, passed_on}
 use Rattle.session.proofs.sessions.open_on.Goals as goal
 
 pub open_history-requires-clause-none : goal.open_history-requires-clause-none
-open_history-requires-clause-none g c = ap (λ (h : Recorded _). h.records) (opened_is (c.args.max_events == 0) (of_code ProgramLimitExceeded) c.in-Ok.history _ c.in-Ok.ensures)
+open_history-requires-clause-none g c = ap (λ (h : Recorded _). h.records) c.in_ok-history.ensures.ok
 
 pub open_history-requires-clause-capacity : goal.open_history-requires-clause-capacity
 open_history-requires-clause-capacity g c =
-    let same = ap (λ (h : Recorded _). h.most) (opened_is (c.args.max_events == 0) (of_code ProgramLimitExceeded) c.in-Ok.history _ c.in-Ok.ensures) in
+    let same = ap (λ (h : Recorded _). h.most) c.in_ok-history.ensures.ok in
     omega (arith, same, c.in_ok-keys.ensures.capacity)
 
 pub open_history-requires-clause-sound : goal.open_history-requires-clause-sound
-open_history-requires-clause-sound g c = subst (λ (h : Recorded _). IsTrue (is_sound h.opening.catalog h.opening.tables)) (sym (opened_is (c.args.max_events == 0) (of_code ProgramLimitExceeded) c.in-Ok.history _ c.in-Ok.ensures)) c.requires.sound
+open_history-requires-clause-sound g c = subst (λ (h : Recorded _). IsTrue (is_sound h.opening.catalog h.opening.tables)) (sym c.in_ok-history.ensures.ok) c.requires.sound
 
 pub open_history-requires-clause-within : goal.open_history-requires-clause-within
 open_history-requires-clause-within g c =
     subst (λ (h : Recorded _). (h.opening.base.transactions ≤ h.opening.base.events) × (h.opening.base.commits ≤ h.opening.base.events) × (h.opening.base.identifiers ≤ h.opening.base.events))
-    (sym (opened_is (c.args.max_events == 0) (of_code ProgramLimitExceeded) c.in-Ok.history _ c.in-Ok.ensures)) c.requires.within
+    (sym c.in_ok-history.ensures.ok) c.requires.within
 
 pub open_history-requires-clause-room : goal.open_history-requires-clause-room
-open_history-requires-clause-room g c = subst (λ (h : Recorded _). h.opening.base.events + h.most < 2 ^ 64) (sym (opened_is (c.args.max_events == 0) (of_code ProgramLimitExceeded) c.in-Ok.history _ c.in-Ok.ensures)) c.requires.room
-
-pub returns-in-Ok : goal.returns-in-Ok
-returns-in-Ok g c = passed_on c.open_history.result c.in-Ok.history _ c.in-Ok.ensures c.open_history.ensures.ok c.open_history.ensures.memory
+open_history-requires-clause-room g c = subst (λ (h : Recorded _). h.opening.base.events + h.most < 2 ^ 64) (sym c.in_ok-history.ensures.ok) c.requires.room
