@@ -1,6 +1,7 @@
--- Entries put in the order of their keys, one after the other from the last.
-use Rattle.std.specs.Prelude.{ℕ, List, [], ◌∷◌}
-use Rattle.value.specs.Isolation.{place_in}
+-- Entries compared by their keys.
+use Rattle.std.specs.Prelude.{ℕ, Bool}
+use Rattle.std.specs.Ordering.{is_lt}
+use Rattle.value.specs.Isolation.{key_cmp}
 use Rattle.value.specs.declared.refusal.TxnNo.{TxnNo}
 use Rattle.history.specs.declared.key.SerialKey.{SerialKey}
 use Rattle.plain.specs.Keys.{parts}
@@ -12,7 +13,6 @@ Entry = TxnNo × SerialKey
 abbrev pub key_of : Entry → ℕ × ℕ × ℕ
 key_of e = parts e.1
 
--- these put into an order, the last of them first
-abbrev pub sorted_onto : List Entry → List Entry → List Entry
-sorted_onto [] order = order
-sorted_onto (e ∷ es) order = place_in key_of e (sorted_onto es order)
+-- its key comes first
+abbrev pub comes_before : Entry → Entry → Bool
+comes_before d e = is_lt (key_cmp (key_of d) (key_of e))

@@ -1,4 +1,5 @@
-// Answers of statements, compared.
+//! Answers of statements, compared.
+
 ghost use Rattle.std.specs.Prelude.{◌≡◌, zip};
 ghost use Rattle.std.specs.List.{list_all};
 ghost use Rattle.schema.specs.Plain.{same};

@@ -1,4 +1,5 @@
-// The courses of transactions, as the records tell them.
+//! The courses of transactions, as the records tell them.
+
 ghost use Rattle.std.specs.Prelude.{◌≡◌, ℕ, ◌+◌, ◌<◌, ◌^◌, [], length, find, slice_get, slice_set, take, Some, true, None, IfOk, IfErr, IfSome, IfNone, OnOk};
 ghost use Rattle.std.specs.List.{list_any};
 ghost use Rattle.value.specs.Refusals.{out_of_memory};

@@ -3,7 +3,7 @@
 
 mod answer;
 mod course;
+pub mod keys;
 pub mod order;
-pub mod serial;
 #[cfg(test)]
 mod tests;

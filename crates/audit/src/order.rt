@@ -1,4 +1,5 @@
-// A serial order, checked.
+//! A serial order, checked.
+
 ghost use Rattle.std.specs.Prelude.{◌≡◌, ◌↔◌, ◌-◌, ◌==◌, ◌&&◌, ◌++◌, [], ◌∷◌, ℕ, Bool, true, List, map, max, nat_lt, not, IsTrue, IfOk, IfErr, OnOk, if◌then◌else◌};
 ghost use Rattle.std.specs.List.{filter, find, list_all};
 ghost use Rattle.std.specs.Option.{option_copied};

@@ -1,8 +1,10 @@
+//! Tests of the serial order and its check.
+
 ghost use Rattle.std.specs.Prelude.{IfOk};
 ghost use Rattle.history.specs.Answer.{Allowed};
 
 use crate::order::check_order;
-use crate::serial::{serial_keys, serial_order};
+use crate::keys::{serial_keys, serial_order};
 use history::event::{Action, Event};
 use history::key::SerialKey;
 use history::session_id::SessionId;

@@ -10,7 +10,7 @@ use Rattle.dumpplan.specs.Lines.{dump_text}
 use Rattle.dumpworker.specs.Dumped.{Dumped}
 use Rattle.pass.specs.Knowing.{Known}
 use Rattle.restore.specs.Reading.{read_dump}
-use Rattle.session.specs.Backups.{IsBackup}
+use Rattle.serial.specs.Backups.{IsBackup}
 use Rattle.backup.specs.declared.fault.BackupFault.{BackupFault}
 use Rattle.backup.specs.declared.fault.BackupFault.TheVariants.{View, Dump}
 

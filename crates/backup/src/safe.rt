@@ -5,7 +5,7 @@ ghost use Rattle.value.specs.Refusals.{AnswersOrNoMemory};
 ghost use Rattle.history.specs.Answer.{Legal, of_session};
 ghost use Rattle.dumpplan.specs.Lines.{dump_text};
 ghost use Rattle.restore.specs.Reading.{read_dump};
-ghost use Rattle.session.specs.Backups.{IsBackup};
+ghost use Rattle.serial.specs.Backups.{IsBackup};
 ghost use Rattle.backup.specs.Backed.{IsNone, IsWhole, seen_by, viewed};
 
 use crate::fault::BackupFault;
@@ -17,7 +17,7 @@ use pass::token::Pass;
 use pass::word::Naming;
 use restore::reads_what_is_dumped;
 use server::shared::Server;
-use session::laws::{views_are_backups, views_are_sound};
+use serial::laws::{views_are_backups, views_are_sound};
 use std::alloc::Allocator;
 use std::sync::Wait;
 use std::thread::Threads;

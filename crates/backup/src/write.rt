@@ -7,7 +7,7 @@ ghost use Rattle.dumpplan.specs.Lines.{dump_text};
 ghost use Rattle.dumpworker.specs.Dumped.{Dumped};
 ghost use Rattle.history.specs.Answer.{view_answer};
 ghost use Rattle.restore.specs.Reading.{read_dump};
-ghost use Rattle.session.specs.Backups.{IsBackup};
+ghost use Rattle.serial.specs.Backups.{IsBackup};
 ghost use Rattle.backup.specs.Backed.{IsNone, IsWhole, viewed};
 
 use crate::fault::BackupFault;
@@ -17,7 +17,7 @@ use dumpworker::dump;
 use history::session_id::SessionId;
 use mvrows::view::View;
 use restore::reads_what_is_dumped;
-use session::laws::{views_are_backups, views_are_sound};
+use serial::laws::{views_are_backups, views_are_sound};
 use session::sessions::Core;
 use std::alloc::Allocator;
 use std::sync::Wait;

@@ -1,3 +1,5 @@
+//! What a collector answers.
+
 /// Why an offered piece was not taken.
 #[derive(Clone, Copy, Debug, PartialEq, Eq)]
 pub enum OfferFault {

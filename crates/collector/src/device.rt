@@ -1,3 +1,5 @@
+//! What takes the bytes of a dump.
+
 ghost use Rattle.std.specs.Prelude.{◌≡◌, ◌≢◌, ◌+◌, ◌<◌, ◌≤◌, ◌++◌, [], ℕ, List, length, take, IfOk, IfErr, OnOk, OnErr};
 ghost use Rattle.collector.specs.Written.{WroteAll, WroteSome};
 

@@ -1,3 +1,5 @@
+//! The collector: the pieces of a dump, offered in any order, written in theirs.
+
 ghost use Rattle.std.specs.Prelude.{◌≡◌, ◌+◌, ◌-◌, ◌<◌, ◌≤◌, [], ℕ, length, true, false, None, IfOk, IfErr, slice_index_or};
 ghost use Rattle.dumpplan.specs.Pieces.{piece_texts};
 ghost use Rattle.collector.specs.Gathered.{IsInTurn, IsSameJob, is_given};

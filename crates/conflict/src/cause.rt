@@ -1,4 +1,5 @@
-// The dangerous structure that a commit would make, over a list of transactions.
+//! The dangerous structure that a commit would make, over a list of transactions.
+
 ghost use Rattle.std.specs.Prelude.{◌≡◌, ◌&&◌, if◌then◌else◌, None};
 ghost use Rattle.std.specs.List.{filter};
 ghost use Rattle.std.specs.Option.{option_map};

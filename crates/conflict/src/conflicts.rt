@@ -1,4 +1,5 @@
-// The tracker of conflicts.
+//! The tracker of conflicts.
+
 ghost use Rattle.std.specs.Prelude.{◌≡◌, ◌&&◌, ℕ, ◌+◌, ◌^◌, ◌<◌, ◌≤◌, [], IfErr, OnErr, OnOk};
 ghost use Rattle.value.specs.Refusals.{out_of_memory};
 ghost use Rattle.conflict.specs.Later.{Alike, CanTellEdges, IsOldest, has_committed};

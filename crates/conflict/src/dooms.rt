@@ -1,4 +1,5 @@
-// The active transactions that a commit dooms: each is the pivot of a structure that it closes.
+//! The active transactions that a commit dooms: each is the pivot of a structure that it closes.
+
 ghost use Rattle.std.specs.Prelude.{◌≡◌, ◌<◌, ◌≤◌, [], ◌∷◌, ◌++◌, true, find, length, take};
 ghost use Rattle.std.specs.List.{filter};
 ghost use Rattle.std.specs.Option.{option_map};

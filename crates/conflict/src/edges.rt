@@ -1,4 +1,5 @@
-// Edges that are told at once: all are added, or none.
+//! Edges that are told at once: all are added, or none.
+
 ghost use Rattle.std.specs.Prelude.{◌≡◌, map, IfErr, OnErr, OnOk};
 ghost use Rattle.value.specs.Refusals.{out_of_memory};
 ghost use Rattle.conflict.specs.Tracked.{Rising, with_out, with_outs};

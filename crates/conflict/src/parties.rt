@@ -1,4 +1,5 @@
-// Transactions in the order of their numbers.
+//! Transactions in the order of their numbers.
+
 ghost use Rattle.std.specs.Prelude.{◌≡◌, ◌==◌, ◌<◌, ◌&&◌, None, true, false, fold, length, map, not, IfSome, IfNone, IfOk, IfErr, OnErr, OnOk};
 ghost use Rattle.std.specs.List.{filter, find, list_any, position};
 ghost use Rattle.std.specs.Option.{option_map};

@@ -1,4 +1,5 @@
-// What is kept of a transaction.
+//! What is kept of a transaction.
+
 ghost use Rattle.std.specs.Prelude.{◌≡◌, ◌==◌, not, ◌&&◌, IfOk, IfErr, OnErr, OnOk, true, false};
 ghost use Rattle.std.specs.List.{list_any};
 ghost use Rattle.value.specs.Isolation.{Node, bound};

@@ -1,3 +1,5 @@
+//! Tests of the tracker, with and without forgetting after each step.
+
 use crate::conflicts::Conflicts;
 use std::alloc::Allocator;
 use std::test::Fail;

@@ -1,3 +1,5 @@
+//! What a backslash and what follows it stand for.
+
 ghost use Rattle.std.specs.Prelude.{◌≡◌, ◌<◌, ◌≤◌, ◌∷◌, length, IsSome, IfSome, MatchOption, None};
 ghost use Rattle.std.specs.Char.{digit_value, is_digit};
 ghost use Rattle.std.specs.Option.{option_map};

@@ -1,3 +1,5 @@
+//! The fields of a line, and whether the line has the form of a row.
+
 ghost use Rattle.std.specs.Prelude.{◌≡◌, ◌+◌, ◌<◌, ◌≤◌, [], ◌∷◌, ◌==◌, ◌&&◌, take, drop, length, not, is_some, Option, MatchOption, IfSome};
 ghost use Rattle.std.specs.List.{list_all, list_any};
 ghost use Rattle.std.specs.Option.{option_map, option_copied};

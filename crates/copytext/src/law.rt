@@ -1,3 +1,5 @@
+//! The law of COPY text: what is written is read again.
+
 ghost use Rattle.std.specs.Prelude.{◌≡◌, ◌<◌, List, length, true, Ok};
 ghost use Rattle.value.specs.declared.kind.Kind.{Kind};
 ghost use Rattle.value.specs.declared.value.Value.{Value};

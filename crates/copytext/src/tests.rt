@@ -1,3 +1,5 @@
+//! Tests of fields, rows and lines.
+
 use super::*;
 use schema::row::Row;
 use std::alloc::Global;

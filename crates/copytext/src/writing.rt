@@ -1,3 +1,5 @@
+//! What a field and a row are written as.
+
 ghost use Rattle.std.specs.Prelude.{◌≡◌, [], ◌∷◌, ◌++◌, map, take, codes, slice_index, length, ◌<◌, OnOk, OnErr, IfErr};
 ghost use Rattle.std.specs.List.{flat_map};
 ghost use Rattle.value.specs.Printed.{bytea_text};

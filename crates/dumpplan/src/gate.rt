@@ -1,3 +1,5 @@
+//! Gates, which workers ask round each piece.
+
 /// Is asked by a worker when it has drawn a piece, and after the piece's result was handed over. Pieces are numbered from 1.
 pub trait Gate: Sync {
     fn before(&self, piece: u64);

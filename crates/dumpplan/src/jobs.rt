@@ -1,3 +1,5 @@
+//! How many workers there are, and how many rows a piece has.
+
 ghost use Rattle.std.specs.Prelude.{◌≡◌, ◌≤◌, IfSome, IsSome, ◌↔◌};
 
 use std::marker::Model;

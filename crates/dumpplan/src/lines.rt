@@ -1,3 +1,5 @@
+//! The COPY line of a table, and the line that counts its rows.
+
 ghost use Rattle.std.specs.Prelude.{◌≡◌, [], ◌∷◌, ◌++◌, map, OnOk, IfOk, IfErr};
 ghost use Rattle.std.specs.List.{flat_map};
 ghost use Rattle.value.specs.Refusals.{out_of_memory};

@@ -1,3 +1,5 @@
+//! The pieces of a dump, and the plan that lists them.
+
 ghost use Rattle.std.specs.Prelude.{◌≡◌, length};
 ghost use Rattle.std.specs.Option.{option_copied};
 

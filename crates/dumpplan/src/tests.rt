@@ -1,3 +1,5 @@
+//! Tests of numbers, plans and pieces.
+
 use super::*;
 use crate::example::{keys, nothing};
 use crate::text::{end_text, head_text};

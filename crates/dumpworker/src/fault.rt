@@ -1,3 +1,5 @@
+//! Why no whole dump was written.
+
 ghost use Rattle.std.specs.Prelude.{◌≡◌};
 ghost use Rattle.dumpworker.specs.declared.fault.DumpFault.TheVariants.{Memory};
 

@@ -1,3 +1,5 @@
+//! Tests of dumps: by how many workers, with which pieces held back, to devices that fail.
+
 use super::*;
 use crate::example::{example, keys, no_names, nothing};
 use crate::flaky::Flaky;

@@ -4,3 +4,4 @@ pub mod Events
 pub mod Opening
 pub mod Serial
 pub mod Transactions
+pub mod Needed

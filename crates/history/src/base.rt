@@ -1,4 +1,5 @@
-// What was counted before a history.
+//! What was counted before a history.
+
 ghost use Rattle.std.specs.Prelude.{◌≡◌};
 ghost use Rattle.history.specs.Opening.{zero_base};
 

@@ -1,4 +1,5 @@
-// What sessions ask for.
+//! What sessions ask for.
+
 use crate::session_id::SessionId;
 use statement::reply::Reply;
 use statement::statement::Statement;

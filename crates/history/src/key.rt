@@ -1,4 +1,4 @@
-// Where a transaction stands in the serial order.
+//! Where a transaction stands in the serial order.
 
 /// The serial key of a committed transaction; the serial order compares keys part by part.
 /// Of a read-write one: the least of its commit number and of those before it to which it has a

@@ -1,4 +1,5 @@
-// A history: what a server opened with, and each event since with its reply.
+//! A history: what a server opened with, and each event since with its reply.
+
 ghost use Rattle.std.specs.Prelude.{◌≡◌, ◌<◌, ◌≤◌, [], ◌∷◌, ◌++◌, List, length, Ok, Err, IfSome, IfNone, if◌then◌else◌, ◌==◌};
 ghost use Rattle.value.specs.Refusals.{AnswersOrNoMemory, of_code};
 ghost use Rattle.history.specs.declared.event.Record.{Record as AnyRecord};

@@ -1,4 +1,5 @@
-// Sessions.
+//! Sessions.
+
 ghost use Rattle.std.specs.Prelude.{◌≡◌, ◌≤◌, ◌⊎◌, ◌<◌, IfSome, IfNone};
 
 use std::marker::Model;

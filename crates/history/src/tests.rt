@@ -1,3 +1,5 @@
+//! Tests of sessions and of a history in reserved room.
+
 use crate::base::Base;
 use crate::event::{Action, Record};
 use crate::list::History;

@@ -7,7 +7,7 @@ use Rattle.std.specs.Ordering.{match_ordering}
 use Rattle.std.specs.declared.cmp.Ordering.{Ordering}
 use Rattle.std.specs.declared.cmp.Ordering.TheVariants.{Less, Equal, Greater}
 use Rattle.std.proofs.lemmas.Bool.{le-leb, lt-leb}
-use Rattle.std.proofs.lemmas.List.{map-set, set-get_or, set_past, length-map, drop_more, drop_all, take_all, take_more, take_more_set, drop-set-lt, map-append, append-nil, take-append-drop}
+use Rattle.std.proofs.lemmas.List.{map-set, set-get_or, set_past, length-map, drop_more, drop_all, take_all, take_more_set, drop-set-lt, map-append, append-nil, take-append-drop}
 use Rattle.value.specs.Order.{value_cmp}
 use Rattle.value.specs.declared.value.Value.{Value}
 use Rattle.schema.specs.declared.row.Row.{Row}

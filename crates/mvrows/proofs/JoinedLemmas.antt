@@ -1,7 +1,7 @@
 -- Pages one after another: where a key belongs, and what a change of one page is to all.
-use Rattle.std.proofs.Common.{suc, zero, ◌≡◌, refl, sym, ap, subst, ◌∙◌, ℕ, ◌+◌, ◌<◌, ◌≤◌, Bool, true, false, true≢false, not, ◌&&◌, cond, List, [], ◌∷◌, ◌++◌, take, drop, map, length, Option, Some, None, get_or, set, arith, Bor, add-one}
-use Rattle.std.specs.Prelude.{slice_get, filter, find}
-use Rattle.std.specs.List.{AllByRecursion, flat_map, list_all, cons_option}
+use Rattle.std.proofs.Common.{suc, zero, ◌≡◌, refl, sym, ap, subst, ◌∙◌, ℕ, ◌+◌, ◌<◌, ◌≤◌, Bool, true, false, true≢false, not, ◌&&◌, List, [], ◌∷◌, ◌++◌, take, drop, length, Option, Some, None, get_or, set, arith, Bor, add-one}
+use Rattle.std.specs.Prelude.{find}
+use Rattle.std.specs.List.{AllByRecursion, flat_map, cons_option}
 use Rattle.std.specs.List.Sorted.{IsStrictlySortedBy, IsPartitionedBy, IsPartitionPoint}
 use Rattle.std.specs.Option.{option_map, option_or}
 use Rattle.std.specs.Ordering.{is_le, match_ordering}
@@ -267,7 +267,7 @@ module _ {A : Type 0} where
 
   -- ---- what a snapshot shows of pages
 
-  shown_rows-append : (n : ℕ) (xs ys : VersionedRows A) → shown_rows n (xs ++ ys) ≡ shown_rows n xs ++ shown_rows n ys
+  pub shown_rows-append : (n : ℕ) (xs ys : VersionedRows A) → shown_rows n (xs ++ ys) ≡ shown_rows n xs ++ shown_rows n ys
   shown_rows-append n [] ys = refl
   shown_rows-append n (x ∷ xs) ys = go (shown_fields n x.versions) (shown_rows-append n xs ys)
     where

@@ -1,8 +1,7 @@
 -- A table's pages, of which it has some for itself, while they are changed, cut and dropped.
-use Rattle.std.proofs.Common.{suc, zero, ◌≡◌, refl, sym, ap, subst, ◌∙◌, ℕ, ◌+◌, ◌<◌, ◌≤◌, Bool, true, false, true≢false, not, cond, List, [], ◌∷◌, ◌++◌, take, drop, map, length, Option, Some, None, Bor, get_or, set, arith, add-one, inl, inr}
+use Rattle.std.proofs.Common.{suc, zero, ◌≡◌, refl, sym, ap, subst, ◌∙◌, ℕ, ◌+◌, ◌<◌, ◌≤◌, Bool, true, false, true≢false, cond, List, [], ◌∷◌, ◌++◌, take, drop, map, length, Option, Some, None, Bor, get_or, set, arith, add-one, inl, inr}
 use Rattle.std.specs.Prelude.{filter, ◌⊎◌, Result, Ok, Err, OnOk, OnErr}
 use Rattle.std.specs.List.{AllByRecursion, flat_map}
-use Rattle.std.specs.List.Sorted.{IsStrictlySortedBy}
 use Rattle.std.specs.Option.{option_or}
 use Rattle.std.specs.Ordering.{is_le}
 use Rattle.std.proofs.lemmas.List.{map-set, map-append, append-nil, drop_all, length-map}
@@ -13,15 +12,15 @@ use Rattle.value.specs.declared.key.Key.{Key}
 use Rattle.schema.specs.declared.row.Row.{Row}
 use Rattle.schema.specs.declared.reader.Bound.{Bound}
 use Rattle.schema.specs.Rows.{next_row}
-use Rattle.mvrows.specs.Versions.{Version, KeyVersions, VersionedRows, IsInOrder, shown_rows}
+use Rattle.mvrows.specs.Versions.{Version, VersionedRows, IsInOrder, shown_rows}
 use Rattle.mvrows.specs.Installing.{opened_row, first_version, put_version}
 use Rattle.mvrows.specs.Pruning.{has_version, pruned_key, pruned_rows, pruned_versions}
 use Rattle.mvrows.specs.TakenBack.{key_before, rows_before, versions_before}
-use Rattle.mvrows.specs.HeldRows.{Held, pages_of, joined, rows_in, has_keys, AreLaidOut, undone, undone_in, IsUndoable, AreUndoable, own_pruned, own_pruned_in, AllVersioned}
+use Rattle.mvrows.specs.HeldRows.{Held, pages_of, joined, rows_in, has_keys, AreLaidOut, undone, undone_in, IsUndoable, AreUndoable, own_pruned, AllVersioned}
 use Rattle.mvrows.proofs.VersionLemmas.{IsLeast, get_or-map, all-set, put_version-in_order}
 use Rattle.mvrows.proofs.PageLemmas.{one-in_order, trimmed, drop-item, kept-least, kept-in_order}
-use Rattle.mvrows.proofs.HeldLemmas.{before-put, front-in_order, all-append, same-set, element-at, undone-own, undone-kept, undoable-own, map-map}
-use Rattle.mvrows.proofs.JoinedLemmas.{append-assoc, flat-split, Below, least-append, least-join, Cut, in_order-cut, in_order-join, put-in, put-has_keys, next-append}
+use Rattle.mvrows.proofs.HeldLemmas.{before-put, front-in_order, all-append, same-set, element-at, undone-own, undone-kept, undoable-own}
+use Rattle.mvrows.proofs.JoinedLemmas.{append-assoc, Below, least-append, least-join, in_order-cut, in_order-join, put-in, put-has_keys, next-append}
 
 -- ---- lists
 

@@ -1,10 +1,14 @@
 pub mod ChainLemmas
+pub mod CopiedLemmas
 pub mod HeldLemmas
 pub mod JoinedLemmas
 pub mod LeavesLemmas
 pub mod NewestLemmas
 pub mod PageLemmas
 pub mod PruningLemmas
+pub mod SettledPageLemmas
+pub mod SettledTablesLemmas
+pub mod SettlingLemmas
 pub mod TestLemmas
 pub mod VersionLemmas
 pub mod ViewLemmas

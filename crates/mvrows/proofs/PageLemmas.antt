@@ -17,12 +17,11 @@ use Rattle.schema.specs.declared.reader.Bound.{Bound}
 use Rattle.schema.specs.Plain.{same}
 use Rattle.schema.specs.Rows.{is_within, next_row}
 use Rattle.schema.proofs.RowsInOrder.{later_within}
-use Rattle.mvrows.specs.Versions.{Version, KeyVersions, VersionedRows, IsInOrder, shown_fields, shown_row, shown_rows, newest_version}
+use Rattle.mvrows.specs.Versions.{Version, KeyVersions, VersionedRows, IsInOrder, shown_fields, shown_row, shown_rows}
 use Rattle.mvrows.specs.Installing.{first_version, newer, put_version}
 use Rattle.mvrows.specs.Pruning.{pruned_key, has_version, pruned_rows}
 use Rattle.mvrows.specs.HeldRows.{is_before, has_keys}
 use Rattle.mvrows.proofs.VersionLemmas.{IsLeast, put_version-in_order}
-use Rattle.mvrows.proofs.PruningLemmas.{not_above}
 
 -- ---- where a test turns
 
@@ -93,12 +92,12 @@ greater Less e = cc
 greater Equal e = cc
 greater Greater e = refl
 
-less : (o : Ordering) → is_le o ≡ true → is_eq o ≡ false → o ≡ Less
+pub less : (o : Ordering) → is_le o ≡ true → is_eq o ≡ false → o ≡ Less
 less Less e f = refl
 less Equal e f = cc
 less Greater e f = cc
 
-equal : (o : Ordering) → is_eq o ≡ true → o ≡ Equal
+pub equal : (o : Ordering) → is_eq o ≡ true → o ≡ Equal
 equal Less e = cc
 equal Equal e = refl
 equal Greater e = cc
@@ -110,13 +109,13 @@ drop-item xs i x lt is = drop_more xs i x lt ∙ ap (λ y. y ∷ drop (i + 1) xs
 pub take-item : {X : Type 0} (xs : List X) (i : ℕ) (x : X) → i < length xs → x ≡ get_or xs i x → take (i + 1) xs ≡ take i xs ++ x ∷ []
 take-item xs i x lt is = take_more xs i x lt ∙ ap (λ y. take i xs ++ y ∷ []) (sym is)
 
-slice_get-item : {X : Type 0} (xs : List X) (i : ℕ) (x : X) → i < length xs → x ≡ get_or xs i x → slice_get xs i ≡ Some x
+pub slice_get-item : {X : Type 0} (xs : List X) (i : ℕ) (x : X) → i < length xs → x ≡ get_or xs i x → slice_get xs i ≡ Some x
 slice_get-item [] i x lt is = absurd (omega arith)
 slice_get-item (y ∷ ys) zero x lt is = ap Some (sym is)
 slice_get-item (y ∷ ys) (suc i) x lt is = slice_get-item ys i x (omega arith) is
 
 -- a test that holds of what stands at a place
-below-passed : {X : Type 0} (p : X → Bool) (xs : List X) (i : ℕ) → option_map_or p (slice_get xs i) false ≡ true → i < length xs
+pub below-passed : {X : Type 0} (p : X → Bool) (xs : List X) (i : ℕ) → option_map_or p (slice_get xs i) false ≡ true → i < length xs
 below-passed p [] i e = cc
 below-passed p (y ∷ ys) zero e = omega arith
 below-passed p (y ∷ ys) (suc i) e = let lt : i < length ys = below-passed p ys i e in omega arith

@@ -19,7 +19,7 @@ module _ {A : Type 0} where
   shown-if_row n number None e = refl
   shown-if_row n number (Some f) e = rw e refl
 
-  shown-pruned_versions : (oldest n : ℕ) (vs : List (Version A)) → oldest ≤ n → shown_fields n (pruned_versions oldest vs) ≡ shown_fields n vs
+  pub shown-pruned_versions : (oldest n : ℕ) (vs : List (Version A)) → oldest ≤ n → shown_fields n (pruned_versions oldest vs) ≡ shown_fields n vs
   shown-pruned_versions oldest n [] le = refl
   shown-pruned_versions oldest n (v ∷ vs) le = by_test (nat_le v.number oldest) refl (shown-pruned_versions oldest n vs le)
     where
@@ -49,7 +49,7 @@ module _ {A : Type 0} where
 
   -- ---- what is left
 
-  one_left : (oldest : ℕ) (vs : List (Version A)) → length (filter (λ v. nat_le v.number oldest) (pruned_versions oldest vs)) ≤ 1
+  pub one_left : (oldest : ℕ) (vs : List (Version A)) → length (filter (λ v. nat_le v.number oldest) (pruned_versions oldest vs)) ≤ 1
   one_left oldest [] = omega arith
   one_left oldest (v ∷ vs) = by_test (nat_le v.number oldest) refl (one_left oldest vs)
     where
@@ -100,7 +100,7 @@ module _ {A : Type 0} where
 
   -- ---- numbers below the next
 
-  pruned_versions-below : (next oldest : ℕ) (vs : List (Version A)) → AreBelow next vs → AreBelow next (pruned_versions oldest vs)
+  pub pruned_versions-below : (next oldest : ℕ) (vs : List (Version A)) → AreBelow next vs → AreBelow next (pruned_versions oldest vs)
   pruned_versions-below next oldest [] below = tt
   pruned_versions-below next oldest (v ∷ vs) below = by_test (nat_le v.number oldest) (pruned_versions-below next oldest vs below.1)
     where
@@ -129,7 +129,7 @@ module _ {A : Type 0} where
   newest-if_row oldest number None le ws e = rw e le
   newest-if_row oldest number (Some f) le ws e = rw e refl
 
-  newest-pruned_versions : (oldest : ℕ) (vs : List (Version A)) → KeepsNewest oldest (option_map (λ v. v.number) (slice_get vs 0)) (option_map (λ v. v.number) (slice_get (pruned_versions oldest vs) 0))
+  pub newest-pruned_versions : (oldest : ℕ) (vs : List (Version A)) → KeepsNewest oldest (option_map (λ v. v.number) (slice_get vs 0)) (option_map (λ v. v.number) (slice_get (pruned_versions oldest vs) 0))
   newest-pruned_versions oldest [] = tt
   newest-pruned_versions oldest (v ∷ vs) = by_test (nat_le v.number oldest) refl
     where

@@ -1,16 +1,14 @@
 -- What views read.
-use Rattle.std.proofs.Common.{suc, zero, ◌≡◌, refl, sym, ap, subst, ◌∙◌, ℕ, ◌<◌, Bool, true, false, cond, List, [], ◌∷◌, map, length, get_or, Option, Some, None, arith}
+use Rattle.std.proofs.Common.{suc, zero, ◌≡◌, refl, sym, ap, subst, ◌∙◌, ℕ, ◌<◌, Bool, true, false, cond, List, [], ◌∷◌, length, get_or, Option, Some, None, arith}
 use Rattle.std.specs.Prelude.{find}
-use Rattle.std.specs.List.{AllByRecursion, cons_option}
+use Rattle.std.specs.List.{cons_option}
 use Rattle.std.specs.List.Sorted.{IsStrictlySortedBy}
 use Rattle.std.specs.Option.{option_map, option_and_then}
-use Rattle.value.specs.Order.{value_cmp}
 use Rattle.value.specs.declared.value.Value.{Value}
-use Rattle.schema.specs.declared.row.Row.{Row}
 use Rattle.schema.specs.Plain.{same, rows_of}
 use Rattle.schema.proofs.PlainLemmas.{same_value}
 use Rattle.schema.specs.Rows.{IsInKeyOrder, row_of}
-use Rattle.mvrows.specs.Versions.{KeyVersions, VersionedRows, IsInOrder, shown_fields, shown_row, shown_rows, shown}
+use Rattle.mvrows.specs.Versions.{VersionedRows, IsInOrder, shown_fields, shown_row, shown_rows, shown}
 use Rattle.mvrows.specs.HeldRows.{Held, rows_in, rows_held}
 use Rattle.mvrows.proofs.VersionLemmas.{IsLeast, shown-above}
 

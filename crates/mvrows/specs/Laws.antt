@@ -1,4 +1,4 @@
--- What installing and pruning come to for snapshots.
+-- What installing, pruning and settling come to for snapshots.
 -- Source: Ports and Grittner, Serializable Snapshot Isolation in PostgreSQL, on snapshot isolation; PostgreSQL manual, Routine Vacuuming, on recovering disk space.
 use Rattle.std.specs.Prelude.{ℕ, ◌≡◌, ◌<◌, ◌≤◌, if◌then◌else◌, Some, List, length}
 use Rattle.std.specs.List.{AllByRecursion}
@@ -12,6 +12,7 @@ use Rattle.mvrows.specs.Versions.{VersionedRows, AreInOrder, TablesAreBelow, sho
 use Rattle.mvrows.specs.Installing.{opened, installed}
 use Rattle.mvrows.specs.Commits.{changes_key, installed_from, last_change}
 use Rattle.mvrows.specs.Pruning.{ArePruned, KeepsNewest, pruned}
+use Rattle.mvrows.specs.Settling.{AreSettled, settled}
 
 -- every snapshot shows the opening
 abbrev pub OpeningIsShown : Type 0 → Type 0
@@ -41,13 +42,25 @@ PruningLeavesOne A = (tables : List (VersionedRows A)) (oldest : ℕ) → ArePru
 abbrev pub PruningKeepsNewest : Type 0 → Type 0
 PruningKeepsNewest A = (tables : List (VersionedRows A)) (oldest t : ℕ) (key : Value A) → AreInOrder tables → KeepsNewest oldest (newest tables t key) (newest (pruned oldest tables) t key)
 
+-- where the keys of changes alone are pruned, a snapshot from that number on shows what it showed
+abbrev pub SettlingIsHidden : Type 0 → Type 0
+SettlingIsHidden A = (tables : List (VersionedRows A)) (changes : List (Change A)) (oldest snapshot : ℕ) → oldest ≤ snapshot → shown snapshot (settled oldest changes tables) ≡ shown snapshot tables
+
+-- of each of these keys one version at most isn't above that number
+abbrev pub SettlingLeavesOne : Type 0 → Type 0
+SettlingLeavesOne A = (tables : List (VersionedRows A)) (changes : List (Change A)) (oldest : ℕ) → AreInOrder tables → AreSettled oldest changes (settled oldest changes tables)
+
+-- and the number of a key's last commit is as before, or was not above that number and is forgotten
+abbrev pub SettlingKeepsNewest : Type 0 → Type 0
+SettlingKeepsNewest A = (tables : List (VersionedRows A)) (changes : List (Change A)) (oldest t : ℕ) (key : Value A) → AreInOrder tables → KeepsNewest oldest (newest tables t key) (newest (settled oldest changes tables) t key)
+
 -- the keys of each table stay in order
 abbrev pub StaysInOrder : Type 0 → Type 0
-StaysInOrder A = (tables : List (VersionedRows A)) (changes : List (Change A)) (commit oldest : ℕ) → AreInOrder tables → AreInOrder (installed commit changes tables) × AreInOrder (pruned oldest tables)
+StaysInOrder A = (tables : List (VersionedRows A)) (changes : List (Change A)) (commit oldest : ℕ) → AreInOrder tables → AreInOrder (installed commit changes tables) × AreInOrder (pruned oldest tables) × AreInOrder (settled oldest changes tables)
 
 -- versions are of commits below the next
 abbrev pub StaysBelow : Type 0 → Type 0
-StaysBelow A = (tables : List (VersionedRows A)) (changes : List (Change A)) (commit next oldest : ℕ) → commit < next → TablesAreBelow next tables → TablesAreBelow next (installed commit changes tables) × TablesAreBelow next (pruned oldest tables)
+StaysBelow A = (tables : List (VersionedRows A)) (changes : List (Change A)) (commit next oldest : ℕ) → commit < next → TablesAreBelow next tables → TablesAreBelow next (installed commit changes tables) × TablesAreBelow next (pruned oldest tables) × TablesAreBelow next (settled oldest changes tables)
 
 -- the number of the last commit of a key is 0 where the opening has it
 abbrev pub NewestIsOpening : Type 0 → Type 0

@@ -1,9 +1,12 @@
 pub mod Commits
+pub mod Copied
+pub mod Fresh
 pub mod Held
 pub mod HeldRows
 pub mod Installing
 pub mod Laws
 pub mod Pruning
+pub mod Settling
 pub mod Sources
 pub mod Stored
 pub mod TakenBack

@@ -1,5 +1,5 @@
-//! What holds of versions, whatever was installed and pruned.
-ghost use Rattle.mvrows.specs.Laws.{OpeningIsShown, OpeningIsFirst, ShowsInstalled, HidesInstalled, PruningIsHidden, PruningLeavesOne, PruningKeepsNewest, StaysInOrder, StaysBelow, NewestIsOpening, NewestIsInstalled, NewestIsLast};
+//! What holds of versions, whatever was installed, pruned and settled.
+ghost use Rattle.mvrows.specs.Laws.{OpeningIsShown, OpeningIsFirst, ShowsInstalled, HidesInstalled, PruningIsHidden, PruningLeavesOne, PruningKeepsNewest, SettlingIsHidden, SettlingLeavesOne, SettlingKeepsNewest, StaysInOrder, StaysBelow, NewestIsOpening, NewestIsInstalled, NewestIsLast};
 
 use std::alloc::Allocator;
 
@@ -26,6 +26,13 @@ pub fn pruning_is_hidden<A: Allocator>()
     ensures shown { PruningIsHidden A }
     ensures one { PruningLeavesOne A }
     ensures newest { PruningKeepsNewest A }
+{}
+
+/// The same where the keys of changes alone are pruned, one after another.
+pub fn settling_is_hidden<A: Allocator>()
+    ensures shown { SettlingIsHidden A }
+    ensures one { SettlingLeavesOne A }
+    ensures newest { SettlingKeepsNewest A }
 {}
 
 /// Keys stay in order, and versions below the number of a commit to come.

@@ -5,6 +5,8 @@ ghost use Rattle.mvrows.specs.Installing.{put_version};
 ghost use Rattle.mvrows.specs.Pruning.{pruned_rows};
 ghost use Rattle.mvrows.specs.Held.{held};
 ghost use Rattle.mvrows.specs.HeldRows.{undone, IsUndoable, own_pruned, has_keys, AllVersioned};
+ghost use Rattle.mvrows.specs.Settling.{settle_key};
+ghost use Rattle.mvrows.specs.Fresh.{IsOwnKey};
 
 use crate::page::Page;
 use schema::changes::Change;
@@ -12,6 +14,7 @@ use std::alloc::{Allocator, Global};
 use std::marker::Model;
 use std::mem;
 use std::sync::Arc;
+use value::key::Key;
 use value::refusal::Refusal;
 
 // Who has a page: nobody else, or views too.
@@ -177,6 +180,18 @@ impl<A: Allocator> Leaf<A> {
     {
         match &mut self.holder {
             Holder::Own(page) => page.prune(oldest),
+            Holder::Shared(_) => {}
+        }
+    }
+
+    /// Prunes a key of its own.
+    pub fn settle(&mut self, oldest: u64, key: &Key<A>)
+        requires { IsOwnKey key.now self.old }
+        ensures rows { self.new.rows ≡ settle_key oldest key.now self.old.rows }
+        ensures own { self.new.own ≡ self.old.own }
+    {
+        match &mut self.holder {
+            Holder::Own(page) => page.settle(oldest, key),
             Holder::Shared(_) => {}
         }
     }

@@ -6,17 +6,21 @@ ghost use Rattle.std.specs.Ordering.{is_le};
 ghost use Rattle.value.specs.Order.{value_cmp};
 ghost use Rattle.value.specs.Refusals.{out_of_memory};
 ghost use Rattle.schema.specs.Plain.{same};
-ghost use Rattle.schema.specs.Rows.{is_within, next_row};
+ghost use Rattle.schema.specs.Rows.{HasTable, is_within, next_row};
 ghost use Rattle.mvrows.specs.Versions.{IsInOrder, shown_rows};
 ghost use Rattle.mvrows.specs.Installing.{put_version, opened_row, first_version};
 ghost use Rattle.mvrows.specs.Pruning.{pruned_key, has_version, pruned_rows};
+ghost use Rattle.mvrows.specs.Settling.{settle_key};
 ghost use Rattle.mvrows.specs.TakenBack.{key_before, rows_before};
 ghost use Rattle.mvrows.specs.HeldRows.{is_before, has_keys};
+ghost use Rattle.mvrows.specs.Copied.{with_rows};
 
 use crate::chain::Chain;
+use schema::catalog::TableNo;
 use schema::changes::Change;
 use schema::reader::Bound;
 use schema::row::Row;
+use schema::tables::Tables;
 use std::alloc::{Allocator, Global};
 use std::marker::Model;
 use value::key::Key;
@@ -150,6 +154,23 @@ fn put<A: Allocator + Copy>(
         let chain = Chain::of(alloc, number, change)?;
         chains.insert(place, chain)?;
         Ok(())
+    }
+}
+
+// Prunes a key at its place, if it is there. It goes where no version of it is left.
+fn settle<A: Allocator>(chains: &mut Vec<Chain<A>, A>, place: usize, oldest: u64, key: &Key<A>)
+    requires within_length { place ≤ length chains.old.items }
+    requires before { AllByRecursion (λ k. is_le (value_cmp key.now k.key) ≡ false) (take place chains.old.items) }
+    requires within { AllByRecursion (λ k. is_le (value_cmp key.now k.key) ≡ true) (drop place chains.old.items) }
+    ensures { chains.new.items ≡ settle_key oldest key.now chains.old.items }
+{
+    if !is_at(chains.as_slice(), place, key) {
+        return;
+    }
+    let chain = &mut chains[place];
+    chain.prune(oldest);
+    if !chain.has_version() {
+        let _ = chains.remove(place);
     }
 }
 
@@ -295,12 +316,42 @@ impl<A: Allocator> Page<A> {
         drop_empty(&mut self.chains);
     }
 
+    /// Leaves of a key what a pruning leaves of it, if it is there.
+    pub fn settle(&mut self, oldest: u64, key: &Key<A>)
+        ensures { self.new ≡ settle_key oldest key.now self.old }
+    {
+        let place = start(self.chains.as_slice(), Bound::From(key));
+        settle(&mut self.chains, place, oldest, key);
+    }
+
     /// Takes back the versions of a commit that wasn't finished.
     pub fn take_back(&mut self, commit: u64)
         ensures { self.new ≡ rows_before commit self.old }
     {
         take_all_back(&mut self.chains, commit);
         drop_empty(&mut self.chains);
+    }
+
+    /// Puts a copy of each row that a snapshot shows into a table.
+    pub fn copy_shown(
+        &self,
+        alloc: A,
+        snapshot: u64,
+        copies: &mut Tables<A>,
+        table: TableNo,
+    ) -> Result<(), Refusal>
+    where
+        A: Copy,
+        requires { HasTable copies.old table }
+        ensures ok { OnOk result (copies.new ≡ with_rows copies.old table (shown_rows snapshot self.now)) }
+        ensures memory { IfErr result (λ e. e ≡ out_of_memory) }
+    {
+        for chain in &self.chains {
+            if let Some(row) = chain.row_at(snapshot) {
+                copies.put(alloc, table, row.copy(alloc)?)?;
+            }
+        }
+        Ok(())
     }
 
     /// Equal keys with equal versions.

@@ -1,5 +1,5 @@
 //! The tables with their versions.
-ghost use Rattle.std.specs.Prelude.{◌≡◌, ◌≤◌, ◌<◌, ◌^◌, length, map, OnOk, OnErr, IfOk, IfErr};
+ghost use Rattle.std.specs.Prelude.{List, [], ◌∷◌, ◌≡◌, ◌≤◌, ◌<◌, ◌^◌, length, map, OnOk, OnErr, IfOk, IfErr};
 ghost use Rattle.std.specs.List.{AllByRecursion};
 ghost use Rattle.value.specs.Refusals.{out_of_memory};
 ghost use Rattle.schema.specs.Rows.{HasTable, IsInKeyOrder};
@@ -7,12 +7,14 @@ ghost use Rattle.schema.specs.Plain.{rows_of};
 ghost use Rattle.mvrows.specs.Versions.{TablesAreBelow, newest as last_commit, newest_in, shown, versions_of};
 ghost use Rattle.mvrows.specs.Installing.{opened, install_change, installed};
 ghost use Rattle.mvrows.specs.Pruning.{pruned, pruned_rows};
+ghost use Rattle.mvrows.specs.Settling.{settle_change, settled};
+ghost use Rattle.mvrows.specs.Fresh.{AreFresh};
 ghost use Rattle.mvrows.specs.HeldRows.{rows_in, rows_held, undone_in, AreUndoable, own_pruned_in, AreVersioned};
 
 use crate::at::At;
 use crate::table::Table;
 use crate::view::View;
-use schema::catalog::TableNo;
+use schema::catalog::{Catalog, TableNo};
 use schema::changes::Change;
 use schema::reader::first_row;
 use schema::row::Row;
@@ -112,6 +114,7 @@ fn put_all<A: Allocator + Copy>(
     requires undoable { AllByRecursion (AreUndoable commit) tables.old.items }
     ensures ok { OnOk result (rows_held tables.new.items ≡ installed commit changes.now (rows_held tables.old.items)) }
     ensures undo { map (undone_in commit) tables.new.items ≡ map (undone_in commit) tables.old.items }
+    ensures undoable { AllByRecursion (AreUndoable commit) tables.new.items }
     ensures memory { IfErr result (λ e. e ≡ out_of_memory) }
 {
     for change in changes {
@@ -127,6 +130,47 @@ fn take_all_back<A: Allocator>(tables: &mut Vec<Table<A>, A>, commit: u64)
     for table in tables.iter_mut() {
         table.take_back(commit);
     }
+}
+
+// Prunes the key of a change, where its table is there.
+fn settle_change<A: Allocator>(tables: &mut Vec<Table<A>, A>, oldest: u64, change: &Change<A>)
+    requires { AreFresh (change.now ∷ []) tables.old.items }
+    ensures rows { rows_held tables.new.items ≡ settle_change oldest change.now (rows_held tables.old.items) }
+    ensures fresh { (xs : List (Change A)) → AreFresh xs tables.old.items → AreFresh xs tables.new.items }
+{
+    let place = change.table().place() as usize;
+    if place < tables.len() {
+        let table = &mut tables[place];
+        table.settle(oldest, change.key());
+    }
+}
+
+// Prunes the key of each change.
+fn settle_all<A: Allocator>(tables: &mut Vec<Table<A>, A>, oldest: u64, changes: &[Change<A>])
+    requires { AreFresh changes.now tables.old.items }
+    ensures { rows_held tables.new.items ≡ settled oldest changes.now (rows_held tables.old.items) }
+{
+    for change in changes {
+        settle_change(tables, oldest, change);
+    }
+}
+
+// Puts a copy of each row that a snapshot shows into as many tables without rows.
+fn copy_all_shown<A: Allocator + Copy>(
+    alloc: A,
+    tables: &[Table<A>],
+    snapshot: u64,
+    copies: &mut Tables<A>,
+) -> Result<(), Refusal>
+    requires few { length tables.now ≤ 256 }
+    requires none { copies.old ≡ map (λ _. []) tables.now }
+    ensures ok { OnOk result (copies.new ≡ shown snapshot (rows_held tables.now)) }
+    ensures memory { IfErr result (λ e. e ≡ out_of_memory) }
+{
+    for place in 0..tables.len() {
+        tables[place].copy_shown(alloc, snapshot, copies, TableNo::at(place as u32))?;
+    }
+    Ok(())
 }
 
 // Lets views share all pages, where there is memory for that.
@@ -213,17 +257,25 @@ impl<A: Allocator> Rows<A> {
         Ok(Rows { tables: opening })
     }
 
-    /// Installs the changes of a commit, whose number is above all before. Views stay as they are.
-    pub fn install(&mut self, alloc: A, commit: u64, changes: &[Change<A>]) -> Result<(), Refusal>
+    /// Installs the changes of a commit, whose number is above all before, and drops the versions of their
+    /// keys that no snapshot from the oldest on shows. Views stay as they are.
+    pub fn install(
+        &mut self,
+        alloc: A,
+        oldest: u64,
+        commit: u64,
+        changes: &[Change<A>],
+    ) -> Result<(), Refusal>
     where
         A: Copy,
         requires { TablesAreBelow commit self.old }
-        ensures ok { OnOk result (self.new ≡ installed commit changes.now self.old) }
+        ensures ok { OnOk result (self.new ≡ settled oldest changes.now (installed commit changes.now self.old)) }
         ensures err { OnErr result (self.new ≡ self.old) }
         ensures memory { IfErr result (λ e. e ≡ out_of_memory) }
     {
         match put_all(alloc, &mut self.tables, commit, changes) {
             Ok(()) => {
+                settle_all(&mut self.tables, oldest, changes);
                 share_all_changed(alloc, &mut self.tables, changes);
                 Ok(())
             }
@@ -233,6 +285,25 @@ impl<A: Allocator> Rows<A> {
                 Err(refusal)
             }
         }
+    }
+
+    /// The tables that a snapshot shows, copied.
+    pub fn tables(
+        &self,
+        alloc: A,
+        catalog: &Catalog<A>,
+        snapshot: u64,
+    ) -> Result<Tables<A>, Refusal>
+    where
+        A: Copy,
+        requires { length catalog.now ≡ length self.now }
+        ensures ok { IfOk result (λ tables. tables ≡ shown snapshot self.now) }
+        ensures err { IfErr result (λ e. e ≡ out_of_memory) }
+    {
+        let _count = catalog.len();
+        let mut copies = Tables::new(alloc, catalog)?;
+        copy_all_shown(alloc, self.tables.as_slice(), snapshot, &mut copies)?;
+        Ok(copies)
     }
 
     /// The tables that a snapshot shows, lent: neither memory is taken nor a row copied. Statements are

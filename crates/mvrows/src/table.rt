@@ -1,24 +1,30 @@
 // The pages of a table, in key order.
-ghost use Rattle.std.specs.Prelude.{ℕ, ◌≡◌, ◌≤◌, ◌<◌, ◌+◌, ◌++◌, [], true, false, length, take, drop, map, filter, find, slice_index_or, OnOk, OnErr, IfOk, IfErr, IsTrue};
+ghost use Rattle.std.specs.Prelude.{ℕ, ◌≡◌, ◌≤◌, ◌<◌, ◌+◌, ◌++◌, [], true, false, length, take, drop, map, filter, find, slice_index_or, slice_set, OnOk, OnErr, IfOk, IfErr, IsTrue};
 ghost use Rattle.std.specs.List.{AllByRecursion};
 ghost use Rattle.std.specs.Option.{option_copied};
 ghost use Rattle.std.specs.Ordering.{is_le};
 ghost use Rattle.std.specs.declared.cmp.Ordering.TheVariants.{Less};
 ghost use Rattle.value.specs.Order.{value_cmp};
 ghost use Rattle.value.specs.Refusals.{out_of_memory};
-ghost use Rattle.schema.specs.Plain.{same};
-ghost use Rattle.schema.specs.Rows.{IsInKeyOrder, is_within, next_row, row_of};
+ghost use Rattle.value.specs.declared.value.Value.{Value};
+ghost use Rattle.schema.specs.Plain.{rows_of, same};
+ghost use Rattle.schema.specs.Rows.{HasTable, IsInKeyOrder, is_within, next_row, row_of};
 ghost use Rattle.mvrows.specs.Versions.{IsInOrder, shown_rows};
 ghost use Rattle.mvrows.specs.Installing.{opened_row, put_version};
 ghost use Rattle.mvrows.specs.Pruning.{pruned_rows};
+ghost use Rattle.mvrows.specs.Copied.{with_rows};
+ghost use Rattle.mvrows.specs.Fresh.{IsFresh, IsFreshIn};
+ghost use Rattle.mvrows.specs.Settling.{settle_key};
 ghost use Rattle.mvrows.specs.HeldRows.{pages_of, joined, rows_in, has_keys, AreLaidOut, is_before, undone, undone_in, AreUndoable, own_pruned, own_pruned_in, AllVersioned};
 
 use crate::chain::Chain;
 use crate::leaf::Leaf;
 use crate::page::Page;
+use schema::catalog::TableNo;
 use schema::changes::Change;
 use schema::reader::Bound;
 use schema::row::Row;
+use schema::tables::Tables;
 use std::alloc::{Allocator, Global};
 use std::marker::Model;
 use value::key::Key;
@@ -86,6 +92,24 @@ fn next_in<'l, A: Allocator>(
         }
     }
     None
+}
+
+// Puts a copy of each row that a snapshot shows of some pages into a table.
+fn copy_all_shown<A: Allocator + Copy>(
+    alloc: A,
+    leaves: &[Leaf<A>],
+    snapshot: u64,
+    copies: &mut Tables<A>,
+    table: TableNo,
+) -> Result<(), Refusal>
+    requires { HasTable copies.old table }
+    ensures ok { OnOk result (copies.new ≡ with_rows copies.old table (shown_rows snapshot (rows_in leaves.now))) }
+    ensures memory { IfErr result (λ e. e ≡ out_of_memory) }
+{
+    for leaf in leaves {
+        leaf.page().copy_shown(alloc, snapshot, copies, table)?;
+    }
+    Ok(())
 }
 
 // Puts a page at the end, if it has a key.
@@ -291,6 +315,23 @@ fn prune_all<A: Allocator>(leaves: &mut Vec<Leaf<A>, A>, oldest: u64)
     }
 }
 
+// Prunes a key in the page that it belongs to, which goes where no key is left.
+fn settle<A: Allocator>(leaves: &mut Vec<Leaf<A>, A>, oldest: u64, key: &Key<A>)
+    requires laid_out { AreLaidOut (pages_of leaves.old.items) }
+    requires some { 0 < length leaves.old.items }
+    requires fresh { IsFreshIn key.now leaves.old.items }
+    ensures rows { rows_in leaves.new.items ≡ settle_key oldest key.now (rows_in leaves.old.items) }
+    ensures laid_out { AreLaidOut (pages_of leaves.new.items) }
+    ensures undoable { (commit : ℕ) → AreUndoable commit leaves.old.items → AreUndoable commit leaves.new.items }
+{
+    let place = place_of(leaves.as_slice(), key);
+    let leaf = &mut leaves[place];
+    leaf.settle(oldest, key);
+    if !leaf.has_keys() {
+        let _ = leaves.remove(place);
+    }
+}
+
 // Drops the pages without a key.
 fn drop_empty<A: Allocator>(leaves: &mut Vec<Leaf<A>, A>)
     ensures { leaves.new.items ≡ filter (λ h. has_keys h.rows) leaves.old.items }
@@ -452,6 +493,36 @@ impl<A: Allocator> Table<A> {
     {
         prune_all(&mut self.leaves, oldest);
         drop_empty(&mut self.leaves);
+    }
+
+    /// Prunes a key that the table has just put in.
+    pub fn settle(&mut self, oldest: u64, key: &Key<A>)
+        requires { IsFreshIn key.now self.old }
+        ensures rows { rows_in self.new ≡ settle_key oldest key.now (rows_in self.old) }
+        ensures undoable { (commit : ℕ) → AreUndoable commit self.old → AreUndoable commit self.new }
+        ensures fresh { (commit : ℕ) (k : Value A) → IsFresh commit k (rows_in self.old) → IsFresh commit k (rows_in self.new) }
+    {
+        if !self.leaves.is_empty() {
+            settle(&mut self.leaves, oldest, key);
+        }
+    }
+
+    /// Puts a copy of each row that a snapshot shows into a table that has none.
+    pub fn copy_shown(
+        &self,
+        alloc: A,
+        snapshot: u64,
+        copies: &mut Tables<A>,
+        table: TableNo,
+    ) -> Result<(), Refusal>
+    where
+        A: Copy,
+        requires has { HasTable copies.old table }
+        requires none { rows_of copies.old table ≡ [] }
+        ensures ok { OnOk result (copies.new ≡ slice_set copies.old table (shown_rows snapshot (rows_in self.now))) }
+        ensures memory { IfErr result (λ e. e ≡ out_of_memory) }
+    {
+        copy_all_shown(alloc, self.leaves.as_slice(), snapshot, copies, table)
     }
 
     /// Lets views share the page that a key belongs to, and those of its own around it, where there

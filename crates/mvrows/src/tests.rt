@@ -123,7 +123,7 @@ fn commit(
     ensures count { OnOk result (length versions.new ≡ length versions.old) }
 {
     let list = changes(alloc, all)?;
-    versions.install(alloc, number, list.as_slice())?;
+    versions.install(alloc, 0, number, list.as_slice())?;
     Ok(())
 }
 

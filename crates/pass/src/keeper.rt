@@ -1,4 +1,5 @@
-// The lock's own seat.
+//! The lock's own seat.
+
 ghost use Rattle.std.specs.Prelude.{◌≡◌, ◌+◌, ◌<◌, ◌^◌, ◌++◌, ◌∷◌, [], length, IsTrue};
 ghost use mathlib.Core.List.{IsPrefix};
 ghost use Rattle.schema.specs.Plain.{is_sound};

@@ -1,4 +1,4 @@
-// What a seat knows of the history.
+//! What a seat knows of the history.
 
 use history::event::{Action, Record};
 use statement::reply::Reply;

@@ -1,4 +1,5 @@
-// The moves of a seat, each with what it tells.
+//! The moves of a seat, each with what it tells.
+
 ghost use Rattle.std.specs.Prelude.{◌≡◌, ◌+◌, ◌<◌, ◌^◌, [], true, false, length};
 ghost use mathlib.Core.Option.{some};
 ghost use Rattle.history.specs.Answer.{Allowed, answer};

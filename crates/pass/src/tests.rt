@@ -1,3 +1,5 @@
+//! Tests of two sessions on threads.
+
 ghost use Rattle.std.specs.Prelude.{◌≡◌, []};
 ghost use Rattle.history.specs.Answer.{Allowed};
 

@@ -1,4 +1,5 @@
-// A session's token.
+//! A session's token.
+
 ghost use Rattle.std.specs.Prelude.{◌≡◌, length};
 ghost use mathlib.Core.List.{IsPrefix};
 ghost use Rattle.history.specs.Answer.{Legal, of_session};

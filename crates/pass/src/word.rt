@@ -1,4 +1,5 @@
-// The word, its rule and its steps.
+//! The word, its rule and its steps.
+
 ghost use Rattle.std.specs.Prelude.{◌≡◌, [], IfOk};
 ghost use Rattle.pass.specs.Rules.{opener};
 

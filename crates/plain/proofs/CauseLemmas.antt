@@ -1,12 +1,15 @@
 -- Structures and dooms, found from the front of a list.
-use Rattle.std.proofs.Common.{◌≡◌, refl, sym, ap, ◌∙◌, ℕ, suc, ◌+◌, ◌<◌, Bool, true, false, true≢false, cond, ◌&&◌, List, [], ◌∷◌, ◌++◌, length, take, drop, get_or, Option, Some, None, is_some, nat_lt, nat_le, arith}
+use Rattle.std.proofs.Common.{◌≡◌, refl, sym, ap, subst, ◌∙◌, ℕ, zero, suc, ◌+◌, ◌<◌, Bool, true, false, true≢false, cond, ◌&&◌, ◌||◌, ◌⊎◌, inl, inr, List, [], ◌∷◌, ◌++◌, length, take, drop, get_or, slice_get, Option, Some, None, is_some, eqb, nat_lt, nat_le, arith}
+use Rattle.std.proofs.lemmas.Bool.{eq-eqb, eqb-true}
 use Rattle.std.proofs.lemmas.Bool.Decides.{nat_tests}
 use Rattle.std.proofs.lemmas.List.{append-nil}
 use Rattle.std.proofs.lemmas.List.Elements.{filter-append}
-use Rattle.std.specs.List.{filter}
+use Rattle.std.specs.List.{AllByRecursion, filter, list_any}
 use Rattle.std.specs.Option.{option_map}
-use Rattle.value.specs.Isolation.{Node, caused, earlier, earliest, first_some, is_dangerous}
+use Rattle.value.specs.declared.refusal.Cause.{Cause}
+use Rattle.value.specs.Isolation.{Node, caused, earlier, earliest, first_cause, first_some, is_dangerous}
 use Rattle.plain.specs.Earliest.{first_of}
+use Rattle.plain.specs.Structures.{BeginHold, StructuresHold}
 use Rattle.plain.proofs.WalkLemmas.{split_at, take_next}
 
 -- ---- the first that a function gives
@@ -42,6 +45,36 @@ first_some-next {A} {B} f xs i x lt at none o e empty =
     last : (p : Option B) → p ≡ None → cond (is_some p) p None ≡ None
     last None q = refl
     last (Some y) q = q
+
+-- it gives nothing of any
+first_some-none : {A B : Type 0} (f : A → Option B) (xs : List A) → AllByRecursion (λ x. f x ≡ None) xs → first_some f xs ≡ None
+first_some-none f [] all = refl
+first_some-none f (x ∷ xs) all = ap (λ o. cond (is_some o) o (first_some f xs)) all.0 ∙ first_some-none f xs all.1
+
+others_none : {A B : Type 0} (f : A → Option B) (x : A) → is_some (f x) ≡ false → (ys : List A) → AllByRecursion (λ y. is_some (f y) ≡ true → y ≡ x) ys → AllByRecursion (λ y. f y ≡ None) ys
+others_none f x empty [] all = tt
+others_none {A} {B} f x empty (y ∷ ys) all = (go (is_some (f y)) refl, others_none f x empty ys all.1)
+  where
+    go : (b : Bool) → is_some (f y) ≡ b → f y ≡ None
+    go true e = absurd (true≢false (sym e ∙ ap (λ z. is_some (f z)) (all.0 e) ∙ empty))
+    go false e = none_of (f y) e
+
+found_only : {A B : Type 0} (f : A → Option B) (x : A) → is_some (f x) ≡ true → (ys : List A) (i : ℕ) → i < length ys → x ≡ get_or ys i x → AllByRecursion (λ y. is_some (f y) ≡ true → y ≡ x) ys → f x ≡ first_some f ys
+found_only f x some [] i lt at all = absurd (omega arith)
+found_only {A} {B} f x some (y ∷ ys) zero lt at all = ap f at ∙ ap (λ b. cond b (f y) (first_some f ys)) (sym (ap (λ z. is_some (f z)) (sym at) ∙ some))
+found_only {A} {B} f x some (y ∷ ys) (suc i) lt at all = go (is_some (f y)) refl (found_only f x some ys i (omega arith) at all.1)
+  where
+    go : (b : Bool) → is_some (f y) ≡ b → f x ≡ first_some f ys → f x ≡ cond b (f y) (first_some f ys)
+    go true e rest = ap f (sym (all.0 e))
+    go false e rest = rest
+
+-- it gives something of one element alone
+pub first_some-only : {A B : Type 0} (f : A → Option B) (xs : List A) (x : A) (i : ℕ) → i < length xs → x ≡ get_or xs i x → AllByRecursion (λ y. is_some (f y) ≡ true → y ≡ x) xs → f x ≡ first_some f xs
+first_some-only {A} {B} f xs x i lt at all = go (is_some (f x)) refl
+  where
+    go : (b : Bool) → is_some (f x) ≡ b → f x ≡ first_some f xs
+    go true e = found_only f x e xs i lt at all
+    go false e = none_of (f x) e ∙ sym (first_some-none f xs (others_none f x e xs all))
 
 -- ---- the first to commit
 
@@ -101,19 +134,113 @@ module _ {T : Type 0} (node : T → Node) (edge : T → T → Bool) where
 
   -- ---- structures
 
-  no_edge : (a b c d e f g : Bool) → d ≡ false → (a && b && c && d && e && f && g) ≡ false
+  -- a transaction that hasn't committed, or without an edge to the pivot, begins none
+  no_edge : (a b c d e f g : Bool) → (a && d) ≡ false → (a && b && c && d && e && f && g) ≡ false
   no_edge true true true d e f g q = ap (λ x. x && e && f && g) q
   no_edge true true false d e f g q = refl
   no_edge true false c d e f g q = refl
   no_edge false b c d e f g q = refl
 
-  none_dangerous : (a b : T) → edge a b ≡ false → (ts : List T) → filter (is_dangerous node edge a b) ts ≡ []
+  none_dangerous : (a b : T) → ((node a).committed && edge a b) ≡ false → (ts : List T) → filter (is_dangerous node edge a b) ts ≡ []
   none_dangerous a b e [] = refl
   none_dangerous a b e (c ∷ ts) =
       ap (λ x. cond x (c ∷ filter (is_dangerous node edge a b) ts) (filter (is_dangerous node edge a b) ts))
       (no_edge (node a).committed (node b).committed (node c).committed (edge a b) (edge b c) (nat_lt (node c).commit (node b).commit) (nat_le (node c).commit (cond (node a).read_write (node a).commit (node a).snapshot)) e)
       ∙ none_dangerous a b e ts
 
-  -- without an edge there is none
-  pub caused-none : (a b : T) (ts : List T) → edge a b ≡ false → None ≡ caused node edge a b (earliest node edge (filter (is_dangerous node edge a b) ts))
+  pub caused-none : (a b : T) (ts : List T) → ((node a).committed && edge a b) ≡ false → None ≡ caused node edge a b (earliest node edge (filter (is_dangerous node edge a b) ts))
   caused-none a b ts e = sym (ap (λ xs. caused node edge a b (earliest node edge xs)) (none_dangerous a b e ts))
+
+  -- ---- structures that have one transaction among their first two
+
+  -- the structure that begins at a and b, if there is one
+  abbrev through : List T → T → T → Option Cause
+  through ts a b = caused node edge a b (earliest node edge (filter (is_dangerous node edge a b) ts))
+
+  -- what follows from each of them follows where one is named
+  through_some : (Q : Type 0) (a b : T) (cs : List T) → AllByRecursion (λ c. is_dangerous node edge a b c ≡ true → Q) cs → is_some (through cs a b) ≡ true → Q
+  through_some Q a b [] all e = absurd (true≢false (sym e))
+  through_some Q a b (c ∷ cs) all e = go (is_dangerous node edge a b c) refl e (through_some Q a b cs all.1)
+    where
+      go : (d : Bool) → is_dangerous node edge a b c ≡ d
+          → is_some (caused node edge a b (earliest node edge (cond d (c ∷ filter (is_dangerous node edge a b) cs) (filter (is_dangerous node edge a b) cs)))) ≡ true → (is_some (through cs a b) ≡ true → Q) → Q
+      go true p some rest = all.0 p
+      go false p some rest = rest some
+
+  begin_at : (x a : T) (ts : List T) → (a ≡ x → ⊥) → (bs : List T) → AllByRecursion (λ b. AllByRecursion (λ c. is_dangerous node edge a b c ≡ true → (a ≡ x) ⊎ (b ≡ x)) ts) bs
+      → AllByRecursion (λ b. is_some (through ts a b) ≡ true → b ≡ x) bs
+  begin_at x a ts other [] all = tt
+  begin_at x a ts other (b ∷ bs) all = (λ e. middle (through_some ((a ≡ x) ⊎ (b ≡ x)) a b ts all.0 e), begin_at x a ts other bs all.1)
+    where
+      middle : (a ≡ x) ⊎ (b ≡ x) → b ≡ x
+      middle (inl p) = absurd (other p)
+      middle (inr p) = p
+
+  -- one that doesn't begin at x has it in its middle
+  pub only-through : (ts : List T) (i : ℕ) (x a : T) → i < length ts → x ≡ get_or ts i x → BeginHold node edge x a ts → eqb (node a).number (node x).number ≡ false
+      → through ts a x ≡ first_some (through ts a) ts
+  only-through ts i x a lt at holds differ =
+      first_some-only (through ts a) ts x i lt at (begin_at x a ts (λ p. true≢false (sym (eq-eqb (node a).number (node x).number (ap (λ y. (node y).number) p)) ∙ differ)) ts holds)
+
+  danger_edges : (a b c d e f g : Bool) → (a && b && c && d && e && f && g) ≡ true → (d ≡ true) × (e ≡ true)
+  danger_edges true true true true true f g q = (refl, refl)
+  danger_edges true true true true false f g q = absurd (true≢false (sym q))
+  danger_edges true true true false e f g q = absurd (true≢false (sym q))
+  danger_edges true true false d e f g q = absurd (true≢false (sym q))
+  danger_edges true false c d e f g q = absurd (true≢false (sym q))
+  danger_edges false b c d e f g q = absurd (true≢false (sym q))
+
+  edges : (a b c : T) → is_dangerous node edge a b c ≡ true → (edge a b ≡ true) × (edge b c ≡ true)
+  edges a b c q = danger_edges (node a).committed (node b).committed (node c).committed (edge a b) (edge b c) (nat_lt (node c).commit (node b).commit) (nat_le (node c).commit (cond (node a).read_write (node a).commit (node a).snapshot)) q
+
+  no_edges : (x : T) (ts : List T) → list_any (edge x) ts ≡ false → AllByRecursion (λ b. edge x b ≡ false) ts
+  no_edges x [] e = tt
+  no_edges x (b ∷ ts) e = go (edge x b) refl e (no_edges x ts)
+    where
+      go : (d : Bool) → edge x b ≡ d → (d || list_any (edge x) ts) ≡ false → (list_any (edge x) ts ≡ false → AllByRecursion (λ y. edge x y ≡ false) ts) → (edge x b ≡ false) × AllByRecursion (λ y. edge x y ≡ false) ts
+      go true p q rest = absurd (true≢false q)
+      go false p q rest = (p, rest q)
+
+  none_last : (x a b : T) → edge x b ≡ false → (cs : List T) → AllByRecursion (λ c. edge x c ≡ false) cs → AllByRecursion (λ c. is_dangerous node edge a b c ≡ true → (a ≡ x) ⊎ (b ≡ x)) cs
+      → AllByRecursion (λ c. is_dangerous node edge a b c ≡ true → ⊥) cs
+  none_last x a b e [] out all = tt
+  none_last x a b e (c ∷ cs) out all = (λ q. go (all.0 q) (edges a b c q), none_last x a b e cs out.1 all.1)
+    where
+      go : (a ≡ x) ⊎ (b ≡ x) → (edge a b ≡ true) × (edge b c ≡ true) → ⊥
+      go (inl p) h = true≢false (sym h.0 ∙ ap (λ y. edge y b) p ∙ e)
+      go (inr p) h = true≢false (sym h.1 ∙ ap (λ y. edge y c) p ∙ out.0)
+
+  none_through : (x a : T) (ts : List T) → AllByRecursion (λ c. edge x c ≡ false) ts → (bs : List T) → AllByRecursion (λ b. edge x b ≡ false) bs
+      → AllByRecursion (λ b. AllByRecursion (λ c. is_dangerous node edge a b c ≡ true → (a ≡ x) ⊎ (b ≡ x)) ts) bs → AllByRecursion (λ b. through ts a b ≡ None) bs
+  none_through x a ts out [] into all = tt
+  none_through x a ts out (b ∷ bs) into all = (go (is_some (through ts a b)) refl, none_through x a ts out bs into.1 all.1)
+    where
+      go : (d : Bool) → is_some (through ts a b) ≡ d → through ts a b ≡ None
+      go true p = absurd (through_some ⊥ a b ts (none_last x a b into.0 ts out all.0) p)
+      go false p = none_of (through ts a b) p
+
+  none_from : (x : T) (ts : List T) → AllByRecursion (λ c. edge x c ≡ false) ts → (firsts : List T) → AllByRecursion (λ a. BeginHold node edge x a ts) firsts → AllByRecursion (λ a. first_some (through ts a) ts ≡ None) firsts
+  none_from x ts out [] all = tt
+  none_from x ts out (a ∷ firsts) all = (first_some-none (through ts a) ts (none_through x a ts out ts out all.0), none_from x ts out firsts all.1)
+
+  -- there is none where x has no edge
+  pub none-held : (x : T) (ts : List T) → StructuresHold node edge x ts → list_any (edge x) ts ≡ false → None ≡ first_cause node edge ts
+  none-held x ts all e = sym (first_some-none (λ a. first_some (through ts a) ts) ts (none_from x ts (no_edges x ts e) ts all))
+
+-- what holds of each holds of the one at a place
+pub held_at : {X : Type 0} (P : X → Type 0) (xs : List X) (i : ℕ) (x : X) → i < length xs → x ≡ get_or xs i x → AllByRecursion P xs → P x
+held_at P [] i x lt at all = absurd (omega arith)
+held_at P (y ∷ ys) zero x lt at all = subst P (sym at) all.0
+held_at P (y ∷ ys) (suc i) x lt at all = held_at P ys i x (omega arith) at all.1
+
+pub got_at : {X : Type 0} (xs : List X) (i : ℕ) (x : X) → i < length xs → x ≡ get_or xs i x → slice_get xs i ≡ Some x
+got_at [] i x lt at = absurd (omega arith)
+got_at (y ∷ ys) zero x lt at = ap Some (sym at)
+got_at (y ∷ ys) (suc i) x lt at = got_at ys i x (omega arith) at
+
+pub apart : (a b : ℕ) → (a ≡ b → ⊥) → eqb a b ≡ false
+apart a b h = go (eqb a b) refl
+  where
+    go : (d : Bool) → eqb a b ≡ d → d ≡ false
+    go true e = absurd (h (eqb-true a b e))
+    go false e = refl

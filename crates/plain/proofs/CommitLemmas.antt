@@ -1,5 +1,5 @@
 -- What a commit, an export and a statement leave in the ledger.
-use Rattle.std.proofs.Common.{◌≡◌, refl, sym, ap, ◌∙◌, ℕ, suc, ◌+◌, ◌^◌, ◌<◌, Bool, true, false, true≢false, cond, List, [], ◌∷◌, ◌++◌, length, map, Option, Some, None, Result, Ok, Err, eqb, arith, length-append}
+use Rattle.std.proofs.Common.{◌≡◌, refl, sym, ap, ◌∙◌, ℕ, suc, ◌+◌, ◌^◌, ◌<◌, ◌≤◌, Bool, true, false, true≢false, subst, cond, List, [], ◌∷◌, ◌++◌, length, map, slice_get, Option, Some, None, Result, Ok, Err, eqb, arith, length-append}
 use Rattle.std.specs.List.{find}
 use Rattle.std.specs.Prelude.{OnOk, OnErr, IfOk, IsOk, is_ok}
 use Rattle.std.proofs.lemmas.List.{get_or_default}
@@ -20,9 +20,11 @@ use Rattle.history.specs.Events.{doomed_by, doomed_with, ended, fails, goes_on, 
 use Rattle.history.specs.Answer.{cause_of, is_refused}
 use Rattle.plain.specs.declared.course.Course.{Course}
 use Rattle.plain.specs.Courses.{on_course}
+use Rattle.history.specs.Needed.{HoldCommitter}
 use Rattle.plain.specs.Runs.{adds}
-use Rattle.plain.specs.Ledger.{Ledger, IsCounted, AreNumbered, kept, written, with_own, world_on, after_owned, turned_at, txn_at}
-use Rattle.plain.proofs.LedgerLemmas.{turned_at-replaced, numbered-turned_at, length-turned_at}
+use Rattle.plain.specs.Structures.{StructuresHold}
+use Rattle.plain.specs.Ledger.{Ledger, IsCounted, AreNumbered, kept, nothing, with_own, world_on, after_owned, turned_at, txn_at}
+use Rattle.plain.proofs.LedgerLemmas.{turned_at-replaced, numbered-turned_at, length-turned_at, counted-as, counted-turned, got-turned}
 
 pub open_is : (st : Standing) → is_open st ≡ true → st ≡ Open
 open_is Open e = refl
@@ -39,6 +41,10 @@ pub on_err_map : {T E : Type 0} (P Q : Type 0) (r : Result T E) → (P → Q) �
 on_err_map P Q (Ok v) f h = h
 on_err_map P Q (Err v) f h = f h
 
+pub on_if_map : {T E : Type 0} (P : Type 0) (Q : T → Type 0) (r : Result T E) → ((x : T) → P → Q x) → OnOk r P → IfOk r Q
+on_if_map P Q (Ok v) f h = f v h
+on_if_map P Q (Err v) f h = h
+
 pub is_ok_so : {T E : Type 0} (r : Result T E) → IsOk r → is_ok r ≡ true
 is_ok_so (Ok v) h = refl
 is_ok_so (Err v) h = h
@@ -47,15 +53,27 @@ pub if_ok_map : {T E : Type 0} (P Q : T → Type 0) (r : Result T E) → ((x : T
 if_ok_map P Q (Ok v) f h = f v h
 if_ok_map P Q (Err v) f h = h
 
+-- what stands in it, if something does
+abbrev inside_or : {X : Type 0} → X → Option X → X
+inside_or d None = d
+inside_or d (Some x) = x
+
+some_is : {X : Type 0} (x y : X) → Some x ≡ Some y → x ≡ y
+some_is x y e = ap (inside_or x) e
+
 module _ {A : Type 0} where
   pub turned-open : (w : World A) (a : Action A) (r : Reply A) (t : Txn A) → is_open t.standing ≡ true → turned w a r t ≡ moved w a r t
   turned-open w a r t o = ap (λ st. turned_from st w a r t) (open_is t.standing o)
 
   -- the transaction at a place, turned by f to x, is replaced by x
   pub at-replaced : (f : Txn A → Txn A) (l : Ledger A) (n : ℕ) (x : Txn A) → IsCounted l → n < length l.txns → f (txn_at l.txns n) ≡ x → x.number ≡ (txn_at l.txns n).number → turned_at n f l.txns ≡ replaced x l.txns
-  at-replaced f l n x counted h g s = turned_at-replaced f l.base.transactions l.txns n (txn_at l.txns n) x counted.numbered h (get_or_default l.txns n (written []) (txn_at l.txns n) h) g s
+  at-replaced f l n x counted h g s = turned_at-replaced f 0 (l.base.transactions + length l.txns) l.txns n (txn_at l.txns n) x counted.numbered h (get_or_default l.txns n nothing (txn_at l.txns n) h) g s
 
   -- ---- commits
+
+  -- all commits are counted by the base
+  pub commits-kept : (c : Catalog) (X : Tables A) (l : Ledger A) → commits (world_on c X l) ≡ l.base.commits
+  commits-kept c X l = omega arith
 
   pub numbered-writer : (w : World A) (t : Txn A) → is_read_write t.mode ≡ true → record (ended w Done t) { commit = commits w + 1 } ≡ numbered w t
   numbered-writer w t e = ap (λ b. cond b (record (ended w Done t) { commit = commits w + 1 }) (ended w Done t)) (sym e)
@@ -64,13 +82,26 @@ module _ {A : Type 0} where
   numbered-reader w t e = ap (λ b. cond b (record (ended w Done t) { commit = commits w + 1 }) (ended w Done t)) (sym e)
 
   -- what a commit would make of all transactions
-  committing : (l : Ledger A) (c : Catalog) (X : Tables A) (n : ℕ) (course : Course) → IsCounted l → n < length l.txns
+  pub committing : (l : Ledger A) (c : Catalog) (X : Tables A) (n : ℕ) (course : Course) → IsCounted l → n < length l.txns
       → on_course course (txn_at l.txns n) ≡ numbered (world_on c X l) (txn_at l.txns n) → turned_at n (on_course course) l.txns ≡ replaced (numbered (world_on c X l) (txn_at l.txns n)) l.txns
   committing l c X n course counted h g = at-replaced (on_course course) l n _ counted h g (sym (ap (λ (y : Txn A). y.number) g))
 
   pub cause_of-is : (l : Ledger A) (c : Catalog) (X : Tables A) (n : ℕ) (course : Course) → IsCounted l → n < length l.txns
       → on_course course (txn_at l.txns n) ≡ numbered (world_on c X l) (txn_at l.txns n) → first_cause node edge (turned_at n (on_course course) l.txns) ≡ cause_of (world_on c X l) (txn_at l.txns n)
   cause_of-is l c X n course counted h g = ap (first_cause node edge) (committing l c X n course counted h g)
+
+  -- each structure that the commit makes holds the transaction
+  pub holds-committing : (l : Ledger A) (c : Catalog) (X : Tables A) (n : ℕ) (course : Course) → IsCounted l → n < length l.txns
+      → on_course course (txn_at l.txns n) ≡ numbered (world_on c X l) (txn_at l.txns n) → HoldCommitter (world_on c X l) (txn_at l.txns n)
+      → StructuresHold node edge (on_course course (txn_at l.txns n)) (turned_at n (on_course course) l.txns)
+  holds-committing l c X n course counted h g holds =
+      subst (λ (y : Txn A). StructuresHold node edge y (turned_at n (on_course course) l.txns)) (sym g)
+      (subst (λ (ts : List (Txn A)). StructuresHold node edge (numbered (world_on c X l) (txn_at l.txns n)) ts) (sym (committing l c X n course counted h g)) holds)
+
+  pub holds-turned : (f : Txn A → Txn A) (ts us : List (Txn A)) (n : ℕ) → n < length ts → us ≡ turned_at n f ts → StructuresHold node edge (f (txn_at ts n)) (turned_at n f ts)
+      → (x : Txn A) → slice_get us n ≡ Some x → StructuresHold node edge x us
+  holds-turned f ts us n h e holds x = subst (λ (vs : List (Txn A)). slice_get vs n ≡ Some x → StructuresHold node edge x vs) (sym e)
+      (λ p. subst (λ (y : Txn A). StructuresHold node edge y (turned_at n f ts)) (some_is (f (txn_at ts n)) x (sym (got-turned f ts n h) ∙ p)) holds)
 
   -- an event that turns the course of an open transaction
   pub after-turned : (l : Ledger A) (w : World A) (a : Action A) (r : Reply A) (n : ℕ) (course : Course) → IsCounted l → n < length l.txns → is_open (txn_at l.txns n).standing ≡ true
@@ -91,14 +122,14 @@ module _ {A : Type 0} where
   pub after-written : (l : Ledger A) (c : Catalog) (X : Tables A) (n : ℕ) (course : Course) → IsCounted l → n < length l.txns → is_open (txn_at l.txns n).standing ≡ true → is_read_write (txn_at l.txns n).mode ≡ true
       → on_course course (txn_at l.txns n) ≡ numbered (world_on c X l) (txn_at l.txns n)
       → record l {
-        log = l.log ++ written (txn_at l.txns n).changes ∷ [];
+        base = record l.base { commits = l.base.commits + 1 };
         txns = map (doomed_by (l.place + 1) (dooms node reads_from l.txns (txn_at l.txns n))) (turned_at n (on_course course) l.txns);
         place = l.place + 1;
       } ≡ after_owned (world_on c X l) Commit Committed (txn_at l.txns n)
   after-written l c X n course counted h o m g =
-      ap (λ ts. record l { log = l.log ++ written (txn_at l.txns n).changes ∷ []; txns = map (doomed_by (l.place + 1) (dooms node reads_from l.txns (txn_at l.txns n))) ts; place = l.place + 1 }) (committed_all l c X n course counted h o g)
+      ap (λ ts. record l { base = record l.base { commits = l.base.commits + 1 }; txns = map (doomed_by (l.place + 1) (dooms node reads_from l.txns (txn_at l.txns n))) ts; place = l.place + 1 }) (committed_all l c X n course counted h o g)
       ∙ ap (λ b. record l {
-        log = cond b (l.log ++ written (txn_at l.txns n).changes ∷ []) l.log;
+        base = cond b (record l.base { commits = l.base.commits + 1 }) l.base;
         txns = map (doomed_by (l.place + 1) (cond b (dooms node reads_from l.txns (txn_at l.txns n)) [])) (replaced (kept (turned (world_on c X l) Commit Committed (txn_at l.txns n))) l.txns);
         place = l.place + 1;
       }) (sym m)
@@ -118,7 +149,7 @@ module _ {A : Type 0} where
   after-read l c X n course counted h o m g =
       ap (λ ts. record l { txns = ts; place = l.place + 1 }) (committed_all l c X n course counted h o g ∙ sym (spared (l.place + 1) (replaced (kept (turned (world_on c X l) Commit Committed (txn_at l.txns n))) l.txns)))
       ∙ ap (λ b. record l {
-        log = cond b (l.log ++ written (txn_at l.txns n).changes ∷ []) l.log;
+        base = cond b (record l.base { commits = l.base.commits + 1 }) l.base;
         txns = map (doomed_by (l.place + 1) (cond b (dooms node reads_from l.txns (txn_at l.txns n)) [])) (replaced (kept (turned (world_on c X l) Commit Committed (txn_at l.txns n))) l.txns);
         place = l.place + 1;
       }) (sym m)
@@ -134,37 +165,42 @@ module _ {A : Type 0} where
       go true o = with_cause o
       go false o = refl
 
-  numbered-doomed : (place : ℕ) (cs : List Cause) (m : ℕ) (ts : List (Txn A)) → AreNumbered m ts → AreNumbered m (map (doomed_by place cs) ts)
-  numbered-doomed place cs m [] h = tt
-  numbered-doomed place cs m (t ∷ ts) h = (doomed_number place cs t ∙ h.0, numbered-doomed place cs (m + 1) ts h.1)
+  numbered-doomed : (place : ℕ) (cs : List Cause) (n m : ℕ) (ts : List (Txn A)) → AreNumbered n m ts → AreNumbered n m (map (doomed_by place cs) ts)
+  numbered-doomed place cs n m [] h = tt
+  numbered-doomed place cs n m (t ∷ ts) h =
+      subst (λ k. (n < k) × (k ≤ m) × AreNumbered k m (map (doomed_by place cs) ts)) (sym (doomed_number place cs t)) (h.0, h.1, numbered-doomed place cs t.number m ts h.2)
 
   length-doomed : (place : ℕ) (cs : List Cause) (ts : List (Txn A)) → length (map (doomed_by place cs) ts) ≡ length ts
   length-doomed place cs [] = refl
   length-doomed place cs (t ∷ ts) = ap suc (length-doomed place cs ts)
 
-  pub counted-committed : (l : Ledger A) (n : ℕ) (course : Course) (place : ℕ) (cs : List Cause) (x : Txn A) → IsCounted l → l.place + 1 < 2 ^ 64
-      → IsCounted (record l { log = l.log ++ x ∷ []; txns = map (doomed_by place cs) (turned_at n (on_course course) l.txns); place = l.place + 1 })
-  counted-committed l n course place cs x h fits =
-      let turned_count = length-turned_at (on_course course) l.txns n in
-      let doomed_count = length-doomed place cs (turned_at n (on_course course) l.txns) in record {
-        numbered = numbered-doomed place cs l.base.transactions (turned_at n (on_course course) l.txns) (numbered-turned_at (on_course course) (λ t. refl) l.base.transactions l.txns n h.numbered);
-        transactions = omega (arith, h.transactions);
-        commits = omega (arith, length-append l.log (x ∷ []), h.commits);
-        identifiers = omega (arith, h.identifiers);
-        fits = fits;
-      }
+  pub counted-committed : (l : Ledger A) (n : ℕ) (course : Course) (place : ℕ) (cs : List Cause) → IsCounted l → l.place + 1 < 2 ^ 64
+      → IsCounted (record l { base = record l.base { commits = l.base.commits + 1 }; txns = map (doomed_by place cs) (turned_at n (on_course course) l.txns); place = l.place + 1 })
+  counted-committed l n course place cs h fits = record {
+    numbered = all.numbered;
+    transactions = all.transactions;
+    commits = omega (arith, h.commits);
+    identifiers = all.identifiers;
+    fits = fits;
+  }
+    where
+      all : IsCounted (record l { txns = map (doomed_by place cs) (turned_at n (on_course course) l.txns); place = l.place + 1 })
+      all = counted-as l (map (doomed_by place cs) (turned_at n (on_course course) l.txns)) h
+          (numbered-doomed place cs 0 (l.base.transactions + length l.txns) (turned_at n (on_course course) l.txns) (numbered-turned_at (on_course course) (λ t. refl) 0 (l.base.transactions + length l.txns) l.txns n h.numbered))
+          (length-doomed place cs (turned_at n (on_course course) l.txns) ∙ length-turned_at (on_course course) l.txns n) fits
 
   -- ---- exports
 
   pub counted-exported : (l : Ledger A) (n : ℕ) (course : Course) (x : Exported_snapshot) → IsCounted l → l.place + 1 < 2 ^ 64
       → IsCounted (record l { txns = turned_at n (on_course course) l.txns; exports = l.exports ++ x ∷ []; place = l.place + 1 })
-  counted-exported l n course x h fits = record {
-    numbered = numbered-turned_at (on_course course) (λ t. refl) l.base.transactions l.txns n h.numbered;
-    transactions = omega (arith, length-turned_at (on_course course) l.txns n, h.transactions);
-    commits = omega (arith, h.commits);
-    identifiers = omega (arith, length-append l.exports (x ∷ []), h.identifiers);
-    fits = fits;
-  }
+  counted-exported l n course x h fits =
+      let all = counted-turned l n course h fits in record {
+        numbered = all.numbered;
+        transactions = all.transactions;
+        commits = omega (arith, h.commits);
+        identifiers = omega (arith, length-append l.exports (x ∷ []), h.identifiers);
+        fits = fits;
+      }
 
   pub after-exported : (l : Ledger A) (c : Catalog) (X : Tables A) (n : ℕ) (course : Course) (i : ℕ) (x : Exported_snapshot) → IsCounted l → n < length l.txns → is_open (txn_at l.txns n).standing ≡ true
       → on_course course (txn_at l.txns n) ≡ kept (record (txn_at l.txns n) { asked = true })
@@ -215,14 +251,6 @@ module _ {A : Type 0} where
       t : Txn A
       t = txn_at l.txns n
 
-  numbered-added : (f : Txn A → Txn A) → ((t : Txn A) → (f t).number ≡ t.number) → (l : Ledger A) (n : ℕ) → IsCounted l → AreNumbered l.base.transactions (turned_at n f l.txns)
-  numbered-added f same l n h = numbered-turned_at f same l.base.transactions l.txns n h.numbered
-
   pub counted-added : (l : Ledger A) (n : ℕ) (f : Txn A → Txn A) → ((t : Txn A) → (f t).number ≡ t.number) → IsCounted l → l.place + 1 < 2 ^ 64 → IsCounted (record l { txns = turned_at n f l.txns; place = l.place + 1 })
-  counted-added l n f same h fits = record {
-    numbered = numbered-added f same l n h;
-    transactions = omega (arith, length-turned_at f l.txns n, h.transactions);
-    commits = omega (arith, h.commits);
-    identifiers = omega (arith, h.identifiers);
-    fits = fits;
-  }
+  counted-added l n f same h fits =
+      counted-as l (turned_at n f l.txns) h (numbered-turned_at f same 0 (l.base.transactions + length l.txns) l.txns n h.numbered) (length-turned_at f l.txns n) fits

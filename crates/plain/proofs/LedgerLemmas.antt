@@ -16,7 +16,7 @@ use Rattle.history.specs.Events.{polled, replaced, turned}
 use Rattle.history.specs.Answer.{poll_reply, refuses, reply_from, open_reply, doomed, failed, idle}
 use Rattle.plain.specs.declared.course.Course.{Course}
 use Rattle.plain.specs.Courses.{is_simple, on_course}
-use Rattle.plain.specs.Ledger.{Ledger, IsCounted, AreNumbered, kept, written, world_on, after_owned, turned_at, is_pending_at, txn_at}
+use Rattle.plain.specs.Ledger.{Ledger, IsCounted, AreNumbered, kept, nothing, world_on, after_owned, turned_at, is_pending_at, txn_at}
 
 module _ {A : Type 0} where
   -- ---- places
@@ -31,22 +31,27 @@ module _ {A : Type 0} where
   length-turned_at f (t ∷ ts) zero = refl
   length-turned_at f (t ∷ ts) (suc n) = ap suc (length-turned_at f ts n)
 
-  pub numbered-turned_at : (f : Txn A → Txn A) → ((t : Txn A) → (f t).number ≡ t.number) → (m : ℕ) (ts : List (Txn A)) (n : ℕ) → AreNumbered m ts → AreNumbered m (turned_at n f ts)
-  numbered-turned_at f same m [] n h = tt
-  numbered-turned_at f same m (t ∷ ts) zero h = (same t ∙ h.0, h.1)
-  numbered-turned_at f same m (t ∷ ts) (suc n) h = (h.0, numbered-turned_at f same (m + 1) ts n h.1)
+  pub numbered-turned_at : (f : Txn A → Txn A) → ((t : Txn A) → (f t).number ≡ t.number) → (n m : ℕ) (ts : List (Txn A)) (i : ℕ) → AreNumbered n m ts → AreNumbered n m (turned_at i f ts)
+  numbered-turned_at f same n m [] i h = tt
+  numbered-turned_at f same n m (t ∷ ts) zero h = subst (λ k. (n < k) × (k ≤ m) × AreNumbered k m ts) (sym (same t)) h
+  numbered-turned_at f same n m (t ∷ ts) (suc i) h = (h.0, h.1, numbered-turned_at f same t.number m ts i h.2)
 
-  -- one after another, each at its number
-  pub number_at : (m : ℕ) (ts : List (Txn A)) (n : ℕ) (t : Txn A) → AreNumbered m ts → n < length ts → (get_or ts n t).number ≡ m + n + 1
-  number_at m [] n t h l = absurd (omega arith)
-  number_at m (u ∷ ts) zero t h l = omega (arith, h.0)
-  number_at m (u ∷ ts) (suc n) t h l = omega (arith, number_at (m + 1) ts n t h.1 (omega arith))
+  -- no number of these is used up later
+  pub numbered-more : (n m k : ℕ) (ts : List (Txn A)) → m ≤ k → AreNumbered n m ts → AreNumbered n k ts
+  numbered-more n m k [] le h = tt
+  numbered-more n m k (t ∷ ts) le h = (h.0, (let p = h.1 in omega arith), numbered-more t.number m k ts le h.2)
 
-  -- none of these has a number at most m
-  replaced_below : (m : ℕ) (ts : List (Txn A)) (x : Txn A) → AreNumbered m ts → x.number ≤ m → replaced x ts ≡ ts
-  replaced_below m [] x h l = refl
-  replaced_below m (t ∷ ts) x h l =
-      ap (λ us. cond (eqb t.number x.number) x t ∷ us) (replaced_below (m + 1) ts x h.1 (omega arith))
+  -- each is above those before
+  pub number_at : (n m : ℕ) (ts : List (Txn A)) (i : ℕ) (t : Txn A) → AreNumbered n m ts → i < length ts → n < (get_or ts i t).number
+  number_at n m [] i t h l = absurd (omega arith)
+  number_at n m (u ∷ ts) zero t h l = h.0
+  number_at n m (u ∷ ts) (suc i) t h l = omega (arith, h.0, number_at u.number m ts i t h.2 (omega arith))
+
+  -- none of these has a number at most n
+  replaced_below : (n m : ℕ) (ts : List (Txn A)) (x : Txn A) → AreNumbered n m ts → x.number ≤ n → replaced x ts ≡ ts
+  replaced_below n m [] x h l = refl
+  replaced_below n m (t ∷ ts) x h l =
+      ap (λ us. cond (eqb t.number x.number) x t ∷ us) (replaced_below t.number m ts x h.2 (let p = h.0 in omega arith))
       ∙ ap (λ b. cond b x t ∷ ts) (no (eqb t.number x.number) refl)
     where
       no : (b : Bool) → eqb t.number x.number ≡ b → b ≡ false
@@ -54,30 +59,35 @@ module _ {A : Type 0} where
       no false e = refl
 
   -- The transaction at a place turned is it replaced.
-  pub turned_at-replaced : (f : Txn A → Txn A) (m : ℕ) (ts : List (Txn A)) (n : ℕ) (t x : Txn A) → AreNumbered m ts → n < length ts → t ≡ get_or ts n t → f t ≡ x → x.number ≡ t.number → turned_at n f ts ≡ replaced x ts
-  turned_at-replaced f m [] n t x h l e g s = absurd (omega arith)
-  turned_at-replaced f m (u ∷ ts) zero t x h l e g s =
+  pub turned_at-replaced : (f : Txn A → Txn A) (n m : ℕ) (ts : List (Txn A)) (i : ℕ) (t x : Txn A) → AreNumbered n m ts → i < length ts → t ≡ get_or ts i t → f t ≡ x → x.number ≡ t.number → turned_at i f ts ≡ replaced x ts
+  turned_at-replaced f n m [] i t x h l e g s = absurd (omega arith)
+  turned_at-replaced f n m (u ∷ ts) zero t x h l e g s =
       ap (λ y. f y ∷ ts) (sym e) ∙ ap (λ y. y ∷ ts) g
-      ∙ ap (λ us. x ∷ us) (sym (replaced_below (m + 1) ts x h.1 (omega (arith, s, h.0, ap (λ (y : Txn A). y.number) e))))
+      ∙ ap (λ us. x ∷ us) (sym (replaced_below u.number m ts x h.2 (omega (arith, s, ap (λ (y : Txn A). y.number) e))))
       ∙ ap (λ b. cond b x u ∷ replaced x ts) (sym (eq-eqb u.number x.number (sym (ap (λ (y : Txn A). y.number) e) ∙ sym s)))
-  turned_at-replaced f m (u ∷ ts) (suc n) t x h l e g s =
-      ap (λ us. u ∷ us) (turned_at-replaced f (m + 1) ts n t x h.1 (omega arith) e g s)
+  turned_at-replaced f n m (u ∷ ts) (suc i) t x h l e g s =
+      ap (λ us. u ∷ us) (turned_at-replaced f u.number m ts i t x h.2 (omega arith) e g s)
       ∙ ap (λ b. cond b x u ∷ replaced x ts) (sym (no (eqb u.number x.number) refl))
     where
       no : (b : Bool) → eqb u.number x.number ≡ b → b ≡ false
-      no true p = let q = eqb-true u.number x.number p in let r = number_at (m + 1) ts n t h.1 (omega arith) in let v = ap (λ (y : Txn A). y.number) e in let k = h.0 in absurd (omega arith)
+      no true p = let q = eqb-true u.number x.number p in let r = number_at u.number m ts i t h.2 (omega arith) in let v = ap (λ (y : Txn A). y.number) e in absurd (omega arith)
       no false p = refl
 
   -- ---- what is counted
 
-  pub counted-turned : (l : Ledger A) (n : ℕ) (c : Course) → IsCounted l → l.place + 1 < 2 ^ 64 → IsCounted (record l { txns = turned_at n (on_course c) l.txns; place = l.place + 1 })
-  counted-turned l n c h fits = record {
-    numbered = numbered-turned_at (on_course c) (λ t. refl) l.base.transactions l.txns n h.numbered;
-    transactions = omega (arith, length-turned_at (on_course c) l.txns n, h.transactions);
+  -- as many transactions in the same order
+  pub counted-as : (l : Ledger A) (ts : List (Txn A)) → IsCounted l → AreNumbered 0 (l.base.transactions + length l.txns) ts → length ts ≡ length l.txns → l.place + 1 < 2 ^ 64 → IsCounted (record l { txns = ts; place = l.place + 1 })
+  counted-as l ts h numbered same fits = record {
+    numbered = subst (λ k. AreNumbered 0 (l.base.transactions + k) ts) (sym same) numbered;
+    transactions = omega (arith, same, h.transactions);
     commits = omega (arith, h.commits);
     identifiers = omega (arith, h.identifiers);
     fits = fits;
   }
+
+  pub counted-turned : (l : Ledger A) (n : ℕ) (c : Course) → IsCounted l → l.place + 1 < 2 ^ 64 → IsCounted (record l { txns = turned_at n (on_course c) l.txns; place = l.place + 1 })
+  counted-turned l n c h fits =
+      counted-as l (turned_at n (on_course c) l.txns) h (numbered-turned_at (on_course c) (λ t. refl) 0 (l.base.transactions + length l.txns) l.txns n h.numbered) (length-turned_at (on_course c) l.txns n) fits
 
   -- ---- a POLL
 
@@ -90,26 +100,27 @@ module _ {A : Type 0} where
 
   -- ---- events that turn a transaction's course
 
-  pub numbered-push : (m : ℕ) (ts : List (Txn A)) (x : Txn A) → AreNumbered m ts → x.number ≡ m + length ts + 1 → AreNumbered m (ts ++ x ∷ [])
-  numbered-push m [] x h e = (omega arith, tt)
-  numbered-push m (t ∷ ts) x h e = (h.0, numbered-push (m + 1) ts x h.1 (omega arith))
+  pub numbered-push : (n m k : ℕ) (ts : List (Txn A)) (x : Txn A) → AreNumbered n m ts → n ≤ m → m < x.number → x.number ≤ k → AreNumbered n k (ts ++ x ∷ [])
+  numbered-push n m k [] x h le lt top = (omega arith, top, tt)
+  numbered-push n m k (t ∷ ts) x h le lt top = (h.0, (let p = h.1 in omega arith), numbered-push t.number m k ts x h.2 h.1 lt top)
 
   pub counted-begun : (l : Ledger A) (x : Txn A) → IsCounted l → x.number ≡ l.base.transactions + length l.txns + 1 → l.place + 1 < 2 ^ 64 → IsCounted (record l { txns = l.txns ++ x ∷ []; place = l.place + 1 })
-  counted-begun l x h e fits = record {
-    numbered = numbered-push l.base.transactions l.txns x h.numbered e;
-    transactions = omega (arith, length-append l.txns (x ∷ []), h.transactions);
-    commits = omega (arith, h.commits);
-    identifiers = omega (arith, h.identifiers);
-    fits = fits;
-  }
+  counted-begun l x h e fits =
+      let long = length-append l.txns (x ∷ []) in record {
+        numbered = numbered-push 0 (l.base.transactions + length l.txns) (l.base.transactions + length (l.txns ++ x ∷ [])) l.txns x h.numbered (omega arith) (omega (arith, e)) (omega (arith, e, long));
+        transactions = omega (arith, long, h.transactions);
+        commits = omega (arith, h.commits);
+        identifiers = omega (arith, h.identifiers);
+        fits = fits;
+      }
 
   -- the transaction that is read at a place is the one there
   pub txn_at-is : (ts : List (Txn A)) (n : ℕ) (t : Txn A) → n < length ts → t ≡ get_or ts n t → txn_at ts n ≡ t
-  txn_at-is ts n t h e = get_or_default ts n (written []) t h ∙ sym e
+  txn_at-is ts n t h e = get_or_default ts n nothing t h ∙ sym e
 
   -- an event that turns one transaction and nothing else
   abbrev pub turns_one : World A → Txn A → Ledger A
-  turns_one w x = record { base = w.base; log = w.log; txns = replaced x w.txns; exports = w.exports; place = w.place + 1 }
+  turns_one w x = record { base = w.base; txns = replaced x w.txns; exports = w.exports; place = w.place + 1 }
 
   after_over : (w : World A) (t : Txn A) (a : Action A) (st : Standing) → (is_open st ≡ true → is_simple a ≡ true) → after_owned w a (reply_from st w t a) t ≡ turns_one w (kept (turned w a (reply_from st w t a) t))
   after_over w t a Open s = go a (s refl)
@@ -146,7 +157,7 @@ module _ {A : Type 0} where
 
   -- a course on which a transaction is what an event makes of it
   pub course-replaced : (l : Ledger A) (n : ℕ) (t x : Txn A) (course : Course) → IsCounted l → n < length l.txns → t ≡ get_or l.txns n t → on_course course t ≡ kept x → turned_at n (on_course course) l.txns ≡ replaced (kept x) l.txns
-  course-replaced l n t x course counted h e g = turned_at-replaced (on_course course) l.base.transactions l.txns n t (kept x) counted.numbered h e g (sym (ap (λ (y : Txn A). y.number) g))
+  course-replaced l n t x course counted h e g = turned_at-replaced (on_course course) 0 (l.base.transactions + length l.txns) l.txns n t (kept x) counted.numbered h e g (sym (ap (λ (y : Txn A). y.number) g))
 
   pub settled : (l : Ledger A) (c : Catalog) (X : Tables A) (a : Action A) (n : ℕ) (t : Txn A) (course : Course) (r : Reply A)
       → IsCounted l → n < length l.txns → t ≡ get_or l.txns n t → (is_open (txn_at l.txns n).standing ≡ true → is_simple a ≡ true)
@@ -192,3 +203,9 @@ module _ {A : Type 0} where
 
   pub found_none : (us ts : List (Txn A)) (s : ℕ) → us ≡ ts → find (is_of s) us ≡ None → find (is_of s) ts ≡ None
   found_none us ts s same none = subst (λ xs. find (is_of s) xs ≡ None) same none
+
+  -- the transaction at a place, turned
+  pub got-turned : (f : Txn A → Txn A) (ts : List (Txn A)) (n : ℕ) → n < length ts → slice_get (turned_at n f ts) n ≡ Some (f (txn_at ts n))
+  got-turned f [] n h = absurd (omega arith)
+  got-turned f (t ∷ ts) zero h = refl
+  got-turned f (t ∷ ts) (suc n) h = got-turned f ts n (omega arith)

@@ -1,5 +1,6 @@
 pub mod CauseLemmas
 pub mod ExtentLemmas
+mod ForgettingLemmas
 pub mod WalkLemmas
 pub mod LedgerLemmas
 pub mod MergedLemmas

@@ -1,5 +1,5 @@
 -- What a statement comes to, and what is answered to a session's transaction with its own tables again.
-use Rattle.std.proofs.Common.{◌≡◌, refl, sym, ap, subst, ◌∙◌, ℕ, ◌+◌, ◌<◌, Bool, true, false, true≢false, cond, not, ◌&&◌, List, [], ◌∷◌, ◌++◌, length}
+use Rattle.std.proofs.Common.{◌≡◌, refl, sym, ap, subst, ◌∙◌, ℕ, ◌+◌, ◌<◌, Bool, true, false, true≢false, cond, not, ◌&&◌, List, [], ◌∷◌, ◌++◌, length, Option}
 use Rattle.value.specs.declared.refusal.Refusal.{Refusal}
 use Rattle.value.specs.declared.refusal.Code.TheVariants as code
 use Rattle.schema.specs.Definition.{Catalog}
@@ -15,14 +15,14 @@ use Rattle.statement.specs.declared.statement.Statement.TheVariants as statement
 use Rattle.statement.specs.Evaluation.{answers, outcome, writes}
 use Rattle.statement.specs.Footprint.{footprint}
 use Rattle.history.specs.declared.event.Action.{Action}
-use Rattle.history.specs.declared.event.Action.TheVariants.{Run}
+use Rattle.history.specs.declared.event.Action.TheVariants.{Run, Commit}
 use Rattle.history.specs.Transactions.{Standing, Open, Doomed, Failed, Aborted, Done, Txn, World, is_open, is_read_write, must_wait}
 use Rattle.history.specs.Events.{turned_from}
 use Rattle.history.specs.Answer.{evaluated, is_refused, meets_another, refuses, refuses_row, reply_from, reply_of, open_reply, run_reply}
 use Rattle.plain.specs.declared.run.Ran.{Ran}
 use Rattle.plain.specs.declared.run.Ran.TheVariants as ran
 use Rattle.plain.specs.Runs.{adds, only_reads, IsRan, IsWeighed}
-use Rattle.plain.specs.Ledger.{Ledger, IsCounted, kept, with_own, ready, world_on, after_owned, turned_at, txn_at}
+use Rattle.plain.specs.Ledger.{Ledger, IsCounted, committed_by, kept, with_own, ready, world_on, after_owned, turned_at, txn_at}
 use Rattle.plain.proofs.CommitLemmas.{after-ran, open_is}
 
 closed_not : (st : Standing) → is_open st ≡ false → st ≡ Open → ⊥
@@ -96,7 +96,7 @@ module _ {A : Type 0} where
   over_reply w tables _ t e = refl
 
   pub over_after : (w : World A) (tables : ℕ → Tables A) (a : Action A) (r : Reply A) (t : Txn A) → is_open t.standing ≡ false → after_owned w a r t ≡ after_owned w a r (ready tables a t)
-  over_after w tables (Run q) r t e = ap (λ x. record { base = w.base; log = w.log; txns = Rattle.history.specs.Events.replaced x w.txns; exports = w.exports; place = w.place + 1 }) (go t.standing e)
+  over_after w tables (Run q) r t e = ap (λ x. record { base = w.base; txns = Rattle.history.specs.Events.replaced x w.txns; exports = w.exports; place = w.place + 1 }) (go t.standing e)
     where
       go : (st : Standing) → is_open st ≡ false → kept (turned_from st w (Run q) r t) ≡ kept (turned_from st w (Run q) r (with_own tables t))
       go Open f = absurd (true≢false f)
@@ -110,3 +110,14 @@ module _ {A : Type 0} where
 
   pub open_ready : (w : World A) (tables : ℕ → Tables A) (a : Action A) (t : Txn A) → is_open (ready tables a t).standing ≡ true → open_reply w (ready tables a t) a ≡ reply_of w (Rattle.std.proofs.Common.Some (ready tables a t)) a
   open_ready w tables a t o = ap (λ st. reply_from st w (ready tables a t) a) (sym (open_is (ready tables a t).standing o))
+
+  -- ---- what an event commits
+
+  -- an event of a session whose transaction is over commits nothing
+  pub over-commits : (w : World A) (t : Txn A) (a : Action A) (o : Option (Txn A)) → is_open t.standing ≡ false → committed_by a (reply_from t.standing w t a) o ≡ []
+  over-commits w t Commit o e = go t.standing e
+    where
+      go : (st : Standing) → is_open st ≡ false → committed_by Commit (reply_from st w t Commit) o ≡ []
+      go Open f = absurd (true≢false f)
+      go _ f = refl
+  over-commits w t _ o e = refl

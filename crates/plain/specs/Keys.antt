@@ -1,5 +1,5 @@
 -- Serial keys, part by part.
-use Rattle.std.specs.Prelude.{ℕ, ◌==◌, ◌&&◌, List, map, Option}
+use Rattle.std.specs.Prelude.{ℕ, ◌==◌, ◌&&◌, List, Option}
 use Rattle.std.specs.List.{filter, find}
 use Rattle.std.specs.Option.{option_map}
 use Rattle.value.specs.Isolation.{serial_key}
@@ -14,10 +14,6 @@ parts k = (k.0, k.1, k.2)
 -- a transaction's number with its key
 abbrev pub keyed : TxnNo × SerialKey → ℕ × (ℕ × ℕ × ℕ)
 keyed e = (e.0.0, parts e.1)
-
--- the committed transactions of a list with their keys among them
-abbrev pub committed_keys : {A : Type 0} → List (Txn A) → List (ℕ × (ℕ × ℕ × ℕ))
-committed_keys ts = map (λ t. (t.number, serial_key node edge (filter (λ u. is_done u.standing) ts) t)) (filter (λ u. is_done u.standing) ts)
 
 -- the transaction of a list that committed as the event at this place, with its key among them
 abbrev pub committed_at : {A : Type 0} → ℕ → List (Txn A) → Option (ℕ × (ℕ × ℕ × ℕ))

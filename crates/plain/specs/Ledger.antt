@@ -1,5 +1,5 @@
--- What the plain body keeps of a world: no statements, and of a transaction's own tables and of a commit in the log only the changes.
-use Rattle.std.specs.Prelude.{◌≡◌, ℕ, zero, suc, ◌+◌, ◌≤◌, ◌<◌, ◌^◌, nat_lt, Bool, false, ◌&&◌, ◌||◌, if◌then◌else◌, Option, Some, None, List, [], ◌∷◌, ◌++◌, length, map, slice_index_or, take, ◌-◌}
+-- What the plain body keeps of a world: some of its transactions, without statements and tables of their own, some of its identifiers, and all numbers.
+use Rattle.std.specs.Prelude.{ℕ, zero, suc, ◌+◌, ◌≤◌, ◌<◌, ◌^◌, nat_lt, Bool, false, ◌&&◌, ◌||◌, if◌then◌else◌, Option, Some, None, List, [], ◌∷◌, ◌++◌, length, map, slice_index_or}
 use Rattle.std.specs.List.{list_any}
 use Rattle.value.specs.declared.refusal.Mode.TheVariants.{ReadWrite}
 use Rattle.schema.specs.declared.changes.Change.{Change}
@@ -11,13 +11,13 @@ use Rattle.statement.specs.declared.reply.Reply.TheVariants.{Begun, Committed}
 use Rattle.history.specs.declared.base.Base.{Base}
 use Rattle.history.specs.declared.event.Action.{Action}
 use Rattle.history.specs.declared.event.Action.TheVariants.{Begin, Run, Commit}
-use Rattle.history.specs.Transactions.{Done, Txn, World, Exported_snapshot, is_open, is_read_write, with_all, current}
+use Rattle.history.specs.Transactions.{Done, Txn, World, Exported_snapshot, is_open, is_read_write, current}
 use Rattle.history.specs.Events.{begun, causes, doomed_by, exports_after, replaced, turned}
 
--- A world without its catalog and its opening tables.
+-- A world without its catalog, its tables and its log. The base has the numbers that aren't counted by the lists: all commits, and of the transactions
+-- and the identifiers those that aren't kept any more.
 pub record Ledger (A : Type 0) : Type 0 where
   pub base : Base
-  pub log : List (Txn A)
   pub txns : List (Txn A)
   pub exports : List Exported_snapshot
   pub place : ℕ
@@ -29,35 +29,9 @@ module _ {A : Type 0} where
   abbrev pub kept : Txn A → Txn A
   kept t = record t { statements = []; own = [] }
 
-  -- a commit of which nothing is known but its changes
-  abbrev pub written : List (Change A) → Txn A
-  written xs = record {
-    session = 0;
-    number = 0;
-    mode = ReadWrite;
-    begin = 0;
-    standing = Done;
-    end = 0;
-    commit = 0;
-    snapshot = 0;
-    taken = 0;
-    imported = false;
-    known = false;
-    asked = false;
-    statements = [];
-    own = [];
-    reads = [];
-    changes = xs;
-    marks = [];
-  }
-
-  -- what is kept of a world
-  abbrev pub ledger : World A → Ledger A
-  ledger w = record { base = w.base; log = map (λ t. written t.changes) w.log; txns = map kept w.txns; exports = w.exports; place = w.place }
-
   -- the world of what is kept, over these tables
   abbrev pub world_on : Catalog → Tables A → Ledger A → World A
-  world_on c X l = record { catalog = c; opening = X; base = l.base; log = l.log; txns = l.txns; exports = l.exports; place = l.place }
+  world_on c X l = record { catalog = c; opening = X; base = l.base; log = []; txns = l.txns; exports = l.exports; place = l.place }
 
   -- the session's transaction as it is kept, which it has still to end
   abbrev pub kept_current : Catalog → Tables A → Ledger A → ℕ → Option (Txn A)
@@ -83,10 +57,15 @@ module _ {A : Type 0} where
   joined w s (Begin m) Begun = w.txns ++ kept (begun w s m) ∷ []
   joined w s _ _ = w.txns
 
-  -- the log after an event of t's session
-  abbrev pub logged : World A → Action A → Reply A → Txn A → List (Txn A)
-  logged w Commit Committed t = if is_read_write t.mode then w.log ++ written t.changes ∷ [] else w.log
-  logged w _ _ t = w.log
+  -- the numbers after an event of t's session: a read-write transaction's commit uses up a commit number
+  abbrev pub counted : World A → Action A → Reply A → Txn A → Base
+  counted w Commit Committed t = if is_read_write t.mode then record w.base { commits = w.base.commits + 1 } else w.base
+  counted w _ _ t = w.base
+
+  -- what an event of the session that has this transaction commits: nothing, unless it is the commit of a read-write one
+  abbrev pub committed_by : Action A → Reply A → Option (Txn A) → List (Change A)
+  committed_by Commit Committed (Some t) = if is_read_write t.mode then t.changes else []
+  committed_by _ _ _ = []
 
   -- the transactions after it, of which a commit may doom others
   abbrev pub turned_all : World A → Action A → Reply A → Txn A → List (Txn A)
@@ -95,37 +74,55 @@ module _ {A : Type 0} where
 
   -- what is kept after an event of the session whose transaction is t
   abbrev pub after_owned : World A → Action A → Reply A → Txn A → Ledger A
-  after_owned w a r t = record { base = w.base; log = logged w a r t; txns = turned_all w a r t; exports = exports_after w a r t; place = w.place + 1 }
+  after_owned w a r t = record { base = counted w a r t; txns = turned_all w a r t; exports = exports_after w a r t; place = w.place + 1 }
 
   -- what is kept after an event of session s, which has this transaction, or none
   abbrev pub kept_after : World A → ℕ → Action A → Reply A → Option (Txn A) → Ledger A
-  kept_after w s a r None = record { base = w.base; log = w.log; txns = joined w s a r; exports = w.exports; place = w.place + 1 }
+  kept_after w s a r None = record { base = w.base; txns = joined w s a r; exports = w.exports; place = w.place + 1 }
   kept_after w s a r (Some t) = after_owned w a r t
-
-  -- the tables with the changes of the log, up to commit n, put in
-  abbrev pub shown_tables : Ledger A → Tables A → ℕ → Tables A
-  shown_tables l X n = with_all (take (n - l.base.commits) l.log) X
 
   -- ---- what the ledger keeps true
 
-  -- these transactions are numbered one after the other above n
-  abbrev pub AreNumbered : ℕ → List (Txn A) → Type 0
-  AreNumbered n [] = Unit {0}
-  AreNumbered n (t ∷ ts) = (t.number ≡ n + 1) × AreNumbered (n + 1) ts
+  -- the numbers of these transactions rise, from above n, to m at most
+  abbrev pub AreNumbered : ℕ → ℕ → List (Txn A) → Type 0
+  AreNumbered n m [] = Unit {0}
+  AreNumbered n m (t ∷ ts) = (n < t.number) × (t.number ≤ m) × AreNumbered t.number m ts
 
-  -- Transactions are numbered in their order; and each event used up at most one number of each kind.
+  -- Transactions are in the order of their numbers, and none has a number that isn't used up; and each event used up at most one number of each kind.
   pub record IsCounted (l : Ledger A) : Type 0 where
-    pub numbered : AreNumbered l.base.transactions l.txns
+    pub numbered : AreNumbered 0 (l.base.transactions + length l.txns) l.txns
     pub transactions : l.base.transactions + length l.txns ≤ l.place
-    pub commits : l.base.commits + length l.log ≤ l.place
+    pub commits : l.base.commits ≤ l.place
     pub identifiers : l.base.identifiers + length l.exports ≤ l.place
     pub fits : l.place < 2 ^ 64
 
   -- ---- its transactions by their places
 
+  -- what is read where there is no transaction
+  abbrev pub nothing : Txn A
+  nothing = record {
+    session = 0;
+    number = 0;
+    mode = ReadWrite;
+    begin = 0;
+    standing = Done;
+    end = 0;
+    commit = 0;
+    snapshot = 0;
+    taken = 0;
+    imported = false;
+    known = false;
+    asked = false;
+    statements = [];
+    own = [];
+    reads = [];
+    changes = [];
+    marks = [];
+  }
+
   -- the transaction at a place, counted from 0
   abbrev pub txn_at : List (Txn A) → ℕ → Txn A
-  txn_at ts n = slice_index_or ts n (written [])
+  txn_at ts n = slice_index_or ts n nothing
 
   -- the transactions with that at a place, counted from 0, turned
   abbrev pub turned_at : ℕ → (Txn A → Txn A) → List (Txn A) → List (Txn A)

@@ -2,10 +2,12 @@ pub mod Answers
 pub mod Courses
 pub mod Earliest
 pub mod Extents
+pub mod Forgetting
 pub mod Keys
 pub mod Ledger
 pub mod Merged
 pub mod Runs
 pub mod Standings
+pub mod Structures
 pub mod Versions
 pub mod Views

@@ -16,6 +16,7 @@ use Rattle.history.specs.declared.event.Action.{Action}
 use Rattle.history.specs.declared.event.Action.TheVariants.{Run}
 use Rattle.history.specs.Transactions.{Txn, World, is_open, must_wait}
 use Rattle.history.specs.Answer.{evaluated, is_refused, run_reply}
+use Rattle.history.specs.Needed.{HoldCommitter}
 use Rattle.plain.specs.declared.added.Added.{Added}
 use Rattle.plain.specs.declared.run.Ran.{Ran}
 use Rattle.plain.specs.declared.run.Ran.TheVariants.{Refused, Done}
@@ -49,6 +50,10 @@ module _ {A : Type 0} where
   -- so it is of the session's transaction, if it has one
   abbrev pub HoldsCurrent : Catalog → (ℕ → Tables A) → Option (Txn A) → Type 0
   HoldsCurrent c tables o = (t : Txn A) → o ≡ Some t → HoldsOwn c tables t
+
+  -- where the session's transaction is open, a structure that its commit would make has it as its first or its middle
+  abbrev pub HoldsCommitter : World A → Option (Txn A) → Type 0
+  HoldsCommitter w o = (t : Txn A) → o ≡ Some t → is_open t.standing ≡ true → HoldCommitter w t
 
   -- ---- statements that only read, whose replies were found before
 

@@ -1,9 +1,12 @@
--- Versions of rows that stand for the tables of a ledger's commits.
+-- Versions of rows that stand for the tables at the snapshots that may still be read.
 -- Source: Ports and Grittner, "Serializable Snapshot Isolation in PostgreSQL" (VLDB 2012), on snapshot isolation.
-use Rattle.std.specs.Prelude.{◌≡◌, ℕ, ◌+◌, List, length}
+use Rattle.std.specs.Prelude.{◌≡◌, ℕ, ◌+◌, ◌≤◌, ◌<◌, Bool, if◌then◌else◌, min, List, [], ◌∷◌}
+use Rattle.schema.specs.declared.changes.Change.{Change}
 use Rattle.schema.specs.declared.tables.Tables.{Tables}
+use Rattle.schema.specs.Plain.{put_all}
+use Rattle.history.specs.Transactions.{Txn, is_owed}
 use Rattle.mvrows.specs.Versions.{VersionedRows, AreInOrder, TablesAreBelow, shown}
-use Rattle.plain.specs.Ledger.{Ledger, shown_tables}
+use Rattle.plain.specs.Ledger.{Ledger}
 
 module _ {A : Type 0} where
   -- the tables that versions show, by commit numbers
@@ -12,22 +15,40 @@ module _ {A : Type 0} where
 
   -- the number of the next commit
   abbrev pub next_commit : Ledger A → ℕ
-  next_commit l = l.base.commits + length l.log + 1
+  next_commit l = l.base.commits + 1
+
+  -- the least snapshot of those that pass a test, n where none has one below that
+  abbrev pub least_snapshot : (Txn A → Bool) → ℕ → List (Txn A) → ℕ
+  least_snapshot p n [] = n
+  least_snapshot p n (t ∷ ts) = if p t then min t.snapshot (least_snapshot p n ts) else least_snapshot p n ts
+
+  -- the least snapshot of a transaction that its session has still to end, n where none has one below that
+  abbrev pub lowest_of : ℕ → List (Txn A) → ℕ
+  lowest_of n ts = least_snapshot (λ t. is_owed t.standing) n ts
+
+  -- the least snapshot that may still be read: that of all commits where no session has a transaction
+  abbrev pub lowest : Ledger A → ℕ
+  lowest l = lowest_of l.base.commits l.txns
 
   -- The versions are in key order, and of commits so far.
   pub record AreCurrent (l : Ledger A) (rows : List (VersionedRows A)) : Type 0 where
     pub order : AreInOrder rows
     pub below : TablesAreBelow (next_commit l) rows
 
-  -- at each commit number they show the tables of the ledger, over these opening ones
-  abbrev pub AreShown : Ledger A → Tables A → List (VersionedRows A) → Type 0
-  AreShown l X rows = (n : ℕ) → shown n rows ≡ shown_tables l X n
-
-  -- After an event the versions are current again, and show what they should, over whatever opening tables they did before.
-  pub record StayShown (l : Ledger A) (rows : List (VersionedRows A)) (m : Ledger A) (more : List (VersionedRows A)) : Type 0 where
+  -- After an event that commits these changes the versions are current again. To the snapshots that may still be read they show what they did,
+  -- from the number of the commit on with its changes put in.
+  pub record StayShown (l : Ledger A) (rows : List (VersionedRows A)) (xs : List (Change A)) (m : Ledger A) (more : List (VersionedRows A)) : Type 0 where
     pub current : AreCurrent m more
-    pub tables : (X : Tables A) → AreShown l X rows → AreShown m X more
+    pub earlier : (n : ℕ) → lowest m ≤ n → n < next_commit l → shown n more ≡ shown n rows
+    pub later : (n : ℕ) → lowest m ≤ n → next_commit l ≤ n → shown n more ≡ put_all xs (shown n rows)
+
+  -- After a commit as this number the versions are of commits up to it. From a snapshot on they show what they did, from that number on with these changes put in.
+  pub record IsInstalled (oldest number : ℕ) (xs : List (Change A)) (rows more : List (VersionedRows A)) : Type 0 where
+    pub order : AreInOrder more
+    pub below : TablesAreBelow (number + 1) more
+    pub earlier : (n : ℕ) → oldest ≤ n → n < number → shown n more ≡ shown n rows
+    pub later : (n : ℕ) → oldest ≤ n → number ≤ n → shown n more ≡ put_all xs (shown n rows)
 
   -- an event that adds no commit
   abbrev pub HasSameCommits : Ledger A → Ledger A → Type 0
-  HasSameCommits l m = (m.base ≡ l.base) × (m.log ≡ l.log)
+  HasSameCommits l m = m.base ≡ l.base

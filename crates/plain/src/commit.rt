@@ -1,5 +1,5 @@
 // Commits: the structure that one would make, and those that it dooms.
-ghost use Rattle.std.specs.Prelude.{◌≡◌, ◌+◌, ◌^◌, ◌<◌, ◌==◌, ◌∷◌, [], ◌++◌, find, length, map, false, true, OnSome, IfNone, IfOk, IfErr, OnErr, OnOk};
+ghost use Rattle.std.specs.Prelude.{◌≡◌, ◌+◌, ◌^◌, ◌<◌, ◌==◌, [], find, length, map, true, Some, None, IfOk, IfErr, OnErr, OnOk};
 ghost use Rattle.value.specs.Isolation as spec;
 ghost use Rattle.value.specs.Isolation.{first_cause};
 ghost use Rattle.value.specs.Refusals.{out_of_memory};
@@ -8,22 +8,25 @@ ghost use Rattle.schema.specs.declared.tables.Tables.{Tables};
 ghost use Rattle.history.specs.Transactions.{edge, is_open, is_read_write as spec_writes, node, reads_from};
 ghost use Rattle.history.specs.Events.{doomed_by, numbered};
 ghost use Rattle.history.specs.Answer.{cause_of, commit_reply};
+ghost use Rattle.history.specs.Needed.{HoldCommitter};
 ghost use Rattle.plain.specs.Answers.{both};
 ghost use Rattle.plain.specs.Courses.{on_course};
-ghost use Rattle.mvrows.specs.Installing.{installed};
-ghost use Rattle.plain.specs.Ledger.{after_owned, turned_at, txn_at, world_on, written};
-ghost use Rattle.plain.specs.Versions.{AreCurrent, HasSameCommits, StayShown, next_commit};
+ghost use Rattle.mvrows.specs.Versions.{AreInOrder, TablesAreBelow};
+ghost use Rattle.plain.specs.Ledger.{after_owned, committed_by, turned_at, txn_at, world_on};
+ghost use Rattle.plain.specs.Structures.{StructuresHold};
+ghost use Rattle.plain.specs.Versions.{AreCurrent, HasSameCommits, IsInstalled, StayShown, lowest_of, next_commit};
 
 use crate::answered::Answered;
 use crate::course::Course;
 use crate::dooms::dooms;
-use crate::isolation::first_cause;
+use crate::isolation::cause_at;
+use crate::least::{Which, least_snapshot};
+use crate::own::OwnChanges;
 use crate::reply::of_cause;
 use crate::transaction::{Standing, Transaction, is_read_write};
-use crate::world::{Logged, World, turn};
+use crate::world::{World, turn};
 use history::event::Action;
 use mvrows::rows::Rows;
-use schema::changes::Change;
 use statement::reply::Reply;
 use std::alloc::Allocator;
 use value::refusal::{Cause, Refusal};
@@ -62,37 +65,83 @@ fn doom_all<A: Allocator>(transactions: &mut Vec<Transaction<A>, A>, causes: &[C
     }
 }
 
-// The dangerous structure that there would be with the transaction at a place on another course.
-// The transactions stay; it takes no memory.
+// The dangerous structure that there would be with the transaction at a place on another course,
+// where each one has it as its first or its middle. The transactions stay; it takes no memory.
 fn try_course<A: Allocator>(
     transactions: &mut Vec<Transaction<A>, A>,
     at: usize,
     course: Course,
 ) -> Option<Cause>
-    requires { at < length transactions.old.items }
+    requires within { at < length transactions.old.items }
+    requires committer { StructuresHold node edge (on_course course (txn_at transactions.old.items at)) (turned_at at (on_course course) transactions.old.items) }
     ensures cause { result ≡ first_cause node edge (turned_at at (on_course course) transactions.old.items) }
     ensures same { transactions.new.items ≡ transactions.old.items }
 {
     let before = transactions[at].course();
     turn(transactions, at, course);
-    let cause = first_cause(transactions.as_slice());
+    let cause = cause_at(transactions.as_slice(), at);
     turn(transactions, at, before);
     cause
 }
 
-// Equal changes.
-fn copy_changes<A: Allocator + Copy>(
+// The least snapshot that may still be read with the transaction at a place on another course.
+// The transactions stay; it takes no memory.
+fn lowest_with<A: Allocator>(
+    transactions: &mut Vec<Transaction<A>, A>,
+    at: usize,
+    course: Course,
+    most: u64,
+) -> u64
+    requires { at < length transactions.old.items }
+    ensures least { result ≡ lowest_of most (turned_at at (on_course course) transactions.old.items) }
+    ensures same { transactions.new.items ≡ transactions.old.items }
+{
+    let before = transactions[at].course();
+    turn(transactions, at, course);
+    let least = least_snapshot(transactions.as_slice(), Which::Owed, most);
+    turn(transactions, at, before);
+    least
+}
+
+// Puts in the versions of a commit, of each key the last, and drops of its keys what no snapshot from
+// the oldest on shows. The changes stay.
+fn install<A: Allocator + Copy>(
     alloc: A,
-    changes: &[Change<A>],
-) -> Result<Vec<Change<A>, A>, Refusal>
-    ensures ok { IfOk result (λ copies. copies.items ≡ changes.now) }
+    rows: &mut Rows<A>,
+    oldest: u64,
+    number: u64,
+    changes: &mut OwnChanges<A>,
+) -> Result<(), Refusal>
+    requires order { AreInOrder rows.old }
+    requires below { TablesAreBelow number rows.old }
+    ensures ok { OnOk result (IsInstalled oldest number changes.old rows.old rows.new) }
+    ensures err { OnErr result (rows.new ≡ rows.old) }
+    ensures same { changes.new ≡ changes.old }
     ensures memory { IfErr result (λ e. e ≡ out_of_memory) }
 {
-    let mut copies = Vec::with_capacity(alloc, changes.len())?;
-    for change in changes {
-        copies.push(change.copy(alloc)?)?;
-    }
-    Ok(copies)
+    let last = changes.last_changes(alloc)?;
+    rows.install(alloc, oldest, number, last.as_slice())
+}
+
+// Puts in the versions of the commit of the transaction at a place. The transactions stay.
+fn install_at<A: Allocator + Copy>(
+    alloc: A,
+    rows: &mut Rows<A>,
+    oldest: u64,
+    number: u64,
+    transactions: &mut Vec<Transaction<A>, A>,
+    at: usize,
+) -> Result<(), Refusal>
+    requires within { at < length transactions.old.items }
+    requires order { AreInOrder rows.old }
+    requires below { TablesAreBelow number rows.old }
+    ensures ok { OnOk result (IsInstalled oldest number (txn_at transactions.old.items at).changes rows.old rows.new) }
+    ensures err { OnErr result (rows.new ≡ rows.old) }
+    ensures same { transactions.new.items ≡ transactions.old.items }
+    ensures memory { IfErr result (λ e. e ≡ out_of_memory) }
+{
+    let committer = &mut transactions[at];
+    install(alloc, rows, oldest, number, &mut committer.changes)
 }
 
 // The answer to a COMMIT, by the structure that it would make.
@@ -122,46 +171,28 @@ fn is_writer<A: Allocator>(transaction: &Transaction<A>) -> bool
 }
 
 impl<A: Allocator> World<A> {
-    // The dangerous structure that there would be with the transaction at a place on another
-    // course. The world stays; it takes no memory.
-    fn cause_at(&mut self, at: usize, course: Course) -> Option<Cause>
-        requires { at < length self.old.txns }
-        ensures cause { result ≡ first_cause node edge (turned_at at (on_course course) self.old.txns) }
-        ensures same { self.new ≡ self.old }
-    {
-        try_course(&mut self.transactions, at, course)
-    }
-
-    // An event that takes the transaction at a place to a course, adds its commit to the log and to
-    // the versions, and dooms those in the middle of the causes.
-    fn add_commit(
-        &mut self,
-        alloc: A,
-        rows: &mut Rows<A>,
-        at: usize,
-        committed: Course,
-        logged: Logged<A>,
-        causes: &[Cause],
-    ) -> Result<(), Refusal>
-    where
-        A: Copy,
+    // A commit that takes the transaction at a place to a course, and dooms those in the middle of the
+    // causes.
+    fn turn_committer(&mut self, at: usize, committed: Course, causes: &[Cause])
         requires within { at < length self.old.txns }
         requires room { self.old.place + 1 < 2 ^ 64 }
-        requires current { AreCurrent self.old rows.old }
-        ensures rows { OnOk result (rows.new ≡ installed (next_commit self.old) logged.changes rows.old) }
-        ensures rows_err { OnErr result (rows.new ≡ rows.old) }
-        ensures ok { OnOk result (self.new ≡ record self.old { log = self.old.log ++ logged ∷ []; txns = map (doomed_by (self.old.place + 1) causes.now) (turned_at at (on_course committed) self.old.txns); place = self.old.place + 1 }) }
-        ensures err { OnErr result (self.new ≡ self.old) }
-        ensures memory { IfErr result (λ e. e ≡ out_of_memory) }
+        ensures { self.new ≡ record self.old { base = record self.old.base { commits = self.old.base.commits + 1 }; txns = map (doomed_by (self.old.place + 1) causes.now) (turned_at at (on_course committed) self.old.txns); place = self.old.place + 1 } }
     {
-        let number = self.commits() + 1;
-        self.log.reserve(1)?;
-        rows.install(alloc, number, logged.changes())?;
-        self.log.push_reserved(logged);
+        self.base.commits += 1;
         self.place += 1;
         turn(&mut self.transactions, at, committed);
         doom_all(&mut self.transactions, causes, self.place);
-        Ok(())
+    }
+
+    // The least snapshot that may still be read after the transaction at a place has committed.
+    fn lowest_after(&mut self, at: usize, committed: Course) -> u64
+        requires within { at < length self.old.txns }
+        requires room { self.old.place + 1 < 2 ^ 64 }
+        ensures least { result ≡ lowest_of (next_commit self.old) (turned_at at (on_course committed) self.old.txns) }
+        ensures same { self.new ≡ self.old }
+    {
+        let number = self.commits() + 1;
+        lowest_with(&mut self.transactions, at, committed, number)
     }
 
     // COMMIT of the open read-write transaction at a place, which makes no structure.
@@ -177,16 +208,19 @@ impl<A: Allocator> World<A> {
         requires within { at < length self.old.txns }
         requires room { self.old.place + 1 < 2 ^ 64 }
         requires current { AreCurrent self.old rows.old }
-        ensures rows { OnOk result (rows.new ≡ installed (next_commit self.old) (txn_at self.old.txns at).changes rows.old) }
+        ensures rows { OnOk result (IsInstalled (lowest_of (next_commit self.old) (turned_at at (on_course committed) self.old.txns)) (next_commit self.old) (txn_at self.old.txns at).changes rows.old rows.new) }
         ensures rows_err { OnErr result (rows.new ≡ rows.old) }
-        ensures ok { OnOk result (self.new ≡ record self.old { log = self.old.log ++ written (txn_at self.old.txns at).changes ∷ []; txns = map (doomed_by (self.old.place + 1) (spec.dooms node reads_from self.old.txns (txn_at self.old.txns at))) (turned_at at (on_course committed) self.old.txns); place = self.old.place + 1 }) }
+        ensures ok { OnOk result (self.new ≡ record self.old { base = record self.old.base { commits = self.old.base.commits + 1 }; txns = map (doomed_by (self.old.place + 1) (spec.dooms node reads_from self.old.txns (txn_at self.old.txns at))) (turned_at at (on_course committed) self.old.txns); place = self.old.place + 1 }) }
         ensures err { OnErr result (self.new ≡ self.old) }
         ensures memory { IfErr result (λ e. e ≡ out_of_memory) }
     {
-        let transaction = &self.transactions[at];
-        let causes = dooms(alloc, self.transactions.as_slice(), transaction)?;
-        let logged = Logged::of(copy_changes(alloc, transaction.changes.as_slice())?);
-        self.add_commit(alloc, rows, at, committed, logged, causes.as_slice())
+        let oldest = self.lowest_after(at, committed);
+        let number = self.commits() + 1;
+        let committer = &self.transactions[at];
+        let causes = dooms(alloc, self.transactions.as_slice(), committer)?;
+        install_at(alloc, rows, oldest, number, &mut self.transactions, at)?;
+        self.turn_committer(at, committed, causes.as_slice());
+        Ok(())
     }
 
     // The course on which the transaction at a place has committed.
@@ -208,11 +242,12 @@ impl<A: Allocator> World<A> {
     fn cause_of_commit(&mut self, at: usize, committed: Course) -> Option<Cause>
         requires within { at < length self.old.txns }
         requires course { (c : Catalog) (X : Tables A) → on_course committed (txn_at self.old.txns at) ≡ numbered (world_on c X self.old) (txn_at self.old.txns at) }
+        requires committer { (c : Catalog) (X : Tables A) → HoldCommitter (world_on c X self.old) (txn_at self.old.txns at) }
         ensures cause { (c : Catalog) (X : Tables A) → result ≡ cause_of (world_on c X self.old) (txn_at self.old.txns at) }
         ensures same { self.new ≡ self.old }
     {
         let _place = self.place;
-        self.cause_at(at, committed)
+        try_course(&mut self.transactions, at, committed)
     }
 
     // A refused COMMIT of the open transaction at a place. It takes no memory.
@@ -244,7 +279,7 @@ impl<A: Allocator> World<A> {
         requires open { is_open (txn_at self.old.txns at).standing ≡ true }
         requires course { (c : Catalog) (X : Tables A) → on_course committed (txn_at self.old.txns at) ≡ numbered (world_on c X self.old) (txn_at self.old.txns at) }
         ensures ok { OnOk result ((c : Catalog) (X : Tables A) → self.new ≡ after_owned (world_on c X self.old) Action.Commit (commit_reply None) (txn_at self.old.txns at)) }
-        ensures rows { OnOk result (StayShown self.old rows.old self.new rows.new) }
+        ensures rows { OnOk result (StayShown self.old rows.old (committed_by Action.Commit (commit_reply None) (Some (txn_at self.old.txns at))) self.new rows.new) }
         ensures err { OnErr result (self.new ≡ self.old) }
         ensures rows_err { OnErr result (rows.new ≡ rows.old) }
         ensures memory { IfErr result (λ e. e ≡ out_of_memory) }
@@ -270,9 +305,10 @@ impl<A: Allocator> World<A> {
         requires room { self.old.place + 1 < 2 ^ 64 }
         requires current { AreCurrent self.old rows.old }
         requires open { is_open (txn_at self.old.txns at).standing ≡ true }
+        requires committer { (c : Catalog) (X : Tables A) → HoldCommitter (world_on c X self.old) (txn_at self.old.txns at) }
         ensures cause { IfOk result (λ cause. (c : Catalog) (X : Tables A) → cause ≡ cause_of (world_on c X self.old) (txn_at self.old.txns at)) }
         ensures world { IfOk result (λ cause. (c : Catalog) (X : Tables A) → self.new ≡ after_owned (world_on c X self.old) Action.Commit (commit_reply cause) (txn_at self.old.txns at)) }
-        ensures rows { OnOk result (StayShown self.old rows.old self.new rows.new) }
+        ensures rows { IfOk result (λ cause. StayShown self.old rows.old (committed_by Action.Commit (commit_reply cause) (Some (txn_at self.old.txns at))) self.new rows.new) }
         ensures err { OnErr result (self.new ≡ self.old) }
         ensures rows_err { OnErr result (rows.new ≡ rows.old) }
         ensures memory { IfErr result (λ e. e ≡ out_of_memory) }
@@ -299,9 +335,10 @@ impl<A: Allocator> World<A> {
         requires room { self.old.place + 1 < 2 ^ 64 }
         requires current { AreCurrent self.old rows.old }
         requires open { is_open (txn_at self.old.txns at).standing ≡ true }
+        requires committer { (c : Catalog) (X : Tables A) → HoldCommitter (world_on c X self.old) (txn_at self.old.txns at) }
         ensures reply { IfOk result (λ r. (c : Catalog) (X : Tables A) → r ≡ both (commit_reply (cause_of (world_on c X self.old) (txn_at self.old.txns at)))) }
         ensures world { IfOk result (λ r. (c : Catalog) (X : Tables A) → self.new ≡ after_owned (world_on c X self.old) Action.Commit r.reply (txn_at self.old.txns at)) }
-        ensures rows { OnOk result (StayShown self.old rows.old self.new rows.new) }
+        ensures rows { IfOk result (λ r. StayShown self.old rows.old (committed_by Action.Commit r.reply (Some (txn_at self.old.txns at))) self.new rows.new) }
         ensures err { OnErr result (self.new ≡ self.old) }
         ensures rows_err { OnErr result (rows.new ≡ rows.old) }
         ensures memory { IfErr result (λ e. e ≡ out_of_memory) }

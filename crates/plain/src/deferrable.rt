@@ -25,7 +25,7 @@ fn reaches_shown<A: Allocator>(
 ) -> bool
     ensures { result ≡ (spec.edge other.now last.now && nat_le last.now.commit transaction.now.snapshot) }
 {
-    has_edge(other, last) && last.commit <= transaction.snapshot
+    last.commit <= transaction.snapshot && has_edge(other, last)
 }
 
 // Whether one has an edge to a commit that the transaction's snapshot shows.

@@ -1,10 +1,11 @@
 // Conflicts between transactions, dangerous structures among them, and where they stand in the
 // serial order, over a list of them.
-ghost use Rattle.std.specs.Prelude.{◌≡◌, ◌&&◌, if◌then◌else◌, min, nat_lt, None};
-ghost use Rattle.std.specs.List.{filter};
+ghost use Rattle.std.specs.Prelude.{◌≡◌, ◌<◌, ◌&&◌, if◌then◌else◌, length, min, nat_lt, slice_get, None, Some};
+ghost use Rattle.std.specs.List.{filter, list_any};
 ghost use Rattle.std.specs.Option.{option_map};
 ghost use Rattle.value.specs.Isolation.{bound, caused, earliest, edge_of, first_cause, first_part, first_some, is_dangerous, serial_key, structure, write_key};
 ghost use Rattle.plain.specs.Earliest.{first_of};
+ghost use Rattle.plain.specs.Structures.{BeginHold, StructuresHold};
 
 use crate::party::{Facts, Party};
 use value::refusal::{Cause, TxnNo};
@@ -38,10 +39,10 @@ pub fn is_dangerous<T: Party>(first: &T, pivot: &T, last: &T) -> bool
     first.facts().committed
         && middle.committed
         && end.committed
-        && has_edge(first, pivot)
-        && has_edge(pivot, last)
         && end.commit < middle.commit
         && end.commit <= bound(first)
+        && has_edge(first, pivot)
+        && has_edge(pivot, last)
 }
 
 /// A structure, by the numbers of its transactions.
@@ -79,12 +80,19 @@ fn last_of<T: Party>(first: &T, pivot: &T, transactions: &[T]) -> Option<Facts>
     last
 }
 
+// Whether a transaction committed, and has an edge to another.
+fn is_followed<T: Party>(first: &T, pivot: &T) -> bool
+    ensures { result ≡ ((T.node first.now).committed && edge_of T.node T.reads first.now pivot.now) }
+{
+    first.facts().committed && has_edge(first, pivot)
+}
+
 // The structure of two transactions and the first to commit that closes it, if there is one.
 fn cause_between<T: Party>(first: &T, pivot: &T, transactions: &[T]) -> Option<Cause>
     ensures { result
         ≡ caused T.node (edge_of T.node T.reads) first.now pivot.now (earliest T.node (edge_of T.node T.reads) (filter (is_dangerous T.node (edge_of T.node T.reads) first.now pivot.now) transactions.now)) }
 {
-    if !has_edge(first, pivot) {
+    if !is_followed(first, pivot) {
         return None;
     }
     match last_of(first, pivot, transactions) {
@@ -93,8 +101,8 @@ fn cause_between<T: Party>(first: &T, pivot: &T, transactions: &[T]) -> Option<C
     }
 }
 
-// The structure that begins at a transaction, with the least pivot, if there is one.
-fn cause_from<T: Party>(first: &T, transactions: &[T]) -> Option<Cause>
+/// The structure that begins at a transaction, with the least pivot, if there is one.
+pub(crate) fn cause_from<T: Party>(first: &T, transactions: &[T]) -> Option<Cause>
     ensures { result
         ≡ first_some (λ b. caused T.node (edge_of T.node T.reads) first.now b (earliest T.node (edge_of T.node T.reads) (filter (is_dangerous T.node (edge_of T.node T.reads) first.now b) transactions.now))) transactions.now }
 {
@@ -107,19 +115,57 @@ fn cause_from<T: Party>(first: &T, transactions: &[T]) -> Option<Cause>
     None
 }
 
-/// The dangerous structure that is named, of transactions in the order of their numbers: the one
-/// of the least first transaction, then of the least pivot, then of the first to commit. It takes
-/// no memory.
-pub fn first_cause<T: Party>(transactions: &[T]) -> Option<Cause>
+// Whether a transaction has an edge to one of these.
+fn has_any_edge<T: Party>(reader: &T, transactions: &[T]) -> bool
+    ensures { result ≡ list_any (edge_of T.node T.reads reader.now) transactions.now }
+{
+    transactions.iter().any(|writer| has_edge(reader, writer))
+}
+
+// The structure that begins at a transaction, where each of them has the transaction at a place, the
+// committer, as its first or its middle: with the least pivot, if there is one.
+fn cause_through<T: Party>(transactions: &[T], at: usize, first: &T) -> Option<Cause>
+    requires within { at < length transactions.now }
+    requires committer { (x : T) → slice_get transactions.now at ≡ Some x → BeginHold T.node (edge_of T.node T.reads) x first.now transactions.now }
+    ensures { result
+        ≡ first_some (λ b. caused T.node (edge_of T.node T.reads) first.now b (earliest T.node (edge_of T.node T.reads) (filter (is_dangerous T.node (edge_of T.node T.reads) first.now b) transactions.now))) transactions.now }
+{
+    let committer = &transactions[at];
+    if first.facts().number == committer.facts().number {
+        cause_from(first, transactions)
+    } else {
+        cause_between(first, committer, transactions)
+    }
+}
+
+// The structure that is named, where each has the transaction at a place as its first or its middle.
+fn cause_with<T: Party>(transactions: &[T], at: usize) -> Option<Cause>
+    requires within { at < length transactions.now }
+    requires committer { (x : T) → slice_get transactions.now at ≡ Some x → StructuresHold T.node (edge_of T.node T.reads) x transactions.now }
     ensures { result ≡ first_cause T.node (edge_of T.node T.reads) transactions.now }
 {
     for first in transactions {
-        let cause = cause_from(first, transactions);
+        let cause = cause_through(transactions, at, first);
         if cause.is_some() {
             return cause;
         }
     }
     None
+}
+
+/// The dangerous structure that is named, of transactions in the order of their numbers: the one
+/// of the least first transaction, then of the least pivot, then of the first to commit. Each has the
+/// transaction at a place, the committer, as its first or its middle. It takes no memory.
+pub fn cause_at<T: Party>(transactions: &[T], at: usize) -> Option<Cause>
+    requires within { at < length transactions.now }
+    requires committer { (x : T) → slice_get transactions.now at ≡ Some x → StructuresHold T.node (edge_of T.node T.reads) x transactions.now }
+    ensures { result ≡ first_cause T.node (edge_of T.node T.reads) transactions.now }
+{
+    if has_any_edge(&transactions[at], transactions) {
+        cause_with(transactions, at)
+    } else {
+        None
+    }
 }
 
 /// The number of a transaction's commit.

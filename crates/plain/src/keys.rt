@@ -1,11 +1,10 @@
 // Serial keys of committed transactions, among all transactions.
-ghost use Rattle.std.specs.Prelude.{◌≡◌, if◌then◌else◌, ◌&&◌, ◌==◌, ◌++◌, [], ◌∷◌, map, min, nat_lt, IfOk, IfErr, OnOk};
-ghost use Rattle.value.specs.Refusals.{out_of_memory};
+ghost use Rattle.std.specs.Prelude.{◌≡◌, if◌then◌else◌, ◌&&◌, ◌==◌, min, nat_lt};
 ghost use Rattle.std.specs.List.{filter};
 ghost use Rattle.std.specs.Option.{option_map};
 ghost use Rattle.value.specs.Isolation.{edge_of, first_part, serial_key};
 ghost use Rattle.history.specs.Transactions.{edge, is_done, node};
-ghost use Rattle.plain.specs.Keys.{committed_at, committed_keys, keyed, parts};
+ghost use Rattle.plain.specs.Keys.{committed_at, keyed, parts};
 
 use crate::isolation::{commit_of, lesser, write_key};
 use crate::party::Party;
@@ -13,7 +12,7 @@ use crate::transaction::Transaction;
 use crate::world::World;
 use history::key::SerialKey;
 use std::alloc::Allocator;
-use value::refusal::{Refusal, TxnNo};
+use value::refusal::TxnNo;
 
 // The lesser of a number and of a commit, where the other committed and the transaction has an edge
 // to it, before its own.
@@ -79,39 +78,6 @@ fn with_key<A: Allocator>(
     (TxnNo(transaction.number), key(transactions, transaction))
 }
 
-// Adds a transaction's number with its key, if it committed.
-fn push_key<A: Allocator>(
-    keys: &mut Vec<(TxnNo, SerialKey), A>,
-    transactions: &[Transaction<A>],
-    transaction: &Transaction<A>,
-) -> Result<(), Refusal>
-    ensures ok { OnOk result (map keyed keys.new.items
-        ≡ map keyed keys.old.items ++ (if is_done transaction.now.standing
-        then (transaction.now.number, serial_key node edge (filter (λ t. is_done t.standing) transactions.now) transaction.now) ∷ []
-        else [])) }
-    ensures memory { IfErr result (λ e. e ≡ out_of_memory) }
-{
-    if transaction.standing.is_done() {
-        keys.push(with_key(transactions, transaction))?;
-    }
-    Ok(())
-}
-
-/// The committed transactions of these, by their numbers in their order, each with its key.
-pub fn committed_keys<A: Allocator>(
-    alloc: A,
-    transactions: &[Transaction<A>],
-) -> Result<Vec<(TxnNo, SerialKey), A>, Refusal>
-    ensures ok { IfOk result (λ keys. map keyed keys.items ≡ committed_keys transactions.now) }
-    ensures memory { IfErr result (λ e. e ≡ out_of_memory) }
-{
-    let mut keys = Vec::new(alloc);
-    for transaction in transactions {
-        push_key(&mut keys, transactions, transaction)?;
-    }
-    Ok(keys)
-}
-
 // Whether a transaction committed as the event at a place.
 fn is_commit_at<A: Allocator>(transaction: &Transaction<A>, place: u64) -> bool
     ensures { result ≡ (is_done transaction.now.standing && transaction.now.end == place) }
@@ -136,19 +102,11 @@ pub fn find_commit<A: Allocator>(
 }
 
 impl<A: Allocator> World<A> {
-    /// The transaction that the last event committed, with its serial key; none where it committed
-    /// none. It takes no memory.
+    /// The transaction that the last event committed, with its serial key among those that are kept;
+    /// none where it committed none. It takes no memory.
     pub fn last_commit(&self) -> Option<(TxnNo, SerialKey)>
         ensures { option_map keyed result ≡ committed_at self.now.place self.now.txns }
     {
         find_commit(self.transactions.as_slice(), self.place)
-    }
-
-    /// The committed transactions, by their numbers in their order, each with its serial key.
-    pub fn committed_keys(&self, alloc: A) -> Result<Vec<(TxnNo, SerialKey), A>, Refusal>
-        ensures ok { IfOk result (λ keys. map keyed keys.items ≡ committed_keys self.now.txns) }
-        ensures memory { IfErr result (λ e. e ≡ out_of_memory) }
-    {
-        committed_keys(alloc, self.transactions.as_slice())
     }
 }

@@ -1,4 +1,4 @@
-//! The definitions as a program: each function answers what the definition of the same name gives, over the lists that the definitions speak of. What only asks takes no memory.
+//! The definitions as a program: each function answers what the definition of the same name gives, over the transactions that still matter. What only asks takes no memory.
 #![tactic(auto)]
 
 pub mod added;
@@ -12,10 +12,14 @@ pub mod deferrable;
 pub mod dooms;
 mod export;
 mod extent;
+mod forgetting;
+#[cfg(test)]
+mod forgetting_tests;
 pub mod isolation;
 #[cfg(test)]
 mod isolation_tests;
 pub mod keys;
+pub mod least;
 pub mod own;
 pub mod party;
 pub mod reader;
@@ -28,7 +32,6 @@ pub mod run;
 mod settle;
 pub mod snapshots;
 mod step;
-mod tables;
 #[cfg(test)]
 mod tests;
 pub mod transaction;

@@ -19,6 +19,7 @@ use statement::outcome::Outcome;
 use statement::statement::Statement;
 use std::alloc::{Allocator, Global};
 use std::marker::Model;
+use std::mem;
 use value::refusal::Refusal;
 use value::value::Value;
 
@@ -161,6 +162,25 @@ impl<A: Allocator> OwnChanges<A> {
         let mut count = 0;
         merge_rest(alloc, &mut merged, &mut count, self.list.as_slice())?;
         Ok(merged)
+    }
+
+    /// The changes by their keys, of each key the last, as a list of its own.
+    pub(crate) fn last_changes(&mut self, alloc: A) -> Result<Vec<Change<A>, A>, Refusal>
+    where
+        A: Copy,
+        ensures ok { IfOk result (λ list. AreMerged list.items self.old) }
+        ensures same { self.new ≡ self.old }
+        ensures memory { IfErr result (λ e. e ≡ out_of_memory) }
+    {
+        merge_rest(
+            alloc,
+            &mut self.merged,
+            &mut self.count,
+            self.list.as_slice(),
+        )?;
+        self.count = 0;
+        let merged = mem::replace(&mut self.merged, Changes::new(alloc));
+        Ok(merged.into_list(alloc)?)
     }
 
     /// What comes of a statement on the tables of a reader with these changes put in. The tables

@@ -124,7 +124,7 @@ impl<A: Allocator> World<A> {
         requires found { IsFoundFor catalog.now (Some (ready (versions_at rows.now) action.now (txn_at self.old.txns at))) action.now reply }
         ensures reply { IfOk result (λ r. (X : AnyTables A) → r ≡ both (reply_of (world_on catalog.now X self.old) (Some (ready (versions_at rows.now) action.now (txn_at self.old.txns at))) action.now)) }
         ensures world { IfOk result (λ r. (X : AnyTables A) → self.new ≡ after_owned (world_on catalog.now X self.old) action.now r.reply (ready (versions_at rows.now) action.now (txn_at self.old.txns at))) }
-        ensures rows { OnOk result (StayShown self.old rows.now self.new rows.now) }
+        ensures rows { OnOk result (StayShown self.old rows.now [] self.new rows.now) }
         ensures err { OnErr result (self.new ≡ self.old) }
         ensures memory { IfErr result (λ e. e ≡ out_of_memory) }
     {
@@ -160,7 +160,7 @@ impl<A: Allocator> World<A> {
         requires found { IsFoundFor catalog.now (ready_for (versions_at rows.now) action.now (kept_current catalog.now [] self.old session)) action.now reply }
         ensures reply { IfOk result (λ r. (X : AnyTables A) → r ≡ both (reply_of (world_on catalog.now X self.old) (ready_for (versions_at rows.now) action.now (kept_current catalog.now X self.old session)) action.now)) }
         ensures world { IfOk result (λ r. (X : AnyTables A) → self.new ≡ kept_after (world_on catalog.now X self.old) session action.now r.reply (ready_for (versions_at rows.now) action.now (kept_current catalog.now X self.old session))) }
-        ensures rows { OnOk result (StayShown self.old rows.now self.new rows.now) }
+        ensures rows { OnOk result (StayShown self.old rows.now [] self.new rows.now) }
         ensures err { OnErr result (self.new ≡ self.old) }
         ensures memory { IfErr result (λ e. e ≡ out_of_memory) }
     {

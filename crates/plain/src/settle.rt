@@ -46,7 +46,7 @@ impl<A: Allocator> World<A> {
     where
         A: Copy,
         requires { self.old.place + 1 < 2 ^ 64 }
-        ensures ok { OnOk result (self.new ≡ record self.old { txns = self.old.txns ++ begun_at session mode (self.old.base.transactions + length self.old.txns + 1) (self.old.place + 1) (self.old.base.commits + length self.old.log) ∷ []; place = self.old.place + 1 }) }
+        ensures ok { OnOk result (self.new ≡ record self.old { txns = self.old.txns ++ begun_at session mode (self.old.base.transactions + length self.old.txns + 1) (self.old.place + 1) self.old.base.commits ∷ []; place = self.old.place + 1 }) }
         ensures err { OnErr result (self.new ≡ self.old) }
         ensures memory { IfErr result (λ e. e ≡ out_of_memory) }
     {

@@ -4,11 +4,10 @@ ghost use Rattle.value.specs.Refusals.{AnswersOrNoMemory};
 ghost use Rattle.schema.specs.Definition.{Catalog};
 ghost use Rattle.schema.specs.declared.tables.Tables.{Tables};
 ghost use Rattle.history.specs.Transactions.{is_owed, is_quiet};
-ghost use Rattle.history.specs.Answer.{view_of};
-ghost use Rattle.plain.specs.Ledger.{kept_current, world_on};
-ghost use Rattle.plain.specs.Views.{is_failed, are_quiet};
+ghost use Rattle.plain.specs.Ledger.{kept_current};
+ghost use Rattle.plain.specs.Views.{is_failed, are_quiet, view_on};
 ghost use Rattle.plain.specs.Standings.{standing_of};
-ghost use Rattle.plain.specs.Versions.{AreShown};
+ghost use Rattle.plain.specs.Versions.{versions_at};
 
 use crate::snapshots::find_current;
 use crate::transaction::{Standing, Transaction};
@@ -34,36 +33,33 @@ fn is_settled<A: Allocator>(transaction: &Transaction<A>) -> bool
     !transaction.standing.is_owed()
 }
 
-impl<A: Allocator> World<A> {
-    // The tables at a transaction's snapshot, where that is known to be safe.
-    fn view_owned(
-        &self,
-        alloc: A,
-        rows: &Rows<A>,
-        transaction: &Transaction<A>,
-    ) -> Result<View<A>, Refusal>
+impl<A: Allocator> Transaction<A> {
+    // The tables at its snapshot, where that is known to be safe.
+    fn view(&self, alloc: A, rows: &Rows<A>) -> Result<View<A>, Refusal>
     where
         A: Copy,
-        ensures { (c : Catalog) (X : Tables A) → AreShown self.now X rows.now → AnswersOrNoMemory result (view_of (world_on c X self.now) (Some transaction.now)) }
+        ensures { AnswersOrNoMemory result (view_on (versions_at rows.now) (Some self.now)) }
     {
-        if is_failed(transaction.standing) {
+        if is_failed(self.standing) {
             return Err(Refusal::of_code(Code::InFailedSqlTransaction));
         }
-        if !transaction.known {
+        if !self.known {
             return Err(Refusal::of_code(Code::ObjectNotInPrerequisiteState));
         }
-        rows.view(alloc, transaction.snapshot)
+        rows.view(alloc, self.snapshot)
     }
+}
 
+impl<A: Allocator> World<A> {
     /// The tables at the snapshot of a session's transaction, where that is known to be safe, of the
     /// versions.
     pub fn view(&self, alloc: A, rows: &Rows<A>, session: SessionId) -> Result<View<A>, Refusal>
     where
         A: Copy,
-        ensures { (c : Catalog) (X : Tables A) → AreShown self.now X rows.now → AnswersOrNoMemory result (view_of (world_on c X self.now) (kept_current c X self.now session)) }
+        ensures { (c : Catalog) (X : Tables A) → AnswersOrNoMemory result (view_on (versions_at rows.now) (kept_current c X self.now session)) }
     {
         match find_current(self.transactions.as_slice(), session) {
-            Some(at) => self.view_owned(alloc, rows, &self.transactions[at]),
+            Some(at) => self.transactions[at].view(alloc, rows),
             None => Err(Refusal::of_code(Code::NoActiveSqlTransaction)),
         }
     }
@@ -79,7 +75,7 @@ impl<A: Allocator> World<A> {
 
     /// The numbers of transactions, commits, identifiers and events so far.
     pub fn counted(&self) -> Base
-        ensures value { result ≡ record { transactions = self.now.base.transactions + length self.now.txns; commits = self.now.base.commits + length self.now.log; identifiers = self.now.base.identifiers + length self.now.exports; events = self.now.place } }
+        ensures value { result ≡ record { transactions = self.now.base.transactions + length self.now.txns; commits = self.now.base.commits; identifiers = self.now.base.identifiers + length self.now.exports; events = self.now.place } }
         ensures within { (result.transactions ≤ result.events) × (result.commits ≤ result.events) × (result.identifiers ≤ result.events) }
     {
         Base {

@@ -1,55 +1,20 @@
 // What the plain body keeps of a history's world.
-ghost use Rattle.std.specs.Prelude.{◌≡◌, ◌+◌, ◌^◌, ◌<◌, ◌≤◌, [], ◌∷◌, ◌++◌, length, map};
-ghost use Rattle.history.specs.Transactions.{Txn};
-ghost use Rattle.history.specs.Events.{doomed_by};
+ghost use Rattle.std.specs.Prelude.{◌≡◌, ◌+◌, ◌^◌, ◌<◌, ◌≤◌, [], length};
 ghost use Rattle.plain.specs.Courses.{on_course};
-ghost use Rattle.plain.specs.Ledger.{turned_at, written};
+ghost use Rattle.plain.specs.Ledger.{turned_at};
 
 use crate::course::Course;
 use crate::snapshots::ExportedSnapshot;
 use crate::transaction::Transaction;
 use history::base::Base;
-use schema::changes::Change;
 use std::alloc::{Allocator, Global};
 use std::marker::Model;
 
-/// A commit in the log: what it wrote.
-#[derive(Drop)]
-pub struct Logged<A: Allocator = Global> {
-    changes: Vec<Change<A>, A>,
-}
-
-impl<A: Allocator> Model for Logged<A> {
-    ghost use Rattle.history.specs.Transactions.{Txn};
-    ghost use Rattle.plain.specs.Ledger.{written};
-
-    ghost Value = { Txn A };
-
-    ghost view = { λ c. written c.changes.items };
-}
-
-impl<A: Allocator> Logged<A> {
-    /// A commit that wrote these changes.
-    pub(crate) fn of(changes: Vec<Change<A>, A>) -> Logged<A>
-        ensures { result ≡ written changes.items }
-    {
-        Logged { changes }
-    }
-
-    /// What it wrote.
-    pub(crate) fn changes(&self) -> &[Change<A>]
-        ensures { result.now ≡ self.now.changes }
-    {
-        self.changes.as_slice()
-    }
-}
-
-/// What is kept of the world that a history has come to: all but its catalog, its opening tables,
-/// statements, and tables of transactions' own.
+/// What is kept of the world that a history has come to: its numbers, the transactions that still
+/// matter, without statements and tables of their own, and the identifiers of snapshots.
 #[derive(Drop)]
 pub struct World<A: Allocator = Global> {
     pub(crate) base: Base,
-    pub(crate) log: Vec<Logged<A>, A>,
     pub(crate) transactions: Vec<Transaction<A>, A>,
     pub(crate) exports: Vec<ExportedSnapshot, A>,
     pub(crate) place: u64,
@@ -60,9 +25,9 @@ impl<A: Allocator> Model for World<A> {
 
     ghost Value = { Ledger A };
 
-    ghost view = { λ w. record { base = w.base; log = w.log.items; txns = w.transactions.items; exports = w.exports.items; place = w.place } };
+    ghost view = { λ w. record { base = w.base; txns = w.transactions.items; exports = w.exports.items; place = w.place } };
 
-    ghost invariant = { λ w. IsCounted (record { base = w.base; log = w.log.items; txns = w.transactions.items; exports = w.exports.items; place = w.place }) };
+    ghost invariant = { λ w. IsCounted (record { base = w.base; txns = w.transactions.items; exports = w.exports.items; place = w.place }) };
 }
 
 // Takes the transaction at a place to a course.
@@ -83,11 +48,10 @@ impl<A: Allocator> World<A> {
     where
         A: Copy,
         requires { (base.transactions ≤ base.events) × (base.commits ≤ base.events) × (base.identifiers ≤ base.events) }
-        ensures { result ≡ record { base = base; log = []; txns = []; exports = []; place = base.events } }
+        ensures { result ≡ record { base = base; txns = []; exports = []; place = base.events } }
     {
         World {
             base,
-            log: Vec::new(alloc),
             transactions: Vec::new(alloc),
             exports: Vec::new(alloc),
             place: base.events,
@@ -96,10 +60,10 @@ impl<A: Allocator> World<A> {
 
     /// How many commits of read-write transactions there were.
     pub(crate) fn commits(&self) -> u64
-        ensures count { result ≡ self.now.base.commits + length self.now.log }
+        ensures count { result ≡ self.now.base.commits }
         ensures bound { result ≤ self.now.place }
     {
-        self.base.commits + self.log.len() as u64
+        self.base.commits
     }
 
     /// An event that takes the transaction at a place to a course, and does nothing else.

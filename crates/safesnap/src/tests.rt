@@ -1,3 +1,5 @@
+//! Tests of what makes a snapshot safe, and what spoils it.
+
 use crate::waiting::{MAX_ACTIVE, State, Waiting};
 use std::test::Fail;
 use value::refusal::TxnNo;

@@ -1,3 +1,5 @@
+//! Whether a snapshot is safe, by how those that were active at it end.
+
 ghost use Rattle.std.specs.Prelude.{◌≡◌, ◌≤◌, ◌<◌, length, take};
 ghost use Rattle.std.specs.List.{filter, list_any};
 ghost use Rattle.safesnap.specs.Watch.{after_end, is_other, is_shown, is_txn, opened, state_of};

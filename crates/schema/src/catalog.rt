@@ -1,3 +1,5 @@
+//! The catalog: tables by name, each with its columns.
+
 ghost use Rattle.std.specs.Prelude.{◌≡◌, ◌<◌, ◌≤◌, ◌↔◌, [], length, slice_get, true, Some, IsTrue, IfSome, IfOk, IfErr};
 ghost use Rattle.value.specs.Refusals.{out_of_memory};
 ghost use Rattle.schema.specs.Definition.{columns_of, table_named, column_named};

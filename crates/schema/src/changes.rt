@@ -1,3 +1,5 @@
+//! Changes of rows, at most one for each key.
+
 ghost use Rattle.std.specs.Prelude.{◌≡◌, ◌<◌, ◌≤◌, ◌^◌, [], vec_len, slice_index_or, OnOk, OnErr, IfOk, IfErr, IfSome};
 ghost use Rattle.std.specs.Option.{option_map, option_copied};
 ghost use Rattle.value.specs.Refusals.{out_of_memory};

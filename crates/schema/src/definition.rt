@@ -1,3 +1,5 @@
+//! A table as it is written, its references by name.
+
 ghost use Rattle.std.specs.Prelude.{◌≡◌, ◌<◌, true, vec_len};
 ghost use Rattle.std.specs.List.{list_all};
 ghost use Rattle.std.specs.Option.{option_copied};

@@ -1,3 +1,5 @@
+//! Names, and the words that name nothing.
+
 ghost use Rattle.std.specs.Prelude.{◌≡◌};
 ghost use Rattle.std.specs.List.{list_all};
 ghost use Rattle.schema.specs.Names.{is_reserved, is_name, is_small_word, begins_name, continues_name};

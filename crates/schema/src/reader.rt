@@ -1,3 +1,5 @@
+//! What gives the rows of tables, and walks over them.
+
 ghost use Rattle.std.specs.Prelude.{◌≡◌, ◌≤◌, ◌<◌, List, length};
 ghost use Rattle.std.specs.Option.{option_copied};
 ghost use Rattle.schema.specs.Keyed.{start_of, shown_bound};

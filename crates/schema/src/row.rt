@@ -1,3 +1,5 @@
+//! A row: its key, and the fields beside it.
+
 ghost use Rattle.std.specs.Prelude.{◌≡◌, ◌+◌, ◌-◌, ◌<◌, ◌≤◌, ◌∷◌, length, slice_get, Some, IfOk, IfErr};
 ghost use Rattle.value.specs.Refusals.{out_of_memory};
 

@@ -1,3 +1,5 @@
+//! The rows of one table by key.
+
 ghost use Rattle.std.specs.Prelude.{◌≡◌, [], None, length, is_some, OnOk, OnErr, IfOk, IfErr};
 ghost use Rattle.std.specs.FinMap.{find};
 ghost use Rattle.value.specs.Order.{value_cmp};

@@ -17,7 +17,7 @@ use history::event::Action;
 use pass::token::Pass;
 use pass::word::Naming;
 use schema::catalog::Catalog;
-use session::laws::{readers_are_sound, readers_stay};
+use serial::laws::{readers_are_sound, readers_stay};
 use session::reader::SessionReader;
 use statement::evaluate::{evaluate, sound_tables_are_held};
 use statement::reply::Reply;

@@ -16,10 +16,10 @@ use Rattle.history.specs.Serial.{Stays, committed, in_commit_order, key, keys_by
 use Rattle.history.specs.Answer.{Legal}
 use Rattle.history.proofs.Alone.{In-filter, filter-In}
 use Rattle.plain.specs.Keys.{committed_at}
-use Rattle.session.proofs.Legal.{found}
-use Rattle.session.proofs.Later.{legal_begins, legal_stays}
-use Rattle.session.proofs.SafePrefix.{by_all}
-use Rattle.session.proofs.SerialTheorem.{IsGood, good_world, isolated_world}
+use Rattle.serial.proofs.Legal.{found}
+use Rattle.serial.proofs.Later.{legal_begins, legal_stays}
+use Rattle.serial.proofs.SafePrefix.{by_all}
+use Rattle.serial.proofs.SerialTheorem.{IsGood, good_world, isolated_world}
 
 is_least : (a b : ℕ) → nat_le a b ≡ true → a ≤ b
 is_least a b e = grind (arith, nat_tests)
@@ -59,7 +59,7 @@ abbrev entry : ℕ → ℕ × ℕ × ℕ → ℕ × (ℕ × ℕ × ℕ)
 entry n k = (n, k)
 
 module _ {A : Type 0} where
-  abbrev by_end : Txn A → ℕ × ℕ × ℕ
+  abbrev pub by_end : Txn A → ℕ × ℕ × ℕ
   by_end t = (t.end, 0, 0)
 
   abbrev done : Txn A → Bool
@@ -83,7 +83,7 @@ module _ {A : Type 0} where
       same : (u : Txn A) → t ≡ u → Tied (key x t) (key x u)
       same u p = (ap (λ (y : Txn A). (key x y).0) p, ap (λ (y : Txn A). (key x y).1) p, ap (λ (y : Txn A). (key x y).2) p)
 
-  ordered : (x : World A) → IsGood x → InOrder by_end (in_commit_order x)
+  pub ordered : (x : World A) → IsGood x → InOrder by_end (in_commit_order x)
   ordered x g = sorted-InOrder by_end (committed x) (ends_apart x g (committed x) (λ t i. i) (isolated_world x g).keys_apart)
 
   InOrder-push : (xs : List (Txn A)) (t : Txn A) → InOrder by_end xs → ((x : Txn A) → In x xs → x.end < t.end) → InOrder by_end (xs ++ t ∷ [])

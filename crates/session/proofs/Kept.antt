@@ -1,30 +1,30 @@
--- What is kept of a world answers as the world does, and comes to what is kept of what the world comes to.
-use Rattle.std.proofs.Common.{◌≡◌, refl, sym, ap, subst, ◌∙◌, ℕ, suc, ◌+◌, ◌-◌, ◌<◌, ◌≤◌, Bool, true, false, cond, not, ◌&&◌, ◌||◌, inl, inr, List, [], ◌∷◌, ◌++◌, length, map, filter, fold, take, Option, Some, None, is_some, eqb, nat_lt, nat_le, arith}
+-- Transactions without their statements and own tables answer as whole ones do, and an event makes of them what it makes of whole ones.
+use Rattle.std.proofs.Common.{◌≡◌, refl, sym, ap, ◌∙◌, ℕ, suc, ◌+◌, Bool, true, false, cond, not, ◌&&◌, ◌||◌, inl, inr, List, [], ◌∷◌, ◌++◌, length, length-append, map, filter, fold, Option, Some, None, is_some, eqb, nat_lt, nat_le, arith}
+use Rattle.std.proofs.lemmas.List.{append-nil}
 use Rattle.std.specs.List.{list_any, find}
 use Rattle.std.specs.Option.{option_map, option_to_list}
-use Rattle.value.specs.declared.refusal.Mode.{Mode}
 use Rattle.value.specs.declared.refusal.Cause.{Cause}
 use Rattle.value.specs.declared.refusal.Code.TheVariants as code
+use Rattle.value.proofs.IsolationLemmas.{In}
 use Rattle.value.specs.Isolation.{is_dangerous, earliest, earlier, caused, first_some, first_cause, dooms, with_doom, doom_of, is_live, is_first, cause_from}
 use Rattle.schema.specs.declared.changes.Change.{Change}
 use Rattle.schema.specs.declared.tables.Tables.{Tables}
 use Rattle.schema.specs.Plain.{put_all}
 use Rattle.statement.specs.declared.reply.Reply.{Reply}
-use Rattle.statement.specs.declared.reply.Reply.TheVariants.{Begun, Committed, Imported, Safe, Wait, Exported, Refused}
+use Rattle.statement.specs.declared.reply.Reply.TheVariants.{Committed, Imported, Safe, Wait, Exported, Refused}
 use Rattle.statement.specs.Evaluation.{outcome, writes}
 use Rattle.history.specs.declared.event.Action.{Action}
-use Rattle.history.specs.declared.event.Action.TheVariants.{Begin, Run, Poll, Export, Import, Commit}
-use Rattle.history.specs.Transactions.{Standing, Open, Doomed, Failed, Aborted, Done, Txn, World, Exported_snapshot, node, edge, reads_from, is_of, is_open, is_done, is_read_write, is_read_only, is_deferrable, was_active, spoils, is_spoilt, is_pending, is_living, must_wait, commits, tables_at, with_all, current, exported}
-use Rattle.history.specs.Events.{begun, ended, numbered, polled, with_snapshot, import, moved, turned_from, turned, causes, doomed_by, doomed_with, replaced, txns_after, log_after, exports_after, without_transaction, followed, follows}
+use Rattle.history.specs.declared.event.Action.TheVariants.{Run, Poll, Export, Import, Commit}
+use Rattle.history.specs.declared.base.Base.{Base}
+use Rattle.history.specs.Transactions.{Standing, Open, Doomed, Failed, Aborted, Done, Txn, World, Exported_snapshot, node, edge, reads_from, is_of, is_open, is_done, is_read_write, is_read_only, is_deferrable, was_active, spoils, is_spoilt, is_pending, is_living, must_wait, commits, current, exported}
+use Rattle.history.specs.Events.{ended, numbered, polled, with_snapshot, import, moved, turned_from, turned, causes, doomed_by, doomed_with, replaced, txns_after, log_after, exports_after, next_identifier}
 use Rattle.history.specs.Answer.{reply_in, reply_of, reply_from, open_reply, run_reply, commit_reply, meets_another, is_taken, is_refused, refuses, refuses_row}
-use Rattle.plain.specs.Ledger.{kept, written, ledger, world_on, with_own, ready, ready_for, logged, turned_all, kept_after}
-use Rattle.session.proofs.Legal.{current_in}
-use Rattle.session.proofs.SerialTheorem.{IsGood}
+use Rattle.plain.specs.Ledger.{kept, committed_by, counted, with_own, ready, ready_for, turned_all}
 
 -- ---- lists whose members are seen through a function
 
 module _ {T U : Type 0} (f : T → U) where
-  any_map : (p : U → Bool) (ts : List T) → list_any p (map f ts) ≡ list_any (λ t. p (f t)) ts
+  pub any_map : (p : U → Bool) (ts : List T) → list_any p (map f ts) ≡ list_any (λ t. p (f t)) ts
   any_map p [] = refl
   any_map p (t ∷ ts) = ap (λ b. p (f t) || b) (any_map p ts)
 
@@ -36,7 +36,7 @@ module _ {T U : Type 0} (f : T → U) where
       go true e = refl
       go false e = e
 
-  filter_map : (p : U → Bool) (ts : List T) → filter p (map f ts) ≡ map f (filter (λ t. p (f t)) ts)
+  pub filter_map : (p : U → Bool) (ts : List T) → filter p (map f ts) ≡ map f (filter (λ t. p (f t)) ts)
   filter_map p [] = refl
   filter_map p (t ∷ ts) = go (p (f t)) (filter_map p ts)
     where
@@ -52,7 +52,7 @@ module _ {T U : Type 0} (f : T → U) where
   fold_map g b [] = refl
   fold_map g b (t ∷ ts) = fold_map g (g b (f t)) ts
 
-  map_append : (ts us : List T) → map f (ts ++ us) ≡ map f ts ++ map f us
+  pub map_append : (ts us : List T) → map f (ts ++ us) ≡ map f ts ++ map f us
   map_append [] us = refl
   map_append (t ∷ ts) us = ap (λ ys. f t ∷ ys) (map_append ts us)
 
@@ -61,11 +61,11 @@ module _ {T U : Type 0} (f : T → U) where
   length_map (t ∷ ts) = ap suc (length_map ts)
 
 module _ {T : Type 0} where
-  any_same : (p q : T → Bool) → ((t : T) → p t ≡ q t) → (ts : List T) → list_any p ts ≡ list_any q ts
+  pub any_same : (p q : T → Bool) → ((t : T) → p t ≡ q t) → (ts : List T) → list_any p ts ≡ list_any q ts
   any_same p q h [] = refl
   any_same p q h (t ∷ ts) = ap (λ b. b || list_any p ts) (h t) ∙ ap (λ b. q t || b) (any_same p q h ts)
 
-  find_same : (p q : T → Bool) → ((t : T) → p t ≡ q t) → (ts : List T) → find p ts ≡ find q ts
+  pub find_same : (p q : T → Bool) → ((t : T) → p t ≡ q t) → (ts : List T) → find p ts ≡ find q ts
   find_same p q h [] = refl
   find_same p q h (t ∷ ts) = ap (λ b. cond b (Some t) (find p ts)) (h t) ∙ ap (λ o. cond (q t) (Some t) o) (find_same p q h ts)
 
@@ -132,10 +132,10 @@ module _ {A : Type 0} where
   pending_kept : (ts : List (Txn A)) (t : Txn A) → is_pending (all_kept ts) t ≡ is_pending ts t
   pending_kept ts t = any_map kept (λ u. was_active t u && is_open u.standing) ts
 
-  living_kept : (ts : List (Txn A)) (x : Exported_snapshot) → is_living (all_kept ts) x ≡ is_living ts x
+  pub living_kept : (ts : List (Txn A)) (x : Exported_snapshot) → is_living (all_kept ts) x ≡ is_living ts x
   living_kept ts x = any_map kept (λ t. eqb t.number x.exporter && is_open t.standing) ts
 
-  replaced_kept : (x : Txn A) (ts : List (Txn A)) → replaced (kept x) (all_kept ts) ≡ all_kept (replaced x ts)
+  pub replaced_kept : (x : Txn A) (ts : List (Txn A)) → replaced (kept x) (all_kept ts) ≡ all_kept (replaced x ts)
   replaced_kept x [] = refl
   replaced_kept x (t ∷ ts) = ap (λ us. cond (eqb t.number x.number) (kept x) (kept t) ∷ us) (replaced_kept x ts) ∙ ap (λ u. u ∷ all_kept (replaced x ts)) (go (eqb t.number x.number))
     where
@@ -164,176 +164,161 @@ module _ {A : Type 0} where
       go true = refl
       go false = refl
 
-  -- ---- the tables at a snapshot
+  -- ---- the world of what is kept
 
-  abbrev logs : List (Txn A) → List (Txn A)
-  logs ts = map (λ (t : Txn A). written t.changes) ts
+  -- the world with its transactions as they are kept, over other tables, with other numbers, identifiers and no log
+  abbrev pub on : World A → Tables A → Base → List Exported_snapshot → World A
+  on w X b xs = record { catalog = w.catalog; opening = X; base = b; log = []; txns = map kept w.txns; exports = xs; place = w.place }
 
-  shown_kept : (ts : List (Txn A)) (n : ℕ) (X : Tables A) → with_all (take n (logs ts)) X ≡ with_all (take n ts) X
-  shown_kept ts Rattle.std.proofs.Common.zero X = refl
-  shown_kept [] (suc n) X = refl
-  shown_kept (t ∷ ts) (suc n) X = shown_kept ts n (put_all t.changes X)
+  -- The other numbers and identifiers come to the same.
+  pub record IsLike (w v : World A) : Type 0 where
+    pub commits : commits v ≡ commits w
+    pub next : next_identifier v ≡ next_identifier w
+    pub exported : (n : ℕ) → exported v n ≡ exported w n
 
-  -- ---- replies
+  module _ (w : World A) (X : Tables A) (b : Base) (xs : List Exported_snapshot) (tables : ℕ → Tables A) (like : IsLike w (on w X b xs)) where
+    abbrev v : World A
+    v = on w X b xs
 
-  module _ (w : World A) where
-    abbrev pub kept_world : World A
-    kept_world = world_on w.catalog w.opening (ledger w)
-
-    pub same_commits : commits kept_world ≡ commits w
-    same_commits = ap (λ n. w.base.commits + n) (length_map (λ (t : Txn A). written t.changes) w.log)
-
-    pub same_current : (s : ℕ) → current kept_world s ≡ option_map kept (current w s)
+    pub same_current : (s : ℕ) → current v s ≡ option_map kept (current w s)
     same_current s = find_map kept (is_of s) w.txns
 
-    same_exported : (n : ℕ) → exported kept_world n ≡ exported w n
-    same_exported n = find_same _ _ (λ x. ap (λ b. eqb x.id n && b) (living_kept w.txns x)) w.exports
+    same_meets : (t : Txn A) (ys : List (Change A)) → meets_another v t ys ≡ meets_another w t ys
+    same_meets t ys = any_same _ _ (λ x. any_map kept (λ u. is_taken t u x) w.txns) ys
 
-    same_meets : (t : Txn A) (xs : List (Change A)) → meets_another kept_world t xs ≡ meets_another w t xs
-    same_meets t xs = any_same _ _ (λ x. any_map kept (λ u. is_taken t u x) w.txns) xs
-
-    same_numbered : (t : Txn A) → numbered kept_world (kept t) ≡ kept (numbered w t)
-    same_numbered t = ap (λ n. cond (is_read_write t.mode) (record (ended w Done (kept t)) { commit = n + 1 }) (ended w Done (kept t))) same_commits ∙ go (is_read_write t.mode)
+    pub same_numbered : (t : Txn A) → numbered v (kept t) ≡ kept (numbered w t)
+    same_numbered t = ap (λ n. cond (is_read_write t.mode) (record (ended w Done (kept t)) { commit = n + 1 }) (ended w Done (kept t))) like.commits ∙ go (is_read_write t.mode)
       where
-        go : (b : Bool) → cond b (record (ended w Done (kept t)) { commit = commits w + 1 }) (ended w Done (kept t)) ≡ kept (cond b (record (ended w Done t) { commit = commits w + 1 }) (ended w Done t))
+        go : (c : Bool) → cond c (record (ended w Done (kept t)) { commit = commits w + 1 }) (ended w Done (kept t)) ≡ kept (cond c (record (ended w Done t) { commit = commits w + 1 }) (ended w Done t))
         go true = refl
         go false = refl
 
-    same_polled : (t : Txn A) → kept (polled kept_world (kept t)) ≡ kept (polled w t)
+    same_polled : (t : Txn A) → kept (polled v (kept t)) ≡ kept (polled w t)
     same_polled t =
-        ap (λ b. kept (cond (not t.known && b) (with_snapshot kept_world (commits kept_world) (w.place + 1) (kept t)) (kept t))) (spoilt_kept w.txns t)
+        ap (λ c. kept (cond (not t.known && c) (with_snapshot v (commits v) (w.place + 1) (kept t)) (kept t))) (spoilt_kept w.txns t)
         ∙ go (not t.known && is_spoilt w.txns t)
       where
-        go : (b : Bool) → kept (cond b (with_snapshot kept_world (commits kept_world) (w.place + 1) (kept t)) (kept t)) ≡ kept (cond b (with_snapshot w (commits w) (w.place + 1) t) t)
-        go true = ap (λ n. record (kept t) { snapshot = n; taken = w.place + 1 }) same_commits
+        go : (c : Bool) → kept (cond c (with_snapshot v (commits v) (w.place + 1) (kept t)) (kept t)) ≡ kept (cond c (with_snapshot w (commits w) (w.place + 1) t) t)
+        go true = ap (λ n. record (kept t) { snapshot = n; taken = w.place + 1 }) like.commits
         go false = refl
 
-    pub same_tables : (n : ℕ) → tables_at kept_world n ≡ tables_at w n
-    same_tables n = shown_kept w.log (n - w.base.commits) w.opening
+    -- ---- replies
 
     -- A transaction's own tables are its changes put into the tables at its snapshot.
     abbrev pub HasOwn : Txn A → Type 0
-    HasOwn t = t.own ≡ put_all t.changes (tables_at w t.snapshot)
+    HasOwn t = t.own ≡ put_all t.changes (tables t.snapshot)
 
-    pub same_ready : (t : Txn A) → HasOwn t → with_own (tables_at kept_world) (kept t) ≡ record t { statements = [] }
-    same_ready t own = ap (λ X. record t { statements = []; own = X }) (ap (put_all t.changes) (shown_kept w.log (t.snapshot - w.base.commits) w.opening) ∙ sym own)
+    pub same_ready : (t : Txn A) → HasOwn t → with_own tables (kept t) ≡ record t { statements = [] }
+    same_ready t own = ap (λ Y. record t { statements = []; own = Y }) (sym own)
 
-    ready_standing : (a : Action A) (t : Txn A) → (ready (tables_at kept_world) a (kept t)).standing ≡ t.standing
+    ready_standing : (a : Action A) (t : Txn A) → (ready tables a (kept t)).standing ≡ t.standing
     ready_standing (Run q) t = refl
     ready_standing _ t = refl
 
-    ready_kept : (a : Action A) (t : Txn A) → kept (ready (tables_at kept_world) a (kept t)) ≡ kept t
+    ready_kept : (a : Action A) (t : Txn A) → kept (ready tables a (kept t)) ≡ kept t
     ready_kept (Run q) t = refl
     ready_kept _ t = refl
 
-    same_open : (t : Txn A) → HasOwn t → (a : Action A) → open_reply kept_world (ready (tables_at kept_world) a (kept t)) a ≡ open_reply w t a
+    same_open : (t : Txn A) → HasOwn t → (a : Action A) → open_reply v (ready tables a (kept t)) a ≡ open_reply w t a
     same_open t own (Run q) =
-        ap (λ (x : Txn A). run_reply kept_world x q) (same_ready t own)
-        ∙ ap (λ b. cond (must_wait t) (refuses code.ObjectNotInPrerequisiteState) (cond (writes q && not (is_read_write t.mode)) (refuses code.ReadOnlySqlTransaction)
-        (cond (is_refused (outcome w.catalog q t.own).reply) (outcome w.catalog q t.own).reply (cond b refuses_row (outcome w.catalog q t.own).reply)))) (same_meets t (outcome w.catalog q t.own).changes)
+        ap (λ (x : Txn A). run_reply v x q) (same_ready t own)
+        ∙ ap (λ c. cond (must_wait t) (refuses code.ObjectNotInPrerequisiteState) (cond (writes q && not (is_read_write t.mode)) (refuses code.ReadOnlySqlTransaction)
+        (cond (is_refused (outcome w.catalog q t.own).reply) (outcome w.catalog q t.own).reply (cond c refuses_row (outcome w.catalog q t.own).reply)))) (same_meets t (outcome w.catalog q t.own).changes)
     same_open t own Poll =
         ap (λ (x : Txn A). cond (not (is_deferrable t.mode)) (refuses code.ObjectNotInPrerequisiteState) (cond t.known (Safe t.snapshot) (cond {A = Reply A} (is_pending (all_kept w.txns) x) Wait (Safe x.snapshot)))) (same_polled t)
-        ∙ ap (λ b. cond (not (is_deferrable t.mode)) (refuses code.ObjectNotInPrerequisiteState) (cond t.known (Safe t.snapshot) (cond {A = Reply A} b Wait (Safe (polled w t).snapshot)))) (pending_kept w.txns (polled w t))
+        ∙ ap (λ c. cond (not (is_deferrable t.mode)) (refuses code.ObjectNotInPrerequisiteState) (cond t.known (Safe t.snapshot) (cond {A = Reply A} c Wait (Safe (polled w t).snapshot)))) (pending_kept w.txns (polled w t))
+    same_open t own Export = ap (λ n. cond {A = Reply A} (must_wait t) (refuses code.ObjectNotInPrerequisiteState) (Exported n)) like.next
     same_open t own (Import n) =
-        ap (λ o. cond {A = Reply A} (not (is_read_only t.mode)) (refuses code.ObjectNotInPrerequisiteState) (cond t.asked (refuses code.ActiveSqlTransaction) (cond (is_some o) Imported (refuses code.ObjectNotInPrerequisiteState)))) (same_exported n)
+        ap (λ o. cond {A = Reply A} (not (is_read_only t.mode)) (refuses code.ObjectNotInPrerequisiteState) (cond t.asked (refuses code.ActiveSqlTransaction) (cond (is_some o) Imported (refuses code.ObjectNotInPrerequisiteState)))) (like.exported n)
     same_open t own Commit =
         ap commit_reply (ap (λ x. first_cause node edge (replaced x (all_kept w.txns))) (same_numbered t) ∙ ap (first_cause node edge) (replaced_kept (numbered w t) w.txns) ∙ first_kept (replaced (numbered w t) w.txns))
     same_open t own _ = refl
 
-    same_from : (t : Txn A) → HasOwn t → (a : Action A) (st : Standing) → reply_from st kept_world (ready (tables_at kept_world) a (kept t)) a ≡ reply_from st w t a
+    same_from : (t : Txn A) → HasOwn t → (a : Action A) (st : Standing) → reply_from st v (ready tables a (kept t)) a ≡ reply_from st w t a
     same_from t own a Open = same_open t own a
     same_from t own a _ = refl
 
-    same_of : (a : Action A) (o : Option (Txn A)) → ((t : Txn A) → o ≡ Some t → HasOwn t) → reply_of kept_world (ready_for (tables_at kept_world) a (option_map kept o)) a ≡ reply_of w o a
+    same_of : (a : Action A) (o : Option (Txn A)) → ((t : Txn A) → o ≡ Some t → HasOwn t) → reply_of v (ready_for tables a (option_map kept o)) a ≡ reply_of w o a
     same_of a None own = refl
-    same_of a (Some t) own = ap (λ st. reply_from st kept_world (ready (tables_at kept_world) a (kept t)) a) (ready_standing a t) ∙ same_from t (own t refl) a t.standing
+    same_of a (Some t) own = ap (λ st. reply_from st v (ready tables a (kept t)) a) (ready_standing a t) ∙ same_from t (own t refl) a t.standing
 
-    pub same_reply : (s : ℕ) (a : Action A) → ((t : Txn A) → current w s ≡ Some t → HasOwn t) → reply_of kept_world (ready_for (tables_at kept_world) a (current kept_world s)) a ≡ reply_in w s a
-    same_reply s a own = ap (λ o. reply_of kept_world (ready_for (tables_at kept_world) a o) a) (same_current s) ∙ same_of a (current w s) own
+    pub same_reply : (s : ℕ) (a : Action A) → ((t : Txn A) → current w s ≡ Some t → HasOwn t) → reply_of v (ready_for tables a (current v s)) a ≡ reply_in w s a
+    same_reply s a own = ap (λ o. reply_of v (ready_for tables a o) a) (same_current s) ∙ same_of a (current w s) own
 
-    -- ---- what an event makes
+    -- ---- what an event makes of the session's transaction, and of the others
 
-    same_moved : (t : Txn A) → HasOwn t → (a : Action A) (r : Reply A) → kept (moved kept_world a r (ready (tables_at kept_world) a (kept t))) ≡ kept (moved w a r t)
+    same_moved : (t : Txn A) → HasOwn t → (a : Action A) (r : Reply A) → kept (moved v a r (ready tables a (kept t))) ≡ kept (moved w a r t)
     same_moved t own (Run q) (Refused r) = go (Rattle.history.specs.Events.goes_on r.code)
       where
-        go : (b : Bool) → kept (cond b (with_own (tables_at kept_world) (kept t)) (ended w Failed (with_own (tables_at kept_world) (kept t)))) ≡ kept (cond b t (ended w Failed t))
+        go : (c : Bool) → kept (cond c (with_own tables (kept t)) (ended w Failed (with_own tables (kept t)))) ≡ kept (cond c t (ended w Failed t))
         go true = refl
         go false = refl
-    same_moved t own (Run q) r = ap (λ (x : Txn A). kept (Rattle.history.specs.Events.ran kept_world q r x)) (same_ready t own)
+    same_moved t own (Run q) r = ap (λ (x : Txn A). kept (Rattle.history.specs.Events.ran v q r x)) (same_ready t own)
     same_moved t own Poll (Safe s) = ap (λ (x : Txn A). record x { known = true }) (same_polled t)
     same_moved t own Poll Wait = same_polled t
-    same_moved t own (Import n) Imported = ap (λ o. kept (import o kept_world (kept t))) (same_exported n) ∙ go (exported w n)
+    same_moved t own (Import n) Imported = ap (λ o. kept (import o v (kept t))) (like.exported n) ∙ go (exported w n)
       where
-        go : (o : Option Exported_snapshot) → kept (import o kept_world (kept t)) ≡ kept (import o w t)
+        go : (o : Option Exported_snapshot) → kept (import o v (kept t)) ≡ kept (import o w t)
         go None = refl
         go (Some x) = refl
     same_moved t own Export (Exported i) = refl
     same_moved t own Commit Committed = ap kept (same_numbered t)
     same_moved t own _ _ = refl
 
-    same_turned_from : (t : Txn A) → HasOwn t → (a : Action A) (r : Reply A) (st : Standing) → kept (turned_from st kept_world a r (ready (tables_at kept_world) a (kept t))) ≡ kept (turned_from st w a r t)
+    same_turned_from : (t : Txn A) → HasOwn t → (a : Action A) (r : Reply A) (st : Standing) → kept (turned_from st v a r (ready tables a (kept t))) ≡ kept (turned_from st w a r t)
     same_turned_from t own a r Open = same_moved t own a r
     same_turned_from t own a r (Doomed c) = ap (λ (x : Txn A). record x { standing = Rattle.history.specs.Events.told a x.standing }) (ready_kept a t)
     same_turned_from t own a r Failed = ap (λ (x : Txn A). record x { standing = Rattle.history.specs.Events.settled a x.standing }) (ready_kept a t)
     same_turned_from t own a r Aborted = ready_kept a t
     same_turned_from t own a r Done = ready_kept a t
 
-    same_turned : (t : Txn A) → HasOwn t → (a : Action A) (r : Reply A) → kept (turned kept_world a r (ready (tables_at kept_world) a (kept t))) ≡ kept (turned w a r t)
-    same_turned t own a r = ap (λ st. kept (turned_from st kept_world a r (ready (tables_at kept_world) a (kept t)))) (ready_standing a t) ∙ same_turned_from t own a r t.standing
+    same_turned : (t : Txn A) → HasOwn t → (a : Action A) (r : Reply A) → kept (turned v a r (ready tables a (kept t))) ≡ kept (turned w a r t)
+    same_turned t own a r = ap (λ st. kept (turned_from st v a r (ready tables a (kept t)))) (ready_standing a t) ∙ same_turned_from t own a r t.standing
 
-    numbered_changes : (t : Txn A) → (numbered w t).changes ≡ t.changes
-    numbered_changes t = go (is_read_write t.mode)
-      where
-        go : (b : Bool) → (cond b (record (ended w Done t) { commit = commits w + 1 }) (ended w Done t)).changes ≡ t.changes
-        go true = refl
-        go false = refl
-
-    same_log : (t : Txn A) (a : Action A) (r : Reply A) → logged kept_world a r (ready (tables_at kept_world) a (kept t)) ≡ logs (log_after w a r t)
-    same_log t Commit Committed = go (is_read_write t.mode)
-      where
-        go : (b : Bool) → cond b (logs w.log ++ written t.changes ∷ []) (logs w.log) ≡ logs (cond b (w.log ++ numbered w t ∷ []) w.log)
-        go true = ap (λ xs. logs w.log ++ written xs ∷ []) (sym (numbered_changes t)) ∙ sym (map_append (λ (u : Txn A). written u.changes) w.log (numbered w t ∷ []))
-        go false = refl
-    same_log t _ _ = refl
-
-    same_exports : (t : Txn A) (a : Action A) (r : Reply A) → exports_after kept_world a r (ready (tables_at kept_world) a (kept t)) ≡ exports_after w a r t
-    same_exports t Export (Exported i) = refl
-    same_exports t _ _ = refl
-
-    same_replaced : (t : Txn A) → HasOwn t → (a : Action A) (r : Reply A) → replaced (kept (turned kept_world a r (ready (tables_at kept_world) a (kept t)))) (all_kept w.txns) ≡ all_kept (replaced (turned w a r t) w.txns)
+    same_replaced : (t : Txn A) → HasOwn t → (a : Action A) (r : Reply A) → replaced (kept (turned v a r (ready tables a (kept t)))) (all_kept w.txns) ≡ all_kept (replaced (turned w a r t) w.txns)
     same_replaced t own a r = ap (λ x. replaced x (all_kept w.txns)) (same_turned t own a r) ∙ replaced_kept (turned w a r t) w.txns
 
-    same_turned_all : (t : Txn A) → HasOwn t → (a : Action A) (r : Reply A) → turned_all kept_world a r (ready (tables_at kept_world) a (kept t)) ≡ all_kept (txns_after w a r t)
+    pub same_turned_all : (t : Txn A) → HasOwn t → (a : Action A) (r : Reply A) → turned_all v a r (ready tables a (kept t)) ≡ all_kept (txns_after w a r t)
     same_turned_all t own Commit Committed =
-        ap (map (doomed_by (w.place + 1) (causes kept_world Commit Committed (kept t)))) (same_replaced t own Commit Committed)
+        ap (map (doomed_by (w.place + 1) (causes v Commit Committed (kept t)))) (same_replaced t own Commit Committed)
         ∙ ap (λ cs. map (doomed_by (w.place + 1) (cond (is_read_write t.mode) cs [])) (all_kept (replaced (turned w Commit Committed t) w.txns))) (dooms_kept w.txns t)
         ∙ doomed_kept (w.place + 1) (causes w Commit Committed t) (replaced (turned w Commit Committed t) w.txns)
     same_turned_all t own a r = same_replaced t own a r ∙ ap all_kept (sym (spared (w.place + 1) (replaced (turned w a r t) w.txns)))
 
-    same_begun : (s : ℕ) (m : Mode) → kept (begun kept_world s m) ≡ kept (begun w s m)
-    same_begun s m =
-        ap (λ n. record (kept (begun w s m)) { number = w.base.transactions + n + 1; snapshot = commits kept_world }) (length_map kept w.txns)
-        ∙ ap (λ n. record (kept (begun w s m)) { snapshot = n }) same_commits
+    -- ---- what it uses up
 
-    same_joined : (s : ℕ) (a : Action A) (r : Reply A) → kept_after kept_world s a r None ≡ ledger (without_transaction w s a r)
-    same_joined s (Begin m) Begun =
-        ap (λ ts. record (ledger w) { txns = ts; place = w.place + 1 }) (ap (λ x. all_kept w.txns ++ x ∷ []) (same_begun s m) ∙ sym (map_append kept w.txns (begun w s m ∷ [])))
-    same_joined s _ _ = refl
+    -- A commit number is used up where the log grows.
+    pub same_counted : (t : Txn A) (a : Action A) (r : Reply A) → (counted v a r (ready tables a (kept t))).commits ≡ w.base.commits + length (log_after w a r t)
+    same_counted t Commit Committed = go (is_read_write t.mode)
+      where
+        now : b.commits ≡ commits w
+        now = omega (arith, like.commits)
 
-    same_after : (s : ℕ) (a : Action A) (r : Reply A) (o : Option (Txn A)) → ((t : Txn A) → o ≡ Some t → HasOwn t)
-        → kept_after kept_world s a r (ready_for (tables_at kept_world) a (option_map kept o)) ≡ ledger (followed w (record { session = s; action = a; reply = r }) o)
-    same_after s a r None own = same_joined s a r
-    same_after s a r (Some t) own =
-        let h = own t refl in
-        ap (λ ts. record { base = w.base; log = logged kept_world a r (ready (tables_at kept_world) a (kept t)); txns = ts; exports = exports_after kept_world a r (ready (tables_at kept_world) a (kept t)); place = w.place + 1 }) (same_turned_all t h a r)
-        ∙ ap (λ ts. record { base = w.base; log = ts; txns = all_kept (txns_after w a r t); exports = exports_after kept_world a r (ready (tables_at kept_world) a (kept t)); place = w.place + 1 }) (same_log t a r)
-        ∙ ap (λ xs. record { base = w.base; log = logs (log_after w a r t); txns = all_kept (txns_after w a r t); exports = xs; place = w.place + 1 }) (same_exports t a r)
+        go : (c : Bool) → (cond c (record b { commits = b.commits + 1 }) b).commits ≡ w.base.commits + length (cond c (w.log ++ numbered w t ∷ []) w.log)
+        go true = rw length-append (omega (arith, now))
+        go false = now
+    same_counted t _ _ = omega (arith, like.commits)
 
-    pub same_follows : (s : ℕ) (a : Action A) (r : Reply A) → ((t : Txn A) → current w s ≡ Some t → HasOwn t)
-        → kept_after kept_world s a r (ready_for (tables_at kept_world) a (current kept_world s)) ≡ ledger (follows w (record { session = s; action = a; reply = r }))
-    same_follows s a r own = ap (λ o. kept_after kept_world s a r (ready_for (tables_at kept_world) a o)) (same_current s) ∙ same_after s a r (current w s) own
+    -- Transactions and identifiers are counted by the lists.
+    pub counted_rest : (t : Txn A) (a : Action A) (r : Reply A) → ((counted v a r t).transactions ≡ b.transactions) × ((counted v a r t).identifiers ≡ b.identifiers)
+    counted_rest t Commit Committed = go (is_read_write t.mode)
+      where
+        go : (c : Bool) → ((cond c (record b { commits = b.commits + 1 }) b).transactions ≡ b.transactions) × ((cond c (record b { commits = b.commits + 1 }) b).identifiers ≡ b.identifiers)
+        go true = (refl, refl)
+        go false = (refl, refl)
+    counted_rest t _ _ = (refl, refl)
 
-  -- ---- after a legal history
+    -- The identifiers grow by the same.
+    pub same_exports : (t : Txn A) (a : Action A) (r : Reply A) → (more : List Exported_snapshot) × (exports_after v a r (ready tables a (kept t)) ≡ xs ++ more) × (exports_after w a r t ≡ w.exports ++ more) × ((y : Exported_snapshot) → In y more → y.exporter ≡ t.number)
+    same_exports t Export (Exported i) = (
+      record { id = i; exporter = t.number; snapshot = t.snapshot; taken = t.taken; known = t.known } ∷ [],
+      refl,
+      refl,
+      λ y j. elim j [ inl p ↦ ap (λ (z : Exported_snapshot). z.exporter) p | inr z ↦ absurd z ],
+    )
+    same_exports t _ _ = ([], sym (append-nil xs), sym (append-nil w.exports), λ y j. absurd j)
 
-  pub has_own : (w : World A) → IsGood w → (s : ℕ) (t : Txn A) → current w s ≡ Some t → HasOwn w t
-  has_own w g s t e = (g.faithful.each t (current_in w s t e).0).own
+    -- What is committed is what the log gets.
+    pub same_committed : (t : Txn A) (a : Action A) (r : Reply A) → committed_by a r (Some (kept t)) ≡ committed_by a r (Some t)
+    same_committed t Commit Committed = refl
+    same_committed t _ _ = refl

@@ -19,15 +19,17 @@ use Rattle.history.specs.Answer.{IsLegal, answer, checkpoint_answer, reader_answ
 use Rattle.history.specs.Serial.{keys_by_commit}
 use Rattle.plain.specs.Courses.{takes_memory}
 use Rattle.plain.specs.Keys.{keyed}
-use Rattle.plain.specs.Ledger.{Ledger, ledger}
-use Rattle.plain.specs.Versions.{AreCurrent, AreShown}
-use Rattle.mvrows.specs.Versions.{VersionedRows}
+use Rattle.history.specs.Transactions.{tables_at}
+use Rattle.plain.specs.Ledger.{Ledger}
+use Rattle.plain.specs.Versions.{AreCurrent, lowest}
+use Rattle.mvrows.specs.Versions.{VersionedRows, shown}
+use Rattle.session.specs.Kept.{Represents}
 
 module _ {A : Type 0} where
-  -- The history is legal, what is kept is what is kept of its world, and its events can be counted.
+  -- The history is legal, what is kept represents its world, and its events can be counted.
   pub record IsKept (h : Recorded A) (l : Ledger A) : Type 0 where
     pub legal : IsLegal h
-    pub world : l ≡ ledger (world h)
+    pub represents : Represents (world h) l
     pub room : h.opening.base.events + h.most < 2 ^ 64
 
   -- The list has the committed transactions with their keys, in the order of their commits, and there is room for as many as there may be events.
@@ -36,10 +38,10 @@ module _ {A : Type 0} where
     pub few : length ks ≤ length h.records
     pub room : h.most ≤ capacity
 
-  -- The versions are those of the commits so far, and show the tables at each of their numbers.
+  -- The versions are of the commits so far, and show the tables at each snapshot that may still be read.
   pub record HoldsRows (h : Recorded A) (l : Ledger A) (rows : List (VersionedRows A)) : Type 0 where
     pub current : AreCurrent l rows
-    pub shown : AreShown l h.opening.tables rows
+    pub shown : (n : ℕ) → lowest l ≤ n → shown n rows ≡ tables_at (world h) n
 
   -- the action by which transactions commit
   abbrev pub is_commit : Action A → Bool

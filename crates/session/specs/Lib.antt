@@ -1,3 +1,2 @@
-pub mod Laws
 pub mod Core
-pub mod Backups
+pub mod Kept

@@ -1,6 +1,5 @@
-//! The core, and the laws of every history in which each reply is the answer.
+//! The core of the server: one event of a session at a time.
 #![tactic(auto)]
 
-pub mod laws;
 pub mod reader;
 pub mod sessions;

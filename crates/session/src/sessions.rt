@@ -9,7 +9,7 @@ ghost use Rattle.plain.specs.Courses.{takes_memory};
 ghost use Rattle.plain.specs.Keys.{committed_at, keyed};
 ghost use Rattle.plain.specs.Views.{are_quiet};
 ghost use Rattle.mvrows.specs.Installing.{opened};
-ghost use Rattle.session.specs.Core.{HasRoom, IsCheckpoint, IsKept, IsStep, from_opening, is_commit, recorded};
+ghost use Rattle.session.specs.Core.{HasRoom, HoldsRows, IsCheckpoint, IsKept, IsStep, from_opening, is_commit, recorded};
 
 mod committed;
 mod reading;
@@ -159,9 +159,11 @@ fn go_on_quiet<A: Allocator + Copy>(
     alloc: A,
     history: &History<A>,
     world: &World<A>,
+    rows: &Rows<A>,
     max_events: u32,
 ) -> Result<Core<A>, Refusal>
     requires kept { IsKept history.now world.now }
+    requires rows { HoldsRows history.now world.now rows.now }
     requires quiet { are_quiet world.now.txns ≡ true }
     ensures { AnswersOrNoMemory result (from_opening max_events (checkpoint_answer history.now.opening history.now.records max_events)) }
 {
@@ -169,8 +171,8 @@ fn go_on_quiet<A: Allocator + Copy>(
     if exceeds(base.events, max_events) {
         return Err(Refusal::of_code(Code::ProgramLimitExceeded));
     }
+    let tables = rows.tables(alloc, history.catalog(), base.commits)?;
     let catalog = history.catalog().copy(alloc)?;
-    let tables = world.shown(alloc, history.tables(), base.commits)?;
     open_on(alloc, catalog, tables, base, max_events)
 }
 
@@ -179,13 +181,15 @@ fn go_on<A: Allocator + Copy>(
     alloc: A,
     history: &History<A>,
     world: &World<A>,
+    rows: &Rows<A>,
     max_events: u32,
 ) -> Result<Core<A>, Refusal>
-    requires { IsKept history.now world.now }
+    requires kept { IsKept history.now world.now }
+    requires rows { HoldsRows history.now world.now rows.now }
     ensures { AnswersOrNoMemory result (from_opening max_events (checkpoint_answer history.now.opening history.now.records max_events)) }
 {
     if world.is_quiet() {
-        go_on_quiet(alloc, history, world, max_events)
+        go_on_quiet(alloc, history, world, rows, max_events)
     } else {
         Err(Refusal::of_code(Code::ObjectNotInPrerequisiteState))
     }
@@ -218,8 +222,39 @@ impl<A: Allocator> Core<A> {
         &self.history
     }
 
-    // The answer to an event where the history has room.
-    fn advance(&mut self, alloc: A, event: Event<A>) -> Result<Reply<A>, Refusal>
+    // Drops the versions that no snapshot shows which may still be read.
+    fn prune(&mut self, alloc: A) -> Result<(), Refusal>
+    where
+        A: Copy,
+        ensures same { self.new ≡ self.old }
+        ensures memory { IfErr result (λ e. e ≡ out_of_memory) }
+    {
+        self.rows.prune(alloc, self.world.lowest())
+    }
+
+    // What an action does before it is answered: a PRUNE drops versions.
+    fn prepare(&mut self, alloc: A, action: &Action<A>) -> Result<(), Refusal>
+    where
+        A: Copy,
+        ensures same { self.new ≡ self.old }
+        ensures memory { IfErr result (λ e. e ≡ out_of_memory) }
+        ensures taken { OnErr result (takes_memory action.now ≡ true) }
+    {
+        match action {
+            Action::Prune => self.prune(alloc),
+            _ => Ok(()),
+        }
+    }
+
+    // Forgets the transactions that don't matter any more.
+    fn forget(&mut self)
+        ensures { self.new ≡ self.old }
+    {
+        self.world.forget();
+    }
+
+    // The answer to an event, recorded, where the history has room.
+    fn enter(&mut self, alloc: A, event: Event<A>) -> Result<Reply<A>, Refusal>
     where
         A: Copy,
         requires room { HasRoom self.old }
@@ -245,6 +280,28 @@ impl<A: Allocator> Core<A> {
             reply: answered.recorded,
         });
         Ok(answered.reply)
+    }
+
+    // The answer to an event, recorded, where the history has room. A PRUNE drops versions before it,
+    // and after a COMMIT or a ROLLBACK goes what doesn't matter any more.
+    fn advance(&mut self, alloc: A, event: Event<A>) -> Result<Reply<A>, Refusal>
+    where
+        A: Copy,
+        requires room { HasRoom self.old }
+        requires allowed { Allowed self.old.opening.catalog event.action }
+        ensures reply { IfOk result (λ r. r ≡ answer self.old.opening self.old.records event.session event.action) }
+        ensures history { IfOk result (λ r. self.new ≡ recorded self.old event.session event.action r) }
+        ensures err { OnErr result (self.new ≡ self.old) }
+        ensures memory { IfErr result (λ e. e ≡ out_of_memory) }
+        ensures taken { OnErr result (takes_memory event.action ≡ true) }
+    {
+        self.prepare(alloc, &event.action)?;
+        let ends = matches!(event.action, Action::Commit | Action::Rollback);
+        let reply = self.enter(alloc, event)?;
+        if ends {
+            self.forget();
+        }
+        Ok(reply)
     }
 
     /// One event: answered and recorded; or refused with 54000 where the history is full, or with
@@ -281,7 +338,7 @@ impl<A: Allocator> Core<A> {
         A: Copy,
         ensures { AnswersOrNoMemory result (from_opening max_events (checkpoint_answer self.now.opening self.now.records max_events)) }
     {
-        go_on(alloc, &self.history, &self.world, max_events)
+        go_on(alloc, &self.history, &self.world, &self.rows, max_events)
     }
 
     /// A core that goes on, for `max_events` events, from the tables and the numbers that this one

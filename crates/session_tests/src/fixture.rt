@@ -9,7 +9,7 @@ use history::event::{Action, Event};
 use history::session_id::SessionId;
 use schema::catalog::Catalog;
 use schema::tables::Tables;
-use session::laws::readers_are_sound;
+use serial::laws::readers_are_sound;
 use session::reader::SessionReader;
 use session::sessions::Core;
 use sqltext::create::parse_create;

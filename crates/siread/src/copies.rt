@@ -1,4 +1,5 @@
-// Copies of what was read.
+//! Copies of what was read.
+
 ghost use Rattle.std.specs.Prelude.{◌≡◌, IfOk, IfErr};
 ghost use Rattle.value.specs.Refusals.{out_of_memory};
 

@@ -1,5 +1,6 @@
-// What readings cover, of which no two are the same: few keys, ranges and references as they were
-// read, many as more.
+//! What readings cover, of which no two are the same: few keys, ranges and references as they were
+//! read, many as more.
+
 ghost use Rattle.std.specs.Prelude.{◌≡◌, ◌+◌, ◌<◌, ◌++◌, count_by, drop, length, nat_lt, position, take, IfSome};
 ghost use Rattle.std.specs.List.{list_any};
 ghost use Rattle.std.specs.Ordering.{is_le, is_ge};

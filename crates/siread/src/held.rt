@@ -1,4 +1,5 @@
-// What is kept of one transaction's reads.
+//! What is kept of one transaction's reads.
+
 ghost use Rattle.std.specs.Prelude.{◌≡◌, ◌<◌, ◌≤◌, [], ◌∷◌, ◌++◌, length, take, OnOk, OnErr, IfErr, IfNone, IfSome};
 ghost use Rattle.value.specs.Refusals.{out_of_memory};
 ghost use Rattle.siread.specs.Adding.{Keeps, Settles};

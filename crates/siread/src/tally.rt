@@ -1,4 +1,5 @@
-// Walks over what was read in a table.
+//! Walks over what was read in a table.
+
 ghost use Rattle.std.specs.Prelude.{◌≡◌, count_by};
 ghost use Rattle.std.specs.List.{list_any};
 ghost use Rattle.siread.specs.Extents.{has_form, is_read, is_sought};

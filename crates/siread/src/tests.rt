@@ -1,3 +1,5 @@
+//! Tests of locks: what a transaction's reads cover, few and many, taken back and released.
+
 use crate::locks::Locks;
 use schema::catalog::TableNo;
 use statement::reading::{End, Extent, Footprint, Reading};

@@ -1,3 +1,5 @@
+//! Own changes over a lent reader.
+
 ghost use Rattle.std.specs.Prelude.{◌≡◌, ◌<◌, IfOk, IfErr, length};
 ghost use Rattle.std.specs.Option.{option_copied};
 ghost use Rattle.schema.specs.Plain.{put_all};

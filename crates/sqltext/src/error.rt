@@ -1,3 +1,5 @@
+//! Why a text is not parsed.
+
 ghost use Rattle.std.specs.Prelude.{◌≡◌, ◌≤◌};
 ghost use Rattle.sqltext.specs.Reading as spec;
 ghost use Rattle.sqltext.specs.declared.error.ParseError.TheVariants.{Memory};

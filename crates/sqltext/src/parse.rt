@@ -1,3 +1,5 @@
+//! From the text of a statement to the statement.
+
 ghost use Rattle.std.specs.Prelude.{IfOk};
 ghost use Rattle.statement.specs.Fits.{Fits};
 ghost use Rattle.value.specs.Refusals.{AnswersOrNoMemory};

@@ -1,3 +1,5 @@
+//! Tokens, and the reserved words.
+
 ghost use Rattle.std.specs.Prelude.{◌≡◌};
 ghost use Rattle.sqltext.specs.Tokens as spec;
 

@@ -1,3 +1,5 @@
+//! The conditions of a WHERE.
+
 ghost use Rattle.std.specs.Prelude.{◌≡◌, IfOk, IfErr};
 ghost use Rattle.value.specs.Refusals.{out_of_memory};
 

@@ -1,3 +1,5 @@
+//! Whether a statement fits a catalog.
+
 ghost use Rattle.std.specs.Prelude.{◌≡◌, ◌<◌, ◌≤◌, ◌&&◌, true, nat_lt, length};
 ghost use Rattle.std.specs.List.{list_all};
 ghost use Rattle.schema.specs.Plain.{columns_of};

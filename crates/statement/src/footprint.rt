@@ -1,3 +1,5 @@
+//! What a statement reads, by its text and the catalog alone.
+
 ghost use Rattle.std.specs.Prelude.{◌≡◌, ◌+◌, ◌≤◌, ◌++◌, [], ◌∷◌, Ok, OnOk, IfOk, IfErr, if◌then◌else◌, length, slice_get};
 ghost use Rattle.std.specs.List.{list_any};
 ghost use Rattle.std.specs.Option.{option_map_or, option_copied};

@@ -1,3 +1,5 @@
+//! What comes of a statement: its reply, its changes and its marks.
+
 ghost use Rattle.std.specs.Prelude.{◌≡◌};
 
 use crate::reply::Reply;

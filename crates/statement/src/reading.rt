@@ -1,3 +1,5 @@
+//! What is read of tables: rows by key, ranges, references, or all.
+
 ghost use Rattle.std.specs.Prelude.{◌≡◌};
 
 use schema::catalog::TableNo;

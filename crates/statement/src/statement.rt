@@ -1,3 +1,5 @@
+//! Statements as they are evaluated, on the tables of a catalog.
+
 ghost use Rattle.std.specs.Prelude.{◌≡◌, IfOk, IfErr};
 ghost use Rattle.value.specs.Refusals.{out_of_memory};
 ghost use Rattle.statement.specs.Evaluation as spec;

@@ -1,3 +1,5 @@
+//! The values of a row, as they are shown or inserted.
+
 ghost use Rattle.std.specs.Prelude.{◌≡◌, IfOk, IfErr};
 ghost use Rattle.value.specs.Refusals.{out_of_memory};
 

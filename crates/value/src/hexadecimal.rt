@@ -1,3 +1,5 @@
+//! The hexadecimal text of a bytea.
+
 ghost use Rattle.std.specs.Prelude.{◌≡◌, ◌+◌, ◌*◌, ◌^◌, ◌<◌, ◌++◌, length, OnOk, OnErr, IfErr};
 ghost use Rattle.std.specs.Option.{SomeIff};
 ghost use Rattle.value.specs.Printed.{bytea_text};

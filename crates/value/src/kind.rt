@@ -1,3 +1,5 @@
+//! The kinds of columns.
+
 /// The kinds that a column may have.
 #[derive(Clone, Copy, Debug, PartialEq, Eq)]
 pub enum Kind {

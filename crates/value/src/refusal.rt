@@ -1,3 +1,5 @@
+//! Refusals: codes, places and causes.
+
 ghost use Rattle.std.specs.Prelude.{◌≡◌, Some};
 ghost use Rattle.value.specs.Codes.{sqlstate, condition_name, refusal_text};
 ghost use Rattle.value.specs.Refusals.{out_of_memory};

@@ -1,3 +1,5 @@
+//! Values and their order.
+
 ghost use Rattle.std.proofs.Common.{rules};
 ghost use Rattle.std.specs.Cmp.{partial_order_from_own_ties, partial_equiv_from_equiv};
 ghost use Rattle.std.specs.Cmp.Rules.{comparing};

@@ -1,3 +1,5 @@
+//! The levels of tables, by what they reference.
+
 ghost use Rattle.std.specs.Prelude.{◌≡◌, ◌+◌, ◌<◌, ◌≤◌, ℕ, length, slice_index, IfOk, IfErr};
 ghost use Rattle.value.specs.Refusals.{out_of_memory};
 ghost use Rattle.schema.specs.Levels.{level_above, level_over, AreLevels};

@@ -1,3 +1,5 @@
+//! Inserting a row, and what may stand against it.
+
 ghost use Rattle.std.specs.Prelude.{◌≡◌, ◌<◌, nat_lt, true, false, None, length, is_some, OnErr};
 ghost use Rattle.std.specs.List.{list_any, list_all};
 ghost use Rattle.std.specs.Str.{is_utf8};

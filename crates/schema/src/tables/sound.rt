@@ -1,3 +1,5 @@
+//! Whether tables are sound.
+
 ghost use Rattle.std.specs.Prelude.{◌≡◌, not, ◌&&◌};
 ghost use Rattle.std.specs.List.{list_all};
 ghost use Rattle.schema.specs.Rows.{IsInKeyOrder};

@@ -4,7 +4,7 @@ use Rattle.statement.proofs.HeldLemmas.{held_length, held_sound}
 use Rattle.history.specs.Answer.{view_answer}
 use Rattle.dumpplan.specs.Lines.{dump_text}
 use Rattle.restore.specs.Reading.{read_dump}
-use Rattle.session.specs.Backups.{IsBackup}
+use Rattle.serial.specs.Backups.{IsBackup}
 use Rattle.backup.proofs.ViewedLemmas.{viewed_so}
 use Rattle.backup.proofs.write.view_session.Goals as goal
 

@@ -1,4 +1,4 @@
-use Rattle.std.proofs.Common.{ap, sym, subst, map, List, ◌++◌, ◌∙◌, append-nil, arith}
+use Rattle.std.proofs.Common.{ap, sym, subst, map, ◌++◌, ◌∙◌, append-nil, arith}
 use Rattle.std.specs.List.{AllByRecursion}
 use Rattle.std.specs.declared.vec.Vec.{Vec}
 use Rattle.std.proofs.lemmas.List.{nil_from_length}

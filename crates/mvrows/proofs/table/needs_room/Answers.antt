@@ -1,4 +1,4 @@
-use Rattle.std.proofs.Common.{ap, sym, subst, length, ◌≤◌, ◌∙◌}
+use Rattle.std.proofs.Common.{subst, length, ◌≤◌}
 use Rattle.mvrows.proofs.LeavesLemmas.{long-page}
 use Rattle.mvrows.proofs.table.needs_room.Goals as goal
 

@@ -1,4 +1,4 @@
-use Rattle.std.proofs.Common.{arith, length, take, ◌<◌, ◌≤◌, ◌-◌}
+use Rattle.std.proofs.Common.{arith, length, take, ◌-◌}
 use Rattle.std.proofs.lemmas.List.{length-map}
 use Rattle.schema.specs.declared.reader.Bound.TheVariants.{From}
 use Rattle.mvrows.specs.HeldRows.{Held, pages_of}

@@ -1,4 +1,4 @@
-use Rattle.std.proofs.Common.{ap, ◌∙◌}
+use Rattle.std.proofs.Common.{ap}
 use Rattle.mvrows.specs.HeldRows.{Held, joined, undone, IsUndoable}
 use Rattle.mvrows.proofs.VersionLemmas.{all-set}
 use Rattle.mvrows.proofs.PageLemmas.{on_ok}

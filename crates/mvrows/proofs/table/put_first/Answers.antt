@@ -1,7 +1,6 @@
 use Rattle.std.proofs.Common.{ap, true, ◌++◌, ◌∷◌, [], ◌∙◌}
 use Rattle.mvrows.specs.Versions.{VersionedRows}
 use Rattle.mvrows.specs.Installing.{first_version}
-use Rattle.mvrows.specs.HeldRows.{Held}
 use Rattle.mvrows.proofs.LeavesLemmas.{first-ok, first-laid_out, first-undo, first-undoable}
 use Rattle.mvrows.proofs.table.put_first.Goals as goal
 

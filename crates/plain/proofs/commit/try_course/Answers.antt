@@ -3,17 +3,25 @@ use Rattle.value.specs.Isolation.{first_cause}
 use Rattle.history.specs.Transactions.{edge, node}
 use Rattle.plain.specs.Courses.{on_course}
 use Rattle.plain.specs.Ledger.{turned_at}
+use Rattle.plain.proofs.CommitLemmas.{holds-turned}
 use Rattle.plain.proofs.LedgerLemmas.{length-turned_at, turned_at-again, turned_at-same}
 use Rattle.plain.proofs.commit.try_course.Goals as goal
 
+pub cause_at-cause-requires-clause-within : goal.cause_at-cause-requires-clause-within
+cause_at-cause-requires-clause-within g c = rw (c.as_slice.ensures.value, c.turn.ensures, length-turned_at) c.requires.within
+
+pub cause_at-cause-requires-clause-committer : goal.cause_at-cause-requires-clause-committer
+cause_at-cause-requires-clause-committer g c =
+    holds-turned (on_course c.args.course) c.args.transactions.now.items c.as_slice.result.now c.args.at c.requires.within (c.as_slice.ensures.value ∙ c.turn.ensures) c.requires.committer
+
 pub turn-requires-2 : goal.turn-requires-2
-turn-requires-2 g c = rw c.turn.ensures (rw length-turned_at c.requires)
+turn-requires-2 g c = rw c.turn.ensures (rw length-turned_at c.requires.within)
 
 pub returns-clause-cause : goal.returns-clause-cause
-returns-clause-cause g c = c.first_cause-cause.ensures ∙ ap (first_cause node edge) (c.as_slice.ensures.value ∙ c.turn.ensures)
+returns-clause-cause g c = c.cause_at-cause.ensures ∙ ap (first_cause node edge) (c.as_slice.ensures.value ∙ c.turn.ensures)
 
 pub returns-clause-same : goal.returns-clause-same
 returns-clause-same g c =
     c.turn-2.ensures ∙ ap (turned_at c.args.at (on_course c.course-before.result)) c.turn.ensures
     ∙ turned_at-again (on_course c.args.course) (on_course c.course-before.result) c.args.transactions.now.items c.args.at
-    ∙ turned_at-same c.course-before.result c.args.transactions.now.items c.args.at c.index.result.now c.requires c.index.ensures (c.course-before.ensures.course ∙ c.course-before.ensures.same)
+    ∙ turned_at-same c.course-before.result c.args.transactions.now.items c.args.at c.index.result.now c.requires.within c.index.ensures (c.course-before.ensures.course ∙ c.course-before.ensures.same)

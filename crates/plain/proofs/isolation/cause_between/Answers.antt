@@ -3,8 +3,8 @@ use Rattle.value.specs.Isolation.{edge_of}
 use Rattle.plain.proofs.CauseLemmas.{caused-none}
 use Rattle.plain.proofs.isolation.cause_between.Goals as goal
 
-pub returns-then-not-has_edge : goal.returns-then-not-has_edge
-returns-then-not-has_edge g c =
+pub returns-then-not-is_followed : goal.returns-then-not-is_followed
+returns-then-not-is_followed g c =
     let node = g.T.Party.node in
     let edge = edge_of g.T.Party.node g.T.Party.reads in
-    caused-none node edge c.args.first.now c.args.pivot.now c.args.transactions.now (sym c.has_edge.ensures ∙ c.if-not-has_edge.true)
+    caused-none node edge c.args.first.now c.args.pivot.now c.args.transactions.now (sym c.is_followed.ensures ∙ c.if-not-is_followed.true)

@@ -11,10 +11,10 @@ pub invariant_of-result : goal.invariant_of-result
 invariant_of-result g c =
     let h : Recorded _ = c.args.history in
     let none : h ≡ record { opening = h.opening; records = []; most = h.most } = ap (λ rs. record h { records = rs }) c.requires.none in
-    let world : c.open-world.result ≡ record { base = h.opening.base; log = []; txns = []; exports = []; place = h.opening.base.events } = c.open-world.ensures ∙ ap (λ (b : Base). record { base = b; log = []; txns = []; exports = []; place = b.events }) c.base.ensures in (
+    let world : c.open-world.result ≡ record { base = h.opening.base; txns = []; exports = []; place = h.opening.base.events } = c.open-world.ensures ∙ ap (λ (b : Base). record { base = b; txns = []; exports = []; place = b.events }) c.base.ensures in (
       kept_on h c.open-world.result h.opening.base h.opening.catalog h.opening.tables h.most none world c.requires.sound c.requires.room,
       holds_none h h.opening.base h.opening.catalog h.opening.tables h.most none c.args.keys.items c.requires.no_keys (vec_capacity c.args.keys) c.requires.capacity,
-      rows_opened h c.open-world.result h.opening.base c.in_ok-rows.rows c.requires.sound world (c.in_ok-rows.ensures.ok ∙ ap opened c.tables.ensures),
+      rows_opened h c.open-world.result c.in_ok-rows.rows c.requires.none c.requires.sound world (c.in_ok-rows.ensures.ok ∙ ap opened c.tables.ensures),
     )
 
 pub open_rows-requires : goal.open_rows-requires

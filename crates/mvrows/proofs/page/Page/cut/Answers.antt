@@ -1,4 +1,4 @@
-use Rattle.std.proofs.Common.{ap, sym, subst, arith, length, take, drop, ◌≡◌, true, ◌<◌, ◌≤◌, ◌/◌, ◌∙◌}
+use Rattle.std.proofs.Common.{sym, subst, arith, length, ◌≡◌, true, ◌≤◌, ◌/◌}
 use Rattle.mvrows.specs.Versions.{IsInOrder}
 use Rattle.mvrows.specs.HeldRows.{has_keys}
 use Rattle.mvrows.proofs.PageLemmas.{in_order-take, in_order-drop, cut-keys}

@@ -1,5 +1,5 @@
-use Rattle.std.proofs.Common.{ap, sym, subst, length, ◌-◌, ◌∙◌}
-use Rattle.std.specs.Prelude.{not, slice_get}
+use Rattle.std.proofs.Common.{ap, sym, subst, ◌∙◌}
+use Rattle.std.specs.Prelude.{not}
 use Rattle.schema.specs.Rows.{is_within}
 use Rattle.mvrows.specs.Versions.{IsInOrder}
 use Rattle.mvrows.specs.HeldRows.{is_before}

@@ -1,6 +1,7 @@
-use Rattle.std.proofs.Common.{ap, refl, subst, sym, ◌∙◌, ◌≡◌, true, false, get_or}
+use Rattle.std.proofs.Common.{ap, refl, subst, sym, ◌∙◌, ◌≡◌, true, false, cond, [], get_or}
 use Rattle.history.specs.Transactions.{Txn, is_read_write}
 use Rattle.plain.specs.Ledger.{Ledger, IsCounted, txn_at}
+use Rattle.plain.specs.Versions.{StayShown}
 use Rattle.plain.proofs.LedgerLemmas.{txn_at-is}
 use Rattle.plain.proofs.CommitLemmas.{after-read, after-written}
 use Rattle.plain.proofs.InstallLemmas.{stay-installed, stay-same}
@@ -23,8 +24,15 @@ returns-else-is_writer-clause-ok g c = λ d X.
 pub returns-in_ok-commit_writer-clause-rows : goal.returns-in_ok-commit_writer-clause-rows
 returns-in_ok-commit_writer-clause-rows g c =
     let now : Ledger _ = c.args.self.now in
-    stay-installed now c.commit_writer.new.self c.args.rows.now c.commit_writer.new.rows (txn_at now.txns c.args.at).changes (ap (λ (l : Ledger _). l.base) c.in_ok-commit_writer.ensures.ok) (ap (λ (l : Ledger _). l.log) c.in_ok-commit_writer.ensures.ok) c.in_ok-commit_writer.ensures.rows c.requires.current
+    let found : txn_at now.txns c.args.at ≡ c.index.result.now = txn_at-is now.txns c.args.at c.index.result.now c.requires.within (c.index.ensures ∙ ap (λ (l : Ledger _). get_or l.txns c.args.at c.index.result.now) c.self.view_is) in
+    let writes : is_read_write (txn_at now.txns c.args.at).mode ≡ true = ap (λ (t : Txn _). is_read_write t.mode) found ∙ sym c.is_writer.ensures ∙ c.if-is_writer.true in
+    subst (λ b. StayShown now c.args.rows.now (cond b (txn_at now.txns c.args.at).changes []) c.commit_writer.new.self c.commit_writer.new.rows) (sym writes)
+    (stay-installed now c.commit_writer.new.self c.args.rows.now c.commit_writer.new.rows (txn_at now.txns c.args.at).changes c.args.at c.args.committed _ c.in_ok-commit_writer.ensures.ok c.in_ok-commit_writer.ensures.rows)
 
 pub returns-else-is_writer-clause-rows : goal.returns-else-is_writer-clause-rows
 returns-else-is_writer-clause-rows g c =
-    stay-same c.args.self.now c.turn.new.self c.args.rows.now c.args.rows.now (ap (λ (l : Ledger _). l.base) c.turn.ensures, ap (λ (l : Ledger _). l.log) c.turn.ensures) refl c.requires.current
+    let now : Ledger _ = c.args.self.now in
+    let found : txn_at now.txns c.args.at ≡ c.index.result.now = txn_at-is now.txns c.args.at c.index.result.now c.requires.within (c.index.ensures ∙ ap (λ (l : Ledger _). get_or l.txns c.args.at c.index.result.now) c.self.view_is) in
+    let reads : is_read_write (txn_at now.txns c.args.at).mode ≡ false = ap (λ (t : Txn _). is_read_write t.mode) found ∙ sym c.is_writer.ensures ∙ c.if-is_writer.false in
+    subst (λ b. StayShown now c.args.rows.now (cond b (txn_at now.txns c.args.at).changes []) c.turn.new.self c.args.rows.now) (sym reads)
+    (stay-same now c.turn.new.self c.args.rows.now c.args.rows.now (ap (λ (l : Ledger _). l.base) c.turn.ensures) refl c.requires.current)

@@ -1,13 +1,14 @@
-use Rattle.std.proofs.Common.{ap, refl, sym, ◌∙◌, ◌≡◌, true, false, get_or}
+use Rattle.std.proofs.Common.{ap, refl, sym, subst, ◌∙◌, ◌≡◌, [], true, false, Some, get_or}
 use Rattle.history.specs.Transactions.{Txn, is_open}
 use Rattle.history.specs.declared.event.Action.TheVariants.{Run, Export, Commit}
 use Rattle.plain.specs.Answers.{both}
-use Rattle.plain.specs.Ledger.{Ledger, txn_at, world_on}
-use Rattle.plain.specs.Versions.{versions_at}
+use Rattle.plain.specs.declared.answered.Answered.{Answered}
+use Rattle.plain.specs.Ledger.{Ledger, committed_by, txn_at, world_on}
+use Rattle.plain.specs.Versions.{StayShown, versions_at}
 use Rattle.plain.proofs.LedgerLemmas.{txn_at-is}
-use Rattle.plain.proofs.CommitLemmas.{if_ok_map, on_ok_map}
+use Rattle.plain.proofs.CommitLemmas.{if_ok_map, on_if_map}
 use Rattle.plain.proofs.InstallLemmas.{stay-same}
-use Rattle.plain.proofs.RunLemmas.{open_ready, over_after, over_reply}
+use Rattle.plain.proofs.RunLemmas.{open_ready, over_after, over-commits, over_reply}
 use Rattle.plain.proofs.world.World.step_owned.Goals as goal
 
 pub returns-else-is_active-clause-reply : goal.returns-else-is_active-clause-reply
@@ -46,13 +47,20 @@ returns-in-Commit-clause-reply g c =
     rw c.in-Commit.is (if_ok_map _ _ c.commit.result (λ r e X. e c.args.catalog.now X ∙ ap both (open_ready (world_on c.args.catalog.now X now) (versions_at c.args.rows.now) Commit (txn_at now.txns c.args.at) open')) c.commit.ensures.reply)
 
 pub returns-else-is_active-clause-rows : goal.returns-else-is_active-clause-rows
-returns-else-is_active-clause-rows g c = stay-same c.args.self.now c.settle-else-is_active.new.self c.args.rows.now c.args.rows.now c.settle-else-is_active.ensures.log refl c.requires.current
+returns-else-is_active-clause-rows g c =
+    let now : Ledger _ = c.args.self.now in
+    let t = txn_at now.txns c.args.at in
+    let found : t ≡ c.index.result.now = txn_at-is now.txns c.args.at c.index.result.now c.requires.within (c.index.ensures ∙ ap (λ (l : Ledger _). get_or l.txns c.args.at c.index.result.now) c.self.view_is) in
+    let over : is_open t.standing ≡ false = ap (λ (t : Txn _). is_open t.standing) found ∙ sym c.is_active.ensures ∙ c.if-is_active.false in
+    let none : committed_by c.args.action.now c.settle-else-is_active.result.reply (Some t) ≡ [] = ap (λ (r : Answered _). committed_by c.args.action.now r.reply (Some t)) (c.settle-else-is_active.ensures.reply c.args.catalog.now []) ∙ over-commits (world_on c.args.catalog.now [] now) t c.args.action.now (Some t) over in
+    subst (λ xs. StayShown now c.args.rows.now xs c.settle-else-is_active.new.self c.args.rows.now) (sym none)
+    (stay-same now c.settle-else-is_active.new.self c.args.rows.now c.args.rows.now c.settle-else-is_active.ensures.log refl c.requires.current)
 
 pub returns-in-Run-clause-rows : goal.returns-in-Run-clause-rows
-returns-in-Run-clause-rows g c = on_ok_map _ _ c.run.result (λ same. stay-same c.args.self.now c.run.new.self c.args.rows.now c.args.rows.now same refl c.requires.current) c.run.ensures.log
+returns-in-Run-clause-rows g c = rw c.in-Run.is (on_if_map _ _ c.run.result (λ r same. stay-same c.args.self.now c.run.new.self c.args.rows.now c.args.rows.now same refl c.requires.current) c.run.ensures.log)
 
 pub returns-in-Export-clause-rows : goal.returns-in-Export-clause-rows
-returns-in-Export-clause-rows g c = on_ok_map _ _ c.export.result (λ same. stay-same c.args.self.now c.export.new.self c.args.rows.now c.args.rows.now same refl c.requires.current) c.export.ensures.log
+returns-in-Export-clause-rows g c = rw c.in-Export.is (on_if_map _ _ c.export.result (λ r same. stay-same c.args.self.now c.export.new.self c.args.rows.now c.args.rows.now same refl c.requires.current) c.export.ensures.log)
 
 pub returns-in-Run-clause-world : goal.returns-in-Run-clause-world
 returns-in-Run-clause-world g c = rw c.in-Run.is c.run.ensures.world

@@ -1,0 +1,214 @@
+-- A key pruned in the page that it belongs to.
+use Rattle.std.proofs.Common.{suc, zero, ◌≡◌, refl, sym, ap, subst, ◌∙◌, ℕ, ◌+◌, ◌<◌, Bool, true, false, true≢false, cond, List, [], ◌∷◌, ◌++◌, take, drop, length, Option, Some, None, get_or, set, arith, add-one}
+use Rattle.std.specs.Prelude.{IfSome, nat_le, slice_get}
+use Rattle.std.specs.List.{AllByRecursion}
+use Rattle.std.specs.Option.{option_map, option_map_or}
+use Rattle.std.specs.Ordering.{is_eq, is_le, match_ordering}
+use Rattle.std.specs.declared.cmp.Ordering.{Ordering}
+use Rattle.std.specs.declared.cmp.Ordering.TheVariants.{Less, Equal, Greater}
+use Rattle.std.proofs.lemmas.Bool.{lt-leb}
+use Rattle.std.proofs.lemmas.List.{set_split, take-append-drop, map-set, length-map}
+use Rattle.value.specs.Order.{value_cmp}
+use Rattle.value.specs.declared.value.Value.{Value}
+use Rattle.schema.specs.Plain.{same}
+use Rattle.mvrows.specs.Versions.{Version, KeyVersions, VersionedRows, IsInOrder, AreBelow, RowsAreBelow}
+use Rattle.mvrows.specs.Pruning.{has_version, pruned_key}
+use Rattle.mvrows.specs.Settling.{found, if_version, settle_key}
+use Rattle.mvrows.specs.Fresh.{is_from, IsFreshIn, IsOwnKey}
+use Rattle.mvrows.specs.HeldRows.{Held, pages_of, joined, rows_in, has_keys, AreLaidOut, IsUndoable}
+use Rattle.mvrows.proofs.VersionLemmas.{IsLeast, all-set}
+use Rattle.mvrows.proofs.PageLemmas.{greater, less, equal, drop-at, slice_get-none, slice_get-item, below-passed}
+use Rattle.mvrows.proofs.HeldLemmas.{element-at}
+use Rattle.mvrows.proofs.JoinedLemmas.{flat-split, flat-set, find-in}
+use Rattle.mvrows.proofs.LeavesLemmas.{Placed, page-at}
+use Rattle.mvrows.proofs.SettlingLemmas.{settle-in_order}
+
+not-le : (m n : ℕ) → n < m → nat_le m n ≡ false
+not-le m n lt = lt-leb m n lt
+
+-- what stands before and after a place stays where that place is changed
+cut-set_suc : {X : Type 0} (xs : List X) (i : ℕ) (x : X) → i < length xs → take i (set xs i x) ++ drop (suc i) (set xs i x) ≡ take i xs ++ drop (suc i) xs
+cut-set_suc [] i x lt = absurd (omega arith)
+cut-set_suc (y ∷ ys) zero x lt = refl
+cut-set_suc (y ∷ ys) (suc i) x lt = ap (λ rest. y ∷ rest) (cut-set_suc ys i x (omega arith))
+
+pub cut-set : {X : Type 0} (xs : List X) (i : ℕ) (x : X) → i < length xs → take i (set xs i x) ++ drop (suc i) (set xs i x) ≡ take i xs ++ drop (i + 1) xs
+cut-set xs i x lt = cut-set_suc xs i x lt ∙ rw add-one refl
+
+module _ {A : Type 0} where
+  -- ---- by its place
+
+  settle-early : (oldest : ℕ) (key : Value A) (i : ℕ) (rows : VersionedRows A) → AllByRecursion (λ r. is_le (value_cmp key r.key) ≡ false) (take i rows) → settle_key oldest key rows ≡ take i rows ++ settle_key oldest key (drop i rows)
+  settle-early oldest key zero rows early = refl
+  settle-early oldest key (suc i) [] early = refl
+  settle-early oldest key (suc i) (r ∷ rs) early = rw (greater (value_cmp key r.key) early.0) (ap (λ rest. r ∷ rest) (settle-early oldest key i rs early.1))
+
+  settle-here : (oldest : ℕ) (key : Value A) (i : ℕ) (rows : VersionedRows A) (k : KeyVersions A) → AllByRecursion (λ r. is_le (value_cmp key r.key) ≡ false) (take i rows) → slice_get rows i ≡ Some k → same key k.key ≡ true
+      → settle_key oldest key rows ≡ take i rows ++ if_version (pruned_key oldest k) (drop (i + 1) rows)
+  settle-here oldest key i rows k early at is =
+      let e : settle_key oldest key (k ∷ drop (i + 1) rows) ≡ if_version (pruned_key oldest k) (drop (i + 1) rows) = rw (equal (value_cmp key k.key) is) refl in
+      settle-early oldest key i rows early ∙ ap (λ ks. take i rows ++ settle_key oldest key ks) (drop-at rows i k at) ∙ ap (λ ks. take i rows ++ ks) e
+
+  -- a key that isn't at its place isn't there
+  pub settle-none : (oldest : ℕ) (key : Value A) (i : ℕ) (rows : VersionedRows A) → AllByRecursion (λ r. is_le (value_cmp key r.key) ≡ false) (take i rows) → AllByRecursion (λ r. is_le (value_cmp key r.key) ≡ true) (drop i rows) → option_map_or (λ k. same key k.key) (slice_get rows i) false ≡ false
+      → rows ≡ settle_key oldest key rows
+  settle-none oldest key i rows early late isnt = sym (settle-early oldest key i rows early ∙ go (slice_get rows i) refl isnt ∙ take-append-drop i rows)
+    where
+      go : (o : Option (KeyVersions A)) → slice_get rows i ≡ o → option_map_or (λ k. same key k.key) o false ≡ false → take i rows ++ settle_key oldest key (drop i rows) ≡ take i rows ++ drop i rows
+      go None at e = ap (λ ks. take i rows ++ settle_key oldest key ks) (slice_get-none rows i at) ∙ ap (λ ks. take i rows ++ ks) (sym (slice_get-none rows i at))
+      go (Some k) at e =
+          let cut = drop-at rows i k at in
+          let late_here = subst (AllByRecursion (λ (r : KeyVersions A). is_le (value_cmp key r.key) ≡ true)) cut late in
+          let below : value_cmp key k.key ≡ Less = less (value_cmp key k.key) late_here.0 e in
+          let f : settle_key oldest key (k ∷ drop (i + 1) rows) ≡ k ∷ drop (i + 1) rows = rw below refl in
+          ap (λ ks. take i rows ++ settle_key oldest key ks) cut ∙ ap (λ ks. take i rows ++ ks) (f ∙ sym cut)
+
+  -- it is there, and has a version left
+  pub settle-kept : (oldest : ℕ) (key : Value A) (i : ℕ) (rows : VersionedRows A) (k more : KeyVersions A) → AllByRecursion (λ r. is_le (value_cmp key r.key) ≡ false) (take i rows) → k ≡ get_or rows i k → option_map_or (λ r. same key r.key) (slice_get rows i) false ≡ true
+      → more ≡ pruned_key oldest k → has_version more ≡ true → set rows i more ≡ settle_key oldest key rows
+  settle-kept oldest key i rows k more early at is made has =
+      let lt = below-passed (λ (r : KeyVersions A). same key r.key) rows i is in
+      let here = slice_get-item rows i k lt at in
+      let tied : same key k.key ≡ true = sym (ap (λ o. option_map_or (λ (r : KeyVersions A). same key r.key) o false) here) ∙ is in
+      let left : if_version (pruned_key oldest k) (drop (i + 1) rows) ≡ more ∷ drop (i + 1) rows = ap (λ x. if_version x (drop (i + 1) rows)) (sym made) ∙ rw has refl in
+      let one_more : suc i ≡ i + 1 = omega arith in
+      set_split rows i more lt ∙ ap (λ n. take i rows ++ more ∷ drop n rows) one_more ∙ sym (settle-here oldest key i rows k early here tied ∙ ap (λ ks. take i rows ++ ks) left)
+
+  -- it is there, and goes
+  pub settle-gone : (oldest : ℕ) (key : Value A) (i : ℕ) (rows more : VersionedRows A) (k left : KeyVersions A) → AllByRecursion (λ r. is_le (value_cmp key r.key) ≡ false) (take i rows) → k ≡ get_or rows i k → option_map_or (λ r. same key r.key) (slice_get rows i) false ≡ true
+      → left ≡ pruned_key oldest k → has_version left ≡ false → more ≡ take i (set rows i left) ++ drop (suc i) (set rows i left) → more ≡ settle_key oldest key rows
+  settle-gone oldest key i rows more k left early at is made has put =
+      let lt = below-passed (λ (r : KeyVersions A). same key r.key) rows i is in
+      let here = slice_get-item rows i k lt at in
+      let tied : same key k.key ≡ true = sym (ap (λ o. option_map_or (λ (r : KeyVersions A). same key r.key) o false) here) ∙ is in
+      let none : if_version (pruned_key oldest k) (drop (i + 1) rows) ≡ drop (i + 1) rows = ap (λ x. if_version x (drop (i + 1) rows)) (sym made) ∙ rw has refl in
+      put ∙ cut-set rows i left lt ∙ sym (settle-here oldest key i rows k early here tied ∙ ap (λ ks. take i rows ++ ks) none)
+
+  -- ---- pages one after another
+
+  -- a key that isn't there
+  settle-missing : (oldest : ℕ) (key : Value A) (rows : VersionedRows A) → found key rows ≡ None → settle_key oldest key rows ≡ rows
+  settle-missing oldest key [] none = refl
+  settle-missing oldest key (r ∷ rs) none = by_order (value_cmp key r.key) refl none (settle-missing oldest key rs)
+    where
+      by_order : (o : Ordering) → value_cmp key r.key ≡ o → cond (is_eq o) (Some r) (found key rs) ≡ None → (found key rs ≡ None → settle_key oldest key rs ≡ rs) → match_ordering o (r ∷ rs) (if_version (pruned_key oldest r) rs) (r ∷ settle_key oldest key rs) ≡ r ∷ rs
+      by_order Less is e rest = refl
+      by_order Equal is e rest = cc
+      by_order Greater is e rest = ap (λ left. r ∷ left) (rest e)
+
+  pub settle-shared : (oldest : ℕ) (key : Value A) (h : Held A) → h.own ≡ false → IsOwnKey key h → h.rows ≡ settle_key oldest key h.rows
+  settle-shared oldest key h shared own = sym (settle-missing oldest key h.rows (own shared))
+
+  settle-after_run : (oldest : ℕ) (key : Value A) (xs ys : VersionedRows A) → AllByRecursion (λ k. is_le (value_cmp key k.key) ≡ false) xs → settle_key oldest key (xs ++ ys) ≡ xs ++ settle_key oldest key ys
+  settle-after_run oldest key [] ys before = refl
+  settle-after_run oldest key (x ∷ xs) ys before = rw (greater (value_cmp key x.key) before.0) (ap (λ rest. x ∷ rest) (settle-after_run oldest key xs ys before.1))
+
+  settle-above : (oldest : ℕ) (key : Value A) (ys : VersionedRows A) → IsLeast key ys → settle_key oldest key ys ≡ ys
+  settle-above oldest key [] least = refl
+  settle-above oldest key (y ∷ ys) least = rw least.0 refl
+
+  settle-before_run : (oldest : ℕ) (key : Value A) (xs ys : VersionedRows A) → IsLeast key ys → settle_key oldest key (xs ++ ys) ≡ settle_key oldest key xs ++ ys
+  settle-before_run oldest key [] ys least = settle-above oldest key ys least
+  settle-before_run oldest key (x ∷ xs) ys least = by_order (value_cmp key x.key) (settle-before_run oldest key xs ys least)
+    where
+      if_any : (b : Bool) → cond b (pruned_key oldest x ∷ (xs ++ ys)) (xs ++ ys) ≡ cond b (pruned_key oldest x ∷ xs) xs ++ ys
+      if_any true = refl
+      if_any false = refl
+
+      by_order : (o : Ordering) → settle_key oldest key (xs ++ ys) ≡ settle_key oldest key xs ++ ys → match_ordering o (x ∷ (xs ++ ys)) (if_version (pruned_key oldest x) (xs ++ ys)) (x ∷ settle_key oldest key (xs ++ ys)) ≡ match_ordering o (x ∷ xs) (if_version (pruned_key oldest x) xs) (x ∷ settle_key oldest key xs) ++ ys
+      by_order Less rest = refl
+      by_order Equal rest = if_any (has_version (pruned_key oldest x))
+      by_order Greater rest = ap (λ left. x ∷ left) rest
+
+  settle-in : (oldest : ℕ) (key : Value A) (pages : List (VersionedRows A)) (i : ℕ) (old new : VersionedRows A) → i < length pages → old ≡ get_or pages i old
+      → AllByRecursion (λ k. is_le (value_cmp key k.key) ≡ false) (joined (take i pages)) → IsLeast key (joined (drop (i + 1) pages)) → new ≡ settle_key oldest key old
+      → joined (set pages i new) ≡ settle_key oldest key (joined pages)
+  settle-in oldest key pages i old new lt at before after made =
+      flat-set (λ p. p) pages i new lt
+      ∙ ap (λ p. joined (take i pages) ++ (p ++ joined (drop (i + 1) pages))) made
+      ∙ sym (
+      ap (settle_key oldest key) (flat-split (λ p. p) pages i old lt at)
+      ∙ settle-after_run oldest key (joined (take i pages)) (old ++ joined (drop (i + 1) pages)) before
+      ∙ ap (λ rest. joined (take i pages) ++ rest) (settle-before_run oldest key old (joined (drop (i + 1) pages)) after))
+
+  -- ---- a table's pages
+
+  -- the page that a key belongs to is settled
+  pub settled-rows : (oldest : ℕ) (key : Value A) (leaves : List (Held A)) (i : ℕ) (old new : Held A) → old ≡ get_or leaves i old → Placed key leaves i → new.rows ≡ settle_key oldest key old.rows
+      → rows_in (set leaves i new) ≡ settle_key oldest key (rows_in leaves)
+  settled-rows oldest key leaves i old new at p made =
+      ap joined (map-set (λ h. h.rows) leaves i new)
+      ∙ settle-in oldest key (pages_of leaves) i old.rows new.rows (omega (arith, p.range, length-map leaves (λ (h : Held A). h.rows))) (page-at leaves i old at) p.before p.after made
+
+  no-rows : (rows : VersionedRows A) → has_keys rows ≡ false → rows ≡ []
+  no-rows [] e = refl
+  no-rows (r ∷ rs) e = absurd (true≢false e)
+
+  -- it goes where it has no key
+  pub dropped-rows : (leaves : List (Held A)) (i : ℕ) (h : Held A) → i < length leaves → has_keys h.rows ≡ false → rows_in (take i (set leaves i h) ++ drop (suc i) (set leaves i h)) ≡ rows_in (set leaves i h)
+  dropped-rows [] i h lt none = absurd (omega arith)
+  dropped-rows (l ∷ ls) zero h lt none = ap (λ rows. rows ++ rows_in ls) (sym (no-rows h.rows none))
+  dropped-rows (l ∷ ls) (suc i) h lt none = ap (λ rest. l.rows ++ rest) (dropped-rows ls i h (omega arith) none)
+
+  -- what holds of all pages but the one that goes
+  pub dropped-all : (P : Held A → Type 0) (leaves : List (Held A)) (i : ℕ) (h : Held A) → i < length leaves → AllByRecursion P leaves → AllByRecursion P (take i (set leaves i h) ++ drop (suc i) (set leaves i h))
+  dropped-all P [] i h lt all = absurd (omega arith)
+  dropped-all P (l ∷ ls) zero h lt all = all.1
+  dropped-all P (l ∷ ls) (suc i) h lt all = (all.0, dropped-all P ls i h (omega arith) all.1)
+
+  -- the pages stay laid out
+  have-keys : (leaves : List (Held A)) → AllByRecursion (λ h. has_keys h.rows ≡ true) leaves → AllByRecursion (λ page. has_keys page ≡ true) (pages_of leaves)
+  have-keys [] all = tt
+  have-keys (h ∷ hs) all = (all.0, have-keys hs all.1)
+
+  keys-had : (leaves : List (Held A)) → AllByRecursion (λ page. has_keys page ≡ true) (pages_of leaves) → AllByRecursion (λ h. has_keys h.rows ≡ true) leaves
+  keys-had [] all = tt
+  keys-had (h ∷ hs) all = (all.0, keys-had hs all.1)
+
+  pub settled-laid_out : (oldest : ℕ) (key : Value A) (leaves : List (Held A)) (i : ℕ) (h : Held A) → has_keys h.rows ≡ true → rows_in (set leaves i h) ≡ settle_key oldest key (rows_in leaves) → AreLaidOut (pages_of leaves) → AreLaidOut (pages_of (set leaves i h))
+  settled-laid_out oldest key leaves i h has made laid = (
+    subst IsInOrder (sym made) (settle-in_order oldest key (rows_in leaves) laid.0),
+    have-keys (set leaves i h) (all-set (λ (l : Held A). has_keys l.rows ≡ true) leaves i h has (keys-had leaves laid.1)),
+  )
+
+  pub dropped-laid_out : (oldest : ℕ) (key : Value A) (leaves left : List (Held A)) (i : ℕ) (h : Held A) → i < length leaves → has_keys h.rows ≡ false → left ≡ take i (set leaves i h) ++ drop (suc i) (set leaves i h)
+      → rows_in (set leaves i h) ≡ settle_key oldest key (rows_in leaves) → AreLaidOut (pages_of leaves) → AreLaidOut (pages_of left)
+  dropped-laid_out oldest key leaves left i h lt none is made laid = subst (λ ls. AreLaidOut (pages_of ls)) (sym is) (
+    subst IsInOrder (sym (dropped-rows leaves i h lt none ∙ made)) (settle-in_order oldest key (rows_in leaves) laid.0),
+    have-keys (take i (set leaves i h) ++ drop (suc i) (set leaves i h)) (dropped-all (λ (l : Held A). has_keys l.rows ≡ true) leaves i h lt (keys-had leaves laid.1)),
+  )
+
+  -- ---- a fresh key stands in a page that nobody shares
+
+  below-not_from : (commit : ℕ) (k : KeyVersions A) → AreBelow commit k.versions → is_from commit k ≡ false
+  below-not_from commit k below = go k.versions below
+    where
+      go : (vs : List (Version A)) → AreBelow commit vs → option_map_or (λ n. nat_le commit n) (option_map (λ v. v.number) (slice_get vs 0)) false ≡ false
+      go [] small = refl
+      go (v ∷ vs) small = not-le commit v.number small.0
+
+  rows-not_from : (commit : ℕ) (key : Value A) (rows : VersionedRows A) (k : KeyVersions A) → RowsAreBelow commit rows → found key rows ≡ Some k → is_from commit k ≡ false
+  rows-not_from commit key [] k below e = cc
+  rows-not_from commit key (r ∷ rs) k below e = by_key (same key r.key) e (rows-not_from commit key rs k below.1)
+    where
+      by_key : (b : Bool) → cond b (Some r) (found key rs) ≡ Some k → (found key rs ≡ Some k → is_from commit k ≡ false) → is_from commit k ≡ false
+      by_key true is rest = let it : r ≡ k = cc in subst (λ x. is_from commit x ≡ false) it (below-not_from commit r below.0)
+      by_key false is rest = rest is
+
+  pub own-key : (key : Value A) (leaves : List (Held A)) (i : ℕ) (h : Held A) → h ≡ get_or leaves i h → Placed key leaves i → IsFreshIn key leaves → IsOwnKey key h
+  own-key key leaves i h at p fresh = λ shared. go (found key h.rows) refl (element-at (IsUndoable fresh.commit) leaves i h p.range at fresh.undoable shared)
+    where
+      in_all : found key h.rows ≡ found key (rows_in leaves)
+      in_all = find-in key (pages_of leaves) i h.rows (omega (arith, p.range, length-map leaves (λ (l : Held A). l.rows))) (page-at leaves i h at) p.before p.after
+
+      go : (o : Option (KeyVersions A)) → found key h.rows ≡ o → RowsAreBelow fresh.commit h.rows → found key h.rows ≡ None
+      go None e below = e
+      go (Some k) e below =
+          let new : is_from fresh.commit k ≡ true = subst (λ o. IfSome o (λ r. is_from fresh.commit r ≡ true)) (sym in_all ∙ e) fresh.fresh in
+          absurd (true≢false (sym new ∙ rows-not_from fresh.commit key h.rows k below e))
+
+  -- the page that is settled can still be undone
+  pub settled-undoable : (oldest commit : ℕ) (key : Value A) (old new : Held A) → new.own ≡ old.own → new.rows ≡ settle_key oldest key old.rows → IsOwnKey key old → IsUndoable commit old → IsUndoable commit new
+  settled-undoable oldest commit key old new own made mine undoable = λ shared.
+      let was : old.own ≡ false = sym own ∙ shared in
+      subst (RowsAreBelow commit) (sym (made ∙ settle-missing oldest key old.rows (mine was))) (undoable was)

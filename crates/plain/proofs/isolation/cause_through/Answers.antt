@@ -1,0 +1,16 @@
+use Rattle.std.proofs.Common.{ap, sym, ◌∙◌, ◌≡◌, false, eqb}
+use Rattle.value.specs.Isolation.{Node, edge_of}
+use Rattle.plain.proofs.CauseLemmas.{apart, got_at, only-through}
+use Rattle.plain.proofs.isolation.cause_through.Goals as goal
+
+pub returns-else-facts : goal.returns-else-facts
+returns-else-facts g c =
+    let node = g.T.Party.node in
+    let edge = edge_of g.T.Party.node g.T.Party.reads in
+    let x = c.index-transactions-at.result in
+    let first : c.facts-3.inside.number ≡ (node c.args.first.now).number = ap (λ (f : Node). f.number) (c.facts-3.view_is ∙ c.facts.ensures) in
+    let middle : c.facts-4.inside.number ≡ (node x).number = ap (λ (f : Node). f.number) (c.facts-4.view_is ∙ c.facts-2.ensures) in
+    let differ : eqb (node c.args.first.now).number (node x).number ≡ false = apart _ _ (λ e. c.if-facts.false (first ∙ e ∙ sym middle)) in
+    c.cause_between.ensures
+    ∙ only-through node edge c.args.transactions.now c.args.at x c.args.first.now c.requires.within c.index-transactions-at.is
+    (c.requires.committer x (got_at c.args.transactions.now c.args.at x c.requires.within c.index-transactions-at.is)) differ

@@ -1,0 +1,50 @@
+use Rattle.std.proofs.Common.{ap, refl, sym, subst, ◌∙◌, ◌≤◌, ◌+◌, ◌-◌, length, arith}
+use Rattle.std.specs.List.{filter}
+use Rattle.history.specs.Transactions.{is_living}
+use Rattle.history.specs.Needed.{is_needed}
+use Rattle.plain.specs.Forgetting.{IsThinned, oldest}
+use Rattle.plain.specs.Ledger.{Ledger}
+use Rattle.plain.proofs.ForgettingLemmas.{counted-thinned, filter-shorter}
+use Rattle.plain.proofs.world.World.forget.Goals as goal
+
+pub overflow_sub-self : goal.overflow_sub-self
+overflow_sub-self g c =
+    let fewer : length c.keep_needed.new.transactions.items ≤ length c.self.inside.transactions.items = rw c.keep_needed.ensures (filter-shorter _ c.self.inside.transactions.items) in
+    omega (arith, fewer, c.len.ensures, c.len-3.ensures)
+
+pub overflow_sub-self-2 : goal.overflow_sub-self-2
+overflow_sub-self-2 g c =
+    let fewer : length c.keep_living.new.exports.items ≤ length c.self.inside.exports.items = rw c.keep_living.ensures (filter-shorter _ c.self.inside.exports.items) in
+    omega (arith, fewer, c.len-2.ensures, c.len-4.ensures)
+
+pub invariant_of-self : goal.invariant_of-self
+invariant_of-self g c =
+    let ts = c.self.inside.transactions.items in
+    let xs = c.self.inside.exports.items in
+    let fewer : length c.keep_needed.new.transactions.items ≤ length ts = rw c.keep_needed.ensures (filter-shorter _ ts) in
+    let less : length c.keep_living.new.exports.items ≤ length xs = rw c.keep_living.ensures (filter-shorter _ xs) in
+    counted-thinned (record { base = c.self.inside.base; txns = ts; exports = xs; place = c.self.inside.place }) _ (is_needed c.oldest-oldest.result ts) c.self.invariant c.keep_needed.ensures
+    (omega (arith, fewer, c.len.ensures, c.len-3.ensures)) refl (omega (arith, less, c.len-2.ensures, c.len-4.ensures)) refl
+
+pub returns : goal.returns
+returns g c =
+    let ts = c.self.inside.transactions.items in
+    let xs = c.self.inside.exports.items in
+    let fewer : length c.keep_needed.new.transactions.items ≤ length ts = rw c.keep_needed.ensures (filter-shorter _ ts) in
+    let less : length c.keep_living.new.exports.items ≤ length xs = rw c.keep_living.ensures (filter-shorter _ xs) in
+    let base = c.self.inside.base in
+    let thinned : Ledger _ = record {
+      base = record { transactions = base.transactions + c.len.result - c.len-3.result; commits = base.commits; identifiers = base.identifiers + c.len-2.result - c.len-4.result; events = base.events };
+      txns = c.keep_needed.new.transactions.items;
+      exports = c.keep_living.new.exports.items;
+      place = c.self.inside.place;
+    } in
+    subst (λ (l : Ledger _). IsThinned l thinned) c.self.view_is (record {
+      txns = c.keep_needed.ensures ∙ ap (λ n. filter (is_needed n ts) ts) (c.oldest-oldest.ensures ∙ ap oldest (sym c.self.view_is));
+      exports = c.keep_living.ensures ∙ ap (λ us. filter (is_living us) xs) c.as_slice.ensures.value;
+      transactions = omega (arith, fewer, c.len.ensures, c.len-3.ensures);
+      commits = refl;
+      identifiers = omega (arith, less, c.len-2.ensures, c.len-4.ensures);
+      events = refl;
+      place = refl;
+    })

@@ -1,0 +1,43 @@
+-- What is forgotten: transactions that no later question asks for, and identifiers that don't live.
+use Rattle.std.specs.Prelude.{◌≡◌, ℕ, ◌+◌, nat_lt, Bool, not, ◌&&◌, ◌||◌, List, length, filter}
+use Rattle.std.specs.List.{list_any}
+use Rattle.history.specs.Transactions.{Txn, edge, is_done, is_living, is_open, is_owed}
+use Rattle.history.specs.Needed.{is_late_reader, is_needed, is_recent, is_safe_reader}
+use Rattle.plain.specs.declared.least.Which.{Which}
+use Rattle.plain.specs.declared.least.Which.TheVariants.{Owed, HoldingBack, Recent}
+use Rattle.plain.specs.Ledger.{Ledger}
+use Rattle.plain.specs.Versions.{least_snapshot}
+
+module _ {A : Type 0} where
+  -- it is open, and no safe reader
+  abbrev pub holds_back : Txn A → Bool
+  holds_back t = is_open t.standing && not (is_safe_reader t)
+
+  -- the least snapshot of an open transaction that isn't a safe reader, n where none has one below that
+  abbrev pub oldest_of : ℕ → List (Txn A) → ℕ
+  oldest_of n ts = least_snapshot holds_back n ts
+
+  -- the snapshot from which on questions are asked
+  abbrev pub oldest : Ledger A → ℕ
+  oldest l = oldest_of l.base.commits l.txns
+
+  -- those whose snapshots are looked at
+  abbrev pub is_looked_at : Which → Txn A → Bool
+  is_looked_at Owed t = is_owed t.standing
+  is_looked_at HoldingBack t = holds_back t
+  is_looked_at (Recent n) t = is_recent n t
+
+  -- It matters, where the recent ones are among these, and none has a snapshot below reach.
+  abbrev pub is_needed_among : ℕ → ℕ → List (Txn A) → Txn A → Bool
+  is_needed_among n reach ts u =
+      is_owed u.standing || is_recent n u || is_late_reader n u || is_done u.standing && (nat_lt reach u.commit && list_any (λ v. is_recent n v && edge v u) ts)
+
+  -- Of the transactions those that matter are left, of the identifiers those that live, in their order; and as many numbers are used up as before.
+  pub record IsThinned (l m : Ledger A) : Type 0 where
+    pub txns : m.txns ≡ filter (is_needed (oldest l) l.txns) l.txns
+    pub exports : m.exports ≡ filter (is_living l.txns) l.exports
+    pub transactions : m.base.transactions + length m.txns ≡ l.base.transactions + length l.txns
+    pub commits : m.base.commits ≡ l.base.commits
+    pub identifiers : m.base.identifiers + length m.exports ≡ l.base.identifiers + length l.exports
+    pub events : m.base.events ≡ l.base.events
+    pub place : m.place ≡ l.place

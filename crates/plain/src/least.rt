@@ -1,0 +1,76 @@
+// The least snapshot of some transactions.
+ghost use Rattle.std.specs.Prelude.{◌≡◌, ◌&&◌, if◌then◌else◌, min};
+ghost use Rattle.history.specs.Needed as spec;
+ghost use Rattle.plain.specs.Forgetting.{holds_back, is_looked_at};
+ghost use Rattle.plain.specs.Versions.{least_snapshot};
+
+use crate::transaction::{Transaction, is_read_write};
+use std::alloc::Allocator;
+
+/// Which transactions' snapshots are looked at.
+#[derive(Clone, Copy)]
+pub enum Which {
+    /// Those that their session has still to end.
+    Owed,
+    /// The open ones, but for those that only read and whose snapshot is known to be safe.
+    HoldingBack,
+    /// The committed read-write ones whose number is above this one.
+    Recent(u64),
+}
+
+// Whether a transaction only reads, and from a snapshot that is known to be safe.
+fn is_safe_reader<A: Allocator>(transaction: &Transaction<A>) -> bool
+    ensures { result ≡ spec.is_safe_reader transaction.now }
+{
+    !is_read_write(transaction.mode) && transaction.known
+}
+
+// Whether a transaction is open, and no safe reader.
+fn holds_back<A: Allocator>(transaction: &Transaction<A>) -> bool
+    ensures { result ≡ holds_back transaction.now }
+{
+    transaction.standing.is_open() && !is_safe_reader(transaction)
+}
+
+/// Whether a transaction is read-write and has committed as a number above this one.
+pub fn is_recent<A: Allocator>(transaction: &Transaction<A>, oldest: u64) -> bool
+    ensures { result ≡ spec.is_recent oldest transaction.now }
+{
+    transaction.standing.is_done() && is_read_write(transaction.mode) && oldest < transaction.commit
+}
+
+// Whether a transaction's snapshot is looked at.
+fn is_looked_at<A: Allocator>(transaction: &Transaction<A>, which: Which) -> bool
+    ensures { result ≡ is_looked_at which transaction.now }
+{
+    match which {
+        Which::Owed => transaction.standing.is_owed(),
+        Which::HoldingBack => holds_back(transaction),
+        Which::Recent(oldest) => is_recent(transaction, oldest),
+    }
+}
+
+// The lesser of a number and of a transaction's snapshot, where that is looked at.
+fn lesser_snapshot<A: Allocator>(least: u64, transaction: &Transaction<A>, which: Which) -> u64
+    ensures { result ≡ (if is_looked_at which transaction.now then min transaction.now.snapshot least else least) }
+{
+    if is_looked_at(transaction, which) {
+        transaction.snapshot.min(least)
+    } else {
+        least
+    }
+}
+
+/// The least snapshot of those of these transactions that are looked at, a number where none is below
+/// it. It takes no memory.
+pub fn least_snapshot<A: Allocator>(transactions: &[Transaction<A>], which: Which, most: u64) -> u64
+    ensures { result ≡ least_snapshot (is_looked_at which) most transactions.now }
+{
+    let mut least = most;
+    let mut left = transactions;
+    while let [transaction, rest @ ..] = left {
+        least = lesser_snapshot(least, transaction, which);
+        left = rest;
+    }
+    least
+}

@@ -1,0 +1,5 @@
+use Rattle.serial.proofs.AlwaysSound.{always_sound}
+use Rattle.serial.proofs.laws.always_sound.Goals as goal
+
+pub returns : goal.returns
+returns g c = λ o es l n m. always_sound o es l n m

@@ -1,0 +1,5 @@
+use Rattle.serial.proofs.SerialTheorem.{legal_serial}
+use Rattle.serial.proofs.laws.serializable.Goals as goal
+
+pub returns : goal.returns
+returns g c = λ o es l. legal_serial o es l

@@ -1,0 +1,94 @@
+-- What is left after forgetting represents the same world.
+use Rattle.std.proofs.Common.{◌≡◌, sym, ap, subst, ◌∙◌, ℕ, ◌+◌, ◌≤◌, true, false, not, ◌&&◌, ◌||◌, List, length, map, arith}
+use Rattle.std.specs.List.{filter}
+use Rattle.value.proofs.IsolationLemmas.{In}
+use Rattle.conflict.proofs.Lists.{In-filter, and_true, filter-kept, filter_alike, or_left}
+use Rattle.history.specs.Opening.{Recorded}
+use Rattle.history.specs.Transactions.{Txn, World, Exported_snapshot, edge, is_done, is_living, is_open, is_owed}
+use Rattle.history.specs.Needed.{IsOldest, Keeps, is_late_reader, is_needed, is_recent, is_safe_reader, kept_of, needed_numbers}
+use Rattle.serial.proofs.NeededCause.{open_owed}
+use Rattle.serial.proofs.NeededLater.{shrunk}
+use Rattle.serial.proofs.NeededRaised.{least_is, least_kept, raised}
+use Rattle.serial.proofs.SafePrefix.{all_by, by_all}
+use Rattle.mvrows.specs.Versions.{VersionedRows, TablesAreBelow}
+use Rattle.plain.specs.Forgetting.{IsThinned, holds_back, oldest}
+use Rattle.plain.specs.Ledger.{Ledger, kept}
+use Rattle.plain.specs.Versions.{lowest}
+use Rattle.session.specs.Core.{HoldsRows, IsKept}
+use Rattle.session.specs.Kept.{Represents}
+use Rattle.session.proofs.Kept.{any_map, filter_map}
+use Rattle.session.proofs.Least.{least_from, least_most, least_of}
+use Rattle.session.proofs.Lent.{living_is, owed_in, r, w}
+
+module _ {A : Type 0} where
+  -- what matters of transactions doesn't depend on what is left out of them
+  needed_kept : (n : ℕ) (ts : List (Txn A)) (u : Txn A) → is_needed n (map kept ts) (kept u) ≡ is_needed n ts u
+  needed_kept n ts u = ap (λ b. is_owed u.standing || is_recent n u || is_late_reader n u || (is_done u.standing && b)) (any_map kept (λ v. is_recent n v && edge v (kept u)) ts)
+
+  module _ (h : Recorded A) (l : Ledger A) (k : IsKept h l) (m : Ledger A) (t : IsThinned l m) where
+    abbrev n : ℕ
+    n = oldest l
+
+    abbrev old : World A
+    old = w h l k
+
+    abbrev ts : List (Txn A)
+    ts = kept_of (r h l k).keep old.txns
+
+    is_oldest : IsOldest old n
+    is_oldest = all_by _ old.txns (λ u i o s. least_of holds_back l.base.commits l.txns (kept u) (owed_in h l k u i (open_owed u.standing o)) (and_true (is_open u.standing) (not (is_safe_reader u)) o (ap not s)))
+
+    older : (r h l k).oldest ≤ n
+    older = least_from holds_back l.base.commits l.txns (r h l k).oldest (let p = (r h l k).seen in let q = (r h l k).commits in omega (arith, p, q)) (λ u i e. from u (subst (In u) (r h l k).txns i) e)
+      where
+        from : (u : Txn A) → In u (map kept ts) → holds_back u ≡ true → (r h l k).oldest ≤ u.snapshot
+        from u i e = go (Rattle.session.proofs.Lent.map-In kept ts u i)
+          where
+            both : (is_open u.standing ≡ true) × (not (is_safe_reader u) ≡ true)
+            both = Rattle.conflict.proofs.Lists.both_true (is_open u.standing) (not (is_safe_reader u)) e
+
+            go : (y : Txn A) × In y ts × (u ≡ kept y) → (r h l k).oldest ≤ u.snapshot
+            go y =
+                let p = In-filter (λ (x : Txn A). (r h l k).keep x.number) y.0 old.txns y.1 in
+                let o : is_open y.0.standing ≡ true = sym (ap (λ (x : Txn A). is_open x.standing) y.2) ∙ both.0 in
+                let s : is_safe_reader y.0 ≡ false = sym (ap (λ (x : Txn A). is_safe_reader x) y.2) ∙ Rattle.serial.proofs.NeededCause.was_not (is_safe_reader u) both.1 in
+                let q = by_all (λ (x : Txn A). is_open x.standing ≡ true → is_safe_reader x ≡ false → (r h l k).oldest ≤ x.snapshot) old.txns y.0 (r h l k).keeps.oldest p.0 o s in
+                let e : u.snapshot ≡ y.0.snapshot = ap (λ (x : Txn A). x.snapshot) y.2 in omega (arith, q, e)
+
+    still : Keeps old n (r h l k).keep
+    still = raised old (r h l k).oldest n (r h l k).keep (r h l k).keeps older is_oldest
+
+    pub represents_thinned : Represents old m
+    represents_thinned = record {
+      oldest = n;
+      keep = needed_numbers n old.txns;
+      keeps = least_kept old n is_oldest;
+      seen = let p = least_most holds_back l.base.commits l.txns in let q = (r h l k).commits in omega (arith, p, q);
+      txns =
+          t.txns ∙ ap (λ us. filter (is_needed n us) us) (r h l k).txns ∙ filter_map kept (is_needed n (map kept ts)) ts
+          ∙ ap (map kept) (filter_alike (λ u. is_needed n (map kept ts) (kept u)) (is_needed n ts) ts (λ u i. needed_kept n ts u) ∙ shrunk old n (r h l k).keep still ∙ sym (least_is h.opening h.records k.legal n));
+      exports =
+          ap (filter (is_living old.txns)) (t.exports ∙ filter_alike (is_living l.txns) (is_living old.txns) l.exports (λ x i. lives x))
+          ∙ filter-kept (is_living old.txns) (is_living old.txns) l.exports (λ x i e. e) ∙ (r h l k).exports;
+      exporters = all_by _ m.exports (λ x i. by_all (λ y. y.exporter ≤ old.base.transactions + length old.txns) l.exports x (r h l k).exporters (In-filter (is_living l.txns) x l.exports (subst (In x) t.exports i)).0);
+      transactions = t.transactions ∙ (r h l k).transactions;
+      commits = t.commits ∙ (r h l k).commits;
+      identifiers = t.identifiers ∙ (r h l k).identifiers;
+      place = t.place ∙ (r h l k).place;
+    }
+      where
+        lives : (x : Exported_snapshot) → is_living l.txns x ≡ is_living old.txns x
+        lives x = ap (λ us. is_living us x) (r h l k).txns ∙ living_is h l k x
+
+    pub kept_thinned : IsKept h m
+    kept_thinned = record { legal = k.legal; represents = represents_thinned; room = k.room }
+
+    pub rows_thinned : (rows : List (VersionedRows A)) → HoldsRows h l rows → HoldsRows h m rows
+    rows_thinned rows held = record {
+      current = record { order = held.current.order; below = subst (λ c. TablesAreBelow (c + 1) rows) (sym t.commits) held.current.below };
+      shown = λ i j. held.shown i (let p = lower in omega (arith, p, j));
+    }
+      where
+        lower : lowest l ≤ lowest m
+        lower = least_from (λ u. is_owed u.standing) m.base.commits m.txns (lowest l) (let p = least_most (λ (u : Txn A). is_owed u.standing) l.base.commits l.txns in omega (arith, p, t.commits))
+            (λ u i o. least_of (λ x. is_owed x.standing) l.base.commits l.txns u (In-filter (is_needed n l.txns) u l.txns (subst (In u) t.txns i)).0 o)

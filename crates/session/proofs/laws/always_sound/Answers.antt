@@ -1,5 +1,0 @@
-use Rattle.session.proofs.AlwaysSound.{always_sound}
-use Rattle.session.proofs.laws.always_sound.Goals as goal
-
-pub returns : goal.returns
-returns g c = λ o es l n m. always_sound o es l n m

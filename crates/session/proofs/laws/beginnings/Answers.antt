@@ -1,5 +1,0 @@
-use Rattle.session.proofs.Later.{legal_begins}
-use Rattle.session.proofs.laws.beginnings.Goals as goal
-
-pub returns : goal.returns
-returns g c = λ o es more l. legal_begins o es more l

@@ -1,5 +1,0 @@
-use Rattle.session.proofs.DoneFromSnapshot.{all_done}
-use Rattle.session.proofs.laws.faithful.Goals as goal
-
-pub returns : goal.returns
-returns g c = λ o es l. all_done o es l

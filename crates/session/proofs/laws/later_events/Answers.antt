@@ -1,5 +1,0 @@
-use Rattle.session.proofs.Later.{legal_stays}
-use Rattle.session.proofs.laws.later_events.Goals as goal
-
-pub returns : goal.returns
-returns g c = λ o es more l. legal_stays o es more l

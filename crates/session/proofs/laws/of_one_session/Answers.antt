@@ -1,5 +1,0 @@
-use Rattle.session.proofs.Histories.{of_session-push}
-use Rattle.session.proofs.laws.of_one_session.Goals as goal
-
-pub returns : goal.returns
-returns g c = λ s es e. of_session-push s es e

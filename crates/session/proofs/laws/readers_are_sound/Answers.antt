@@ -1,5 +1,0 @@
-use Rattle.session.proofs.ViewSound.{reader_sound}
-use Rattle.session.proofs.laws.readers_are_sound.Goals as goal
-
-pub returns : goal.returns
-returns g c = λ o es s X legal e. reader_sound o es legal s X e

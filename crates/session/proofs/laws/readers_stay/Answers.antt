@@ -1,5 +1,0 @@
-use Rattle.session.proofs.Elsewhere.{readers_stay}
-use Rattle.session.proofs.laws.readers_stay.Goals as goal
-
-pub returns : goal.returns
-returns g c = λ o es more s X Y legal none e f. readers_stay o es more s X Y legal none e f

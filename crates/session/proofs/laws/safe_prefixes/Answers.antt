@@ -1,5 +1,0 @@
-use Rattle.session.proofs.SafePrefix.{safe_are_safe}
-use Rattle.session.proofs.laws.safe_prefixes.Goals as goal
-
-pub returns : goal.returns
-returns g c = λ o es l. safe_are_safe o es l

@@ -1,5 +1,0 @@
-use Rattle.session.proofs.SafeReply.{safe_reply}
-use Rattle.session.proofs.laws.safe_replies.Goals as goal
-
-pub returns : goal.returns
-returns g c = λ o es s n more l. safe_reply o es s n more l

@@ -1,5 +1,0 @@
-use Rattle.session.proofs.SerialTheorem.{legal_serial}
-use Rattle.session.proofs.laws.serializable.Goals as goal
-
-pub returns : goal.returns
-returns g c = λ o es l. legal_serial o es l

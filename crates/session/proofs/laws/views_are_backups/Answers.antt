@@ -1,5 +1,0 @@
-use Rattle.session.proofs.ViewSafe.{view_is_backup}
-use Rattle.session.proofs.laws.views_are_backups.Goals as goal
-
-pub returns : goal.returns
-returns g c = λ o es s X legal e. view_is_backup o es legal s X e
