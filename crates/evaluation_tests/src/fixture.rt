@@ -12,9 +12,9 @@ use statement::outcome::Outcome;
 use statement::reply::Reply;
 use statement::statement::Statement;
 use std::alloc::Global;
-use std::test::Fail;
+use std::process::Abort;
 use value::key::Key;
-use value::refusal::Refusal;
+use value::refusal::{Code, Refusal};
 use value::value::Value;
 
 /// A reader of another's tables.
@@ -37,61 +37,73 @@ impl SnapshotReader<Global> for Lent<'_> {
 
 /// A catalog and its tables.
 #[derive(Drop)]
-pub struct Database {
+struct Database {
     catalog: Catalog,
     tables: Tables,
 }
 
+// What a script itself has wrong.
+fn fault() -> Refusal {
+    Refusal::of_code(Code::SyntaxError)
+}
+
 // Puts in the row of an INSERT.
-fn put(alloc: Global, catalog: &Catalog, tables: &mut Tables, text: &str) -> Result<(), Fail> {
+fn put(alloc: Global, catalog: &Catalog, tables: &mut Tables, text: &str) -> Result<(), Refusal> {
     let Statement::Insert(table, values) = parse_statement(alloc, catalog, text)? else {
-        return Err("no INSERT".into());
+        return Err(fault());
     };
     let [key, rest @ ..] = values.as_slice() else {
-        return Err("no values".into());
+        return Err(fault());
     };
-    let key = Key::new(key.copy(alloc)?).ok_or("a null key")?;
+    let key = Key::new(key.copy(alloc)?).ok_or(fault())?;
     let mut fields = Vec::new(alloc);
     for value in rest {
         fields.push(value.copy(alloc)?)?;
     }
     if !catalog.has(table) || tables.count() != catalog.len() {
-        return Err("no such table".into());
+        return Err(fault());
     }
-    tables.insert(alloc, catalog, table, Row::new(key, fields))?;
-    Ok(())
+    tables.insert(alloc, catalog, table, Row::new(key, fields))
 }
 
-/// The tables of these CREATE TABLEs, with the rows of these INSERTs.
-pub fn database_of(alloc: Global, creates: &[&str], inserts: &[&str]) -> Result<Database, Fail> {
+// The catalog of a script's lines that begin with CREATE.
+fn catalog_of(alloc: Global, script: &str) -> Result<Catalog, Refusal> {
     let mut catalog = Catalog::new(alloc);
-    for text in creates {
-        let table = parse_create(alloc, text)?;
-        catalog.add(alloc, table)?;
+    for line in script.lines() {
+        if line.starts_with("CREATE") {
+            catalog.add(alloc, parse_create(alloc, line)?)?;
+        }
     }
+    Ok(catalog)
+}
+
+// The tables of a script, with the rows of its INSERTs that have no answer.
+fn database_of(alloc: Global, script: &str) -> Result<Database, Refusal> {
+    let catalog = catalog_of(alloc, script)?;
     let mut tables = Tables::new(alloc, &catalog)?;
-    for text in inserts {
-        put(alloc, &catalog, &mut tables, text)?;
+    for line in script.lines() {
+        if line.starts_with("INSERT") && !line.contains(": ") {
+            put(alloc, &catalog, &mut tables, line)?;
+        }
     }
     Ok(Database { catalog, tables })
 }
 
 // What comes of a statement's text.
-fn outcome(alloc: Global, database: &Database, text: &str) -> Result<Outcome, Fail> {
+fn outcome(alloc: Global, database: &Database, text: &str) -> Result<Outcome, Refusal> {
     let statement = parse_statement(alloc, &database.catalog, text)?;
     if !database.tables.sound(&database.catalog) {
-        return Err("the tables aren't sound".into());
+        return Err(fault());
     }
     sound_tables_are_held::<Global>();
     let reader = Lent {
         tables: &database.tables,
     };
-    let outcome = evaluate(alloc, &database.catalog, &statement, &reader)?;
-    Ok(outcome)
+    evaluate(alloc, &database.catalog, &statement, &reader)
 }
 
 // A value, as it is printed here.
-fn push_value(alloc: Global, printed: &mut String, value: &Value) -> Result<(), Fail> {
+fn push_value(alloc: Global, printed: &mut String, value: &Value) -> Result<(), Refusal> {
     let text = match value {
         Value::Null => format!(in alloc; "null")?,
         Value::Int(number) => format!(in alloc; "{number}")?,
@@ -103,7 +115,7 @@ fn push_value(alloc: Global, printed: &mut String, value: &Value) -> Result<(), 
 }
 
 // Values, with a bar between each two.
-fn push_values(alloc: Global, printed: &mut String, values: &[Value]) -> Result<(), Fail> {
+fn push_values(alloc: Global, printed: &mut String, values: &[Value]) -> Result<(), Refusal> {
     let mut is_first = true;
     for value in values {
         if !is_first {
@@ -116,7 +128,7 @@ fn push_values(alloc: Global, printed: &mut String, values: &[Value]) -> Result<
 }
 
 // A reply, as it is printed: of rows their number, and then each after a space.
-fn printed(alloc: Global, reply: &Reply) -> Result<String, Fail> {
+fn printed(alloc: Global, reply: &Reply) -> Result<String, Refusal> {
     match reply {
         Reply::Inserted => Ok(format!(in alloc; "INSERT 0 1")?),
         Reply::Updated(rows) => Ok(format!(in alloc; "UPDATE {rows}")?),
@@ -130,12 +142,12 @@ fn printed(alloc: Global, reply: &Reply) -> Result<String, Fail> {
             }
             Ok(printed)
         }
-        _ => Err("no reply of a statement".into()),
+        _ => Err(fault()),
     }
 }
 
-/// The reply to a statement's text, as it is printed.
-pub fn reply(alloc: Global, database: &Database, text: &str) -> Result<String, Fail> {
+// The reply to a statement's text, as it is printed.
+fn reply(alloc: Global, database: &Database, text: &str) -> Result<String, Refusal> {
     let outcome = outcome(alloc, database, text)?;
     printed(alloc, &outcome.reply)
 }
@@ -146,7 +158,7 @@ fn push_change(
     printed: &mut String,
     key: &Key,
     row: &Option<Row>,
-) -> Result<(), Fail> {
+) -> Result<(), Refusal> {
     push_value(alloc, printed, key.value())?;
     match row {
         Some(row) => {
@@ -167,7 +179,7 @@ fn push_changes(
     printed: &mut String,
     changes: &Changes,
     table: TableNo,
-) -> Result<(), Fail> {
+) -> Result<(), Refusal> {
     let mut next = changes.next(table, Bound::Start);
     for _ in 0..9 {
         let Some((key, row)) = next else {
@@ -179,9 +191,9 @@ fn push_changes(
     Ok(())
 }
 
-/// What a statement's text writes: the rows of each table, and then the references that they had
-/// and have, by their tables and columns, counted from 0.
-pub fn written(alloc: Global, database: &Database, text: &str) -> Result<String, Fail> {
+// What a statement's text writes: the rows of each table, and then the references that they had
+// and have, by their tables and columns, counted from 0.
+fn written(alloc: Global, database: &Database, text: &str) -> Result<String, Refusal> {
     let outcome = outcome(alloc, database, text)?;
     let mut printed = String::new(alloc);
     for place in 0..database.catalog.len() {
@@ -197,5 +209,29 @@ pub fn written(alloc: Global, database: &Database, text: &str) -> Result<String,
         printed.push_str(text.as_str())?;
         push_value(alloc, &mut printed, mark.key.value())?;
     }
+    if printed.is_empty() {
+        printed.push_str("nothing")?;
+    }
     Ok(printed)
+}
+
+// The answer to what stands before the colon of a line: what a statement writes, or its reply.
+fn answer(alloc: Global, database: &Database, asked: &str) -> Result<String, Refusal> {
+    match asked.strip_prefix("WRITTEN ") {
+        Some(text) => written(alloc, database, text),
+        None => reply(alloc, database, asked),
+    }
+}
+
+/// A script's tables and rows; each further line has a statement, after WRITTEN where it is asked
+/// what it writes, and after a colon the answer, on those rows.
+pub fn script(rt: &impl Abort, alloc: Global, script: &str) -> Result<(), Refusal> {
+    let database = database_of(alloc, script)?;
+    for line in script.lines() {
+        if let Some((asked, want)) = line.split_once(": ") {
+            let got = answer(alloc, &database, asked)?;
+            assert_eq!(rt; got.as_str(), want, "{asked}");
+        }
+    }
+    Ok(())
 }

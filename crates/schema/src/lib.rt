@@ -9,5 +9,3 @@ pub mod reader;
 pub mod row;
 pub mod table;
 pub mod tables;
-#[cfg(test)]
-mod tests;

@@ -2,5 +2,3 @@
 #![tactic(auto)]
 
 pub mod overlay;
-#[cfg(test)]
-mod tests;

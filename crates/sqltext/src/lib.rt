@@ -11,7 +11,5 @@ pub mod read;
 pub mod resolve;
 pub mod sequence;
 pub mod source;
-#[cfg(test)]
-mod tests;
 pub mod token;
 pub mod tree;

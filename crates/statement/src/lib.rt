@@ -2,13 +2,9 @@
 #![tactic(auto)]
 
 pub mod condition;
-#[cfg(test)]
-mod copy_tests;
 pub mod evaluate;
 mod fits;
 pub mod footprint;
-#[cfg(test)]
-mod footprint_tests;
 mod interval;
 pub mod laws;
 pub mod outcome;

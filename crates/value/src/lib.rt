@@ -8,7 +8,5 @@ pub mod key;
 pub mod kind;
 mod literal;
 pub mod refusal;
-#[cfg(test)]
-mod tests;
 pub mod text;
 pub mod value;

@@ -1,12 +1,11 @@
-//! Tests of footprints.
+//! What a SELECT reads, by its conditions.
 
-use crate::condition::{Comparison, Condition, Conditions};
-use crate::footprint::footprint;
-use crate::statement::{Projection, Statement};
 use schema::catalog::{Catalog, TableNo};
 use schema::definition::{ColumnDef, TableDef};
+use statement::condition::{Comparison, Condition, Conditions};
+use statement::footprint::footprint;
+use statement::statement::{Projection, Statement};
 use std::alloc::Global;
-use std::test::Fail;
 use value::kind::Kind;
 use value::refusal::Refusal;
 use value::text::Text;
@@ -26,7 +25,7 @@ fn catalog(alloc: Global) -> Result<Catalog, Refusal> {
 }
 
 // What a SELECT with these comparisons reads, or nothing where it doesn't fit.
-fn read(alloc: Global, comparisons: &[(u32, Comparison, i64)]) -> Result<Option<String>, Fail> {
+fn read(alloc: Global, comparisons: &[(u32, Comparison, i64)]) -> Result<Option<String>, Refusal> {
     let mut conditions = Vec::new(alloc);
     for (column, comparison, number) in comparisons {
         conditions.push(Condition::Compare(*column, *comparison, Value::Int(*number)))?;
@@ -47,7 +46,7 @@ fn read(alloc: Global, comparisons: &[(u32, Comparison, i64)]) -> Result<Option<
 }
 
 #[test]
-fn footprints(rt: HostRuntime) -> Result<(), Fail> {
+fn footprints(rt: HostRuntime) -> Result<(), Refusal> {
     let (least, most) = (Comparison::GreaterOrEqual, Comparison::LessOrEqual);
     for (comparisons, want) in [
         ([(0, least, 10), (0, Comparison::Less, 10)], Some("")),

@@ -1,71 +1,34 @@
-//! Tests of overlays, row by row and key by key.
+//! Own changes over lent tables.
 
-ghost use Rattle.schema.specs.Rows.{HasTable};
-
-use crate::overlay::Overlay;
+use crate::tables::{key, numbers, rows, table};
 use schema::catalog::{Catalog, TableNo};
 use schema::changes::Changes;
-use schema::definition::{ColumnDef, TableDef};
-use schema::reader::{Bound, SnapshotReader, first_row, row_after};
+use schema::reader::{Bound, SnapshotReader};
 use schema::row::Row;
 use schema::tables::Tables;
+use snapshot::overlay::Overlay;
 use std::alloc::Global;
 use std::process::Abort;
-use std::test::Fail;
-use value::key::Key;
 use value::kind::Kind;
 use value::refusal::Refusal;
-use value::text::Text;
 use value::value::Value;
 
-// One table, of a key and a number.
-fn catalog(alloc: Global) -> Result<Catalog, Refusal> {
-    let mut columns = Vec::new(alloc);
-    for name in ["id", "v"] {
-        let name = Text::from_str(alloc, name)?;
-        columns.push(ColumnDef::new(name, Kind::Bigint, false, None))?;
-    }
+// Tables of one, of a key and a number.
+fn one_table(alloc: Global) -> Result<Tables, Refusal> {
     let mut catalog = Catalog::new(alloc);
-    let name = Text::from_str(alloc, "t")?;
-    catalog.add(alloc, TableDef::new(alloc, name, columns)?)?;
-    Ok(catalog)
+    catalog.add(alloc, table(alloc, "t", 2, Kind::Bigint, "")?)?;
+    Tables::new(alloc, &catalog)
 }
 
-fn key(number: i64) -> Result<Key, Fail> {
-    Ok(Key::new(Value::Int(number)).ok_or("a null key")?)
-}
-
-fn row(alloc: Global, number: i64, beside: i64) -> Result<Row, Fail> {
+fn row(alloc: Global, number: i64, beside: i64) -> Result<Row, Refusal> {
     let mut fields = Vec::new(alloc);
     fields.push(Value::Int(beside))?;
-    Ok(Row::new(key(number)?, fields))
-}
-
-// A row's key and number.
-fn numbers(row: &Row) -> (i64, i64) {
-    match (row.key().value(), row.fields()) {
-        (Value::Int(number), [Value::Int(beside)]) => (*number, *beside),
-        _ => (0, 0),
-    }
-}
-
-// The rows of the table, in the order in which they are read.
-fn rows<R: SnapshotReader<Global>>(alloc: Global, reader: &R) -> Result<Vec<(i64, i64)>, Fail>
-    requires { HasTable (R.tables reader.now) 0 }
-{
-    let table = TableNo::at(0);
-    let mut rows = Vec::new(alloc);
-    let mut next = first_row(reader, table);
-    while let Some(row) = next {
-        rows.push(numbers(row))?;
-        next = row_after(reader, table, row);
-    }
-    Ok(rows)
+    Ok(Row::new(key(number), fields))
 }
 
 // The rows of the first four odd numbers, with ten times each beside it.
-fn four(rt: &impl Abort, alloc: Global) -> Result<Tables, Fail> {
-    let mut tables = Tables::new(alloc, &catalog(alloc)?)?;
+fn four(rt: &impl Abort, alloc: Global) -> Result<Tables, Refusal> {
+    let mut tables = one_table(alloc)?;
     for (number, beside) in [(1, 10), (3, 30), (5, 50), (7, 70)] {
         assert!(rt; tables.has(TableNo::at(0)));
         tables.put(alloc, TableNo::at(0), row(alloc, number, beside)?)?;
@@ -74,11 +37,11 @@ fn four(rt: &impl Abort, alloc: Global) -> Result<Tables, Fail> {
 }
 
 // The first and the last row taken away, one put in the place of the second, and one between.
-fn changes(alloc: Global) -> Result<Changes, Fail> {
+fn changes(alloc: Global) -> Result<Changes, Refusal> {
     let table = TableNo::at(0);
     let mut changes = Changes::new(alloc);
     for number in [1, 7, 8] {
-        changes.put_absence(alloc, table, key(number)?)?;
+        changes.put_absence(alloc, table, key(number))?;
     }
     for (number, beside) in [(3, 31), (4, 40)] {
         changes.put_row(alloc, table, row(alloc, number, beside)?)?;
@@ -87,20 +50,20 @@ fn changes(alloc: Global) -> Result<Changes, Fail> {
 }
 
 #[test]
-fn own_changes_over_tables(rt: HostRuntime) -> Result<(), Fail> {
+fn own_changes_over_tables(rt: HostRuntime) -> Result<(), Refusal> {
     let alloc = rt.alloc();
     let (tables, changes) = (four(&rt, alloc)?, changes(alloc)?);
     let overlay = Overlay::new(&tables, &changes);
     assert!(rt; tables.has(TableNo::at(0)));
     assert_eq!(rt;
-        rows(alloc, &overlay)?.as_slice(),
+        rows(alloc, &overlay, TableNo::at(0))?.as_slice(),
         [(3, 31), (4, 40), (5, 50)].as_slice()
     );
     Ok(())
 }
 
 #[test]
-fn keys_over_tables(rt: HostRuntime) -> Result<(), Fail> {
+fn keys_over_tables(rt: HostRuntime) -> Result<(), Refusal> {
     let alloc = rt.alloc();
     let (tables, changes) = (four(&rt, alloc)?, changes(alloc)?);
     let overlay = Overlay::new(&tables, &changes);
@@ -114,7 +77,7 @@ fn keys_over_tables(rt: HostRuntime) -> Result<(), Fail> {
         (6, None, None),
         (7, None, None),
     ] {
-        let key = key(number)?;
+        let key = key(number);
         assert_eq!(rt; overlay.get(table, &key).map(numbers), at, "{number}");
         let next = overlay.next_row(table, Bound::From(&key));
         assert_eq!(rt; next.map(numbers), from, "{number}");
@@ -123,20 +86,20 @@ fn keys_over_tables(rt: HostRuntime) -> Result<(), Fail> {
 }
 
 #[test]
-fn no_change_over_tables(rt: HostRuntime) -> Result<(), Fail> {
+fn no_change_over_tables(rt: HostRuntime) -> Result<(), Refusal> {
     let alloc = rt.alloc();
     let (tables, changes) = (four(&rt, alloc)?, Changes::new(alloc));
     let overlay = Overlay::new(&tables, &changes);
     assert!(rt; tables.has(TableNo::at(0)));
     assert_eq!(rt;
-        rows(alloc, &overlay)?.as_slice(),
-        rows(alloc, &tables)?.as_slice()
+        rows(alloc, &overlay, TableNo::at(0))?.as_slice(),
+        rows(alloc, &tables, TableNo::at(0))?.as_slice()
     );
     Ok(())
 }
 
 #[test]
-fn changes_put_into_a_copy(rt: HostRuntime) -> Result<(), Fail> {
+fn changes_put_into_a_copy(rt: HostRuntime) -> Result<(), Refusal> {
     let alloc = rt.alloc();
     let table = TableNo::at(0);
     let tables = four(&rt, alloc)?;
@@ -144,19 +107,19 @@ fn changes_put_into_a_copy(rt: HostRuntime) -> Result<(), Fail> {
     for number in 0..60u32 {
         let at = i64::from(number * 7 % 31);
         if number % 3 == 0 {
-            changes.put_absence(alloc, table, key(at)?)?;
+            changes.put_absence(alloc, table, key(at))?;
         } else {
             changes.put_row(alloc, table, row(alloc, at, i64::from(number))?)?;
         }
     }
     assert!(rt; tables.has(table));
-    let overlaid = rows(alloc, &Overlay::new(&tables, &changes))?;
+    let overlaid = rows(alloc, &Overlay::new(&tables, &changes), table)?;
     let mut copy = tables.copy(alloc)?;
     for change in &changes.into_list(alloc)? {
         assert!(rt; copy.has(change.table()));
         copy.apply(alloc, change)?;
     }
     assert!(rt; copy.has(table));
-    assert_eq!(rt; overlaid.as_slice(), rows(alloc, &copy)?.as_slice());
+    assert_eq!(rt; overlaid.as_slice(), rows(alloc, &copy, table)?.as_slice());
     Ok(())
 }

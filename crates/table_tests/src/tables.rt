@@ -1,19 +1,17 @@
-//! Tests of names, catalogs, tables, changes and readers.
-
+//! Catalogs, plain tables, rows, changes, and a reader of the tests' own.
 ghost use Rattle.schema.specs.Rows.{HasTable};
 
-use crate::catalog::{Catalog, TableNo};
-use crate::changes::{Change, Changes};
-use crate::definition::{ColumnDef, TableDef};
-use crate::names::is_name;
-use crate::reader::{Bound, SnapshotReader, first_row, row_after};
-use crate::row::Row;
-use crate::tables::Tables;
+use schema::catalog::{Catalog, TableNo};
+use schema::changes::{Change, Changes};
+use schema::definition::{ColumnDef, TableDef};
+use schema::names::is_name;
+use schema::reader::{Bound, SnapshotReader, first_row, row_after};
+use schema::row::Row;
+use schema::tables::Tables;
 use std::alloc::Global;
-use std::test::Fail;
 use value::key::Key;
 use value::kind::Kind;
-use value::refusal::{Code, Refusal};
+use value::refusal::Refusal;
 use value::text::Text;
 use value::value::Value;
 
@@ -34,7 +32,7 @@ fn column(
 }
 
 // A table of bigint columns c0, c1, .., the last of which may reference a table.
-fn table(
+pub(crate) fn table(
     alloc: Global,
     name: &str,
     count: usize,
@@ -55,12 +53,16 @@ fn table(
     TableDef::new(alloc, Text::from_str(alloc, name)?, columns)
 }
 
-fn code<T: Drop>(answer: Result<T, Refusal>) -> Option<Code> {
-    answer.err().map(|refusal| refusal.code)
+// The code of a refusal; nothing where there is none.
+fn code<T: Drop>(answer: Result<T, Refusal>) -> &'static str {
+    match answer {
+        Ok(_) => "",
+        Err(refusal) => refusal.code.sqlstate(),
+    }
 }
 
 #[test]
-fn names(rt: HostRuntime) -> Result<(), Fail> {
+fn names(rt: HostRuntime) -> Result<(), Refusal> {
     let longest = "a123456789b123456789c123456789d123456789e123456789f123456789abc";
     let longer = "a123456789b123456789c123456789d123456789e123456789f123456789abcd";
     for (word, want) in [
@@ -83,14 +85,14 @@ fn names(rt: HostRuntime) -> Result<(), Fail> {
 }
 
 #[test]
-fn definitions(rt: HostRuntime) -> Result<(), Fail> {
+fn definitions(rt: HostRuntime) -> Result<(), Refusal> {
     let alloc = rt.alloc();
     for (name, first, second, references, want) in [
-        ("t", "id", "v", "", None),
-        ("T", "id", "v", "", Some(Code::SyntaxError)),
-        ("t", "table", "v", "", Some(Code::SyntaxError)),
-        ("t", "id", "id", "", Some(Code::SyntaxError)),
-        ("t", "id", "v", "P", Some(Code::SyntaxError)),
+        ("t", "id", "v", "", ""),
+        ("T", "id", "v", "", "42601"),
+        ("t", "table", "v", "", "42601"),
+        ("t", "id", "id", "", "42601"),
+        ("t", "id", "v", "P", "42601"),
     ] {
         let mut columns = Vec::new(alloc);
         columns.push(column(alloc, first, Kind::Bigint, true, "")?)?;
@@ -104,21 +106,21 @@ fn definitions(rt: HostRuntime) -> Result<(), Fail> {
         assert_eq!(rt; code(made), want, "{name} {first} {second} {references}");
     }
     let none = TableDef::new(alloc, Text::from_str(alloc, "t")?, Vec::new(alloc));
-    assert_eq!(rt; code(none), Some(Code::SyntaxError));
+    assert_eq!(rt; code(none), "42601");
     Ok(())
 }
 
 #[test]
-fn adding_to_a_catalog(rt: HostRuntime) -> Result<(), Fail> {
+fn adding_to_a_catalog(rt: HostRuntime) -> Result<(), Refusal> {
     let alloc = rt.alloc();
     let mut catalog = Catalog::new(alloc);
     for (name, count, kind, references, want) in [
-        ("p", 1, Kind::Bigint, "", None),
-        ("p", 2, Kind::Bigint, "nope", Some(Code::DuplicateTable)),
-        ("c", 2, Kind::Bigint, "c", Some(Code::UndefinedTable)),
-        ("c", 33, Kind::Text, "p", Some(Code::DatatypeMismatch)),
-        ("c", 33, Kind::Bigint, "p", Some(Code::ProgramLimitExceeded)),
-        ("c", 32, Kind::Bigint, "p", None),
+        ("p", 1, Kind::Bigint, "", ""),
+        ("p", 2, Kind::Bigint, "nope", "42P07"),
+        ("c", 2, Kind::Bigint, "c", "42P01"),
+        ("c", 33, Kind::Text, "p", "42804"),
+        ("c", 33, Kind::Bigint, "p", "54000"),
+        ("c", 32, Kind::Bigint, "p", ""),
     ] {
         let added = catalog.add(alloc, table(alloc, name, count, kind, references)?);
         assert_eq!(rt; code(added), want, "{name} {count} {references}");
@@ -129,10 +131,10 @@ fn adding_to_a_catalog(rt: HostRuntime) -> Result<(), Fail> {
     for place in 2..256 {
         let name = format!(in alloc; "t{place}")?;
         let added = catalog.add(alloc, table(alloc, name.as_str(), 1, Kind::Bigint, "")?);
-        assert_eq!(rt; code(added), None, "{place}");
+        assert_eq!(rt; code(added), "", "{place}");
     }
     let added = catalog.add(alloc, table(alloc, "one_more", 1, Kind::Bigint, "")?);
-    assert_eq!(rt; code(added), Some(Code::ProgramLimitExceeded));
+    assert_eq!(rt; code(added), "54000");
     Ok(())
 }
 
@@ -149,9 +151,16 @@ fn parent_and_child(alloc: Global) -> Result<Catalog, Refusal> {
     Ok(catalog)
 }
 
+// The key of a number.
+pub(crate) fn key(number: i64) -> Key {
+    let Some(key) = Key::new(Value::Int(number)) else {
+        unreachable!()
+    };
+    key
+}
+
 // A row of a key and fields: a text, where it isn't `-`, and a number, where it isn't 0; as many of them as are asked for.
-fn row(alloc: Global, key: i64, name: &str, parent: i64, count: usize) -> Result<Row, Fail> {
-    let key = Key::new(Value::Int(key)).ok_or("a null key")?;
+fn row(alloc: Global, number: i64, name: &str, parent: i64, count: usize) -> Result<Row, Refusal> {
     let name = match name {
         "-" => Value::Null,
         "7" => Value::Int(7),
@@ -168,24 +177,24 @@ fn row(alloc: Global, key: i64, name: &str, parent: i64, count: usize) -> Result
     if count > 1 {
         fields.push(parent)?;
     }
-    Ok(Row::new(key, fields))
+    Ok(Row::new(key(number), fields))
 }
 
 #[test]
-fn inserting_rows(rt: HostRuntime) -> Result<(), Fail> {
+fn inserting_rows(rt: HostRuntime) -> Result<(), Refusal> {
     let alloc = rt.alloc();
     let catalog = parent_and_child(alloc)?;
     let mut tables = Tables::new(alloc, &catalog)?;
     for (place, key, name, parent, count, want) in [
-        (0, 1, "-", 0, 0, None),
-        (1, 1, "a", 1, 2, None),
-        (1, 1, "\0", 9, 1, Some(Code::DatatypeMismatch)),
-        (1, 1, "7", 9, 2, Some(Code::DatatypeMismatch)),
-        (1, 1, "\0", 9, 2, Some(Code::CharacterNotInRepertoire)),
-        (1, 1, "-", 9, 2, Some(Code::NotNullViolation)),
-        (1, 1, "b", 9, 2, Some(Code::UniqueViolation)),
-        (1, 5, "b", 9, 2, Some(Code::ForeignKeyViolation)),
-        (1, 5, "b", 0, 2, None),
+        (0, 1, "-", 0, 0, ""),
+        (1, 1, "a", 1, 2, ""),
+        (1, 1, "\0", 9, 1, "42804"),
+        (1, 1, "7", 9, 2, "42804"),
+        (1, 1, "\0", 9, 2, "22021"),
+        (1, 1, "-", 9, 2, "23502"),
+        (1, 1, "b", 9, 2, "23505"),
+        (1, 5, "b", 9, 2, "23503"),
+        (1, 5, "b", 0, 2, ""),
     ] {
         let table = TableNo::at(place);
         assert!(rt; catalog.has(table) && tables.count() == catalog.len());
@@ -224,27 +233,34 @@ impl SnapshotReader<Global> for Lent<'_> {
     }
 }
 
-// The keys of a table, in the order in which they are read.
-fn keys<R: SnapshotReader<Global>>(
+// A row's key, and the number beside it; 0 where there is none.
+pub(crate) fn numbers(row: &Row) -> (i64, i64) {
+    match (row.key().value(), row.fields()) {
+        (Value::Int(number), [Value::Int(beside), ..]) => (*number, *beside),
+        (Value::Int(number), _) => (*number, 0),
+        _ => (0, 0),
+    }
+}
+
+// The rows of a table, in the order in which they are read.
+pub(crate) fn rows<R: SnapshotReader<Global>>(
     alloc: Global,
     reader: &R,
     table: TableNo,
-) -> Result<Vec<i64>, Fail>
+) -> Result<Vec<(i64, i64)>, Refusal>
     requires { HasTable (R.tables reader.now) table }
 {
-    let mut keys = Vec::new(alloc);
+    let mut rows = Vec::new(alloc);
     let mut next = first_row(reader, table);
     while let Some(row) = next {
-        if let Value::Int(key) = row.key().value() {
-            keys.push(*key)?;
-        }
+        rows.push(numbers(row))?;
         next = row_after(reader, table, row);
     }
-    Ok(keys)
+    Ok(rows)
 }
 
 #[test]
-fn reading_in_key_order(rt: HostRuntime) -> Result<(), Fail> {
+fn reading_in_key_order(rt: HostRuntime) -> Result<(), Refusal> {
     let alloc = rt.alloc();
     let catalog = parent_and_child(alloc)?;
     let mut tables = Tables::new(alloc, &catalog)?;
@@ -258,14 +274,14 @@ fn reading_in_key_order(rt: HostRuntime) -> Result<(), Fail> {
     let reader = Lent { tables: &copy };
     assert!(rt; copy.has(table));
     assert_eq!(rt;
-        keys(alloc, &copy, table)?.as_slice(),
-        [-1, 3, 5].as_slice()
+        rows(alloc, &copy, table)?.as_slice(),
+        [(-1, 0), (3, 0), (5, 0)].as_slice()
     );
     assert_eq!(rt;
-        keys(alloc, &reader, table)?.as_slice(),
-        [-1, 3, 5].as_slice()
+        rows(alloc, &reader, table)?.as_slice(),
+        [(-1, 0), (3, 0), (5, 0)].as_slice()
     );
-    let three = Key::new(Value::Int(3)).ok_or("a null key")?;
+    let three = key(3);
     assert!(rt; reader.get(table, &three).is_some());
     let from = reader
         .next_row(table, Bound::From(&three))
@@ -275,7 +291,7 @@ fn reading_in_key_order(rt: HostRuntime) -> Result<(), Fail> {
 }
 
 #[test]
-fn a_hundred_thousand_rows(rt: HostRuntime) -> Result<(), Fail> {
+fn a_hundred_thousand_rows(rt: HostRuntime) -> Result<(), Refusal> {
     let alloc = rt.alloc();
     let catalog = parent_and_child(alloc)?;
     let mut tables = Tables::new(alloc, &catalog)?;
@@ -288,19 +304,18 @@ fn a_hundred_thousand_rows(rt: HostRuntime) -> Result<(), Fail> {
     assert!(rt; tables.has(table));
     assert_eq!(rt; tables.len(table), 100_000);
     for number in 0..100_000u32 {
-        let number = i64::from(number.wrapping_mul(7919) % 100_003);
-        let key = Key::new(Value::Int(number)).ok_or("a null key")?;
+        let key = key(i64::from(number.wrapping_mul(7919) % 100_003));
         assert!(rt; tables.get(table, &key).is_some(), "{number}");
     }
     Ok(())
 }
 
 #[test]
-fn changes_by_table_and_key(rt: HostRuntime) -> Result<(), Fail> {
+fn changes_by_table_and_key(rt: HostRuntime) -> Result<(), Refusal> {
     let alloc = rt.alloc();
     let mut changes = Changes::new(alloc);
     let table = TableNo::at(2);
-    let key = Key::new(Value::Int(4)).ok_or("a null key")?;
+    let key = key(4);
     assert!(rt; changes.get(table, &key).is_none());
     changes.put_row(alloc, table, row(alloc, 4, "a", 1, 2)?)?;
     changes.put_row(alloc, TableNo::at(0), row(alloc, 4, "-", 0, 0)?)?;
@@ -328,17 +343,16 @@ fn shown(change: &Change) -> (u32, i64, i64) {
 }
 
 #[test]
-fn changes_one_after_another(rt: HostRuntime) -> Result<(), Fail> {
+fn changes_one_after_another(rt: HostRuntime) -> Result<(), Refusal> {
     let alloc = rt.alloc();
     let mut tables = Tables::new(alloc, &parent_and_child(alloc)?)?;
     let (parent, child) = (TableNo::at(0), TableNo::at(1));
     assert!(rt; tables.has(parent));
     tables.put(alloc, parent, row(alloc, 1, "-", 0, 0)?)?;
-    let one = Key::new(Value::Int(1)).ok_or("a null key")?;
     let mut changes = Changes::new(alloc);
     changes.put_row(alloc, child, row(alloc, 1, "a", 2, 2)?)?;
     changes.put_row(alloc, parent, row(alloc, 2, "-", 0, 0)?)?;
-    changes.put_absence(alloc, parent, one)?;
+    changes.put_absence(alloc, parent, key(1))?;
     changes.in_key_order(parent);
     let mut met = Vec::new(alloc);
     for change in &changes.into_list(alloc)? {
@@ -351,64 +365,71 @@ fn changes_one_after_another(rt: HostRuntime) -> Result<(), Fail> {
         [(0, 1, -1), (0, 2, 0), (1, 1, 2)].as_slice()
     );
     assert!(rt; tables.has(parent) && tables.has(child));
-    assert_eq!(rt; keys(alloc, &tables, parent)?.as_slice(), [2].as_slice());
-    assert_eq!(rt; keys(alloc, &tables, child)?.as_slice(), [1].as_slice());
+    assert_eq!(rt;
+        rows(alloc, &tables, parent)?.as_slice(),
+        [(2, 0)].as_slice()
+    );
+    assert_eq!(rt;
+        rows(alloc, &tables, child)?.as_slice(),
+        [(1, 0)].as_slice()
+    );
     Ok(())
 }
 
-// The key of each row and how many fields stand beside it.
-fn keys_and_counts(alloc: Global, rows: &[Row]) -> Result<Vec<(i64, usize)>, Fail> {
-    let mut counted = Vec::new(alloc);
+// Puts the place of a table, each row's key and how many fields stand beside it behind those before.
+fn push_counts(
+    place: usize,
+    rows: &[Row],
+    counted: &mut Vec<(usize, i64, usize)>,
+) -> Result<(), Refusal> {
     for row in rows {
-        if let Value::Int(key) = row.key().value() {
-            counted.push((*key, row.fields().len()))?;
-        }
+        let (key, _) = numbers(row);
+        counted.push((place, key, row.fields().len()))?;
     }
-    Ok(counted)
+    Ok(())
 }
 
 // Rows of three tables, of which two are there, and that a key has no row any more.
-fn some_changes(alloc: Global) -> Result<Vec<Change>, Fail> {
+fn some_changes(alloc: Global) -> Result<Vec<Change>, Refusal> {
     let mut changes = Changes::new(alloc);
     for (table, key, count) in [(1, 7, 2), (2, 8, 0), (0, 3, 0), (0, -2, 0)] {
         let row = row(alloc, key, "a", 3, count)?;
         changes.put_row(alloc, TableNo::at(table), row)?;
     }
-    let one = Key::new(Value::Int(1)).ok_or("a null key")?;
-    changes.put_absence(alloc, TableNo::at(0), one)?;
+    changes.put_absence(alloc, TableNo::at(0), key(1))?;
     let list = changes.into_list(alloc)?;
     Ok(list)
 }
 
 // Two tables with changes put in.
-fn changed(alloc: Global, changes: &[Change]) -> Result<Tables, Fail> {
+fn changed(alloc: Global, changes: &[Change]) -> Result<Tables, Refusal> {
     let catalog = parent_and_child(alloc)?;
     let mut tables = Tables::new(alloc, &catalog)?;
     tables.apply_all(alloc, changes)?;
     Ok(tables)
 }
 
-// What the tables hold, as it is printed.
-fn printed_counts(alloc: Global, tables: Tables) -> Result<String, Fail> {
-    let mut rows = Vec::new(alloc);
-    for table in &tables.into_rows(alloc)? {
-        rows.push(keys_and_counts(alloc, table.as_slice())?)?;
+// What the tables hold.
+fn counts(alloc: Global, tables: Tables) -> Result<Vec<(usize, i64, usize)>, Refusal> {
+    let mut counted = Vec::new(alloc);
+    for (place, rows) in tables.into_rows(alloc)?.iter().enumerate() {
+        push_counts(place, rows.as_slice(), &mut counted)?;
     }
-    let text = format!(in alloc; "{rows:?}")?;
-    Ok(text)
+    Ok(counted)
 }
 
 #[test]
-fn all_changes_at_once(rt: HostRuntime) -> Result<(), Fail> {
+fn all_changes_at_once(rt: HostRuntime) -> Result<(), Refusal> {
     let changes = some_changes(rt.alloc())?;
     let tables = changed(rt.alloc(), changes.as_slice())?;
-    let text = printed_counts(rt.alloc(), tables)?;
-    assert_eq!(rt; text.as_str(), "[[(-2, 0), (3, 0)], [(7, 2)]]");
+    let counts = counts(rt.alloc(), tables)?;
+    let want = [(0, -2, 0), (0, 3, 0), (1, 7, 2)];
+    assert_eq!(rt; counts.as_slice(), want.as_slice());
     Ok(())
 }
 
 // Tables of two columns, the second of which references the named one, if any.
-fn referencing(alloc: Global) -> Result<Catalog, Fail> {
+fn referencing(alloc: Global) -> Result<Catalog, Refusal> {
     let mut catalog = Catalog::new(alloc);
     for (name, references) in [
         ("p", ""),
@@ -425,7 +446,7 @@ fn referencing(alloc: Global) -> Result<Catalog, Fail> {
 }
 
 // A table whose columns reference three others.
-fn of_three(alloc: Global) -> Result<TableDef, Fail> {
+fn of_three(alloc: Global) -> Result<TableDef, Refusal> {
     let mut columns = Vec::new(alloc);
     for (name, references) in [("id", "e"), ("c", "c"), ("p", "p")] {
         let column = column(alloc, name, Kind::Bigint, false, references)?;
@@ -437,7 +458,7 @@ fn of_three(alloc: Global) -> Result<TableDef, Fail> {
 }
 
 #[test]
-fn levels_of_references(rt: HostRuntime) -> Result<(), Fail> {
+fn levels_of_references(rt: HostRuntime) -> Result<(), Refusal> {
     let mut catalog = referencing(rt.alloc())?;
     let last = of_three(rt.alloc())?;
     catalog.add(rt.alloc(), last)?;
@@ -447,11 +468,13 @@ fn levels_of_references(rt: HostRuntime) -> Result<(), Fail> {
 }
 
 #[test]
-fn a_copied_catalog(rt: HostRuntime) -> Result<(), Fail> {
+fn a_copied_catalog(rt: HostRuntime) -> Result<(), Refusal> {
     let alloc = rt.alloc();
     let copy = parent_and_child(alloc)?.copy(alloc)?;
     copy.well_formed();
-    let child = copy.find("c").ok_or("no table c")?;
+    let Some(child) = copy.find("c") else {
+        panic!(rt; "no table c")
+    };
     assert!(rt; copy.len() == 2 && copy.has(child));
     let columns = copy.table(child).columns();
     assert_eq!(rt; columns.len(), 3);

@@ -1,12 +1,11 @@
-//! Tests of copies of statements and replies.
+//! Copies of statements and replies.
 
-use crate::condition::{Comparison, Condition, Conditions};
-use crate::reply::{Reply, RowList};
-use crate::statement::{Assignment, Assignments, ColumnList, Projection, Source, Statement};
-use crate::values::Values;
 use schema::catalog::TableNo;
+use statement::condition::{Comparison, Condition, Conditions};
+use statement::reply::{Reply, RowList};
+use statement::statement::{Assignment, Assignments, ColumnList, Projection, Source, Statement};
+use statement::values::Values;
 use std::alloc::Global;
-use std::test::Fail;
 use value::refusal::{Code, Refusal};
 use value::text::Text;
 use value::value::Value;
@@ -50,7 +49,7 @@ fn statements(alloc: Global) -> Result<Vec<Statement>, Refusal> {
 }
 
 #[test]
-fn statements_are_copied(rt: HostRuntime) -> Result<(), Fail> {
+fn statements_are_copied(rt: HostRuntime) -> Result<(), Refusal> {
     let alloc = rt.alloc();
     let writing = [false, false, false, true, true, true];
     for (statement, writes) in statements(alloc)?.iter().zip(writing) {
@@ -65,7 +64,7 @@ fn statements_are_copied(rt: HostRuntime) -> Result<(), Fail> {
 }
 
 #[test]
-fn replies_are_copied(rt: HostRuntime) -> Result<(), Fail> {
+fn replies_are_copied(rt: HostRuntime) -> Result<(), Refusal> {
     let alloc = rt.alloc();
     let row = Values::of(vec![in alloc; Value::Int(1), text(alloc, "d")?]?);
     let rows = RowList::of(vec![in alloc; row, Values::of(vec![in alloc]?)]?);

@@ -1,13 +1,12 @@
-//! Tests of refusals with their places, of reserved words and lengths, and of each kind of statement.
+//! Texts of statements and tables: what they are read as, and how they are refused.
 
-use crate::create::parse_create;
-use crate::laws;
-use crate::parse::parse_statement;
 use schema::catalog::{Catalog, TableNo};
+use sqltext::create::parse_create;
+use sqltext::laws;
+use sqltext::parse::parse_statement;
 use statement::condition::{Comparison, Condition};
 use statement::statement::{Projection, Source, Statement};
 use std::alloc::Global;
-use std::test::Fail;
 use value::refusal::{Code, Refusal};
 use value::value::Value;
 
@@ -81,14 +80,16 @@ const REFUSED: &str = "\
 ";
 
 #[test]
-fn refusals_and_their_places(rt: HostRuntime) -> Result<(), Fail> {
+fn refusals_and_their_places(rt: HostRuntime) -> Result<(), Refusal> {
     let catalog = tables(rt.alloc())?;
     let mut rest = REFUSED;
     for _ in 0..REFUSED.len() {
         let Some((line, after)) = rest.split_once('\n') else {
             return Ok(());
         };
-        let (want, text) = line.split_once(": ").ok_or("a line has both")?;
+        let Some((want, text)) = line.split_once(": ") else {
+            panic!(rt; "{line}")
+        };
         let found = refusal(rt.alloc(), &catalog, text)?;
         assert_eq!(rt; found.as_str(), want, "{text}");
         rest = after;
@@ -102,7 +103,7 @@ const RESERVED: &str =
     references select Set table text update values where ";
 
 #[test]
-fn reserved_words_are_no_names(rt: HostRuntime) -> Result<(), Fail> {
+fn reserved_words_are_no_names(rt: HostRuntime) -> Result<(), Refusal> {
     let catalog = tables(rt.alloc())?;
     let mut rest = RESERVED;
     for _ in 0..RESERVED.len() {
@@ -127,7 +128,7 @@ fn longer(alloc: Global, text: &str, more: char, count: usize) -> Result<String,
 }
 
 #[test]
-fn lengths_of_names_and_texts(rt: HostRuntime) -> Result<(), Fail> {
+fn lengths_of_names_and_texts(rt: HostRuntime) -> Result<(), Refusal> {
     let catalog = tables(rt.alloc())?;
     for (start, more, count, want) in [
         ("SELECT * FROM ", 'x', 63, "42P01 byte 14"),
@@ -150,15 +151,15 @@ fn int(value: &Value) -> Option<i64> {
 }
 
 #[test]
-fn a_select(rt: HostRuntime) -> Result<(), Fail> {
+fn a_select(rt: HostRuntime) -> Result<(), Refusal> {
     let catalog = tables(rt.alloc())?;
     let text = "seLECT V,id FROM T wHERE id between -1 AND + 5 AND v<>null AND v IS not NULL\n;";
     let statement = parse_statement(rt.alloc(), &catalog, text)?;
     let Statement::Select(table, projection, conditions) = statement else {
-        return Err(Fail::from("another statement"));
+        panic!(rt; "another statement")
     };
     let Projection::Columns(columns) = projection else {
-        return Err(Fail::from("another projection"));
+        panic!(rt; "another projection")
     };
     assert_eq!(rt; table, TableNo::at(0));
     assert_eq!(rt; columns.as_slice(), [1, 0].as_slice());
@@ -168,7 +169,7 @@ fn a_select(rt: HostRuntime) -> Result<(), Fail> {
         Condition::IsNotNull(1),
     ] = conditions.as_slice()
     else {
-        return Err(Fail::from("other conditions"));
+        panic!(rt; "other conditions")
     };
     assert_eq!(rt; (int(low), int(high)), (Some(-1), Some(5)));
     Ok(())
@@ -184,7 +185,7 @@ fn counts(alloc: Global, catalog: &Catalog, text: &str) -> Result<Option<bool>, 
 }
 
 #[test]
-fn all_columns_and_a_count(rt: HostRuntime) -> Result<(), Fail> {
+fn all_columns_and_a_count(rt: HostRuntime) -> Result<(), Refusal> {
     let catalog = tables(rt.alloc())?;
     for (text, want) in [
         ("SELECT*FROM t", Some(false)),
@@ -197,15 +198,15 @@ fn all_columns_and_a_count(rt: HostRuntime) -> Result<(), Fail> {
 }
 
 #[test]
-fn an_insert(rt: HostRuntime) -> Result<(), Fail> {
+fn an_insert(rt: HostRuntime) -> Result<(), Refusal> {
     let catalog = tables(rt.alloc())?;
     let text = "INSERT INTO u VALUES ('It''s \\É', '\\x0fFF', null)";
     let Statement::Insert(table, values) = parse_statement(rt.alloc(), &catalog, text)? else {
-        return Err(Fail::from("another statement"));
+        panic!(rt; "another statement")
     };
     assert_eq!(rt; table, TableNo::at(1));
     let [Value::Text(name), Value::Bytes(bytes), Value::Null] = values.as_slice() else {
-        return Err(Fail::from("other values"));
+        panic!(rt; "other values")
     };
     assert_eq!(rt; name.as_str(), "It's \\É");
     assert_eq!(rt; bytes.as_slice(), [15, 255].as_slice());
@@ -213,21 +214,21 @@ fn an_insert(rt: HostRuntime) -> Result<(), Fail> {
 }
 
 #[test]
-fn an_update(rt: HostRuntime) -> Result<(), Fail> {
+fn an_update(rt: HostRuntime) -> Result<(), Refusal> {
     let catalog = tables(rt.alloc())?;
     let text = "UPDATE u SET n = n - 9223372036854775807, b = '\\x' WHERE n>=1";
     let Statement::Update(_, assignments, conditions) = parse_statement(rt.alloc(), &catalog, text)?
     else {
-        return Err(Fail::from("another statement"));
+        panic!(rt; "another statement")
     };
     let [sum, bytes] = assignments.as_slice() else {
-        return Err(Fail::from("other assignments"));
+        panic!(rt; "other assignments")
     };
     assert_eq!(rt; (sum.column, bytes.column), (2, 1));
     assert!(rt; matches!(sum.source, Source::Sum(2, -9223372036854775807)));
     assert!(rt; matches!(&bytes.source, Source::Literal(Value::Bytes(_))));
     let [Condition::Compare(2, Comparison::GreaterOrEqual, least)] = conditions.as_slice() else {
-        return Err(Fail::from("other conditions"));
+        panic!(rt; "other conditions")
     };
     assert_eq!(rt; int(least), Some(1));
     Ok(())
@@ -248,21 +249,24 @@ SELECT * FROM t;
 ";
 
 #[test]
-fn tables_that_are_none(rt: HostRuntime) -> Result<(), Fail> {
+fn tables_that_are_none(rt: HostRuntime) -> Result<(), Refusal> {
     let mut rest = NO_TABLES;
     for _ in 0..NO_TABLES.len() {
         let Some((text, after)) = rest.split_once('\n') else {
             return Ok(());
         };
         let found = parse_create(rt.alloc(), text).err();
-        assert_eq!(rt; found, Some(Refusal::of_code(Code::SyntaxError)), "{text}");
+        assert!(rt;
+            found == Some(Refusal::of_code(Code::SyntaxError)),
+            "{text}"
+        );
         rest = after;
     }
     Ok(())
 }
 
 #[test]
-fn a_table(rt: HostRuntime) -> Result<(), Fail> {
+fn a_table(rt: HostRuntime) -> Result<(), Refusal> {
     let text = "CREATE TABLE c(ID text PRIMARY KEY REFERENCES P,v bytea NOT NULL REFERENCES q);";
     let table = parse_create(rt.alloc(), text)?;
     assert_eq!(rt; table.name(), "c");

@@ -1,15 +1,14 @@
-//! Tests of literals, orders, codes and printed texts.
+//! Literals, the order of values, copies, and what is printed.
 
-use crate::bytes::Bytes;
-use crate::decimal::push_decimal;
-use crate::hexadecimal::push_hexadecimal;
-use crate::key::Key;
-use crate::kind::Kind;
-use crate::refusal::{Cause, Code, Place, Refusal, TxnNo};
-use crate::text::Text;
-use crate::value::Value;
 use std::alloc::Global;
-use std::test::Fail;
+use value::bytes::Bytes;
+use value::decimal::push_decimal;
+use value::hexadecimal::push_hexadecimal;
+use value::key::Key;
+use value::kind::Kind;
+use value::refusal::{Cause, Code, Place, Refusal, TxnNo};
+use value::text::Text;
+use value::value::Value;
 
 fn text(alloc: Global, text: &str) -> Result<Value, Refusal> {
     Ok(Value::Text(Text::from_str(alloc, text)?))
@@ -20,7 +19,7 @@ fn bytea(alloc: Global, bytes: &[u8]) -> Result<Value, Refusal> {
 }
 
 #[test]
-fn literals_of_bigint(rt: HostRuntime) -> Result<(), Fail> {
+fn literals_of_bigint(rt: HostRuntime) -> Result<(), Refusal> {
     for (literal, want) in [
         ("-9223372036854775808", Ok(i64::MIN)),
         ("9223372036854775807", Ok(i64::MAX)),
@@ -42,11 +41,13 @@ fn literals_of_bigint(rt: HostRuntime) -> Result<(), Fail> {
     ] {
         let read = Value::of_literal(rt.alloc(), Kind::Bigint, literal.as_bytes());
         match want {
-            Ok(number) => assert_eq!(rt; read, Ok(Value::Int(number)), "{literal}"),
+            Ok(number) => assert!(rt; read == Ok(Value::Int(number)), "{literal}"),
             Err(code) => {
-                let refusal = read.err().ok_or("not refused")?;
+                let Err(refusal) = read else {
+                    panic!(rt; "{literal} is taken")
+                };
                 assert_eq!(rt; refusal.code.sqlstate(), code, "{literal}");
-                assert_eq!(rt; refusal.place, Place::None, "{literal}");
+                assert!(rt; refusal.place == Place::None, "{literal}");
             }
         }
     }
@@ -54,7 +55,7 @@ fn literals_of_bigint(rt: HostRuntime) -> Result<(), Fail> {
 }
 
 #[test]
-fn literals_of_text(rt: HostRuntime) -> Result<(), Fail> {
+fn literals_of_text(rt: HostRuntime) -> Result<(), Refusal> {
     for (literal, want) in [
         (b"".as_slice(), Some("")),
         (b"a b", Some("a b")),
@@ -74,13 +75,13 @@ fn literals_of_text(rt: HostRuntime) -> Result<(), Fail> {
             None => Err(Refusal::of_code(Code::CharacterNotInRepertoire)),
         };
         let read = Value::of_literal(rt.alloc(), Kind::Text, literal);
-        assert_eq!(rt; read, wanted, "{literal:?}");
+        assert!(rt; read == wanted, "{literal:?}");
     }
     Ok(())
 }
 
 #[test]
-fn literals_of_bytea(rt: HostRuntime) -> Result<(), Fail> {
+fn literals_of_bytea(rt: HostRuntime) -> Result<(), Refusal> {
     for (literal, want) in [
         ("\\x", Some(b"".as_slice())),
         ("\\x00ff", Some(b"\x00\xff")),
@@ -97,7 +98,7 @@ fn literals_of_bytea(rt: HostRuntime) -> Result<(), Fail> {
             None => Err(Refusal::of_code(Code::InvalidTextRepresentation)),
         };
         let read = Value::of_literal(rt.alloc(), Kind::Bytea, literal.as_bytes());
-        assert_eq!(rt; read, wanted, "{literal}");
+        assert!(rt; read == wanted, "{literal}");
     }
     Ok(())
 }
@@ -127,33 +128,33 @@ fn values_in_order(alloc: Global) -> Result<Vec<Value>, Refusal> {
 }
 
 #[test]
-fn values_compare(rt: HostRuntime) -> Result<(), Fail> {
+fn values_compare(rt: HostRuntime) -> Result<(), Refusal> {
     let values = values_in_order(rt.alloc())?;
     for (i, left) in values.iter().enumerate() {
         for (j, right) in values.iter().enumerate() {
-            assert_eq!(rt; left.cmp(right), i.cmp(&j), "{left:?} and {right:?}");
+            assert!(rt; left.cmp(right) == i.cmp(&j), "{i} and {j}");
         }
     }
     Ok(())
 }
 
 #[test]
-fn values_and_keys_copy(rt: HostRuntime) -> Result<(), Fail> {
+fn values_and_keys_copy(rt: HostRuntime) -> Result<(), Refusal> {
     let alloc = rt.alloc();
     for value in values_in_order(alloc)?.iter() {
         match Key::new(value.copy(alloc)?) {
             Some(key) => {
-                assert_eq!(rt; key.value(), value);
-                assert_eq!(rt; &key.copy(alloc)?.into_value(), value);
+                assert!(rt; key.value() == value);
+                assert!(rt; &key.copy(alloc)?.into_value() == value);
             }
-            None => assert_eq!(rt; value, &Value::Null),
+            None => assert!(rt; *value == Value::Null),
         }
     }
     Ok(())
 }
 
 #[test]
-fn contents_come_back(rt: HostRuntime) -> Result<(), Fail> {
+fn contents_come_back(rt: HostRuntime) -> Result<(), Refusal> {
     let content = String::from_str(rt.alloc(), "ab")?;
     assert_eq!(rt; Text::of(content).into_string().as_str(), "ab");
     let content = Vec::from_slice(rt.alloc(), b"ab")?;
@@ -162,7 +163,7 @@ fn contents_come_back(rt: HostRuntime) -> Result<(), Fail> {
 }
 
 #[test]
-fn numbers_and_byteas_print(rt: HostRuntime) -> Result<(), Fail> {
+fn numbers_and_byteas_print(rt: HostRuntime) -> Result<(), Refusal> {
     let mut line = Vec::new(rt.alloc());
     push_decimal(i64::MIN, &mut line)?;
     push_hexadecimal(b"\x00\xffA", &mut line)?;
@@ -176,7 +177,7 @@ fn numbers_and_byteas_print(rt: HostRuntime) -> Result<(), Fail> {
 }
 
 #[test]
-fn refusals_print(rt: HostRuntime) -> Result<(), Fail> {
+fn refusals_print(rt: HostRuntime) -> Result<(), Refusal> {
     let cause = Cause {
         a: TxnNo(2),
         b: TxnNo(3),
@@ -261,7 +262,7 @@ const CODES: [(Code, &str, &str); 20] = [
 ];
 
 #[test]
-fn codes_are_those_of_the_manual(rt: HostRuntime) -> Result<(), Fail> {
+fn codes_are_those_of_the_manual(rt: HostRuntime) -> Result<(), Refusal> {
     for (code, state, name) in CODES {
         assert_eq!(rt; code.sqlstate(), state);
         assert_eq!(rt; code.condition_name(), name);

@@ -1,0 +1,9 @@
+//! Tests alone: values, tables, and readers over tables.
+#![tactic(auto)]
+
+#[cfg(test)]
+mod overlays;
+#[cfg(test)]
+mod tables;
+#[cfg(test)]
+mod values;
