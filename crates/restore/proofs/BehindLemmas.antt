@@ -1,5 +1,5 @@
 -- A row that is put behind those of its table.
-use Rattle.std.proofs.Common.{◌≡◌, ℕ, suc, ◌<◌, ◌==◌, Bool, true, false, cond, not, ◌&&◌, ◌||◌, Bor, List, [], ◌∷◌, length, map, Option, Some, None, is_some, find, slice_set, Result, Ok, Err, IfOk, refl, ap, sym, subst, ◌∙◌, arith}
+use Rattle.std.proofs.Common.{◌≡◌, ℕ, ◌==◌, Bool, true, false, cond, not, ◌&&◌, ◌||◌, Bor, List, [], ◌∷◌, length, map, Option, Some, None, is_some, find, slice_set, Result, Ok, Err, IfOk, refl, ap, sym, subst, ◌∙◌, arith}
 use Rattle.std.specs.List.{list_any, list_all}
 use Rattle.std.specs.FinMap.{find as entry_at}
 use Rattle.std.specs.Option.{option_copied, option_map_or}
@@ -16,7 +16,7 @@ use Rattle.value.specs.Order.{value_cmp, value_cmp-total}
 use Rattle.schema.specs.Definition.{Column, Catalog, columns_of}
 use Rattle.schema.specs.declared.row.Row.{Row}
 use Rattle.schema.specs.declared.tables.Tables.{Tables}
-use Rattle.schema.specs.Inserting.{are_of_kinds, has_zero_byte, is_of_kind, lacks_value, dangles, inserted}
+use Rattle.schema.specs.Inserting.{are_of_kinds, has_zero_byte, lacks_value, dangles, inserted}
 use Rattle.schema.specs.Plain.{is_null, cells, rows_of, row_at, has_kind, is_there, is_sound}
 use Rattle.schema.specs.Rows.{Rows, put_row}
 use Rattle.copytext.specs.Reading.{cut, content, content_value, field_value, field_values, is_field, is_null_mark, line_values, onto_values}
@@ -30,7 +30,7 @@ use Rattle.restore.proofs.LiteralLemmas.{literal_fits}
 use Rattle.restore.proofs.ReadingLemmas.{done_same}
 use Rattle.restore.proofs.RowLemmas.{row_of, with_row_is}
 use Rattle.restore.proofs.RowsAgain.{kind_is, no_zero, lt_is, no_fault, inserted_by}
-use Rattle.restore.proofs.SoundReading.{Kept, bind_ok, row_kept}
+use Rattle.restore.proofs.SoundReading.{bind_ok, row_kept}
 use Rattle.restore.proofs.SpellingLemmas.{neither, nor}
 
 -- nothing is found where none is answered

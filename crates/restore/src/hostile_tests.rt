@@ -17,17 +17,16 @@ COPY t (id, name) FROM stdin;
 const END: &str = "\\.\n-- end\n";
 
 // The lines of rows from a key to another, which may be less.
-fn push_rows(alloc: Global, text: &mut String, from: i64, to: i64) -> Result<(), Refusal> {
-    let (count, step) = if from <= to {
-        (to - from, 1)
-    } else {
-        (from - to, -1)
-    };
-    let mut key = from;
-    for _ in 0..=count {
+fn push_rows(alloc: Global, text: &mut String, from: u32, to: u32) -> Result<(), Refusal> {
+    let count = if from <= to { to - from } else { from - to };
+    for place in 0..=count {
+        let key = if from <= to {
+            from.wrapping_add(place)
+        } else {
+            from.wrapping_sub(place)
+        };
         let line = format!(in alloc; "{key}\tname\n")?;
         text.push_str(line.as_str())?;
-        key = key.wrapping_add(step);
     }
     Ok(())
 }
@@ -87,7 +86,7 @@ fn the_first_of_two_pieces_faults_is_told(rt: HostRuntime) -> Result<(), Fail> {
 }
 
 // Keys from one to another, and then further such keys, as they come.
-const ORDERS: [[(i64, i64); 3]; 6] = [
+const ORDERS: [[(u32, u32); 3]; 6] = [
     [(1, 1000), (1001, 2000), (2001, 3000)],
     [(3000, 2001), (2000, 1001), (1000, 1)],
     [(1, 1000), (2001, 3000), (1001, 2000)],
