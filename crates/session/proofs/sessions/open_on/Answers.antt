@@ -1,4 +1,4 @@
-use Rattle.std.proofs.Common.{ap, sym, subst, arith, ◌+◌, ◌^◌, ◌<◌, ◌≤◌}
+use Rattle.std.proofs.Common.{ap, sym, subst, arith, ◌≡◌, ◌+◌, ◌^◌, ◌<◌, ◌≤◌, IfOk}
 use Rattle.std.specs.Prelude.{IsTrue}
 use Rattle.schema.specs.Plain.{is_sound}
 use Rattle.history.specs.Opening.{Recorded}
@@ -22,3 +22,6 @@ open_history-requires-clause-within g c =
 
 pub open_history-requires-clause-room : goal.open_history-requires-clause-room
 open_history-requires-clause-room g c = subst (λ (h : Recorded _). h.opening.base.events + h.most < 2 ^ 64) (sym c.in_ok-history.ensures.ok) c.requires.room
+
+pub returns-clause-ok : goal.returns-clause-ok
+returns-clause-ok g c = subst (λ (h : Recorded _). IfOk c.open_history.result (λ made. made ≡ h)) c.in_ok-history.ensures.ok c.open_history.ensures.ok
