@@ -3,8 +3,8 @@
 ghost use Rattle.std.specs.Prelude.{IfOk};
 ghost use Rattle.history.specs.Answer.{Allowed};
 
-use crate::order::check_order;
 use crate::keys::{serial_keys, serial_order};
+use crate::order::check_order;
 use history::event::{Action, Event};
 use history::key::SerialKey;
 use history::session_id::SessionId;

@@ -1,7 +1,7 @@
 //! How a call on a core is tried.
 use crate::fixture::{core_after, not_asked, reply};
-use audit::order::check_order;
 use audit::keys::{serial_keys, serial_order};
+use audit::order::check_order;
 use history::session_id::SessionId;
 use scarce::Scarce;
 use session::sessions::Core;

@@ -6,8 +6,8 @@ ghost use Rattle.history.specs.Events.{world};
 ghost use Rattle.plain.specs.Keys.{keyed};
 ghost use Rattle.program.specs.Orders as spec;
 
-use audit::order::check_order;
 use audit::keys::{serial_keys, serial_order};
+use audit::order::check_order;
 use history::key::SerialKey;
 use itoa::Buffer;
 use session::sessions::Core;

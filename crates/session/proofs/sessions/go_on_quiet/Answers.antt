@@ -26,7 +26,7 @@ pub returns : goal.returns
 returns g c =
     let few : (c.args.max_events == 0 || nat_le (2 ^ 64) (c.args.world.now.place + c.args.max_events)) ≡ false = ap (λ (b : Base). c.args.max_events == 0 || nat_le (2 ^ 64) (b.events + c.args.max_events)) (sym c.counted-base.ensures.value) ∙ sym c.exceeds.ensures ∙ c.if-exceeds.false in
     let opens : checkpoint_answer c.args.history.now.opening c.args.history.now.records c.args.max_events ≡ Ok (record { catalog = c.in_ok-catalog.catalog; tables = c.in_ok-tables.tables; base = c.counted-base.result }) =
-        checkpoint_is c.args.history.now c.args.world.now c.requires.kept c.args.rows.now c.requires.rows c.args.max_events c.in_ok-catalog.catalog c.in_ok-tables.tables c.counted-base.result c.requires.quiet few
-        (c.in_ok-catalog.ensures.ok ∙ c.catalog-2.ensures) c.counted-base.ensures.value c.in_ok-tables.ensures.ok in
+    checkpoint_is c.args.history.now c.args.world.now c.requires.kept c.args.rows.now c.requires.rows c.args.max_events c.in_ok-catalog.catalog c.in_ok-tables.tables c.counted-base.result c.requires.quiet few
+    (c.in_ok-catalog.ensures.ok ∙ c.catalog-2.ensures) c.counted-base.ensures.value c.in_ok-tables.ensures.ok in
     subst (AnswersOrNoMemory c.open_on.result) (sym (ap (from_opening c.args.max_events) opens))
     (opened_or_none (c.args.max_events == 0) c.open_on.result _ (first_false (c.args.max_events == 0) (nat_le (2 ^ 64) (c.args.world.now.place + c.args.max_events)) few) c.open_on.ensures.ok c.open_on.ensures.refused)
