@@ -73,13 +73,13 @@ fn told<R: Abort + Threads + Sync>(rt: &R, alloc: Global, dump: &str) -> Result<
 #[test]
 fn the_first_of_two_pieces_faults_is_told(rt: HostRuntime) -> Result<(), Fail> {
     let alloc = rt.alloc();
-    let mut cases = 0;
+    let mut cases = 0u32;
     for case in TWO_LINES.lines() {
         let (last, rest) = case.split_once('|').ok_or("a line of the piece")?;
         let (first, want) = rest.split_once('|').ok_or("a line of the next")?;
         let dump = between_pieces(alloc, last, first)?;
         assert_eq!(rt; told(&rt, alloc, dump.as_str())?.as_str(), want, "{case}");
-        cases += 1;
+        cases = cases.wrapping_add(1);
     }
     assert_eq!(rt; cases, 14);
     Ok(())
