@@ -132,8 +132,8 @@ fn calls_of_core_and_audit(rt: HostRuntime) -> Result<(), Refusal> {
     assert_takes(&rt, &memory, &memory, (BEFORE, Call::SerialKeys), 1)?;
     for (call, least) in [
         (Call::Checkpoint, 8),
-        (Call::SerialKeys, 2),
-        (Call::SerialOrder, 3),
+        (Call::SerialKeys, 1),
+        (Call::SerialOrder, 2),
         (Call::CheckOrder, 8),
     ] {
         assert_takes(&rt, &memory, &memory, (QUIET, call), least)?;
