@@ -1,7 +1,7 @@
 //! COPY text of rows, and the reading of a dump, by one thread and by workers.
 ghost use Rattle.schema.specs.Rows.{HasTable};
 
-use crate::driver::{Call, Memory, assert_takes, is_out_of_memory};
+use crate::driver::{Call, Memory, assert_needs, assert_takes, is_out_of_memory};
 use crate::fixture::{Database, catalog, not_asked, row};
 use copytext::{read_row, write_row};
 use dumpplan::{Jobs, NoGate};
@@ -129,7 +129,7 @@ fn restored_dumps(rt: HostRuntime) -> Result<(), Refusal> {
     let memory = Scarce::new(rt.alloc());
     let alloc = &memory;
     assert!(rt; restore_one(rt.alloc(), DUMP.as_bytes()).is_ok());
-    assert_takes(&rt, &memory, &RestoreOne { alloc, dump: DUMP }, 12)
+    assert_needs(&rt, &memory, &RestoreOne { alloc, dump: DUMP }, 12)
 }
 
 // The dump of so many numbers.

@@ -163,3 +163,16 @@ pub fn assert_takes<C: Call>(
     assert!(rt; found.spared == 0 && found.needed >= least, "{found:?}");
     Ok(())
 }
+
+/// Refuses each request of a call, which needs so many at least; where another is refused, it goes on
+/// without.
+pub fn assert_needs<C: Call>(
+    rt: &impl Abort,
+    memory: &Memory,
+    call: &C,
+    least: u64,
+) -> Result<(), Refusal> {
+    let found = refuse_each(rt, memory, call)?;
+    assert!(rt; found.needed >= least, "{found:?}");
+    Ok(())
+}
