@@ -54,11 +54,11 @@ if_ok_map P Q (Ok v) f h = f v h
 if_ok_map P Q (Err v) f h = h
 
 -- what stands in it, if something does
-abbrev inside_or : {X : Type 0} → X → Option X → X
+abbrev pub inside_or : {X : Type 0} → X → Option X → X
 inside_or d None = d
 inside_or d (Some x) = x
 
-some_is : {X : Type 0} (x y : X) → Some x ≡ Some y → x ≡ y
+pub some_is : {X : Type 0} (x y : X) → Some x ≡ Some y → x ≡ y
 some_is x y e = ap (inside_or x) e
 
 module _ {A : Type 0} where
@@ -135,7 +135,7 @@ module _ {A : Type 0} where
       }) (sym m)
 
   -- without causes none is doomed
-  spared : (place : ℕ) (ts : List (Txn A)) → map (doomed_by place []) ts ≡ ts
+  pub spared : (place : ℕ) (ts : List (Txn A)) → map (doomed_by place []) ts ≡ ts
   spared place [] = refl
   spared place (t ∷ ts) = ap (λ us. doomed_by place [] t ∷ us) (spared place ts) ∙ ap (λ u. u ∷ ts) (go (is_open t.standing))
     where

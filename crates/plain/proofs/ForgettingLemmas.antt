@@ -1,16 +1,18 @@
 -- The least snapshot of some transactions, and what is kept of all of them, walked from the front.
-use Rattle.std.proofs.Common.{◌≡◌, refl, sym, ap, subst, ◌∙◌, ℕ, ◌+◌, ◌-◌, ◌<◌, ◌≤◌, min, Bool, true, false, true≢false, cond, not, ◌&&◌, ◌||◌, List, [], ◌∷◌, ◌++◌, length, take, drop, get_or, nat_lt, arith}
-use Rattle.std.specs.List.{filter, list_any}
+use Rattle.std.proofs.Common.{◌≡◌, refl, sym, ap, subst, ◌∙◌, ℕ, zero, suc, ◌+◌, ◌-◌, ◌<◌, ◌≤◌, min, Bool, true, false, true≢false, cond, not, ◌&&◌, ◌||◌, List, [], ◌∷◌, ◌++◌, length, take, drop, get_or, nat_le, nat_lt, arith}
+use Rattle.std.specs.List.{AllByRecursion, filter, list_any}
 use Rattle.std.proofs.lemmas.Bool.Decides.{nat_tests}
-use Rattle.std.proofs.lemmas.List.{take-append-drop}
+use Rattle.std.proofs.lemmas.List.{get_or-drop, take-append-drop}
 use Rattle.std.proofs.lemmas.List.Filters.{FiltersInPlace}
 use Rattle.std.proofs.lemmas.List.Folds.{list_any-append}
 use Rattle.history.specs.Transactions.{Txn, edge, is_done, is_owed}
 use Rattle.history.specs.Needed.{is_late_reader, is_needed, is_recent}
-use Rattle.plain.specs.Forgetting.{is_needed_among}
-use Rattle.plain.specs.Ledger.{Ledger, AreNumbered, IsCounted}
+use Rattle.plain.specs.Forgetting.{is_left, is_needed_among, number_before}
+use Rattle.plain.specs.Ledger.{Ledger, AreNumbered, IsCounted, nothing}
 use Rattle.plain.specs.Versions.{least_snapshot}
+use Rattle.plain.proofs.LedgerLemmas.{number_at}
 use Rattle.plain.proofs.WalkLemmas.{first_and_rest}
+use Rattle.std.proofs.lemmas.List.Elements.{filter-append}
 
 both : (a b : Bool) → (a && b) ≡ true → (a ≡ true) × (b ≡ true)
 both true b e = (refl, e)
@@ -110,7 +112,7 @@ module _ {A : Type 0} where
           here m.0 (is_less v.snapshot u.commit s.1)
       go false p q later = below (is_recent n v) (later q)
 
-  met_by : (n most reach : ℕ) (u : Txn A) (ts : List (Txn A)) → reach ≡ least_snapshot (is_recent n) most ts → (nat_lt reach u.commit && list_any (meets n u) ts) ≡ list_any (meets n u) ts
+  met_by : (n most reach : ℕ) (u : Txn A) (ts : List (Txn A)) → reach ≤ least_snapshot (is_recent n) most ts → (nat_lt reach u.commit && list_any (meets n u) ts) ≡ list_any (meets n u) ts
   met_by n most reach u ts e = go (list_any (meets n u) ts) refl
     where
       go : (b : Bool) → list_any (meets n u) ts ≡ b → (nat_lt reach u.commit && b) ≡ b
@@ -128,18 +130,71 @@ module _ {A : Type 0} where
       go false b p = ap (λ x. (x || is_late_reader n v) || rest) p
 
   -- Whether one matters is told by those that are kept so far and those that are left.
-  pub needed-told : (n most reach : ℕ) (ts us : List (Txn A)) (k i : ℕ) (u : Txn A) → FiltersInPlace (is_needed n ts) ts us k i → reach ≡ least_snapshot (is_recent n) most ts
-      → is_needed_among n reach (take k us ++ drop i us) u ≡ is_needed n ts u
-  needed-told n most reach ts us k i u h e =
+  pub needed-told : (p : Txn A → Bool) (n most reach : ℕ) (ts us : List (Txn A)) (k i : ℕ) (u : Txn A) → FiltersInPlace p ts us k i → ((v : Txn A) → is_needed n ts v ≡ true → p v ≡ true)
+      → reach ≤ least_snapshot (is_recent n) most ts → is_needed_among n reach (take k us ++ drop i us) u ≡ is_needed n ts u
+  needed-told p n most reach ts us k i u h so e =
       ap (λ b. ((is_owed u.standing || is_recent n u) || is_late_reader n u) || is_done u.standing && (nat_lt reach u.commit && b)) same
       ∙ ap (λ b. ((is_owed u.standing || is_recent n u) || is_late_reader n u) || is_done u.standing && b) (met_by n most reach u ts e)
     where
       same : list_any (meets n u) (take k us ++ drop i us) ≡ list_any (meets n u) ts
       same =
-          ap (λ xs. list_any (meets n u) (xs ++ drop i us)) h.front ∙ ap (λ xs. list_any (meets n u) (filter (is_needed n ts) (take i ts) ++ xs)) h.rest
-          ∙ list_any-append (meets n u) (filter (is_needed n ts) (take i ts)) (drop i ts)
-          ∙ ap (λ b. b || list_any (meets n u) (drop i ts)) (any-filter (meets n u) (is_needed n ts) (recent_matters n ts u) (take i ts))
+          ap (λ xs. list_any (meets n u) (xs ++ drop i us)) h.front ∙ ap (λ xs. list_any (meets n u) (filter p (take i ts) ++ xs)) h.rest
+          ∙ list_any-append (meets n u) (filter p (take i ts)) (drop i ts)
+          ∙ ap (λ b. b || list_any (meets n u) (drop i ts)) (any-filter (meets n u) p (λ v m. so v (recent_matters n ts u v m)) (take i ts))
           ∙ sym (list_any-append (meets n u) (take i ts) (drop i ts)) ∙ ap (list_any (meets n u)) (take-append-drop i ts)
+
+  -- ---- those that are passed at the front
+
+  pub left_so : (k n : ℕ) (ts : List (Txn A)) (u : Txn A) → is_needed n ts u ≡ true → is_left k n ts u ≡ true
+  left_so k n ts u e = go (nat_le u.number (number_before k ts)) (is_needed n ts u) e
+    where
+      go : (a b : Bool) → b ≡ true → (a || b) ≡ true
+      go true b e = refl
+      go false b e = e
+
+  -- the first k have numbers up to that of the last of them
+  numbers_before : (n m k : ℕ) (ts : List (Txn A)) → AreNumbered n m ts → k ≤ length ts → AllByRecursion (λ u. u.number ≤ number_before k ts) (take k ts)
+  numbers_before n m zero ts h le = tt
+  numbers_before n m (suc k) [] h le = tt
+  numbers_before n m (suc zero) (t ∷ ts) h le = (omega arith, tt)
+  numbers_before n m (suc (suc k)) (t ∷ ts) h le =
+      ((let p = number_at t.number m ts k nothing h.2 (omega arith) in omega arith), numbers_before t.number m (suc k) ts h.2 (omega arith))
+
+  -- the others have numbers above it
+  pub number_behind : (n m k i : ℕ) (ts : List (Txn A)) (u : Txn A) → AreNumbered n m ts → k ≤ i → i < length ts → u ≡ get_or ts i u → number_before k ts < u.number
+  number_behind n m zero i ts u h le lt e = let p = number_at n m ts i u h lt in let q = ap (λ (x : Txn A). x.number) e in omega arith
+  number_behind n m (suc k) i [] u h le lt e = absurd (omega arith)
+  number_behind n m (suc k) zero (t ∷ ts) u h le lt e = absurd (omega arith)
+  number_behind n m (suc zero) (suc i) (t ∷ ts) u h le lt e = let p = number_at t.number m ts i u h.2 (omega arith) in let q = ap (λ (x : Txn A). x.number) e in omega arith
+  number_behind n m (suc (suc k)) (suc i) (t ∷ ts) u h le lt e = number_behind t.number m (suc k) i ts u h.2 (omega arith) (omega arith) e
+
+  pub left_behind : (m k i n : ℕ) (ts : List (Txn A)) (u : Txn A) → AreNumbered 0 m ts → k ≤ i → i < length ts → u ≡ get_or ts i u → is_left k n ts u ≡ is_needed n ts u
+  left_behind m k i n ts u h le lt e = ap (λ b. b || is_needed n ts u) (not_at_most u.number (number_before k ts) (number_behind 0 m k i ts u h le lt e))
+    where
+      not_at_most : (a b : ℕ) → b < a → nat_le a b ≡ false
+      not_at_most a b p = grind (arith, nat_tests)
+
+  -- the first k are all left
+  pub left_before : (m k n : ℕ) (ts : List (Txn A)) → AreNumbered 0 m ts → k ≤ length ts → filter (is_left k n ts) (take k ts) ≡ take k ts
+  left_before m k n ts h le = all (take k ts) (numbers_before 0 m k ts h le)
+    where
+      at_most : (a b : ℕ) → a ≤ b → nat_le a b ≡ true
+      at_most a b p = grind (arith, nat_tests)
+
+      all : (xs : List (Txn A)) → AllByRecursion (λ u. u.number ≤ number_before k ts) xs → filter (is_left k n ts) xs ≡ xs
+      all [] a = refl
+      all (x ∷ xs) a = ap (λ b. cond (b || is_needed n ts x) (x ∷ filter (is_left k n ts) xs) (filter (is_left k n ts) xs)) (at_most x.number (number_before k ts) a.0) ∙ ap (λ us. x ∷ us) (all xs a.1)
+
+  pub filters-from : (m k n : ℕ) (ts : List (Txn A)) → AreNumbered 0 m ts → k ≤ length ts → FiltersInPlace (is_left k n ts) ts ts k k
+  filters-from m k n ts h le = record { front = sym (left_before m k n ts h le); rest = refl; behind = omega arith; within = le; long = refl }
+
+  -- what isn't looked at yet is as it was
+  pub same_behind : (ts us : List (Txn A)) (i : ℕ) (u : Txn A) → drop i us ≡ drop i ts → get_or us i u ≡ get_or ts i u
+  same_behind ts us i u e = sym (get_or-drop i us 0 u ∙ ap (λ k. get_or us k u) (omega arith)) ∙ ap (λ xs. get_or xs 0 u) e ∙ (get_or-drop i ts 0 u ∙ ap (λ k. get_or ts k u) (omega arith))
+
+  -- the stretch before which all are left
+  pub left_whole : (m k n : ℕ) (ts : List (Txn A)) → AreNumbered 0 m ts → k ≤ length ts → filter (is_left k n ts) ts ≡ take k ts ++ filter (is_left k n ts) (drop k ts)
+  left_whole m k n ts h le = ap (filter (is_left k n ts)) (sym (take-append-drop k ts)) ∙ filter-append (is_left k n ts) (take k ts) (drop k ts) ∙ ap (λ us. us ++ filter (is_left k n ts) (drop k ts)) (left_before m k n ts h le)
 
   -- ---- what is counted after it
 

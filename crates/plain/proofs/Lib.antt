@@ -1,6 +1,7 @@
 pub mod CauseLemmas
 pub mod ExtentLemmas
 mod ForgettingLemmas
+pub mod StretchLemmas
 pub mod WalkLemmas
 pub mod LedgerLemmas
 pub mod MergedLemmas

@@ -1,12 +1,12 @@
 -- What is forgotten: transactions that no later question asks for, and identifiers that don't live.
 -- Source: Ports and Grittner, "Serializable Snapshot Isolation in PostgreSQL" (VLDB 2012), section 6, on what may be cleaned up.
-use Rattle.std.specs.Prelude.{◌≡◌, ℕ, ◌+◌, nat_lt, Bool, not, ◌&&◌, ◌||◌, List, length, filter}
+use Rattle.std.specs.Prelude.{◌≡◌, ℕ, zero, suc, ◌+◌, nat_le, nat_lt, Bool, not, ◌&&◌, ◌||◌, List, length, filter}
 use Rattle.std.specs.List.{list_any}
 use Rattle.history.specs.Transactions.{Txn, edge, is_done, is_living, is_open, is_owed}
 use Rattle.history.specs.Needed.{is_late_reader, is_needed, is_recent, is_safe_reader}
 use Rattle.plain.specs.declared.least.Which.{Which}
 use Rattle.plain.specs.declared.least.Which.TheVariants.{Owed, HoldingBack, Recent}
-use Rattle.plain.specs.Ledger.{Ledger}
+use Rattle.plain.specs.Ledger.{Ledger, txn_at}
 use Rattle.plain.specs.Versions.{least_snapshot}
 
 module _ {A : Type 0} where
@@ -33,9 +33,24 @@ module _ {A : Type 0} where
   is_needed_among n reach ts u =
       is_owed u.standing || is_recent n u || is_late_reader n u || is_done u.standing && (nat_lt reach u.commit && list_any (λ v. is_recent n v && edge v u) ts)
 
-  -- Of the transactions those that matter are left, of the identifiers those that live, in their order; and as many numbers are used up as before.
+  -- the least snapshot of those that are recent
+  abbrev pub least_of_recent : ℕ → List (Txn A) → ℕ
+  least_of_recent n ts = least_snapshot (is_recent n) 18446744073709551615 ts
+
+  -- the greatest number of the first k, which are in the order of their numbers; 0 where that is none
+  abbrev pub number_before : ℕ → List (Txn A) → ℕ
+  number_before zero ts = 0
+  number_before (suc k) ts = (txn_at ts k).number
+
+  -- It is one of the first k, or it matters.
+  abbrev pub is_left : ℕ → ℕ → List (Txn A) → Txn A → Bool
+  is_left k n ts u = nat_le u.number (number_before k ts) || is_needed n ts u
+
+  -- Of the transactions those are left that matter, and some from the front, of the identifiers those that live, in their order; and as many numbers are
+  -- used up as before.
   pub record IsThinned (l m : Ledger A) : Type 0 where
-    pub txns : m.txns ≡ filter (is_needed (oldest l) l.txns) l.txns
+    pub passed : ℕ
+    pub txns : m.txns ≡ filter (is_left passed (oldest l) l.txns) l.txns
     pub exports : m.exports ≡ filter (is_living l.txns) l.exports
     pub transactions : m.base.transactions + length m.txns ≡ l.base.transactions + length l.txns
     pub commits : m.base.commits ≡ l.base.commits

@@ -8,6 +8,7 @@ pub mod Ledger
 pub mod Merged
 pub mod Runs
 pub mod Standings
+pub mod Stretches
 pub mod Structures
 pub mod Versions
 pub mod Views

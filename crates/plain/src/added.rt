@@ -75,6 +75,7 @@ impl<A: Allocator> World<A> {
         ensures memory { IfErr result (λ e. e ≡ out_of_memory) }
     {
         add_at(&mut self.transactions, at, added)?;
+        self.past = self.past.without(at);
         self.place += 1;
         Ok(())
     }

@@ -1,5 +1,6 @@
 // Commits: the structure that one would make, and those that it dooms.
 ghost use Rattle.std.specs.Prelude.{◌≡◌, ◌+◌, ◌^◌, ◌<◌, ◌==◌, [], find, length, map, true, Some, None, IfOk, IfErr, OnErr, OnOk};
+ghost use Rattle.std.specs.List.{list_any};
 ghost use Rattle.value.specs.Isolation as spec;
 ghost use Rattle.value.specs.Isolation.{first_cause};
 ghost use Rattle.value.specs.Refusals.{out_of_memory};
@@ -13,16 +14,18 @@ ghost use Rattle.plain.specs.Answers.{both};
 ghost use Rattle.plain.specs.Courses.{on_course};
 ghost use Rattle.mvrows.specs.Versions.{AreInOrder, TablesAreBelow};
 ghost use Rattle.plain.specs.Ledger.{after_owned, committed_by, turned_at, txn_at, world_on};
+ghost use Rattle.plain.specs.Stretches.{HoldsStretch};
 ghost use Rattle.plain.specs.Structures.{StructuresHold};
 ghost use Rattle.plain.specs.Versions.{AreCurrent, HasSameCommits, IsInstalled, StayShown, lowest_of, next_commit};
 
 use crate::answered::Answered;
 use crate::course::Course;
 use crate::dooms::dooms;
-use crate::isolation::cause_at;
-use crate::least::{Which, least_snapshot};
+use crate::isolation::{cause_at, has_any_edge};
+use crate::least::{Which, least_owed};
 use crate::own::OwnChanges;
 use crate::reply::of_cause;
+use crate::stretch::{Stretch, around};
 use crate::transaction::{Standing, Transaction, is_read_write};
 use crate::world::{World, turn};
 use history::event::Action;
@@ -60,8 +63,41 @@ fn doom<A: Allocator>(transaction: &mut Transaction<A>, causes: &[Cause], place:
 fn doom_all<A: Allocator>(transactions: &mut Vec<Transaction<A>, A>, causes: &[Cause], place: u64)
     ensures { transactions.new.items ≡ map (doomed_by place causes.now) transactions.old.items }
 {
+    if causes.is_empty() {
+        return;
+    }
     for transaction in transactions.iter_mut() {
         doom(transaction, causes, place);
+    }
+}
+
+// Whether the transaction at a place has an edge to another.
+fn has_edge_from<A: Allocator>(transactions: &[Transaction<A>], past: Stretch, at: usize) -> bool
+    requires past { HoldsStretch past transactions.now }
+    requires within { at < length transactions.now }
+    ensures { result ≡ list_any (edge (txn_at transactions.now at)) transactions.now }
+{
+    let reader = &transactions[at];
+    let (front, back) = around(transactions, past, reader.snapshot, u64::MAX);
+    has_any_edge(reader, front) || has_any_edge(reader, back)
+}
+
+// The dangerous structure that is named, where each one has the transaction at a place as its first or
+// its middle.
+fn cause_of_all<A: Allocator>(
+    transactions: &[Transaction<A>],
+    past: Stretch,
+    at: usize,
+) -> Option<Cause>
+    requires past { HoldsStretch past transactions.now }
+    requires within { at < length transactions.now }
+    requires committer { StructuresHold node edge (txn_at transactions.now at) transactions.now }
+    ensures { result ≡ first_cause node edge transactions.now }
+{
+    if has_edge_from(transactions, past, at) {
+        cause_at(transactions, at)
+    } else {
+        None
     }
 }
 
@@ -69,9 +105,11 @@ fn doom_all<A: Allocator>(transactions: &mut Vec<Transaction<A>, A>, causes: &[C
 // where each one has it as its first or its middle. The transactions stay; it takes no memory.
 fn try_course<A: Allocator>(
     transactions: &mut Vec<Transaction<A>, A>,
+    past: Stretch,
     at: usize,
     course: Course,
 ) -> Option<Cause>
+    requires past { HoldsStretch past transactions.old.items }
     requires within { at < length transactions.old.items }
     requires committer { StructuresHold node edge (on_course course (txn_at transactions.old.items at)) (turned_at at (on_course course) transactions.old.items) }
     ensures cause { result ≡ first_cause node edge (turned_at at (on_course course) transactions.old.items) }
@@ -79,7 +117,7 @@ fn try_course<A: Allocator>(
 {
     let before = transactions[at].course();
     turn(transactions, at, course);
-    let cause = cause_at(transactions.as_slice(), at);
+    let cause = cause_of_all(transactions.as_slice(), past.without(at), at);
     turn(transactions, at, before);
     cause
 }
@@ -88,17 +126,19 @@ fn try_course<A: Allocator>(
 // The transactions stay; it takes no memory.
 fn lowest_with<A: Allocator>(
     transactions: &mut Vec<Transaction<A>, A>,
+    past: Stretch,
     at: usize,
     course: Course,
     most: u64,
 ) -> u64
-    requires { at < length transactions.old.items }
+    requires past { HoldsStretch past transactions.old.items }
+    requires within { at < length transactions.old.items }
     ensures least { result ≡ lowest_of most (turned_at at (on_course course) transactions.old.items) }
     ensures same { transactions.new.items ≡ transactions.old.items }
 {
     let before = transactions[at].course();
     turn(transactions, at, course);
-    let least = least_snapshot(transactions.as_slice(), Which::Owed, most);
+    let least = least_owed(transactions.as_slice(), past.without(at), Which::Owed, most);
     turn(transactions, at, before);
     least
 }
@@ -180,6 +220,7 @@ impl<A: Allocator> World<A> {
     {
         self.base.commits += 1;
         self.place += 1;
+        self.past = self.past.without(at);
         turn(&mut self.transactions, at, committed);
         doom_all(&mut self.transactions, causes, self.place);
     }
@@ -192,7 +233,19 @@ impl<A: Allocator> World<A> {
         ensures same { self.new ≡ self.old }
     {
         let number = self.commits() + 1;
-        lowest_with(&mut self.transactions, at, committed, number)
+        lowest_with(&mut self.transactions, self.past, at, committed, number)
+    }
+
+    // The structures by which the commit of the open transaction at a place dooms others.
+    fn dooms_of(&self, alloc: A, at: usize) -> Result<Vec<Cause, A>, Refusal>
+        requires within { at < length self.now.txns }
+        requires open { is_open (txn_at self.now.txns at).standing ≡ true }
+        ensures ok { IfOk result (λ causes. causes.items ≡ spec.dooms node reads_from self.now.txns (txn_at self.now.txns at)) }
+        ensures memory { IfErr result (λ e. e ≡ out_of_memory) }
+    {
+        let all = self.transactions.as_slice();
+        let (front, back) = around(all, self.past, u64::MAX, u64::MAX);
+        dooms(alloc, front, back, &all[at])
     }
 
     // COMMIT of the open read-write transaction at a place, which makes no structure.
@@ -208,6 +261,7 @@ impl<A: Allocator> World<A> {
         requires within { at < length self.old.txns }
         requires room { self.old.place + 1 < 2 ^ 64 }
         requires current { AreCurrent self.old rows.old }
+        requires open { is_open (txn_at self.old.txns at).standing ≡ true }
         ensures rows { OnOk result (IsInstalled (lowest_of (next_commit self.old) (turned_at at (on_course committed) self.old.txns)) (next_commit self.old) (txn_at self.old.txns at).changes rows.old rows.new) }
         ensures rows_err { OnErr result (rows.new ≡ rows.old) }
         ensures ok { OnOk result (self.new ≡ record self.old { base = record self.old.base { commits = self.old.base.commits + 1 }; txns = map (doomed_by (self.old.place + 1) (spec.dooms node reads_from self.old.txns (txn_at self.old.txns at))) (turned_at at (on_course committed) self.old.txns); place = self.old.place + 1 }) }
@@ -216,8 +270,7 @@ impl<A: Allocator> World<A> {
     {
         let oldest = self.lowest_after(at, committed);
         let number = self.commits() + 1;
-        let committer = &self.transactions[at];
-        let causes = dooms(alloc, self.transactions.as_slice(), committer)?;
+        let causes = self.dooms_of(alloc, at)?;
         install_at(alloc, rows, oldest, number, &mut self.transactions, at)?;
         self.turn_committer(at, committed, causes.as_slice());
         Ok(())
@@ -247,7 +300,7 @@ impl<A: Allocator> World<A> {
         ensures same { self.new ≡ self.old }
     {
         let _place = self.place;
-        try_course(&mut self.transactions, at, committed)
+        try_course(&mut self.transactions, self.past, at, committed)
     }
 
     // A refused COMMIT of the open transaction at a place. It takes no memory.

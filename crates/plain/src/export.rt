@@ -48,6 +48,7 @@ impl<A: Allocator> World<A> {
         ensures memory { IfErr result (λ e. e ≡ out_of_memory) }
     {
         self.exports.push(exported)?;
+        self.past = self.past.without(at);
         turn(&mut self.transactions, at, course);
         self.place += 1;
         Ok(())

@@ -1,15 +1,17 @@
 // What is forgotten: transactions that no later question asks for, and identifiers that don't live.
-ghost use Rattle.std.specs.Prelude.{◌≡◌, ◌≤◌, ◌<◌, ◌&&◌, ◌++◌, drop, length, take};
+ghost use Rattle.std.specs.Prelude.{◌≡◌, ◌≤◌, ◌<◌, ◌^◌, ◌&&◌, ◌++◌, drop, length, take};
 ghost use Rattle.std.specs.List.{filter, list_any};
 ghost use Rattle.history.specs.Needed as spec;
 ghost use Rattle.history.specs.Transactions.{edge, is_living as spec_living};
-ghost use Rattle.plain.specs.Forgetting.{IsThinned, is_needed_among, oldest};
-ghost use Rattle.plain.specs.Ledger.{txn_at};
+ghost use Rattle.plain.specs.Forgetting.{IsThinned, is_left, is_needed_among, least_of_recent, oldest};
+ghost use Rattle.plain.specs.Ledger.{AreNumbered, txn_at};
+ghost use Rattle.plain.specs.Stretches.{HoldsStretch};
 ghost use Rattle.plain.specs.Versions.{lowest};
 
 use crate::isolation::has_edge;
-use crate::least::{Which, is_recent, least_snapshot};
+use crate::least::{Which, is_recent, least_owed, least_snapshot};
 use crate::snapshots::{ExportedSnapshot, is_living};
+use crate::stretch::{Stretch, grown};
 use crate::transaction::{Transaction, is_read_write};
 use crate::world::World;
 use std::alloc::Allocator;
@@ -92,14 +94,32 @@ fn is_needed_at<A: Allocator>(
     is_needed_among(before, left, &transactions[at], oldest, reach)
 }
 
-/// Leaves the transactions that matter where no question to come is asked at a snapshot below the
-/// oldest, in their order.
-pub(crate) fn keep_needed<A: Allocator>(transactions: &mut Vec<Transaction<A>, A>, oldest: u64)
-    ensures { transactions.new.items ≡ filter (spec.is_needed oldest transactions.old.items) transactions.old.items }
+// A number above which all recent transactions have their snapshots, where those from a place on are
+// looked at.
+fn reach_of<A: Allocator>(transactions: &[Transaction<A>], oldest: u64, from: usize) -> u64
+    ensures { result ≤ least_of_recent oldest transactions.now }
 {
-    let reach = least_snapshot(transactions.as_slice(), Which::Recent(oldest), u64::MAX);
-    let mut kept = 0;
-    for at in 0..transactions.len() {
+    if from == 0 {
+        least_snapshot(transactions, Which::Recent(oldest), u64::MAX)
+    } else {
+        0
+    }
+}
+
+/// Leaves the transactions before a place, and of the others those that matter where no question to
+/// come is asked at a snapshot below the oldest, in their order.
+pub(crate) fn keep_needed<A: Allocator>(
+    transactions: &mut Vec<Transaction<A>, A>,
+    oldest: u64,
+    from: usize,
+)
+    requires within { from ≤ length transactions.old.items }
+    requires numbered { AreNumbered 0 (2 ^ 64) transactions.old.items }
+    ensures { transactions.new.items ≡ filter (is_left from oldest transactions.old.items) transactions.old.items }
+{
+    let reach = reach_of(transactions.as_slice(), oldest, from);
+    let mut kept = from;
+    for at in from..transactions.len() {
         if is_needed_at(transactions.as_slice(), kept, at, oldest, reach) {
             if kept < at {
                 transactions.swap(kept, at);
@@ -134,18 +154,36 @@ impl<A: Allocator> World<A> {
     pub fn lowest(&self) -> u64
         ensures { result ≡ lowest self.now }
     {
-        least_snapshot(self.transactions.as_slice(), Which::Owed, self.base.commits)
+        least_owed(
+            self.transactions.as_slice(),
+            self.past,
+            Which::Owed,
+            self.base.commits,
+        )
     }
 
     // The snapshot from which on questions are asked.
     fn oldest(&self) -> u64
         ensures { result ≡ oldest self.now }
     {
-        least_snapshot(
+        least_owed(
             self.transactions.as_slice(),
+            self.past,
             Which::HoldingBack,
             self.base.commits,
         )
+    }
+
+    // The stretch before which nothing new can be forgotten: none where questions are asked from
+    // another snapshot on than when all were last looked at.
+    fn looked_at(&self, oldest: u64) -> Stretch
+        ensures { HoldsStretch result self.now.txns }
+    {
+        if oldest == self.reached {
+            self.past
+        } else {
+            Stretch::none()
+        }
     }
 
     /// Forgets the transactions that no later question asks for, and the identifiers that don't live.
@@ -154,11 +192,14 @@ impl<A: Allocator> World<A> {
         ensures { IsThinned self.old self.new }
     {
         let oldest = self.oldest();
+        let past = self.looked_at(oldest);
         let transactions = self.base.transactions + self.transactions.len() as u64;
         let identifiers = self.base.identifiers + self.exports.len() as u64;
         keep_living(&mut self.exports, self.transactions.as_slice());
-        keep_needed(&mut self.transactions, oldest);
+        keep_needed(&mut self.transactions, oldest, past.to);
         self.base.transactions = transactions - self.transactions.len() as u64;
         self.base.identifiers = identifiers - self.exports.len() as u64;
+        self.past = grown(self.transactions.as_slice(), past, self.place);
+        self.reached = oldest;
     }
 }

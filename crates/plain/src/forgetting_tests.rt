@@ -1,6 +1,7 @@
 use crate::forgetting::{keep_living, keep_needed};
 use crate::least::{Which, least_snapshot};
 use crate::snapshots::ExportedSnapshot;
+use crate::stretch::{Stretch, around, grown};
 use crate::transaction::{Standing, Transaction};
 use history::session_id::SessionId;
 use schema::catalog::TableNo;
@@ -71,12 +72,40 @@ fn what_still_matters_is_kept(rt: HostRuntime) -> Result<(), Fail> {
     let mut all = nine(rt.alloc())?;
     assert_eq!(rt; least_snapshot(all.as_slice(), Which::HoldingBack, 7), 5);
     assert_eq!(rt; least_snapshot(all.as_slice(), Which::Owed, 7), 4);
-    keep_needed(&mut all, 5);
+    keep_needed(&mut all, 5, 0);
     let mut numbers = [1, 2, 4, 8, 9].iter();
     for kept in all.as_slice() {
         assert_eq!(rt; numbers.next().copied(), Some(kept.number));
     }
     assert_eq!(rt; all.len(), 5);
+    Ok(())
+}
+
+// Those at the front that were looked at before stay, whatever they are.
+#[test]
+fn those_before_a_place_are_kept(rt: HostRuntime) -> Result<(), Fail> {
+    let mut all = nine(rt.alloc())?;
+    keep_needed(&mut all, 5, 3);
+    let mut numbers = [1, 2, 3, 4, 8, 9].iter();
+    for kept in all.as_slice() {
+        assert_eq!(rt; numbers.next().copied(), Some(kept.number));
+    }
+    assert_eq!(rt; all.len(), 6);
+    Ok(())
+}
+
+// The ninth has still to be ended, and sees four commits: the first is passed over, the second not.
+#[test]
+fn a_stretch_grows_to_what_the_oldest_does_not_see(rt: HostRuntime) -> Result<(), Fail> {
+    let all = nine(rt.alloc())?;
+    let past = grown(all.as_slice(), Stretch::none(), 9);
+    assert_eq!(rt; (past.from, past.to, past.newest, past.until), (0, 1, 3, 9));
+    for (snapshot, place, front, back) in [(3, 10, 0, 8), (2, 10, 9, 0), (3, 9, 9, 0)] {
+        let (before, behind) = around(all.as_slice(), past, snapshot, place);
+        assert_eq!(rt; (before.len(), behind.len()), (front, back));
+    }
+    assert_eq!(rt; past.without(1), past);
+    assert_eq!(rt; past.without(0), Stretch::none());
     Ok(())
 }
 

@@ -115,8 +115,8 @@ pub(crate) fn cause_from<T: Party>(first: &T, transactions: &[T]) -> Option<Caus
     None
 }
 
-// Whether a transaction has an edge to one of these.
-fn has_any_edge<T: Party>(reader: &T, transactions: &[T]) -> bool
+/// Whether a transaction has an edge to one of these.
+pub(crate) fn has_any_edge<T: Party>(reader: &T, transactions: &[T]) -> bool
     ensures { result ≡ list_any (edge_of T.node T.reads reader.now) transactions.now }
 {
     transactions.iter().any(|writer| has_edge(reader, writer))
@@ -138,8 +138,10 @@ fn cause_through<T: Party>(transactions: &[T], at: usize, first: &T) -> Option<C
     }
 }
 
-// The structure that is named, where each has the transaction at a place as its first or its middle.
-fn cause_with<T: Party>(transactions: &[T], at: usize) -> Option<Cause>
+/// The dangerous structure that is named, of transactions in the order of their numbers: the one
+/// of the least first transaction, then of the least pivot, then of the first to commit. Each has the
+/// transaction at a place, the committer, as its first or its middle. It takes no memory.
+pub fn cause_at<T: Party>(transactions: &[T], at: usize) -> Option<Cause>
     requires within { at < length transactions.now }
     requires committer { (x : T) → slice_get transactions.now at ≡ Some x → StructuresHold T.node (edge_of T.node T.reads) x transactions.now }
     ensures { result ≡ first_cause T.node (edge_of T.node T.reads) transactions.now }
@@ -151,21 +153,6 @@ fn cause_with<T: Party>(transactions: &[T], at: usize) -> Option<Cause>
         }
     }
     None
-}
-
-/// The dangerous structure that is named, of transactions in the order of their numbers: the one
-/// of the least first transaction, then of the least pivot, then of the first to commit. Each has the
-/// transaction at a place, the committer, as its first or its middle. It takes no memory.
-pub fn cause_at<T: Party>(transactions: &[T], at: usize) -> Option<Cause>
-    requires within { at < length transactions.now }
-    requires committer { (x : T) → slice_get transactions.now at ≡ Some x → StructuresHold T.node (edge_of T.node T.reads) x transactions.now }
-    ensures { result ≡ first_cause T.node (edge_of T.node T.reads) transactions.now }
-{
-    if has_any_edge(&transactions[at], transactions) {
-        cause_with(transactions, at)
-    } else {
-        None
-    }
 }
 
 /// The number of a transaction's commit.

@@ -201,7 +201,7 @@ fn the_open_ones_that_a_commit_dooms(rt: HostRuntime) -> Result<(), Fail> {
             cause(3, 2, 4),
         ),
     ] {
-        let causes = dooms(rt.alloc(), &[a, b, c], &a)?;
+        let causes = dooms(rt.alloc(), &[a], &[b, c], &a)?;
         assert!(rt; causes.len() <= 1);
         assert_eq!(rt; causes.as_slice().first().copied(), want);
     }

@@ -1,14 +1,16 @@
 // Serial keys of committed transactions, among all transactions.
 ghost use Rattle.std.specs.Prelude.{◌≡◌, if◌then◌else◌, ◌&&◌, ◌==◌, min, nat_lt};
-ghost use Rattle.std.specs.List.{filter};
-ghost use Rattle.std.specs.Option.{option_map};
+ghost use Rattle.std.specs.List.{filter, find};
+ghost use Rattle.std.specs.Option.{option_copied, option_map};
 ghost use Rattle.value.specs.Isolation.{edge_of, first_part, serial_key};
 ghost use Rattle.history.specs.Transactions.{edge, is_done, node};
 ghost use Rattle.plain.specs.Keys.{committed_at, keyed, parts};
+ghost use Rattle.plain.specs.Stretches.{HoldsStretch};
 
 use crate::isolation::{commit_of, lesser, write_key};
 use crate::party::Party;
-use crate::transaction::Transaction;
+use crate::stretch::{Stretch, around};
+use crate::transaction::{Transaction, is_read_write};
 use crate::world::World;
 use history::key::SerialKey;
 use std::alloc::Allocator;
@@ -46,36 +48,66 @@ fn first_committed<T: Party>(transaction: &T, transactions: &[T]) -> u64
     least
 }
 
-// Where a committed transaction stands in the serial order of the committed ones of these.
-fn key_among<T: Party>(transaction: &T, transactions: &[T]) -> (u64, u8, u64)
-    ensures { result
-        ≡ serial_key T.node (edge_of T.node T.reads) (filter (λ t. (T.node t).committed) transactions.now) transaction.now }
+// The least of a transaction's commit number and of those of committed ones below it to which it has
+// an edge; a stretch of those whose commits it sees is passed over.
+fn first_around<A: Allocator>(
+    transactions: &[Transaction<A>],
+    past: Stretch,
+    transaction: &Transaction<A>,
+) -> u64
+    requires { HoldsStretch past transactions.now }
+    ensures { result ≡ first_part node edge transaction.now (filter (λ t. is_done t.standing) transactions.now) }
 {
-    let facts = transaction.facts();
-    if facts.read_write {
-        write_key(first_committed(transaction, transactions), facts.commit)
+    let (front, back) = around(transactions, past, transaction.snapshot, u64::MAX);
+    first_committed(transaction, front).min(first_committed(transaction, back))
+}
+
+// Where a committed transaction stands in the serial order of the committed ones of these.
+fn key_among<A: Allocator>(
+    transactions: &[Transaction<A>],
+    past: Stretch,
+    transaction: &Transaction<A>,
+) -> (u64, u8, u64)
+    requires { HoldsStretch past transactions.now }
+    ensures { result ≡ serial_key node edge (filter (λ t. is_done t.standing) transactions.now) transaction.now }
+{
+    if is_read_write(transaction.mode) {
+        write_key(
+            first_around(transactions, past, transaction),
+            transaction.commit,
+        )
     } else {
-        (facts.snapshot, 2, facts.place)
+        (transaction.snapshot, 2, transaction.end)
     }
 }
 
 /// The serial key of a committed transaction, among those of these that committed. It takes no
 /// memory.
-pub fn key<A: Allocator>(transactions: &[Transaction<A>], transaction: &Transaction<A>) -> SerialKey
+pub fn key<A: Allocator>(
+    transactions: &[Transaction<A>],
+    past: Stretch,
+    transaction: &Transaction<A>,
+) -> SerialKey
+    requires { HoldsStretch past transactions.now }
     ensures { parts result ≡ serial_key node edge (filter (λ t. is_done t.standing) transactions.now) transaction.now }
 {
-    let (first, rank, last) = key_among(transaction, transactions);
+    let (first, rank, last) = key_among(transactions, past, transaction);
     SerialKey(first, rank, last)
 }
 
 // A transaction's number, with its key among these.
 fn with_key<A: Allocator>(
     transactions: &[Transaction<A>],
+    past: Stretch,
     transaction: &Transaction<A>,
 ) -> (TxnNo, SerialKey)
+    requires { HoldsStretch past transactions.now }
     ensures { keyed result ≡ (transaction.now.number, serial_key node edge (filter (λ t. is_done t.standing) transactions.now) transaction.now) }
 {
-    (TxnNo(transaction.number), key(transactions, transaction))
+    (
+        TxnNo(transaction.number),
+        key(transactions, past, transaction),
+    )
 }
 
 // Whether a transaction committed as the event at a place.
@@ -85,20 +117,36 @@ fn is_commit_at<A: Allocator>(transaction: &Transaction<A>, place: u64) -> bool
     transaction.standing.is_done() && transaction.end == place
 }
 
-/// The transaction of these that committed as the event at a place, with its key among them. It
-/// takes no memory.
-pub fn find_commit<A: Allocator>(
-    transactions: &[Transaction<A>],
-    place: u64,
-) -> Option<(TxnNo, SerialKey)>
-    ensures { option_map keyed result ≡ committed_at place transactions.now }
+// The first of these that committed as the event at a place.
+fn find_among<A: Allocator>(transactions: &[Transaction<A>], place: u64) -> Option<&Transaction<A>>
+    ensures { option_copied result ≡ find (λ t. is_done t.standing && t.end == place) transactions.now }
 {
     for transaction in transactions {
         if is_commit_at(transaction, place) {
-            return Some(with_key(transactions, transaction));
+            return Some(transaction);
         }
     }
     None
+}
+
+/// The transaction of these that committed as the event at a place, with its key among them; a
+/// stretch of those that were over before is passed over. It takes no memory.
+pub fn find_commit<A: Allocator>(
+    transactions: &[Transaction<A>],
+    past: Stretch,
+    place: u64,
+) -> Option<(TxnNo, SerialKey)>
+    requires { HoldsStretch past transactions.now }
+    ensures { option_map keyed result ≡ committed_at place transactions.now }
+{
+    let (front, back) = around(transactions, past, u64::MAX, place);
+    if let Some(found) = find_among(front, place) {
+        return Some(with_key(transactions, past, found));
+    }
+    match find_among(back, place) {
+        Some(found) => Some(with_key(transactions, past, found)),
+        None => None,
+    }
 }
 
 impl<A: Allocator> World<A> {
@@ -107,6 +155,6 @@ impl<A: Allocator> World<A> {
     pub fn last_commit(&self) -> Option<(TxnNo, SerialKey)>
         ensures { option_map keyed result ≡ committed_at self.now.place self.now.txns }
     {
-        find_commit(self.transactions.as_slice(), self.place)
+        find_commit(self.transactions.as_slice(), self.past, self.place)
     }
 }

@@ -1,9 +1,12 @@
 // The least snapshot of some transactions.
-ghost use Rattle.std.specs.Prelude.{◌≡◌, ◌&&◌, if◌then◌else◌, min};
+ghost use Rattle.std.specs.Prelude.{◌≡◌, ◌&&◌, if◌then◌else◌, min, true};
 ghost use Rattle.history.specs.Needed as spec;
 ghost use Rattle.plain.specs.Forgetting.{holds_back, is_looked_at};
+ghost use Rattle.history.specs.Transactions.{Txn as AnyTxn, is_owed};
+ghost use Rattle.plain.specs.Stretches.{HoldsStretch};
 ghost use Rattle.plain.specs.Versions.{least_snapshot};
 
+use crate::stretch::{Stretch, around};
 use crate::transaction::{Transaction, is_read_write};
 use std::alloc::Allocator;
 
@@ -73,4 +76,20 @@ pub fn least_snapshot<A: Allocator>(transactions: &[Transaction<A>], which: Whic
         left = rest;
     }
     least
+}
+
+/// The same of transactions that their sessions have still to end, where a stretch of those that are
+/// over is passed over.
+pub fn least_owed<A: Allocator>(
+    transactions: &[Transaction<A>],
+    past: Stretch,
+    which: Which,
+    most: u64,
+) -> u64
+    requires past { HoldsStretch past transactions.now }
+    requires owed { (u : AnyTxn A) → is_looked_at which u ≡ true → is_owed u.standing ≡ true }
+    ensures { result ≡ least_snapshot (is_looked_at which) most transactions.now }
+{
+    let (front, back) = around(transactions, past, u64::MAX, u64::MAX);
+    least_snapshot(front, which, least_snapshot(back, which, most))
 }

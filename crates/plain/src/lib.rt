@@ -32,6 +32,7 @@ pub mod run;
 mod settle;
 pub mod snapshots;
 mod step;
+pub mod stretch;
 #[cfg(test)]
 mod tests;
 pub mod transaction;

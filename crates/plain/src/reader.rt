@@ -111,7 +111,7 @@ impl<A: Allocator> World<A> {
         requires { AreInOrder rows.now }
         ensures { (c : Catalog) (X : Tables A) → AnswersOrNoMemory result (reader_on (versions_at rows.now) (kept_current c X self.now session)) }
     {
-        match find_current(self.transactions.as_slice(), session) {
+        match find_current(self.transactions.as_slice(), self.past, session) {
             Some(at) => self.transactions[at].reader(alloc, rows),
             None => Err(Refusal::of_code(Code::NoActiveSqlTransaction)),
         }

@@ -3,7 +3,9 @@ ghost use Rattle.std.specs.Prelude.{◌≡◌, ◌==◌, ◌&&◌};
 ghost use Rattle.std.specs.List.{list_any};
 ghost use Rattle.schema.specs.Plain.{same};
 ghost use Rattle.history.specs.Answer as spec;
+ghost use Rattle.plain.specs.Stretches.{HoldsStretch};
 
+use crate::stretch::{Stretch, around};
 use crate::transaction::Transaction;
 use schema::changes::Change;
 use std::alloc::Allocator;
@@ -56,9 +58,8 @@ fn is_taken_by_any<A: Allocator>(
         .any(|other| is_taken(transaction, other, change))
 }
 
-/// Whether the transaction would write a key that another has written, of which it sees nothing
-/// (PostgreSQL's "first updater wins"; here nobody waits). It takes no memory.
-pub fn meets_another<A: Allocator>(
+// Whether one of these has written a key of the changes, and the transaction sees nothing of it.
+fn meets_any<A: Allocator>(
     transactions: &[Transaction<A>],
     transaction: &Transaction<A>,
     changes: &[Change<A>],
@@ -66,4 +67,20 @@ pub fn meets_another<A: Allocator>(
     ensures { result ≡ list_any (λ x. list_any (λ u. spec.is_taken transaction.now u x) transactions.now) changes.now }
 {
     changes.iter().any(|change| is_taken_by_any(transactions, transaction, change))
+}
+
+/// Whether the transaction would write a key that another has written, of which it sees nothing
+/// (PostgreSQL's "first updater wins"; here nobody waits). A stretch of those whose commits it sees is
+/// passed over. It takes no memory.
+pub fn meets_another<A: Allocator>(
+    transactions: &[Transaction<A>],
+    past: Stretch,
+    transaction: &Transaction<A>,
+    changes: &[Change<A>],
+) -> bool
+    requires { HoldsStretch past transactions.now }
+    ensures { result ≡ list_any (λ x. list_any (λ u. spec.is_taken transaction.now u x) transactions.now) changes.now }
+{
+    let (front, back) = around(transactions, past, transaction.snapshot, u64::MAX);
+    meets_any(front, transaction, changes) || meets_any(back, transaction, changes)
 }

@@ -180,7 +180,8 @@ impl<A: Allocator> World<A> {
             marks,
         } = outcome;
         let list = changes.into_list(alloc)?;
-        if meets_another(self.transactions.as_slice(), transaction, list.as_slice()) {
+        let all = self.transactions.as_slice();
+        if meets_another(all, self.past, transaction, list.as_slice()) {
             return Ok(Ran::Refused(Refusal {
                 code: Code::SerializationFailure,
                 place: Place::Row,

@@ -1,7 +1,9 @@
 // Sessions' transactions, and the snapshots that are exported, among all transactions.
 ghost use Rattle.std.specs.Prelude.{◌≡◌, ◌==◌, ◌&&◌, ◌<◌, find, length, slice_get, None, IfSome, IfNone};
 ghost use Rattle.history.specs.Transactions.{is_living, is_of, is_open};
+ghost use Rattle.plain.specs.Stretches.{HoldsStretch};
 
+use crate::stretch::{Stretch, around};
 use crate::transaction::Transaction;
 use history::session_id::SessionId;
 use std::alloc::Allocator;
@@ -27,11 +29,8 @@ impl Model for ExportedSnapshot {
     ghost inverse = { λ x. record { id = x.id; exporter = x.exporter; snapshot = x.snapshot; taken = x.taken; known = x.known } };
 }
 
-/// The place of the session's transaction, which it has still to end. It takes no memory.
-pub fn find_current<A: Allocator>(
-    transactions: &[Transaction<A>],
-    session: SessionId,
-) -> Option<usize>
+// The place among these of the session's transaction, which it has still to end.
+fn find_among<A: Allocator>(transactions: &[Transaction<A>], session: SessionId) -> Option<usize>
     ensures some { IfSome result (λ i. find (is_of session) transactions.now ≡ slice_get transactions.now i) }
     ensures within { IfSome result (λ i. i < length transactions.now) }
     ensures none { IfNone result (find (is_of session) transactions.now ≡ None) }
@@ -42,6 +41,28 @@ pub fn find_current<A: Allocator>(
         }
     }
     None
+}
+
+/// The place of the session's transaction, which it has still to end; a stretch of those that are
+/// over is passed over. It takes no memory.
+pub fn find_current<A: Allocator>(
+    transactions: &[Transaction<A>],
+    past: Stretch,
+    session: SessionId,
+) -> Option<usize>
+    requires { HoldsStretch past transactions.now }
+    ensures some { IfSome result (λ i. find (is_of session) transactions.now ≡ slice_get transactions.now i) }
+    ensures within { IfSome result (λ i. i < length transactions.now) }
+    ensures none { IfNone result (find (is_of session) transactions.now ≡ None) }
+{
+    let (front, back) = around(transactions, past, u64::MAX, u64::MAX);
+    if let Some(at) = find_among(front, session) {
+        return Some(at);
+    }
+    match find_among(back, session) {
+        Some(at) => Some(transactions.len() - back.len() + at),
+        None => None,
+    }
 }
 
 // Whether a transaction is the exporter, and open still.

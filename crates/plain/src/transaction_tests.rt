@@ -4,6 +4,7 @@ use crate::keys::key;
 use crate::party::Party;
 use crate::rows::meets_another;
 use crate::snapshots::{ExportedSnapshot, find_current, find_exported, is_living};
+use crate::stretch::Stretch;
 use crate::transaction::{Standing, Transaction, is_read_write};
 use history::key::SerialKey;
 use history::session_id::SessionId;
@@ -80,8 +81,8 @@ fn a_session_has_at_most_one_transaction_to_end(rt: HostRuntime) -> Result<(), F
         assert_eq!(rt; transaction.is_of(session(2)?), owed);
         let all = [begun(alloc, 1, 1)?, transaction];
         let place = if owed { Some(1) } else { None };
-        assert_eq!(rt; find_current(&all, session(2)?), place);
-        assert_eq!(rt; find_current(&all, session(3)?), None);
+        assert_eq!(rt; find_current(&all, Stretch::none(), session(2)?), place);
+        assert_eq!(rt; find_current(&all, Stretch::none(), session(3)?), None);
     }
     Ok(())
 }
@@ -140,8 +141,8 @@ fn a_reference_that_was_read_and_written_is_a_conflict(rt: HostRuntime) -> Resul
     commit(&mut second, 3, 14);
     assert_eq!(rt; second.facts().place, 14);
     let all = [second, third];
-    assert_eq!(rt; key(&all, &all[0]), SerialKey(2, 0, 3));
-    assert_eq!(rt; key(&all, &all[1]), SerialKey(2, 1, 2));
+    assert_eq!(rt; key(&all, Stretch::none(), &all[0]), SerialKey(2, 0, 3));
+    assert_eq!(rt; key(&all, Stretch::none(), &all[1]), SerialKey(2, 1, 2));
     Ok(())
 }
 
@@ -169,8 +170,11 @@ fn the_first_to_write_a_row_wins(rt: HostRuntime) -> Result<(), Fail> {
         other.commit = number;
         let all = [other, begun(alloc, 3, 5)?];
         let changes = absence(alloc, table)?;
-        assert_eq!(rt; meets_another(&all, &all[1], changes.as_slice()), want);
-        assert!(rt; !meets_another(&all, &all[0], changes.as_slice()));
+        assert_eq!(rt;
+            meets_another(&all, Stretch::none(), &all[1], changes.as_slice()),
+            want
+        );
+        assert!(rt; !meets_another(&all, Stretch::none(), &all[0], changes.as_slice()));
     }
     Ok(())
 }

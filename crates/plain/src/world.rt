@@ -5,6 +5,7 @@ ghost use Rattle.plain.specs.Ledger.{turned_at};
 
 use crate::course::Course;
 use crate::snapshots::ExportedSnapshot;
+use crate::stretch::Stretch;
 use crate::transaction::Transaction;
 use history::base::Base;
 use std::alloc::{Allocator, Global};
@@ -18,16 +19,21 @@ pub struct World<A: Allocator = Global> {
     pub(crate) transactions: Vec<Transaction<A>, A>,
     pub(crate) exports: Vec<ExportedSnapshot, A>,
     pub(crate) place: u64,
+    // Those of the transactions that most questions pass over.
+    pub(crate) past: Stretch,
+    // The snapshot from which on questions were asked when all were last looked at.
+    pub(crate) reached: u64,
 }
 
 impl<A: Allocator> Model for World<A> {
     ghost use Rattle.plain.specs.Ledger.{Ledger, IsCounted};
+    ghost use Rattle.plain.specs.Stretches.{HoldsStretch};
 
     ghost Value = { Ledger A };
 
     ghost view = { λ w. record { base = w.base; txns = w.transactions.items; exports = w.exports.items; place = w.place } };
 
-    ghost invariant = { λ w. IsCounted (record { base = w.base; txns = w.transactions.items; exports = w.exports.items; place = w.place }) };
+    ghost invariant = { λ w. IsCounted (record { base = w.base; txns = w.transactions.items; exports = w.exports.items; place = w.place }) × HoldsStretch w.past w.transactions.items };
 }
 
 // Takes the transaction at a place to a course.
@@ -55,6 +61,8 @@ impl<A: Allocator> World<A> {
             transactions: Vec::new(alloc),
             exports: Vec::new(alloc),
             place: base.events,
+            past: Stretch::none(),
+            reached: base.commits,
         }
     }
 
@@ -72,6 +80,7 @@ impl<A: Allocator> World<A> {
         requires room { self.old.place + 1 < 2 ^ 64 }
         ensures { self.new ≡ record self.old { txns = turned_at at (on_course course) self.old.txns; place = self.old.place + 1 } }
     {
+        self.past = self.past.without(at);
         turn(&mut self.transactions, at, course);
         self.place += 1;
     }

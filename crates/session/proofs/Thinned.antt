@@ -1,17 +1,19 @@
 -- What is left after forgetting represents the same world.
-use Rattle.std.proofs.Common.{◌≡◌, sym, ap, subst, ◌∙◌, ℕ, ◌+◌, ◌≤◌, true, false, not, ◌&&◌, ◌||◌, List, length, map, arith}
-use Rattle.std.specs.List.{filter}
+use Rattle.std.proofs.Common.{◌≡◌, sym, ap, subst, refl, ◌∙◌, ℕ, ◌+◌, ◌≤◌, Bool, true, false, cond, not, ◌&&◌, ◌||◌, List, [], ◌∷◌, length, map, eqb, nat_le, arith}
+use Rattle.std.specs.List.{filter, list_any}
+use Rattle.std.proofs.lemmas.Bool.{eqb-true, eq-eqb}
 use Rattle.value.proofs.IsolationLemmas.{In}
-use Rattle.conflict.proofs.Lists.{In-filter, and_true, filter-kept, filter_alike, or_left}
+use Rattle.conflict.proofs.Lists.{In-any, In-filter, and_true, any-In, both_true, filter-kept, filter_alike, or_left, or_right}
 use Rattle.history.specs.Opening.{Recorded}
 use Rattle.history.specs.Transactions.{Txn, World, Exported_snapshot, edge, is_done, is_living, is_open, is_owed}
 use Rattle.history.specs.Needed.{IsOldest, Keeps, is_late_reader, is_needed, is_recent, is_safe_reader, kept_of, needed_numbers}
 use Rattle.serial.proofs.NeededCause.{open_owed}
-use Rattle.serial.proofs.NeededLater.{shrunk}
-use Rattle.serial.proofs.NeededRaised.{least_is, least_kept, raised}
+use Rattle.serial.proofs.NeededQuestions.{any-kept}
+use Rattle.serial.proofs.NeededRaised.{raised}
 use Rattle.serial.proofs.SafePrefix.{all_by, by_all}
+use Rattle.serial.proofs.SerialTheorem.{good_world}
 use Rattle.mvrows.specs.Versions.{VersionedRows, TablesAreBelow}
-use Rattle.plain.specs.Forgetting.{IsThinned, holds_back, oldest}
+use Rattle.plain.specs.Forgetting.{IsThinned, holds_back, is_left, number_before, oldest}
 use Rattle.plain.specs.Ledger.{Ledger, kept}
 use Rattle.plain.specs.Versions.{lowest}
 use Rattle.session.specs.Core.{HoldsRows, IsKept}
@@ -19,6 +21,20 @@ use Rattle.session.specs.Kept.{Represents}
 use Rattle.session.proofs.Kept.{any_map, filter_map}
 use Rattle.session.proofs.Least.{least_from, least_most, least_of}
 use Rattle.session.proofs.Lent.{living_is, owed_in, r, w}
+
+same_test : (a b : Bool) → (a ≡ true → b ≡ true) → (b ≡ true → a ≡ true) → a ≡ b
+same_test true b f g = sym (f refl)
+same_test false true f g = g refl
+same_test false false f g = refl
+
+-- those that pass one test, and of these those that pass another
+filter-both : {X : Type 0} (p q : X → Bool) (xs : List X) → filter q (filter p xs) ≡ filter (λ x. p x && q x) xs
+filter-both p q [] = refl
+filter-both {X} p q (x ∷ xs) = go (p x)
+  where
+    go : (b : Bool) → filter q (cond b (x ∷ filter p xs) (filter p xs)) ≡ cond (b && q x) (x ∷ filter (λ y. p y && q y) xs) (filter (λ y. p y && q y) xs)
+    go true = ap (λ ys. cond (q x) (x ∷ ys) ys) (filter-both p q xs)
+    go false = filter-both p q xs
 
 module _ {A : Type 0} where
   -- what matters of transactions doesn't depend on what is left out of them
@@ -58,15 +74,54 @@ module _ {A : Type 0} where
     still : Keeps old n (r h l k).keep
     still = raised old (r h l k).oldest n (r h l k).keep (r h l k).keeps older is_oldest
 
+    -- ---- those that are left: of those that were kept the ones that matter, and some from the front
+
+    abbrev last : ℕ
+    last = number_before t.passed (map kept ts)
+
+    abbrev left : ℕ → Bool
+    left i = nat_le i last || needed_numbers n old.txns i
+
+    abbrev stays : ℕ → Bool
+    stays i = (r h l k).keep i && left i
+
+    matters : (u : Txn A) → In u old.txns → is_needed n old.txns u ≡ true → needed_numbers n old.txns u.number ≡ true
+    matters u j e = In-any (λ v. eqb v.number u.number && is_needed n old.txns v) old.txns u j (and_true _ _ (eq-eqb u.number u.number refl) e)
+
+    told : (u : Txn A) → In u old.txns → needed_numbers n old.txns u.number ≡ is_needed n old.txns u
+    told u j = same_test _ _ (λ e. found (any-In (λ v. eqb v.number u.number && is_needed n old.txns v) old.txns e)) (matters u j)
+      where
+        found : (y : Txn A) × In y old.txns × ((eqb y.number u.number && is_needed n old.txns y) ≡ true) → is_needed n old.txns u ≡ true
+        found y = let q = both_true (eqb y.0.number u.number) (is_needed n old.txns y.0) y.2 in
+            ap (is_needed n old.txns) ((good_world h.opening h.records k.legal).numbered.unique u y.0 j y.1 (sym (eqb-true y.0.number u.number q.0))) ∙ q.1
+
+    -- what matters can be told from what is kept
+    met : (u : Txn A) → list_any (λ v. is_recent n v && edge v u) ts ≡ list_any (λ v. is_recent n v && edge v u) old.txns
+    met u = any-kept (λ v. is_recent n v && edge v u) (λ v. (r h l k).keep v.number) old.txns
+        (λ v j e. by_all (λ x. is_needed n old.txns x ≡ true → (r h l k).keep x.number ≡ true) old.txns v still.needed j
+            (or_left _ _ (or_left _ _ (or_right (is_owed v.standing) _ (both_true (is_recent n v) (edge v u) e).0))))
+
+    alike : (u : Txn A) → In u ts → is_left t.passed n (map kept ts) (kept u) ≡ left u.number
+    alike u i =
+        ap (λ b. nat_le u.number last || b)
+        (needed_kept n ts u ∙ ap (λ b. is_owed u.standing || is_recent n u || is_late_reader n u || (is_done u.standing && b)) (met u)
+        ∙ sym (told u (In-filter (λ (x : Txn A). (r h l k).keep x.number) u old.txns i).0))
+
+    keeps_left : Keeps old n stays
+    keeps_left = record {
+      oldest = is_oldest;
+      needed = all_by _ old.txns (λ u j e. and_true _ _ (by_all (λ x. is_needed n old.txns x ≡ true → (r h l k).keep x.number ≡ true) old.txns u still.needed j e) (or_right (nat_le u.number last) _ (matters u j e)));
+    }
+
     pub represents_thinned : Represents old m
     represents_thinned = record {
       oldest = n;
-      keep = needed_numbers n old.txns;
-      keeps = least_kept old n is_oldest;
+      keep = stays;
+      keeps = keeps_left;
       seen = let p = least_most holds_back l.base.commits l.txns in let q = (r h l k).commits in omega (arith, p, q);
       txns =
-          t.txns ∙ ap (λ us. filter (is_needed n us) us) (r h l k).txns ∙ filter_map kept (is_needed n (map kept ts)) ts
-          ∙ ap (map kept) (filter_alike (λ u. is_needed n (map kept ts) (kept u)) (is_needed n ts) ts (λ u i. needed_kept n ts u) ∙ shrunk old n (r h l k).keep still ∙ sym (least_is h.opening h.records k.legal n));
+          t.txns ∙ ap (λ us. filter (is_left t.passed n us) us) (r h l k).txns ∙ filter_map kept (is_left t.passed n (map kept ts)) ts
+          ∙ ap (map kept) (filter_alike (λ u. is_left t.passed n (map kept ts) (kept u)) (λ u. left u.number) ts alike ∙ filter-both (λ (u : Txn A). (r h l k).keep u.number) (λ u. left u.number) old.txns);
       exports =
           ap (filter (is_living old.txns)) (t.exports ∙ filter_alike (is_living l.txns) (is_living old.txns) l.exports (λ x i. lives x))
           ∙ filter-kept (is_living old.txns) (is_living old.txns) l.exports (λ x i e. e) ∙ (r h l k).exports;
@@ -91,4 +146,4 @@ module _ {A : Type 0} where
       where
         lower : lowest l ≤ lowest m
         lower = least_from (λ u. is_owed u.standing) m.base.commits m.txns (lowest l) (let p = least_most (λ (u : Txn A). is_owed u.standing) l.base.commits l.txns in omega (arith, p, t.commits))
-            (λ u i o. least_of (λ x. is_owed x.standing) l.base.commits l.txns u (In-filter (is_needed n l.txns) u l.txns (subst (In u) t.txns i)).0 o)
+            (λ u i o. least_of (λ x. is_owed x.standing) l.base.commits l.txns u (In-filter (is_left t.passed n l.txns) u l.txns (subst (In u) t.txns i)).0 o)

@@ -1,17 +1,12 @@
-use Rattle.std.proofs.Common.{◌∙◌, sym, ap, Some, arith}
-use Rattle.std.specs.Option.{option_map}
+use Rattle.std.proofs.Common.{◌∙◌, sym}
 use Rattle.value.specs.Isolation.{is_first}
-use Rattle.plain.proofs.WalkLemmas.{find-here, find-next}
+use Rattle.plain.proofs.StretchLemmas.{back-first, front-first}
 use Rattle.plain.proofs.dooms.first_before.Goals as goal
 
-pub returns-then-is_first : goal.returns-then-is_first
-returns-then-is_first g c =
-    let node = g.T.Party.node in
-    let test = is_first node g.T.Party.reads c.args.committer.now c.args.causes.now c.args.pivot.now in
-    ap Some c.facts.ensures
-    ∙ ap (option_map node) (sym (find-here test c.args.transactions.now c.loop-first.first-index c.first-item.result (omega arith) c.first-item.is c.loop-first.invariant (sym c.is_first.ensures ∙ c.if-is_first.true)))
+pub returns-then-is_some : goal.returns-then-is_some
+returns-then-is_some g c =
+    front-first g.T.Party.node (is_first g.T.Party.node g.T.Party.reads c.args.committer.now c.args.causes.now c.args.pivot.now) c.args.front.now c.args.back.now c.first_among-first.result c.first_among-first.ensures (sym c.is_some.ensures ∙ c.if-is_some.true)
 
-pub loop-first-preserved : goal.loop-first-preserved
-loop-first-preserved g c =
-    let test = is_first g.T.Party.node g.T.Party.reads c.args.committer.now c.args.causes.now c.args.pivot.now in
-    find-next test c.args.transactions.now c.loop-first.first-index c.first-item.result (omega arith) c.first-item.is c.loop-first.invariant (sym c.is_first.ensures ∙ c.if-is_first.false)
+pub returns : goal.returns
+returns g c =
+    back-first g.T.Party.node (is_first g.T.Party.node g.T.Party.reads c.args.committer.now c.args.causes.now c.args.pivot.now) c.args.front.now c.args.back.now c.first_among-first.result c.first_among.result c.first_among-first.ensures (sym c.is_some.ensures ∙ c.if-is_some.false) c.first_among.ensures

@@ -1,18 +1,29 @@
-use Rattle.std.proofs.Common.{◌==◌, ◌&&◌, ◌∙◌, sym, ap, Some, arith}
-use Rattle.std.specs.List.{filter}
-use Rattle.std.specs.Option.{option_map}
+use Rattle.std.proofs.Common.{◌≡◌, ◌==◌, ◌&&◌, ◌∙◌, ap, sym, Bool, Some, None}
+use Rattle.std.specs.List.{filter, find}
+use Rattle.std.specs.Option.{option_copied, option_map}
 use Rattle.value.specs.Isolation.{serial_key}
 use Rattle.history.specs.Transactions.{Txn, edge, is_done, node}
-use Rattle.plain.proofs.WalkLemmas.{find-here, find-next}
+use Rattle.plain.proofs.StretchLemmas.{find-around, first-back, first-front, found-nowhere, past-commit}
 use Rattle.plain.proofs.keys.find_commit.Goals as goal
 
-pub returns-then-is_commit_at : goal.returns-then-is_commit_at
-returns-then-is_commit_at g c =
+pub returns-in-Some : goal.returns-in-Some
+returns-in-Some g c =
     let ts = c.args.transactions.now in
     ap Some c.with_key.ensures
-    ∙ sym (ap (option_map (λ (t : Txn _). (t.number, serial_key node edge (filter (λ u. is_done u.standing) ts) t)))
-    (find-here (λ t. is_done t.standing && t.end == c.args.place) ts c.loop-transaction.transaction-index c.transaction-item.result (omega arith) c.transaction-item.is c.loop-transaction.invariant (sym c.is_commit_at.ensures ∙ c.if-is_commit_at.true)))
+    ∙ ap (option_map (λ (t : Txn _). (t.number, serial_key node edge (filter (λ u. is_done u.standing) ts) t)))
+    (first-front (λ t. is_done t.standing && t.end == c.args.place) 18446744073709551615 c.args.place ts c.around.result.0.now c.around.result.1.now c.in-Some.found.now c.around.ensures (ap option_copied (sym c.in-Some.is) ∙ c.find_among.ensures))
 
-pub loop-transaction-preserved : goal.loop-transaction-preserved
-loop-transaction-preserved g c =
-    find-next (λ t. is_done t.standing && t.end == c.args.place) c.args.transactions.now c.loop-transaction.transaction-index c.transaction-item.result (omega arith) c.transaction-item.is c.loop-transaction.invariant (sym c.is_commit_at.ensures ∙ c.if-is_commit_at.false)
+pub returns-in-Some-find_among : goal.returns-in-Some-find_among
+returns-in-Some-find_among g c =
+    let ts = c.args.transactions.now in
+    ap Some c.with_key-in-Some-find_among.ensures
+    ∙ ap (option_map (λ (t : Txn _). (t.number, serial_key node edge (filter (λ u. is_done u.standing) ts) t)))
+    (first-back (λ t. is_done t.standing && t.end == c.args.place) 18446744073709551615 c.args.place (past-commit 18446744073709551615 c.args.place) ts c.around.result.0.now c.around.result.1.now c.in-Some-find_among.found.now c.around.ensures
+    (ap option_copied (sym c.in_default.is) ∙ c.find_among.ensures) (ap option_copied (sym c.in-Some-find_among.is) ∙ c.find_among-2.ensures))
+
+pub returns-in-None : goal.returns-in-None
+returns-in-None g c =
+    let ts = c.args.transactions.now in
+    ap (option_map (λ (t : Txn _). (t.number, serial_key node edge (filter (λ u. is_done u.standing) ts) t)))
+    (sym (found-nowhere (λ t. is_done t.standing && t.end == c.args.place) 18446744073709551615 c.args.place (past-commit 18446744073709551615 c.args.place) ts c.around.result.0.now c.around.result.1.now c.around.ensures
+    (sym (ap option_copied (sym c.in_default.is) ∙ c.find_among.ensures)) (sym (ap option_copied (sym c.in-None.is) ∙ c.find_among-2.ensures))))

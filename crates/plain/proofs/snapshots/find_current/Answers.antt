@@ -1,14 +1,15 @@
-use Rattle.std.proofs.Common.{◌∙◌, sym, ap, Some, arith}
-use Rattle.std.proofs.lemmas.Option.{slice_get-get_or}
 use Rattle.history.specs.Transactions.{is_of}
-use Rattle.plain.proofs.WalkLemmas.{find-here, find-next}
+use Rattle.plain.proofs.StretchLemmas.{found-back, found-front, found-nowhere, past-of}
 use Rattle.plain.proofs.snapshots.find_current.Goals as goal
 
-pub returns-then-is_of-clause-some : goal.returns-then-is_of-clause-some
-returns-then-is_of-clause-some g c =
-    find-here (is_of c.args.session) c.args.transactions.now c.loop-place.place c.index-transactions-place.result (omega arith) c.index-transactions-place.is c.loop-place.invariant (sym c.is_of.ensures ∙ c.if-is_of.true)
-    ∙ ap Some c.index-transactions-place.is ∙ sym (slice_get-get_or c.args.transactions.now c.loop-place.place c.index-transactions-place.result (omega arith))
+pub returns-in-Some-clause-some : goal.returns-in-Some-clause-some
+returns-in-Some-clause-some g c =
+    found-front (is_of c.args.session) 18446744073709551615 18446744073709551615 c.args.transactions.now c.around.result.0.now c.around.result.1.now c.in-Some.at c.around.ensures c.in-Some.ensures.within c.in-Some.ensures.some
 
-pub loop-place-preserved : goal.loop-place-preserved
-loop-place-preserved g c =
-    find-next (is_of c.args.session) c.args.transactions.now c.loop-place.place c.index-transactions-place.result (omega arith) c.index-transactions-place.is c.loop-place.invariant (sym c.is_of.ensures ∙ c.if-is_of.false)
+pub returns-in-Some-find_among-clause-some : goal.returns-in-Some-find_among-clause-some
+returns-in-Some-find_among-clause-some g c =
+    found-back (is_of c.args.session) 18446744073709551615 18446744073709551615 (past-of c.args.session _ _) c.args.transactions.now c.around.result.0.now c.around.result.1.now c.in-Some-find_among.at c.around.ensures c.in_default.ensures.none c.in-Some-find_among.ensures.some
+
+pub returns-in-None-clause-none : goal.returns-in-None-clause-none
+returns-in-None-clause-none g c =
+    found-nowhere (is_of c.args.session) 18446744073709551615 18446744073709551615 (past-of c.args.session _ _) c.args.transactions.now c.around.result.0.now c.around.result.1.now c.around.ensures c.in_default.ensures.none c.in-None.ensures.none

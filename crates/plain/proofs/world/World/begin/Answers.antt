@@ -2,10 +2,14 @@ use Rattle.std.proofs.Common.{arith, ap}
 use Rattle.history.specs.Transactions.{Txn}
 use Rattle.plain.specs.Ledger.{Ledger}
 use Rattle.plain.proofs.LedgerLemmas.{counted-begun}
+use Rattle.plain.proofs.StretchLemmas.{held-append}
 use Rattle.plain.proofs.world.World.begin.Goals as goal
 
 pub invariant_of-self-2 : goal.invariant_of-self-2
 invariant_of-self-2 g c =
     let same_place = ap (λ (l : Ledger _). l.place) c.self.view_is in
     let number = ap (λ (t : Txn _). t.number) c.begun.ensures in
-    rw (c.push_reserved.ensures.items, c.in_ok-reserve.ensures.items) (counted-begun _ c.begun.result c.self.invariant (omega (arith, number, c.len.ensures)) (omega (arith, same_place, c.requires)))
+    rw (c.push_reserved.ensures.items, c.in_ok-reserve.ensures.items) (
+      counted-begun _ c.begun.result c.self.invariant.0 (omega (arith, number, c.len.ensures)) (omega (arith, same_place, c.requires)),
+      held-append c.self.inside.past c.self.inside.transactions.items _ c.self.invariant.1,
+    )

@@ -12,14 +12,14 @@ returns-in_ok-commit_writer-clause-ok g c = λ d X.
     let now : Ledger _ = c.args.self.now in
     let found : txn_at now.txns c.args.at ≡ c.index.result.now = txn_at-is now.txns c.args.at c.index.result.now c.requires.within (c.index.ensures ∙ ap (λ (l : Ledger _). get_or l.txns c.args.at c.index.result.now) c.self.view_is) in
     let writes : is_read_write (txn_at now.txns c.args.at).mode ≡ true = ap (λ (t : Txn _). is_read_write t.mode) found ∙ sym c.is_writer.ensures ∙ c.if-is_writer.true in
-    c.in_ok-commit_writer.ensures.ok ∙ after-written now d X c.args.at c.args.committed (subst IsCounted c.self.view_is c.self.invariant) c.requires.within c.requires.open writes (c.requires.course d X)
+    c.in_ok-commit_writer.ensures.ok ∙ after-written now d X c.args.at c.args.committed (subst IsCounted c.self.view_is c.self.invariant.0) c.requires.within c.requires.open writes (c.requires.course d X)
 
 pub returns-else-is_writer-clause-ok : goal.returns-else-is_writer-clause-ok
 returns-else-is_writer-clause-ok g c = λ d X.
     let now : Ledger _ = c.args.self.now in
     let found : txn_at now.txns c.args.at ≡ c.index.result.now = txn_at-is now.txns c.args.at c.index.result.now c.requires.within (c.index.ensures ∙ ap (λ (l : Ledger _). get_or l.txns c.args.at c.index.result.now) c.self.view_is) in
     let reads : is_read_write (txn_at now.txns c.args.at).mode ≡ false = ap (λ (t : Txn _). is_read_write t.mode) found ∙ sym c.is_writer.ensures ∙ c.if-is_writer.false in
-    c.turn.ensures ∙ after-read now d X c.args.at c.args.committed (subst IsCounted c.self.view_is c.self.invariant) c.requires.within c.requires.open reads (c.requires.course d X)
+    c.turn.ensures ∙ after-read now d X c.args.at c.args.committed (subst IsCounted c.self.view_is c.self.invariant.0) c.requires.within c.requires.open reads (c.requires.course d X)
 
 pub returns-in_ok-commit_writer-clause-rows : goal.returns-in_ok-commit_writer-clause-rows
 returns-in_ok-commit_writer-clause-rows g c =

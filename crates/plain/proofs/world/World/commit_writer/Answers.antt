@@ -13,9 +13,8 @@ returns-clause-ok g c =
     let inside = c.self.inside in
     let same = c.self.view_is ∙ c.lowest_after-oldest.ensures.same in
     let txns = ap (λ (l : Ledger _). l.txns) same in
-    let found : txn_at now.txns c.args.at ≡ c.index-committer.result.now = txn_at-is now.txns c.args.at c.index-committer.result.now c.requires.within (c.index-committer.ensures ∙ ap (λ ts. get_or ts c.args.at c.index-committer.result.now) txns) in
-    let doomed : c.as_slice-2.result.now ≡ dooms node reads_from now.txns (txn_at now.txns c.args.at) = c.as_slice-2.ensures.value ∙ c.in_ok-causes.ensures.ok ∙ ap (λ ts. dooms node reads_from ts c.index-committer.result.now) (c.as_slice.ensures.value ∙ txns) ∙ ap (dooms node reads_from now.txns) (sym found) in
+    let doomed : c.as_slice.result.now ≡ dooms node reads_from now.txns (txn_at now.txns c.args.at) = c.as_slice.ensures.value ∙ c.in_ok-causes.ensures.ok ∙ ap (λ (l : Ledger _). dooms node reads_from l.txns (txn_at l.txns c.args.at)) c.lowest_after-oldest.ensures.same in
     let stays = ap (λ ts. record { base = inside.base; txns = ts; exports = inside.exports.items; place = inside.place }) c.install_at.ensures.same ∙ same in
     c.turn_committer.ensures
-    ∙ ap (λ (l : Ledger _). record l { base = record l.base { commits = l.base.commits + 1 }; txns = map (doomed_by (l.place + 1) c.as_slice-2.result.now) (turned_at c.args.at (on_course c.args.committed) l.txns); place = l.place + 1 }) stays
+    ∙ ap (λ (l : Ledger _). record l { base = record l.base { commits = l.base.commits + 1 }; txns = map (doomed_by (l.place + 1) c.as_slice.result.now) (turned_at c.args.at (on_course c.args.committed) l.txns); place = l.place + 1 }) stays
     ∙ ap (λ cs. record now { base = record now.base { commits = now.base.commits + 1 }; txns = map (doomed_by (now.place + 1) cs) (turned_at c.args.at (on_course c.args.committed) now.txns); place = now.place + 1 }) doomed

@@ -1,10 +1,12 @@
 use Rattle.std.proofs.Common.{ap, refl, sym, subst, ◌∙◌, ◌≤◌, ◌+◌, ◌-◌, length, arith}
 use Rattle.std.specs.List.{filter}
 use Rattle.history.specs.Transactions.{is_living}
-use Rattle.history.specs.Needed.{is_needed}
-use Rattle.plain.specs.Forgetting.{IsThinned, oldest}
+use Rattle.plain.specs.Forgetting.{IsThinned, is_left, oldest}
 use Rattle.plain.specs.Ledger.{Ledger}
-use Rattle.plain.proofs.ForgettingLemmas.{counted-thinned, filter-shorter}
+use Rattle.plain.specs.Stretches.{HoldsStretch}
+use Rattle.plain.proofs.ForgettingLemmas.{counted-thinned, filter-shorter, left_whole}
+use Rattle.plain.proofs.LedgerLemmas.{numbered-more}
+use Rattle.plain.proofs.StretchLemmas.{held-rest}
 use Rattle.plain.proofs.world.World.forget.Goals as goal
 
 pub overflow_sub-self : goal.overflow_sub-self
@@ -23,8 +25,9 @@ invariant_of-self g c =
     let xs = c.self.inside.exports.items in
     let fewer : length c.keep_needed.new.transactions.items ≤ length ts = rw c.keep_needed.ensures (filter-shorter _ ts) in
     let less : length c.keep_living.new.exports.items ≤ length xs = rw c.keep_living.ensures (filter-shorter _ xs) in
-    counted-thinned (record { base = c.self.inside.base; txns = ts; exports = xs; place = c.self.inside.place }) _ (is_needed c.oldest-oldest.result ts) c.self.invariant c.keep_needed.ensures
-    (omega (arith, fewer, c.len.ensures, c.len-3.ensures)) refl (omega (arith, less, c.len-2.ensures, c.len-4.ensures)) refl
+    (counted-thinned (record { base = c.self.inside.base; txns = ts; exports = xs; place = c.self.inside.place }) _ (is_left c.looked_at-past.result.to c.oldest-oldest.result ts) c.self.invariant.0 c.keep_needed.ensures
+    (omega (arith, fewer, c.len.ensures, c.len-3.ensures)) refl (omega (arith, less, c.len-2.ensures, c.len-4.ensures)) refl,
+    subst (HoldsStretch c.grown-self-inside.result) c.as_slice-2.ensures.value c.grown-self-inside.ensures)
 
 pub returns : goal.returns
 returns g c =
@@ -40,7 +43,8 @@ returns g c =
       place = c.self.inside.place;
     } in
     subst (λ (l : Ledger _). IsThinned l thinned) c.self.view_is (record {
-      txns = c.keep_needed.ensures ∙ ap (λ n. filter (is_needed n ts) ts) (c.oldest-oldest.ensures ∙ ap oldest (sym c.self.view_is));
+      passed = c.looked_at-past.result.to;
+      txns = c.keep_needed.ensures ∙ ap (λ n. filter (is_left c.looked_at-past.result.to n ts) ts) (c.oldest-oldest.ensures ∙ ap oldest (sym c.self.view_is));
       exports = c.keep_living.ensures ∙ ap (λ us. filter (is_living us) xs) c.as_slice.ensures.value;
       transactions = omega (arith, fewer, c.len.ensures, c.len-3.ensures);
       commits = refl;
@@ -48,3 +52,17 @@ returns g c =
       events = refl;
       place = refl;
     })
+
+pub keep_needed-requires-clause-numbered : goal.keep_needed-requires-clause-numbered
+keep_needed-requires-clause-numbered g c =
+    let h = c.self.invariant.0 in
+    numbered-more 0 (c.self.inside.base.transactions + length c.self.inside.transactions.items) 18446744073709551616 c.self.inside.transactions.items (omega (arith, h.transactions, h.fits)) h.numbered
+
+pub grown-self-inside-requires : goal.grown-self-inside-requires
+grown-self-inside-requires g c =
+    let ts = c.self.inside.transactions.items in
+    let past = c.looked_at-past.result in
+    let held : HoldsStretch past ts = subst (λ (l : Ledger _). HoldsStretch past l.txns) (sym c.self.view_is) c.looked_at-past.ensures in
+    subst (HoldsStretch past)
+    (sym (c.as_slice-2.ensures.value ∙ c.keep_needed.ensures ∙ left_whole _ past.to c.oldest-oldest.result ts c.self.invariant.0.numbered held.within))
+    (held-rest past ts _ held)

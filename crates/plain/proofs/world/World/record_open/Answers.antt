@@ -46,4 +46,4 @@ returns-in_ok-add-in-Done-clause-world g c = λ X.
     let h = subst (λ (t : Txn _). IsRan (world_on c.args.catalog.now X now) (with_own (versions_at c.args.rows.now) t) c.args.statement.now (Rattle.plain.specs.declared.run.Ran.TheVariants.Done c.in-Done.reply c.in-Done.recorded c.in-Done.added)) (sym found) at_done in
     c.in_ok-add-in-Done.ensures.ok
     ∙ after-added now c.args.catalog.now X (versions_at c.args.rows.now) c.args.statement.now c.args.at c.in-Done.reply c.in-Done.added.reads.items c.in-Done.added.changes.items c.in-Done.added.marks.items
-    (subst IsCounted c.self.view_is c.self.invariant) c.requires.within c.requires.open h.2 h.3.reads h.3.changes h.3.marks
+    (subst IsCounted c.self.view_is c.self.invariant.0) c.requires.within c.requires.open h.2 h.3.reads h.3.changes h.3.marks

@@ -11,5 +11,5 @@ pub returns-clause-world : goal.returns-clause-world
 returns-clause-world g c = λ d X tables q.
     let now : Ledger _ = c.args.self.now in
     let found : txn_at now.txns c.args.at ≡ c.index.result.now = txn_at-is now.txns c.args.at c.index.result.now c.requires.within (c.index.ensures ∙ ap (λ (l : Ledger _). get_or l.txns c.args.at c.index.result.now) c.self.view_is) in
-    c.turn.ensures ∙ after-run_refused now d X tables q c.args.at c.refused_course-course.result c.args.refusal (subst IsCounted c.self.view_is c.self.invariant) c.requires.within c.requires.open
+    c.turn.ensures ∙ after-run_refused now d X tables q c.args.at c.refused_course-course.result c.args.refusal (subst IsCounted c.self.view_is c.self.invariant.0) c.requires.within c.requires.open
     (subst (λ (t : Txn _). on_course c.refused_course-course.result t ≡ kept (fails (world_on d X now) c.args.refusal t)) (sym found) c.refused_course-course.ensures)

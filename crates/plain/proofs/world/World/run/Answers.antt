@@ -35,4 +35,4 @@ returns-in_ok-add-in-Done-clause-world g c = λ X.
     c.in_ok-add-in-Done.ensures.ok
     ∙ ap (λ (l : Ledger _). record l { txns = turned_at c.args.at (adds c.in-Done.added.reads.items c.in-Done.added.changes.items c.in-Done.added.marks.items) l.txns; place = l.place + 1 }) c.ran.ensures.same
     ∙ after-added now c.args.catalog.now X (versions_at c.args.rows.now) c.args.statement.now c.args.at c.in-Done.reply c.in-Done.added.reads.items c.in-Done.added.changes.items c.in-Done.added.marks.items
-    (subst IsCounted c.self.view_is c.self.invariant) c.requires.within c.requires.open h.2 h.3.reads h.3.changes h.3.marks
+    (subst IsCounted c.self.view_is c.self.invariant.0) c.requires.within c.requires.open h.2 h.3.reads h.3.changes h.3.marks

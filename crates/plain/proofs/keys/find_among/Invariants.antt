@@ -1,7 +1,7 @@
 use Rattle.std.proofs.Common.{◌≡◌, ◌==◌, ◌&&◌, None, take}
 use Rattle.std.specs.List.{find}
 use Rattle.history.specs.Transactions.{is_done}
-use Rattle.plain.proofs.keys.find_commit.Given as goal
+use Rattle.plain.proofs.keys.find_among.Given as goal
 
 -- none so far committed there
 abbrev pub invariant-loop-transaction : goal.invariant-loop-transaction

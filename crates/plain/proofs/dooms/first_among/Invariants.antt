@@ -1,7 +1,7 @@
 use Rattle.std.proofs.Common.{◌≡◌, None, take}
 use Rattle.std.specs.List.{find}
 use Rattle.value.specs.Isolation.{is_first}
-use Rattle.plain.proofs.dooms.first_before.Given as goal
+use Rattle.plain.proofs.dooms.first_among.Given as goal
 
 -- none so far may stand first
 abbrev pub invariant-loop-first : goal.invariant-loop-first

@@ -1,7 +1,7 @@
 use Rattle.std.proofs.Common.{◌≡◌, None, take}
 use Rattle.std.specs.List.{filter}
 use Rattle.value.specs.Isolation.{caused, earliest, edge_of, first_some, is_dangerous}
-use Rattle.plain.proofs.isolation.cause_with.Given as goal
+use Rattle.plain.proofs.isolation.cause_at.Given as goal
 
 -- none so far is the first of a structure
 abbrev pub invariant-loop-first : goal.invariant-loop-first

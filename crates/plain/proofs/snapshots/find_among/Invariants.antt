@@ -1,7 +1,7 @@
 use Rattle.std.proofs.Common.{◌≡◌, None, take}
 use Rattle.std.specs.List.{find}
 use Rattle.history.specs.Transactions.{is_of}
-use Rattle.plain.proofs.snapshots.find_current.Given as goal
+use Rattle.plain.proofs.snapshots.find_among.Given as goal
 
 -- none so far is the session's
 abbrev pub invariant-loop-place : goal.invariant-loop-place
