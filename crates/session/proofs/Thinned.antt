@@ -30,11 +30,11 @@ same_test false false f g = refl
 -- those that pass one test, and of these those that pass another
 filter-both : {X : Type 0} (p q : X → Bool) (xs : List X) → filter q (filter p xs) ≡ filter (λ x. p x && q x) xs
 filter-both p q [] = refl
-filter-both {X} p q (x ∷ xs) = go (p x)
+filter-both {X} p q (x ∷ xs) = go (p x) (filter-both p q xs)
   where
-    go : (b : Bool) → filter q (cond b (x ∷ filter p xs) (filter p xs)) ≡ cond (b && q x) (x ∷ filter (λ y. p y && q y) xs) (filter (λ y. p y && q y) xs)
-    go true = ap (λ ys. cond (q x) (x ∷ ys) ys) (filter-both p q xs)
-    go false = filter-both p q xs
+    go : (b : Bool) → filter q (filter p xs) ≡ filter (λ y. p y && q y) xs → filter q (cond b (x ∷ filter p xs) (filter p xs)) ≡ cond (b && q x) (x ∷ filter (λ y. p y && q y) xs) (filter (λ y. p y && q y) xs)
+    go true e = ap (λ ys. cond (q x) (x ∷ ys) ys) e
+    go false e = e
 
 module _ {A : Type 0} where
   -- what matters of transactions doesn't depend on what is left out of them
