@@ -99,7 +99,7 @@ module _ {A : Type 0} where
     met : (u : Txn A) → list_any (λ v. is_recent n v && edge v u) ts ≡ list_any (λ v. is_recent n v && edge v u) old.txns
     met u = any-kept (λ v. is_recent n v && edge v u) (λ v. (r h l k).keep v.number) old.txns
         (λ v j e. by_all (λ x. is_needed n old.txns x ≡ true → (r h l k).keep x.number ≡ true) old.txns v still.needed j
-            (or_left _ _ (or_left _ _ (or_right (is_owed v.standing) _ (both_true (is_recent n v) (edge v u) e).0))))
+        (or_left _ _ (or_left _ _ (or_right (is_owed v.standing) _ (both_true (is_recent n v) (edge v u) e).0))))
 
     alike : (u : Txn A) → In u ts → is_left t.passed n (map kept ts) (kept u) ≡ left u.number
     alike u i =

@@ -20,7 +20,7 @@ loop-transaction-preserved g c =
     let to : c.with-stretch.result.to ≡ s.to + 1 = ap (λ (x : Stretch). x.to) c.with-stretch.ensures in (
       omega (arith, to, inv.0),
       subst (λ x. HoldsStretch x ts) (sym c.with-stretch.ensures)
-      (subst (λ n. HoldsStretch (record { from = s.from; to = s.to + 1; newest = max s.newest n; until = max s.until c.args.place }) ts) (sym commit)
-      (held-more s ts c.least_snapshot-snapshot.result c.args.place u inv.1 within there past)),
+          (subst (λ n. HoldsStretch (record { from = s.from; to = s.to + 1; newest = max s.newest n; until = max s.until c.args.place }) ts) (sym commit)
+          (held-more s ts c.least_snapshot-snapshot.result c.args.place u inv.1 within there past)),
       inv.2,
     )

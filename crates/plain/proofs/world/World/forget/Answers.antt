@@ -24,10 +24,11 @@ invariant_of-self g c =
     let ts = c.self.inside.transactions.items in
     let xs = c.self.inside.exports.items in
     let fewer : length c.keep_needed.new.transactions.items ≤ length ts = rw c.keep_needed.ensures (filter-shorter _ ts) in
-    let less : length c.keep_living.new.exports.items ≤ length xs = rw c.keep_living.ensures (filter-shorter _ xs) in
-    (counted-thinned (record { base = c.self.inside.base; txns = ts; exports = xs; place = c.self.inside.place }) _ (is_left c.looked_at-past.result.to c.oldest-oldest.result ts) c.self.invariant.0 c.keep_needed.ensures
-    (omega (arith, fewer, c.len.ensures, c.len-3.ensures)) refl (omega (arith, less, c.len-2.ensures, c.len-4.ensures)) refl,
-    subst (HoldsStretch c.grown-self-inside.result) c.as_slice-2.ensures.value c.grown-self-inside.ensures)
+    let less : length c.keep_living.new.exports.items ≤ length xs = rw c.keep_living.ensures (filter-shorter _ xs) in (
+      counted-thinned (record { base = c.self.inside.base; txns = ts; exports = xs; place = c.self.inside.place }) _ (is_left c.looked_at-past.result.to c.oldest-oldest.result ts) c.self.invariant.0 c.keep_needed.ensures
+          (omega (arith, fewer, c.len.ensures, c.len-3.ensures)) refl (omega (arith, less, c.len-2.ensures, c.len-4.ensures)) refl,
+      subst (HoldsStretch c.grown-self-inside.result) c.as_slice-2.ensures.value c.grown-self-inside.ensures,
+    )
 
 pub returns : goal.returns
 returns g c =
