@@ -9,7 +9,7 @@ use Rattle.std.proofs.lemmas.List.Folds.{find-append, list_any-append}
 use Rattle.std.proofs.lemmas.List.Sums.{fold-append}
 use Rattle.value.specs.declared.refusal.Cause.{Cause}
 use Rattle.history.specs.Events.{doomed_by, doomed_with}
-use Rattle.value.specs.Isolation.{doom_of, dooms, edge_of, first_part, is_doomed, is_first, is_live, with_doom}
+use Rattle.value.specs.Isolation.{doom_of, dooms, first_part, is_doomed, is_first, is_live, with_doom}
 use Rattle.history.specs.Transactions.{Standing, Open, Doomed, Failed, Aborted, Done, Txn, edge, is_done, is_of, is_open, is_owed, node, reads_from}
 use Rattle.history.specs.Answer.{is_taken}
 use Rattle.plain.specs.declared.stretch.Stretch.{Stretch}
@@ -22,19 +22,11 @@ and_false : (a : Bool) → (a && false) ≡ false
 and_false true = refl
 and_false false = refl
 
-or_false : (a : Bool) → (a || false) ≡ a
-or_false true = refl
-or_false false = refl
-
 mixed : (a b c d : Bool) → ((a || b) || (c || d)) ≡ ((a || c) || (b || d))
 mixed true b c d = refl
 mixed false true true d = refl
 mixed false true false d = refl
 mixed false false c d = refl
-
-none_or : {X : Type 0} (o : Option X) → option_or o None ≡ o
-none_or None = refl
-none_or (Some x) = refl
 
 not_less : (a b : ℕ) → b ≤ a → nat_lt a b ≡ false
 not_less a b h = grind (arith, nat_tests)

@@ -1,7 +1,6 @@
-use Rattle.std.proofs.Common.{ap, subst, sym, ◌∙◌, ◌≡◌, ◌||◌}
+use Rattle.std.proofs.Common.{ap, subst, sym, ◌∙◌, ◌||◌}
 use Rattle.std.specs.List.{list_any}
 use Rattle.history.specs.Transactions.{Txn, edge}
-use Rattle.plain.specs.Ledger.{txn_at}
 use Rattle.plain.specs.Stretches.{IsAround}
 use Rattle.plain.proofs.LedgerLemmas.{txn_at-is}
 use Rattle.plain.proofs.StretchLemmas.{any-around, past-edge}

@@ -1,8 +1,7 @@
 use Rattle.std.proofs.Common.{ap, sym, subst, rules, ◌∙◌, ◌+◌, ◌≡◌, ◌<◌, ◌≤◌, ◌++◌, length, take, drop, arith, List}
-use Rattle.std.proofs.lemmas.List.{get_or-drop, get_or_default}
+use Rattle.std.proofs.lemmas.List.{get_or_default}
 use Rattle.std.proofs.lemmas.List.Filters.{FiltersInPlace-more_here, FiltersInPlace-more_no, FiltersInPlace-more_swap}
 use Rattle.history.specs.Transactions.{Txn}
-use Rattle.history.specs.Needed.{is_needed}
 use Rattle.plain.specs.Forgetting.{is_left, is_needed_among, least_of_recent}
 use Rattle.plain.specs.Ledger.{nothing, txn_at}
 use Rattle.plain.proofs.ForgettingLemmas.{filters-from, left_behind, left_so, needed-told, same_behind}

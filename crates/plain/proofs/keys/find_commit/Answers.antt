@@ -1,9 +1,9 @@
-use Rattle.std.proofs.Common.{◌≡◌, ◌==◌, ◌&&◌, ◌∙◌, ap, sym, Bool, Some, None}
-use Rattle.std.specs.List.{filter, find}
+use Rattle.std.proofs.Common.{◌==◌, ◌&&◌, ◌∙◌, ap, sym, Some}
+use Rattle.std.specs.List.{filter}
 use Rattle.std.specs.Option.{option_copied, option_map}
 use Rattle.value.specs.Isolation.{serial_key}
 use Rattle.history.specs.Transactions.{Txn, edge, is_done, node}
-use Rattle.plain.proofs.StretchLemmas.{find-around, first-back, first-front, found-nowhere, past-commit}
+use Rattle.plain.proofs.StretchLemmas.{first-back, first-front, found-nowhere, past-commit}
 use Rattle.plain.proofs.keys.find_commit.Goals as goal
 
 pub returns-in-Some : goal.returns-in-Some

@@ -1,4 +1,4 @@
-use Rattle.std.proofs.Common.{ap, subst, sym, ◌∙◌, ◌≡◌, ◌||◌}
+use Rattle.std.proofs.Common.{ap, subst, sym, ◌∙◌, ◌||◌}
 use Rattle.std.specs.List.{list_any}
 use Rattle.history.specs.Answer.{is_taken}
 use Rattle.history.specs.Transactions.{Txn}

@@ -1,10 +1,9 @@
-use Rattle.std.proofs.Common.{ap, sym, ◌∙◌, ◌+◌, ◌≡◌, map, get_or}
+use Rattle.std.proofs.Common.{ap, ◌∙◌, ◌+◌, ◌≡◌, map}
 use Rattle.value.specs.Isolation.{dooms}
 use Rattle.history.specs.Transactions.{node, reads_from}
 use Rattle.history.specs.Events.{doomed_by}
 use Rattle.plain.specs.Courses.{on_course}
 use Rattle.plain.specs.Ledger.{Ledger, turned_at, txn_at}
-use Rattle.plain.proofs.LedgerLemmas.{txn_at-is}
 use Rattle.plain.proofs.world.World.commit_writer.Goals as goal
 
 pub returns-clause-ok : goal.returns-clause-ok
