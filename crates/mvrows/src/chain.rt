@@ -109,7 +109,8 @@ impl<A: Allocator> Chain<A> {
         ensures err { IfErr result (λ e. e ≡ out_of_memory) }
     {
         let key = row.key().copy(alloc)?;
-        let mut versions = VecDeque::new(alloc);
+        // Most rows keep one version.
+        let mut versions = VecDeque::with_capacity(alloc, 1)?;
         versions.push_front(Stored {
             number: 0,
             row: Some(row),
