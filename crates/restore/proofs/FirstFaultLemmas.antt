@@ -3,7 +3,7 @@ use Rattle.std.proofs.Common.{◌≡◌, ℕ, zero, suc, ◌+◌, ◌<◌, List,
 use Rattle.std.proofs.lemmas.List.{append-nil}
 use Rattle.value.specs.declared.refusal.Code.{Code}
 use Rattle.restore.specs.declared.error.RestoreFault.{RestoreFault}
-use Rattle.restore.specs.Faults.{fault_of, first_of, first_fault, fault_from, fault_in, IsFirstFault, AreFaultless}
+use Rattle.restore.specs.Faults.{fault_of, first_of, first_fault, fault_from, IsFirstFault, AreFaultless}
 use Rattle.restore.specs.Steps.{fault}
 
 -- neither a line nor a later one

@@ -1,5 +1,5 @@
 -- Where a line stands, and what stands against a row: by the lines before, and by the tables that they have come to.
-use Rattle.std.proofs.Common.{◌≡◌, ℕ, ◌+◌, ◌-◌, ◌<◌, ◌≤◌, ◌==◌, nat_lt, Bool, true, false, not, ◌||◌, if◌then◌else◌, List, [], ◌∷◌, ◌++◌, length, Option, Some, None, is_some, refl, ap, sym, ◌∙◌, arith, length-append}
+use Rattle.std.proofs.Common.{◌≡◌, ℕ, ◌+◌, ◌-◌, ◌<◌, ◌≤◌, ◌==◌, nat_lt, Bool, true, false, not, ◌||◌, if◌then◌else◌, List, [], ◌∷◌, ◌++◌, length, Option, Some, None, is_some, refl, ap, ◌∙◌, arith, length-append}
 use Rattle.std.specs.Prelude.{slice_index_or}
 use Rattle.std.specs.List.{list_any, zip}
 use Rattle.std.specs.Option.{option_map_or}
@@ -12,7 +12,7 @@ use Rattle.schema.specs.Inserting.{are_of_kinds, has_zero_byte, lacks_value, dan
 use Rattle.schema.specs.Plain.{is_null, cells, row_at, is_there}
 use Rattle.schema.specs.declared.row.Row.{Row}
 use Rattle.schema.specs.declared.tables.Tables.{Tables}
-use Rattle.restore.specs.Layout.{catalog_of, parts, lead, Place, Count, Copy, Rows, Nothing, place_in, place_behind}
+use Rattle.restore.specs.Layout.{catalog_of, parts, lead, Count, Copy, Rows, Nothing, place_in, place_behind}
 use Rattle.restore.specs.Faults.{has_key, names_none, row_fault}
 use Rattle.restore.proofs.LayoutLemmas.{at_last}
 

@@ -1,6 +1,5 @@
 -- A dump read line by line is what its lines say.
-use Rattle.std.proofs.Common.{◌≡◌, ℕ, ◌+◌, ◌-◌, ◌==◌, ◌<◌, ◌≤◌, ◌⊎◌, inl, inr, Bool, true, false, List, [], ◌∷◌, ◌++◌, length, take, Option, Some, None, Result, Ok, Err, refl, ap, sym, ◌∙◌, arith, length-append, append_assoc}
-use Rattle.std.specs.List.{range_with_len}
+use Rattle.std.proofs.Common.{◌≡◌, ℕ, ◌+◌, ◌-◌, ◌==◌, ◌<◌, ◌≤◌, ◌⊎◌, inl, inr, Bool, true, false, List, [], ◌∷◌, ◌++◌, length, take, Option, None, Result, Ok, Err, refl, ap, sym, ◌∙◌, arith, length-append, append_assoc}
 use Rattle.std.proofs.Math.Seq.{take-append_seam}
 use Rattle.std.proofs.lemmas.List.{ext_get_or}
 use Rattle.std.proofs.lemmas.List.FromFn.{get_or-map-range_with_len, length-map-range_with_len}
@@ -8,12 +7,10 @@ use Rattle.value.specs.declared.refusal.Code.{Code}
 use Rattle.value.specs.declared.refusal.Code.TheVariants.{BadCopyFileFormat}
 use Rattle.schema.specs.Definition.{Catalog}
 use Rattle.schema.specs.Inserting.{empty_tables}
-use Rattle.schema.specs.Plain.{rows_of}
-use Rattle.schema.specs.declared.row.Row.{Row}
 use Rattle.schema.specs.declared.tables.Tables.{Tables}
 use Rattle.restore.specs.declared.error.RestoreFault.{RestoreFault}
-use Rattle.restore.specs.Faults.{counts, is_nothing, are_whole, end_fault, line_fault, first_of, first_fault}
-use Rattle.restore.specs.Layout.{lines_of, version, kinds_of, catalog_of, lead, row_lines, rows_said, rows_of_table, by_key, tables_of, Place, Count, Copy, Rows, Nothing, place_in, place_behind}
+use Rattle.restore.specs.Faults.{is_nothing, are_whole, end_fault, line_fault, first_of, first_fault}
+use Rattle.restore.specs.Layout.{version, kinds_of, catalog_of, lead, row_lines, rows_said, rows_of_table, by_key, tables_of, Place, Count, Copy, Rows, Nothing, place_behind}
 use Rattle.restore.specs.Progress.{Progress, Start, Created, Before, Within, Behind, Whole, step, whole, after, read_lines, read_in_steps}
 use Rattle.restore.specs.Reading.{said_by, unless_faulty, read_dump}
 use Rattle.restore.specs.Steps.{Stops, fault, no_memory, restore_fault}

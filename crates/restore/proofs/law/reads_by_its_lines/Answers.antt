@@ -1,11 +1,10 @@
-use Rattle.std.proofs.Common.{◌≡◌, Option, Some, None, Result, Ok, Err, [], refl, ap}
+use Rattle.std.proofs.Common.{◌≡◌, Option, Some, None, Ok, Err, [], refl, ap}
 use Rattle.schema.specs.Definition.{Catalog}
 use Rattle.schema.specs.declared.tables.Tables.{Tables}
 use Rattle.restore.specs.declared.error.RestoreFault.{RestoreFault}
 use Rattle.restore.specs.Faults.{first_fault}
 use Rattle.restore.specs.Reading.{lines_of, ended_lines, said_by, unless_faulty}
 use Rattle.restore.proofs.FirstFaultLemmas.{is_first, first_is, none_is, is_none}
-use Rattle.restore.proofs.WholeLemmas.{dump_agrees}
 use Rattle.restore.proofs.law.reads_by_its_lines.Goals as goal
 
 module _ {A : Type 0} where
