@@ -89,12 +89,12 @@ module _ {A : Type 0} where
   values_of_row (Text x ∷ fields) row e = ap cells (done_same {E = Code} (row_of (Text x) fields) row e)
   values_of_row (Bytes b ∷ fields) row e = ap cells (done_same {E = Code} (row_of (Bytes b) fields) row e)
 
-  row_fits : (ks : List Kind) (text : List ℕ) (row : Row A) → row_of_line ks text ≡ Ok row → fit_kinds ks (cells row) ≡ true
+  pub row_fits : (ks : List Kind) (text : List ℕ) (row : Row A) → row_of_line ks text ≡ Ok row → fit_kinds ks (cells row) ≡ true
   row_fits ks text row h =
       let b = bind_ok (line_values {A = A} ks text) (λ values. row_of_values values) row h in
       subst (λ (vs : List (Value A)). fit_kinds ks vs ≡ true) (values_of_row b.0 row b.2) (line_fits ks text b.0 b.1)
 
-  of_their_kinds : (ds : List Column) (vs : List (Value A)) → fit_kinds (map (λ d. d.kind) ds) vs ≡ true → are_of_kinds ds vs ≡ true
+  pub of_their_kinds : (ds : List Column) (vs : List (Value A)) → fit_kinds (map (λ d. d.kind) ds) vs ≡ true → are_of_kinds ds vs ≡ true
   of_their_kinds [] [] h = refl
   of_their_kinds [] (v ∷ vs) h = absurd cc
   of_their_kinds (d ∷ ds) [] h = absurd cc
@@ -102,7 +102,7 @@ module _ {A : Type 0} where
       let p = and_parts (has_kind d.kind v) (fit_kinds (map (λ e. e.kind) ds) vs) h in
       rw (kind_is d.kind v p.0) (of_their_kinds ds vs p.1)
 
-  without_zeros : (ks : List Kind) (vs : List (Value A)) → fit_kinds ks vs ≡ true → list_any has_zero_byte vs ≡ false
+  pub without_zeros : (ks : List Kind) (vs : List (Value A)) → fit_kinds ks vs ≡ true → list_any has_zero_byte vs ≡ false
   without_zeros [] [] h = refl
   without_zeros [] (v ∷ vs) h = absurd cc
   without_zeros (k ∷ ks) [] h = absurd cc

@@ -11,7 +11,8 @@ use Rattle.schema.specs.Inserting.{empty_tables}
 use Rattle.schema.specs.Plain.{is_null, cells, fits_columns, is_sound_table, sound_tables, is_sound}
 use Rattle.dumpplan.specs.Lines.{written, create_line, copy_line, row_line, end_of_rows, rows_line, first_line, last_line, count_lines, table_lines, data_lines, dump_lines, dump_of}
 use Rattle.schema.specs.WellFormed.{is_table_after, are_tables_after, is_catalog}
-use Rattle.restore.specs.Reading.{Start, Created, Before, Whole, lines_of, step, read_lines, read_dump}
+use Rattle.restore.specs.Reading.{Start, Created, Before, Whole, lines_of, step, read_lines}
+use Rattle.restore.specs.Progress.{read_in_steps}
 use Rattle.restore.proofs.CatalogLemmas.{not_true, table_after, IsFound, IsNamed, named_tables}
 use Rattle.restore.proofs.SpellingLemmas.{Lacks, all_lack, cut_at, not_false, create_line_lacks}
 use Rattle.restore.proofs.RowsAgain.{kinds_fit}
@@ -95,7 +96,7 @@ module _ {A : Type 0} where
       (((map row_line rows ++ end_of_rows ∷ count_lines counted (length rows)) ++ data_lines counted ds more) ++ last_line ∷ []) (alike counted (d ∷ ds) d)
       (tables_go counted (d ∷ ds) [] (d ∷ ds) (rows ∷ more) [] (rows ∷ more) refl refl refl sound h)
 
-  pub dump_again : (counted : Bool) (c : Catalog) (X : Tables A) → is_catalog c ≡ true → is_sound c X ≡ true → read_dump (dump_of counted c X) ≡ Ok (c, X)
+  pub dump_again : (counted : Bool) (c : Catalog) (X : Tables A) → is_catalog c ≡ true → is_sound c X ≡ true → read_in_steps (dump_of counted c X) ≡ Ok (c, X)
   dump_again counted c X well sound =
       let p = and_parts (nat_le (length c) 256) (are_tables_after [] c) well in
       let small : length c ≤ 256 = leb-true (length c) 256 p.0 in

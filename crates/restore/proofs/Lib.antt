@@ -1,10 +1,15 @@
+pub mod AnswerLemmas
 pub mod BehindLemmas
 pub mod CatalogLemmas
 pub mod CreateLemmas
 pub mod DumpAgain
+pub mod FirstFaultLemmas
+pub mod KeyLemmas
+pub mod LayoutLemmas
 pub mod LinesAgain
 pub mod LiteralLemmas
 pub mod PieceLemmas
+pub mod PlaceLemmas
 pub mod ReadingLemmas
 pub mod RowLemmas
 pub mod RowLines
@@ -15,3 +20,4 @@ pub mod StepLemmas
 pub mod TablesAgain
 pub mod TakingLemmas
 pub mod TextLemmas
+pub mod WholeLemmas

@@ -60,7 +60,7 @@ module _ {A : Type 0} where
   is_part (Whole c X) = false
   is_part _ = true
 
-  more_lines : (n : ℕ) (p : Progress A) (line : List ℕ) (lines : List (List ℕ)) → (lines ≡ [] → ⊥) → read_lines n p (line ∷ lines) ≡ after n (step p line) (λ more. read_lines (n + 1) more lines)
+  pub more_lines : (n : ℕ) (p : Progress A) (line : List ℕ) (lines : List (List ℕ)) → (lines ≡ [] → ⊥) → read_lines n p (line ∷ lines) ≡ after n (step p line) (λ more. read_lines (n + 1) more lines)
   unfolding read_lines
   more_lines n p line [] some = absurd (some refl)
   more_lines n p [] (next ∷ lines) some = refl

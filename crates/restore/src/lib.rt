@@ -19,7 +19,7 @@ mod workers;
 mod workers_tests;
 
 pub use error::RestoreFault;
-pub use law::reads_what_is_dumped;
+pub use law::{reads_by_its_lines, reads_what_is_dumped};
 pub use reading::restore_one;
 pub use sound::reads_sound_tables;
 pub use workers::restore;

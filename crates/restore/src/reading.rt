@@ -3,6 +3,7 @@ ghost use Rattle.std.specs.Prelude.{◌≡◌, ◌⊎◌, ◌+◌, ◌<◌, Bool
 ghost use Rattle.schema.specs.Plain.{is_sound};
 ghost use Rattle.schema.specs.Inserting.{empty_tables};
 ghost use Rattle.dumpplan.specs.Lines.{copy_line, rows_line};
+ghost use Rattle.restore.specs.Progress.{read_in_steps};
 ghost use Rattle.restore.specs.Reading.{Progress, Start, Created, Before, Within, Behind, Whole, version, ended, lines_of, read_lines, read_dump};
 ghost use Rattle.restore.specs.Lines.{IsWantedLine};
 ghost use Rattle.restore.specs.Steps.{Gives, Reads, no_memory};
@@ -216,7 +217,7 @@ fn read_dump<A: Allocator + Copy>(
     alloc: A,
     dump: &[u8],
 ) -> Result<(Catalog<A>, Tables<A>), ReadError>
-    ensures dump { Reads (λ x. Ok x) result (read_dump dump.now) }
+    ensures dump { Reads (λ x. Ok x) result (read_in_steps dump.now) }
     ensures sound { IfOk result (λ x. is_sound x.0 x.1 ≡ true) }
 {
     let lines = Lines {

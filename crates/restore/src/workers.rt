@@ -4,6 +4,7 @@ ghost use Rattle.std.specs.Str.{bytes_eq};
 ghost use Rattle.schema.specs.Definition.{columns_of};
 ghost use Rattle.schema.specs.Plain.{is_sound};
 ghost use Rattle.dumpplan.specs.Lines.{end_of_rows};
+ghost use Rattle.restore.specs.Progress.{read_in_steps};
 ghost use Rattle.restore.specs.Reading.{Before, Within, ended, kinds_of, lines_of, read_lines, read_dump};
 ghost use Rattle.restore.specs.Rows.{IsPiece, ArePieces};
 ghost use Rattle.restore.specs.Steps.{Reads, no_memory};
@@ -170,7 +171,7 @@ impl<'w, R: Threads + Sync, G: Gate, A: Allocator + Copy + Send + Sync> Workers<
 
     // The catalog and tables of a dump.
     fn read_dump(&mut self, dump: &[u8]) -> Result<(Catalog<A>, Tables<A>), ReadError>
-        ensures dump { Reads (λ x. Ok x) result (read_dump dump.now) }
+        ensures dump { Reads (λ x. Ok x) result (read_in_steps dump.now) }
         ensures sound { IfOk result (λ x. is_sound x.0 x.1 ≡ true) }
     {
         let lines = Lines {

@@ -7,9 +7,8 @@ ghost use Rattle.value.specs.Refusals.{AnswersOrNoMemory, pointing_nowhere};
 ghost use Rattle.schema.specs.Adding.{is_well_named, are_distinct, is_well_made, without_key_mark, defined};
 
 use crate::names::is_name;
-use indexmap::IndexSet;
 use std::alloc::{Allocator, Global};
-use std::hash::{BuildHasherDefault, FoldHasher};
+use std::collections::BTreeSet;
 use std::marker::Model;
 use value::kind::Kind;
 use value::refusal::{Code, Refusal};
@@ -124,11 +123,11 @@ fn are_well_named<A: Allocator>(columns: &[ColumnDef<A>]) -> bool
     columns.iter().all(|column| is_well_named(column))
 }
 
-// Whether no two columns have one name.
+// Whether no two columns have one name. The names are kept in their order: no choice of names makes that slow.
 fn are_distinct<A: Allocator + Copy>(alloc: A, columns: &[ColumnDef<A>]) -> Result<bool, Refusal>
     ensures { AnswersOrNoMemory result (Ok (are_distinct columns.now)) }
 {
-    let mut names = IndexSet::with_hasher(alloc, BuildHasherDefault::<FoldHasher>::new());
+    let mut names = BTreeSet::new(alloc);
     for column in columns {
         if !names.insert(column.name())? {
             return Ok(false);

@@ -1,5 +1,7 @@
+use Rattle.std.proofs.Common.{◌∙◌}
 use Rattle.restore.proofs.SoundReading.{dump_good}
+use Rattle.restore.proofs.WholeLemmas.{dump_agrees}
 use Rattle.restore.proofs.sound.reads_sound_tables.Goals as goal
 
 pub returns : goal.returns
-returns g c = λ dump catalog X e. dump_good dump catalog X e
+returns g c = λ dump catalog X e. dump_good dump catalog X (dump_agrees dump ∙ e)
