@@ -55,8 +55,8 @@ pub fn next_byte(first: u8, more: &[u8]) -> Option<(u8, &[u8])>
     }
 }
 
-// Whether the escapes of a field are right.
-fn has_content(raw: &[u8]) -> bool
+// Whether the escapes of a field are right, one byte after another.
+fn has_right_escapes(raw: &[u8]) -> bool
     ensures { result ≡ is_some (content raw.now) }
 {
     let mut rest = raw;
@@ -67,6 +67,16 @@ fn has_content(raw: &[u8]) -> bool
         }
     }
     true
+}
+
+// Whether the escapes of a field are right. Most fields have none.
+fn has_content(raw: &[u8]) -> bool
+    ensures { result ≡ is_some (content raw.now) }
+{
+    if !raw.contains(&b'\\') {
+        return true;
+    }
+    has_right_escapes(raw)
 }
 
 // Whether a byte ends a line.

@@ -1,7 +1,7 @@
 //! What a field and a row are written as.
 
-ghost use Rattle.std.specs.Prelude.{◌≡◌, [], ◌∷◌, ◌++◌, map, take, codes, slice_index, length, ◌<◌, OnOk, OnErr, IfErr};
-ghost use Rattle.std.specs.List.{flat_map};
+ghost use Rattle.std.specs.Prelude.{◌≡◌, true, [], ◌∷◌, ◌++◌, map, take, codes, slice_index, length, ◌<◌, is_none, OnOk, OnErr, IfErr};
+ghost use Rattle.std.specs.List.{flat_map, list_all};
 ghost use Rattle.value.specs.Printed.{bytea_text};
 ghost use Rattle.value.specs.Refusals.{out_of_memory};
 ghost use Rattle.copytext.specs.Writing.{tab, newline, letter_of, escaped, field_text, row_text};
@@ -42,8 +42,8 @@ fn append_byte<A: Allocator>(byte: u8, out: &mut Vec<u8, A>) -> Result<(), Refus
     Ok(())
 }
 
-// Appends bytes as they are written. A refused growth may leave some of them.
-fn append_escaped<A: Allocator>(bytes: &[u8], out: &mut Vec<u8, A>) -> Result<(), Refusal>
+// Appends bytes as they are written, one after another. A refused growth may leave some of them.
+fn append_each<A: Allocator>(bytes: &[u8], out: &mut Vec<u8, A>) -> Result<(), Refusal>
     ensures ok { OnOk result (out.new.items ≡ out.old.items ++ escaped bytes.now) }
     ensures err { OnErr result (take (length out.old.items) out.new.items ≡ out.old.items) }
     ensures memory { IfErr result (λ e. e ≡ out_of_memory) }
@@ -52,6 +52,37 @@ fn append_escaped<A: Allocator>(bytes: &[u8], out: &mut Vec<u8, A>) -> Result<()
         append_byte(*byte, out)?;
     }
     Ok(())
+}
+
+// Whether each byte is written as itself.
+fn are_plain(bytes: &[u8]) -> bool
+    ensures { result ≡ list_all (λ b. is_none (letter_of b)) bytes.now }
+{
+    bytes.iter().all(|byte| letter_of(*byte).is_none())
+}
+
+// Appends bytes that are written as themselves.
+fn append_plain<A: Allocator>(bytes: &[u8], out: &mut Vec<u8, A>) -> Result<(), Refusal>
+    requires { list_all (λ b. is_none (letter_of b)) bytes.now ≡ true }
+    ensures ok { OnOk result (out.new.items ≡ out.old.items ++ escaped bytes.now) }
+    ensures err { OnErr result (take (length out.old.items) out.new.items ≡ out.old.items) }
+    ensures memory { IfErr result (λ e. e ≡ out_of_memory) }
+{
+    out.extend_from_slice(bytes)?;
+    Ok(())
+}
+
+// Appends bytes as they are written: at once, where each is written as itself. A refused growth may leave some of them.
+fn append_escaped<A: Allocator>(bytes: &[u8], out: &mut Vec<u8, A>) -> Result<(), Refusal>
+    ensures ok { OnOk result (out.new.items ≡ out.old.items ++ escaped bytes.now) }
+    ensures err { OnErr result (take (length out.old.items) out.new.items ≡ out.old.items) }
+    ensures memory { IfErr result (λ e. e ≡ out_of_memory) }
+{
+    if are_plain(bytes) {
+        append_plain(bytes, out)
+    } else {
+        append_each(bytes, out)
+    }
 }
 
 // Appends a bytea as it is written. A refused growth may leave some of it.

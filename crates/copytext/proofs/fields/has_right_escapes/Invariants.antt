@@ -1,7 +1,7 @@
 use Rattle.std.proofs.Common.{◌≡◌, length}
 use Rattle.std.specs.Option.{is_some}
 use Rattle.copytext.specs.Reading.{content}
-use Rattle.copytext.proofs.fields.has_content.Given as goal
+use Rattle.copytext.proofs.fields.has_right_escapes.Given as goal
 
 -- the rest has a content where the whole has
 abbrev pub invariant-loop-rest : goal.invariant-loop-rest

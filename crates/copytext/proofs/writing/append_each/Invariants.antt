@@ -1,6 +1,6 @@
 use Rattle.std.proofs.Common.{◌≡◌, ◌++◌, take}
 use Rattle.copytext.specs.Writing.{escaped}
-use Rattle.copytext.proofs.writing.append_escaped.Given as goal
+use Rattle.copytext.proofs.writing.append_each.Given as goal
 
 -- the bytes so far
 abbrev pub invariant-loop-byte : goal.invariant-loop-byte
