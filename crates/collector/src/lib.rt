@@ -5,8 +5,6 @@ mod answers;
 mod device;
 mod gather;
 mod sequence;
-#[cfg(test)]
-mod tests;
 
 pub use answers::{Finish, OfferFault};
 pub use device::{Device, DeviceError, write_all};

@@ -9,5 +9,3 @@ mod edges;
 pub mod laws;
 mod parties;
 mod party;
-#[cfg(test)]
-mod tests;

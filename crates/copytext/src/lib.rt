@@ -5,8 +5,6 @@ mod escape;
 mod fields;
 mod law;
 mod reading;
-#[cfg(test)]
-mod tests;
 mod writing;
 
 pub use law::reads_what_is_written;

@@ -3,15 +3,11 @@
 
 mod create;
 mod cutting;
-#[cfg(test)]
-mod example;
 mod gate;
 mod jobs;
 pub mod lines;
 mod piece;
 mod range;
-#[cfg(test)]
-mod tests;
 pub mod text;
 
 pub use cutting::plan;

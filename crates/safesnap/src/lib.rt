@@ -1,6 +1,4 @@
 //! What a deferrable transaction waits for: whether its snapshot is safe.
 #![tactic(auto)]
 
-#[cfg(test)]
-mod tests;
 pub mod waiting;

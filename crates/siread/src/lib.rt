@@ -8,5 +8,3 @@ mod held;
 pub mod laws;
 pub mod locks;
 mod tally;
-#[cfg(test)]
-mod tests;

@@ -1,21 +1,12 @@
-//! Tests of the tracker, with and without forgetting after each step.
-
-use crate::conflicts::Conflicts;
-use std::alloc::Allocator;
-use std::test::Fail;
+//! The tracker of conflicts, with and without forgetting after each step.
+use crate::words::{cut, not_a_case, number, txn};
+use conflict::conflicts::Conflicts;
+use std::alloc::{Allocator, Global};
 use value::refusal::{Cause, Mode, Refusal, TxnNo};
 
-fn number(word: &str) -> Result<u64, Fail> {
-    Ok(word.parse().ok().ok_or("no number")?)
-}
-
-fn txn(word: &str) -> Result<TxnNo, Fail> {
-    Ok(TxnNo(number(word)?))
-}
-
 // The two numbers of a pair, as `2>3`.
-fn pair(word: &str) -> Result<(u64, u64), Fail> {
-    let (first, second) = word.split_once(">").ok_or("no pair")?;
+fn pair(word: &str) -> Result<(u64, u64), Refusal> {
+    let (first, second) = cut(word, ">")?;
     Ok((number(first)?, number(second)?))
 }
 
@@ -41,10 +32,10 @@ fn begin<A: Allocator + Copy>(
     mode: Mode,
     (txn, snapshot): (u64, u64),
 ) -> Result<(), Refusal> {
-    if conflicts.last_begun() < txn && snapshot <= conflicts.last_commit() {
-        conflicts.begin(alloc, TxnNo(txn), mode, snapshot)?;
+    if conflicts.last_begun() >= txn || snapshot > conflicts.last_commit() {
+        return Err(not_a_case());
     }
-    Ok(())
+    conflicts.begin(alloc, TxnNo(txn), mode, snapshot)
 }
 
 // The first has read what the second wrote.
@@ -54,16 +45,21 @@ fn edge<A: Allocator + Copy>(
     (reader, writer): (u64, u64),
 ) -> Result<(), Refusal> {
     let pair = (TxnNo(reader), TxnNo(writer));
-    if !conflicts.have_committed(pair.0, pair.1) {
-        conflicts.edges(alloc, &[pair])?;
+    if conflicts.have_committed(pair.0, pair.1) {
+        return Err(not_a_case());
     }
-    Ok(())
+    conflicts.edges(alloc, &[pair])
 }
 
-fn moved<A: Allocator>(conflicts: &mut Conflicts<A>, (txn, snapshot): (u64, u64)) {
-    if snapshot <= conflicts.last_commit() {
-        conflicts.moved(TxnNo(txn), snapshot);
+fn moved<A: Allocator>(
+    conflicts: &mut Conflicts<A>,
+    (txn, snapshot): (u64, u64),
+) -> Result<(), Refusal> {
+    if snapshot > conflicts.last_commit() {
+        return Err(not_a_case());
     }
+    conflicts.moved(TxnNo(txn), snapshot);
+    Ok(())
 }
 
 fn forget<A: Allocator>(conflicts: &mut Conflicts<A>) {
@@ -77,15 +73,15 @@ fn take<A: Allocator + Copy>(
     conflicts: &mut Conflicts<A>,
     letter: &str,
     word: &str,
-) -> Result<Option<Cause>, Fail> {
+) -> Result<Option<Cause>, Refusal> {
     match letter {
         "W" => begin(alloc, conflicts, Mode::ReadWrite, pair(word)?)?,
         "R" => begin(alloc, conflicts, Mode::ReadOnly, pair(word)?)?,
         "E" => edge(alloc, conflicts, pair(word)?)?,
-        "M" => moved(conflicts, pair(word)?),
+        "M" => moved(conflicts, pair(word)?)?,
         "D" => conflicts.dropped(txn(word)?),
         "C" => return Ok(commit(conflicts, txn(word)?)),
-        _ => return Err("no such letter")?,
+        _ => return Err(not_a_case()),
     }
     Ok(None)
 }
@@ -96,11 +92,11 @@ fn after<A: Allocator + Copy>(
     alloc: A,
     steps: &str,
     forgets: bool,
-) -> Result<(Conflicts<A>, Option<Cause>), Fail> {
+) -> Result<(Conflicts<A>, Option<Cause>), Refusal> {
     let mut conflicts = Conflicts::new(alloc, 1, 1);
     let mut refused = None;
     for step in steps.split(" ") {
-        let (letter, word) = step.split_at_checked(1).ok_or("no letter")?;
+        let (letter, word) = step.split_at_checked(1).ok_or(not_a_case())?;
         if let Some(cause) = take(alloc, &mut conflicts, letter, word)? {
             refused = Some(cause);
         }
@@ -112,16 +108,25 @@ fn after<A: Allocator + Copy>(
 }
 
 // A structure, as `2 3 2`.
-fn cause(text: &str) -> Result<Option<Cause>, Fail> {
-    let Some((a, rest)) = text.split_once(" ") else {
-        return Ok(None);
-    };
-    let (b, c) = rest.split_once(" ").ok_or("no structure")?;
-    Ok(Some(Cause {
+fn cause(text: &str) -> Result<Cause, Refusal> {
+    let (a, rest) = cut(text, " ")?;
+    let (b, c) = cut(rest, " ")?;
+    Ok(Cause {
         a: txn(a)?,
         b: txn(b)?,
         c: txn(c)?,
-    }))
+    })
+}
+
+// `2 3 2, 4 5 2`, or `none`.
+fn causes(alloc: Global, text: &str) -> Result<Vec<Cause>, Refusal> {
+    let mut causes = Vec::new(alloc);
+    if text != "none" {
+        for text in text.split(", ") {
+            causes.push(cause(text)?)?;
+        }
+    }
+    Ok(causes)
 }
 
 // `W2>1`: transaction 2 begins, read-write, with a snapshot of one commit; `R` read-only.
@@ -142,46 +147,50 @@ W2>1 W3>1 E2>3 C3 C2: none
 R2>1 W3>1 W4>1 E3>4 E2>3 C4 C3 C2: none";
 
 #[test]
-fn a_commit_is_refused_for_the_structure_that_it_would_make(rt: HostRuntime) -> Result<(), Fail> {
+fn a_commit_is_refused_for_the_structure_that_it_would_make(
+    rt: HostRuntime,
+) -> Result<(), Refusal> {
     for line in COMMITS.lines() {
-        let (steps, want) = line.split_once(": ").ok_or("no answer")?;
+        let (steps, want) = cut(line, ": ")?;
+        let want = causes(rt.alloc(), want)?;
         for forgets in [false, true] {
             let (_, refused) = after(rt.alloc(), steps, forgets)?;
-            assert!(rt; refused == cause(want)?, "{line} {forgets}");
+            assert!(rt; refused.as_slice() == want.as_slice(), "{line} {forgets}");
         }
     }
     Ok(())
 }
 
-// What a commit dooms, as `2 3 4`, or `none`.
-fn dooms<A: Allocator>(conflicts: &Conflicts<A>, committer: TxnNo) -> Option<Cause> {
+// Whether these are what the commit of a transaction dooms. More than 63 are never asked for.
+fn are_dooms<A: Allocator>(conflicts: &Conflicts<A>, committer: TxnNo, want: &[Cause]) -> bool {
     if conflicts.rivals(committer) > 63 {
-        return None;
+        return false;
     }
-    match conflicts.dooms(committer).causes() {
-        [only] => Some(*only),
-        _ => None,
-    }
+    conflicts.dooms(committer).causes() == want
 }
 
+// `X2`: the commit of 2.
 const DOOMS: &str = "\
 W2>1 W3>1 E2>3 E3>2 X2: 2 3 2
 W2>1 W3>1 W4>1 E2>3 E3>4 X4: 2 3 4
 W2>1 W3>1 W4>1 E3>4 X4: none
 W2>1 W3>1 W4>1 E2>3 E2>4 E3>2 E3>4 X4: 3 2 4
 W2>1 W3>1 W4>1 W5>1 E2>4 E3>4 E4>5 E5>4 X5: 2 4 5
+W2>1 W3>1 W4>1 W5>1 E2>3 E2>4 E3>5 E4>5 X5: 2 3 5, 2 4 5
+W2>1 W3>1 W4>1 W5>1 E2>3 E3>5 E4>3 E4>5 E5>4 X5: 2 3 5, 5 4 5
 W2>1 W3>1 W4>1 E2>3 E3>4 C2 X4: none
 R2>1 W3>1 W4>1 E2>3 E3>4 X4: none";
 
 #[test]
-fn a_commit_dooms_the_pivots_that_are_active(rt: HostRuntime) -> Result<(), Fail> {
+fn a_commit_dooms_the_pivots_that_are_active(rt: HostRuntime) -> Result<(), Refusal> {
     for line in DOOMS.lines() {
-        let (steps, rest) = line.split_once(" X").ok_or("no committer")?;
-        let (committer, want) = rest.split_once(": ").ok_or("no answer")?;
+        let (steps, rest) = cut(line, " X")?;
+        let (committer, want) = cut(rest, ": ")?;
+        let want = causes(rt.alloc(), want)?;
         for forgets in [false, true] {
             let (conflicts, _) = after(rt.alloc(), steps, forgets)?;
             assert!(rt;
-                dooms(&conflicts, txn(committer)?) == cause(want)?,
+                are_dooms(&conflicts, txn(committer)?, want.as_slice()),
                 "{line} {forgets}"
             );
         }
@@ -189,6 +198,7 @@ fn a_commit_dooms_the_pivots_that_are_active(rt: HostRuntime) -> Result<(), Fail
     Ok(())
 }
 
+// `F2`: the first commit to which 2 has a conflict.
 const FIRST_OUTS: &str = "\
 W2>1 W3>1 E2>3 C3 F2: 2
 W2>1 W3>1 W4>1 E2>3 E2>4 C4 C3 F2: 2
@@ -199,14 +209,17 @@ R2>1 W3>1 C3 E2>3 F2: 2
 W2>1 F3: none";
 
 #[test]
-fn the_first_commit_out_is_the_least(rt: HostRuntime) -> Result<(), Fail> {
+fn the_first_commit_out_is_the_least(rt: HostRuntime) -> Result<(), Refusal> {
     for line in FIRST_OUTS.lines() {
-        let (steps, rest) = line.split_once(" F").ok_or("no transaction")?;
-        let (reader, want) = rest.split_once(": ").ok_or("no answer")?;
+        let (steps, rest) = cut(line, " F")?;
+        let (reader, want) = cut(rest, ": ")?;
         for forgets in [false, true] {
             let (conflicts, _) = after(rt.alloc(), steps, forgets)?;
             let out = conflicts.first_out(txn(reader)?);
-            assert!(rt; out == want.parse().ok(), "{line} {forgets}");
+            assert!(rt;
+                out == want.parse().ok() && out.is_some() == (want != "none"),
+                "{line} {forgets}"
+            );
         }
     }
     Ok(())
@@ -222,10 +235,10 @@ W2>1 W3>1 C3 W4>2 C2: 3 no
 R2>1 C2: 2 no";
 
 #[test]
-fn what_no_answer_rests_on_is_forgotten(rt: HostRuntime) -> Result<(), Fail> {
+fn what_no_answer_rests_on_is_forgotten(rt: HostRuntime) -> Result<(), Refusal> {
     for line in FORGOTTEN.lines() {
-        let (steps, rest) = line.split_once(": ").ok_or("no question")?;
-        let (committed, want) = rest.split_once(" ").ok_or("no answer")?;
+        let (steps, rest) = cut(line, ": ")?;
+        let (committed, want) = cut(rest, " ")?;
         let (conflicts, _) = after(rt.alloc(), steps, true)?;
         assert!(rt;
             conflicts.has_committed(txn(committed)?) == (want == "yes"),

@@ -1,18 +1,17 @@
-//! Tests of devices and of the collector.
-
+//! Devices, and the collector of a dump's pieces.
 ghost use Rattle.std.specs.Prelude.{◌≡◌, ◌-◌, ◌<◌, ◌≤◌, ◌∷◌, [], IfOk, slice_index_or};
 ghost use Rattle.dumpplan.specs.Parts.{head_text, end_text};
 ghost use Rattle.dumpplan.specs.declared.piece.Piece.TheVariants.{Head, End};
 
-use super::*;
+use crate::fixture::not_a_case;
+use collector::{Collector, Device, DeviceError, Finish, OfferFault, write_all};
 use dumpplan::text::{end_text, head_text};
 use dumpplan::{PieceRows, Plan, plan};
 use schema::catalog::Catalog;
 use schema::tables::Tables;
 use std::alloc::Global;
 use std::process::Abort;
-use std::test::Fail;
-use value::refusal::Refusal;
+use value::refusal::{Code, Refusal};
 
 // A device that takes at most three bytes a write, and fails at the write that is told, counted from 1.
 #[derive(Drop)]
@@ -42,7 +41,7 @@ impl<'r, R: Abort> Device for Narrow<'r, R> {
 }
 
 #[test]
-fn bytes_are_written_in_order(rt: HostRuntime) -> Result<(), Fail> {
+fn bytes_are_written_in_order(rt: HostRuntime) -> Result<(), Refusal> {
     for (failing, want, failures) in [
         (0, "abcdefgh", 0),
         (1, "", 1),
@@ -58,21 +57,21 @@ fn bytes_are_written_in_order(rt: HostRuntime) -> Result<(), Fail> {
             failing,
         };
         let done = write_all(&mut device, b"abcdefgh");
-        assert_eq!(rt; device.taken.as_slice(), want.as_bytes(), "{failing}");
-        assert_eq!(rt; device.failures, failures, "{failing}");
-        assert_eq!(rt; done.is_ok(), failures == 0, "{failing}");
+        assert!(rt; device.taken.as_slice() == want.as_bytes(), "{failing}");
+        assert!(rt; device.failures == failures, "{failing}");
+        assert!(rt; done.is_ok() == (failures == 0), "{failing}");
     }
     Ok(())
 }
 
 // The plan of no tables, which has two pieces.
-fn plan_of_none(alloc: Global, tables: &Tables, catalog: &Catalog) -> Result<Plan, Fail>
+fn plan_of_none(alloc: Global, tables: &Tables, catalog: &Catalog) -> Result<Plan, Refusal>
     requires catalog { catalog.now ≡ [] }
     requires tables { tables.now ≡ [] }
     ensures { IfOk result (λ plan. plan ≡ Head ∷ End ∷ []) }
 {
-    let one = PieceRows::new(1).ok_or("one row a piece")?;
-    Ok(plan(alloc, tables, catalog, one)?)
+    let one = PieceRows::new(1).ok_or(not_a_case())?;
+    plan(alloc, tables, catalog, one)
 }
 
 // The text of a piece of that plan, and none of a number that is none of it.
@@ -112,7 +111,7 @@ fn collect(
     failing: u64,
     offers: &[(u64, Result<(), OfferFault>)],
     (wanted, text): (Finish, &str),
-) -> Result<(), Fail> {
+) -> Result<(), Refusal> {
     let mut device = Narrow {
         rt,
         taken: Vec::new(alloc),
@@ -124,14 +123,14 @@ fn collect(
     let tables = Tables::new(alloc, &catalog)?;
     let plan = plan_of_none(alloc, &tables, &catalog)?;
     let Ok(mut collector) = Collector::new(alloc, &tables, &catalog, &plan, &mut device) else {
-        return Err("memory".into());
+        return Err(Refusal::of_code(Code::OutOfMemory));
     };
     offer_each(rt, alloc, &mut collector, offers);
     let finish = collector.finish();
     let device = collector.into_device();
     assert!(rt; finish == wanted);
-    assert_eq!(rt; device.taken.as_slice(), text.as_bytes());
-    assert_eq!(rt; device.failures, u64::from(wanted == Finish::Failed));
+    assert!(rt; device.taken.as_slice() == text.as_bytes());
+    assert!(rt; device.failures == u64::from(wanted == Finish::Failed));
     Ok(())
 }
 
@@ -144,7 +143,7 @@ const DEVICE: Result<(), OfferFault> = Err(OfferFault::Device);
 const CLOSED: Result<(), OfferFault> = Err(OfferFault::Closed);
 
 #[test]
-fn pieces_are_offered_in_any_order(rt: HostRuntime) -> Result<(), Fail> {
+fn pieces_are_offered_in_any_order(rt: HostRuntime) -> Result<(), Refusal> {
     let alloc = rt.alloc();
     let waits = [(0, STRANGER), (3, STRANGER), (2, Ok(())), (2, REPEAT)];
     collect(&rt, alloc, 0, &waits, (Finish::Missing(1), ""))?;
@@ -162,7 +161,7 @@ fn pieces_are_offered_in_any_order(rt: HostRuntime) -> Result<(), Fail> {
 }
 
 #[test]
-fn a_failed_device_closes(rt: HostRuntime) -> Result<(), Fail> {
+fn a_failed_device_closes(rt: HostRuntime) -> Result<(), Refusal> {
     let alloc = rt.alloc();
     let at_once = [
         (2, Ok(())),

@@ -1,5 +1,5 @@
 use Rattle.std.proofs.Common.{◌≡◌}
-use Rattle.collector.proofs.tests.offer_each.Given as goal
+use Rattle.dump_tests.proofs.collectors.offer_each.Given as goal
 
 -- the pieces stay what they were
 abbrev pub invariant-loop-number : goal.invariant-loop-number

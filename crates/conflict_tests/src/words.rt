@@ -1,0 +1,20 @@
+//! Numbers in the texts of cases.
+use value::refusal::{Code, Refusal, TxnNo};
+
+/// The refusal of a case that isn't written as it should be. No tried call answers it.
+pub fn not_a_case() -> Refusal {
+    Refusal::of_code(Code::SyntaxError)
+}
+
+/// What stands before and behind the first of these words.
+pub fn cut<'t>(text: &'t str, word: &str) -> Result<(&'t str, &'t str), Refusal> {
+    text.split_once(word).ok_or(not_a_case())
+}
+
+pub fn number(word: &str) -> Result<u64, Refusal> {
+    word.parse().ok().ok_or(not_a_case())
+}
+
+pub fn txn(word: &str) -> Result<TxnNo, Refusal> {
+    Ok(TxnNo(number(word)?))
+}
