@@ -81,7 +81,6 @@ const REFUSED: &str = "\
 
 #[test]
 fn refusals_and_their_places(rt: HostRuntime) -> Result<(), Refusal> {
-    laws::the_first_fault_is_refused::<Global>();
     let catalog = tables(rt.alloc())?;
     let mut rest = REFUSED;
     for _ in 0..REFUSED.len() {
@@ -105,7 +104,6 @@ const RESERVED: &str =
 
 #[test]
 fn reserved_words_are_no_names(rt: HostRuntime) -> Result<(), Refusal> {
-    laws::reserved_words_are_no_names();
     let catalog = tables(rt.alloc())?;
     let mut rest = RESERVED;
     for _ in 0..RESERVED.len() {
@@ -217,8 +215,6 @@ fn an_insert(rt: HostRuntime) -> Result<(), Refusal> {
 
 #[test]
 fn an_update(rt: HostRuntime) -> Result<(), Refusal> {
-    laws::what_is_spelled_is_read::<Global>();
-    laws::texts_are_parsed_as_spelled::<Global>();
     let catalog = tables(rt.alloc())?;
     let text = "UPDATE u SET n = n - 9223372036854775807, b = '\\x' WHERE n>=1";
     let Statement::Update(_, assignments, conditions) = parse_statement(rt.alloc(), &catalog, text)?
@@ -271,10 +267,18 @@ fn tables_that_are_none(rt: HostRuntime) -> Result<(), Refusal> {
 
 #[test]
 fn a_table(rt: HostRuntime) -> Result<(), Refusal> {
-    laws::spelled_tables_are_read();
     let text = "CREATE TABLE c(ID text PRIMARY KEY REFERENCES P,v bytea NOT NULL REFERENCES q);";
     let table = parse_create(rt.alloc(), text)?;
     assert_eq!(rt; table.name(), "c");
     assert_eq!(rt; table.columns().len(), 2);
     Ok(())
+}
+
+#[test]
+fn laws_have_no_premise() {
+    laws::reserved_words_are_no_names();
+    laws::what_is_spelled_is_read::<Global>();
+    laws::the_first_fault_is_refused::<Global>();
+    laws::texts_are_parsed_as_spelled::<Global>();
+    laws::spelled_tables_are_read();
 }
