@@ -1,4 +1,4 @@
-use crate::forgetting::{keep_living, keep_needed};
+use crate::forgetting::keep_living;
 use crate::least::{Which, least_snapshot};
 use crate::snapshots::ExportedSnapshot;
 use crate::stretch::{Stretch, around, grown};
@@ -66,31 +66,12 @@ fn nine(alloc: Global) -> Result<Vec<Transaction>, Refusal> {
     Ok(all)
 }
 
-// What overlaps the open one stays, and what such a one meets.
+// What the open one sees, and what those see that have still to be ended.
 #[test]
-fn what_still_matters_is_kept(rt: HostRuntime) -> Result<(), Fail> {
-    let mut all = nine(rt.alloc())?;
+fn the_least_snapshots_are_found(rt: HostRuntime) -> Result<(), Fail> {
+    let all = nine(rt.alloc())?;
     assert_eq!(rt; least_snapshot(all.as_slice(), Which::HoldingBack, 7), 5);
     assert_eq!(rt; least_snapshot(all.as_slice(), Which::Owed, 7), 4);
-    keep_needed(&mut all, 5, 0);
-    let mut numbers = [1, 2, 4, 8, 9].iter();
-    for kept in all.as_slice() {
-        assert_eq!(rt; numbers.next().copied(), Some(kept.number));
-    }
-    assert_eq!(rt; all.len(), 5);
-    Ok(())
-}
-
-// Those at the front that were looked at before stay, whatever they are.
-#[test]
-fn those_before_a_place_are_kept(rt: HostRuntime) -> Result<(), Fail> {
-    let mut all = nine(rt.alloc())?;
-    keep_needed(&mut all, 5, 3);
-    let mut numbers = [1, 2, 3, 4, 8, 9].iter();
-    for kept in all.as_slice() {
-        assert_eq!(rt; numbers.next().copied(), Some(kept.number));
-    }
-    assert_eq!(rt; all.len(), 6);
     Ok(())
 }
 
