@@ -18,4 +18,8 @@ mod machine;
 #[cfg(test)]
 mod memory;
 #[cfg(test)]
+mod printed;
+#[cfg(test)]
 mod replies;
+#[cfg(test)]
+mod scripts;
