@@ -14,6 +14,8 @@ mod examples;
 #[cfg(test)]
 mod faults;
 #[cfg(test)]
+mod hostile;
+#[cfg(test)]
 mod machine;
 #[cfg(test)]
 mod memory;
