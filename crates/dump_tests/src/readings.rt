@@ -1,3 +1,5 @@
+//! Tests of reading a dump: the example of docs/FORMATS.md, and what is wrong in lines, rows, references and counts.
+
 use dumpplan::text::{end_text, head_text, table_text};
 use dumpplan::{Jobs, NoGate};
 use restore::{RestoreFault, reads_sound_tables, reads_what_is_dumped, restore, restore_one};

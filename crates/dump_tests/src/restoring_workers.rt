@@ -1,3 +1,5 @@
+//! Tests of reading by workers: what they read, that they read side by side, and which fault is told.
+
 use crate::readings::{fault_of, written};
 use dumpplan::{Gate, Jobs, NoGate};
 use restore::{restore, restore_one};

@@ -1,3 +1,5 @@
+//! Replies as they are printed.
+
 use history::session_id::SessionId;
 use script::printing::reply_text;
 use statement::reply::{Reply, RowList};

@@ -1,3 +1,5 @@
+//! What the lines of a script say, and the first that is faulty.
+
 use script::command::Command;
 use script::schedule::Schedule;
 use script::script::{Script, Step, read_script};

@@ -1,3 +1,5 @@
+//! Dumps of a session of a core.
+
 use backup::{BackupFault, dump_session};
 use collector::{Device, DeviceError};
 use dumpplan::{Jobs, NoGate, PieceRows};

@@ -1,4 +1,5 @@
-// A SELECT is evaluated while the lock is free.
+//! A SELECT is evaluated while the lock is free.
+
 ghost use Rattle.std.specs.Prelude.{◌≡◌, IsTrue};
 ghost use Rattle.schema.specs.Plain.{is_sound};
 ghost use Rattle.history.specs.Opening.{zero_base};

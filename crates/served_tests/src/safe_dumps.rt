@@ -1,4 +1,5 @@
-// Dumps of a server that other threads go on to use.
+//! Dumps of a server that other threads go on to use.
+
 ghost use Rattle.std.specs.Prelude.{◌≡◌, IsTrue};
 ghost use Rattle.schema.specs.Plain.{is_sound};
 ghost use Rattle.history.specs.Opening.{zero_base};

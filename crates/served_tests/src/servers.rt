@@ -1,3 +1,5 @@
+//! The server on threads: scripts in every schedule, a deferrable transaction that waits, own writes, checkpoints.
+
 ghost use Rattle.std.specs.Prelude.{◌≡◌, [], IsTrue};
 ghost use Rattle.schema.specs.Plain.{is_sound};
 ghost use Rattle.history.specs.Opening.{zero_base};
