@@ -1,8 +1,10 @@
+//! Dangerous structures among a few transactions, and where these stand in the serial order.
+
 ghost use Rattle.std.specs.Prelude.{◌≡◌, ◌==◌, ◌||◌};
 
-use crate::dooms::dooms;
-use crate::isolation::{cause_from, first_part, has_edge, is_dangerous, serial_key};
-use crate::party::{Facts, Party};
+use plain::dooms::dooms;
+use plain::isolation::{cause_from, first_part, has_edge, is_dangerous, serial_key};
+use plain::party::{Facts, Party};
 use std::test::Fail;
 use value::refusal::{Cause, TxnNo};
 

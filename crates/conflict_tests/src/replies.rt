@@ -1,5 +1,7 @@
-use crate::reply::{doomed, failed, idle, of_cause};
+//! What a session is answered whose transaction is over, or that has none.
+
 use history::event::Action;
+use plain::reply::{doomed, failed, idle, of_cause};
 use statement::reply::Reply;
 use std::alloc::Global;
 use std::test::Fail;

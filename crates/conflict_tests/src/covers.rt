@@ -1,4 +1,6 @@
-use crate::cover::{covers, covers_value};
+//! What readings cover: few keys, ranges and references as they were read, many as more.
+
+use plain::cover::{covers, covers_value};
 use schema::catalog::TableNo;
 use statement::reading::{End, Extent, Reading};
 use std::alloc::Global;
