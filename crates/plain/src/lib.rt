@@ -20,6 +20,7 @@ pub mod isolation;
 mod isolation_tests;
 pub mod keys;
 pub mod least;
+mod owed;
 pub mod own;
 pub mod party;
 pub mod reader;
