@@ -6,8 +6,10 @@ pub mod LeavesLemmas
 pub mod NewestLemmas
 pub mod PageLemmas
 pub mod PruningLemmas
+pub mod ReadLemmas
 pub mod SettledPageLemmas
 pub mod SettledTablesLemmas
 pub mod SettlingLemmas
+pub mod ThinningLemmas
 pub mod VersionLemmas
 pub mod ViewLemmas

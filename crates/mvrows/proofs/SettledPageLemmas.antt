@@ -12,8 +12,8 @@ use Rattle.value.specs.Order.{value_cmp}
 use Rattle.value.specs.declared.value.Value.{Value}
 use Rattle.schema.specs.Plain.{same}
 use Rattle.mvrows.specs.Versions.{Version, KeyVersions, VersionedRows, IsInOrder, AreBelow, RowsAreBelow}
-use Rattle.mvrows.specs.Pruning.{has_version, pruned_key}
-use Rattle.mvrows.specs.Settling.{found, if_version, settle_key}
+use Rattle.mvrows.specs.Pruning.{has_version}
+use Rattle.mvrows.specs.Settling.{Needed, found, if_version, settled_key, settle_key}
 use Rattle.mvrows.specs.Fresh.{is_from, IsFreshIn, IsOwnKey}
 use Rattle.mvrows.specs.HeldRows.{Held, pages_of, joined, rows_in, has_keys, AreLaidOut, IsUndoable}
 use Rattle.mvrows.proofs.VersionLemmas.{IsLeast, all-set}
@@ -38,107 +38,107 @@ cut-set xs i x lt = cut-set_suc xs i x lt ∙ rw add-one refl
 module _ {A : Type 0} where
   -- ---- by its place
 
-  settle-early : (oldest : ℕ) (key : Value A) (i : ℕ) (rows : VersionedRows A) → AllByRecursion (λ r. is_le (value_cmp key r.key) ≡ false) (take i rows) → settle_key oldest key rows ≡ take i rows ++ settle_key oldest key (drop i rows)
-  settle-early oldest key zero rows early = refl
-  settle-early oldest key (suc i) [] early = refl
-  settle-early oldest key (suc i) (r ∷ rs) early = rw (greater (value_cmp key r.key) early.0) (ap (λ rest. r ∷ rest) (settle-early oldest key i rs early.1))
+  settle-early : (needed : Needed) (key : Value A) (i : ℕ) (rows : VersionedRows A) → AllByRecursion (λ r. is_le (value_cmp key r.key) ≡ false) (take i rows) → settle_key needed key rows ≡ take i rows ++ settle_key needed key (drop i rows)
+  settle-early needed key zero rows early = refl
+  settle-early needed key (suc i) [] early = refl
+  settle-early needed key (suc i) (r ∷ rs) early = rw (greater (value_cmp key r.key) early.0) (ap (λ rest. r ∷ rest) (settle-early needed key i rs early.1))
 
-  settle-here : (oldest : ℕ) (key : Value A) (i : ℕ) (rows : VersionedRows A) (k : KeyVersions A) → AllByRecursion (λ r. is_le (value_cmp key r.key) ≡ false) (take i rows) → slice_get rows i ≡ Some k → same key k.key ≡ true
-      → settle_key oldest key rows ≡ take i rows ++ if_version (pruned_key oldest k) (drop (i + 1) rows)
-  settle-here oldest key i rows k early at is =
-      let e : settle_key oldest key (k ∷ drop (i + 1) rows) ≡ if_version (pruned_key oldest k) (drop (i + 1) rows) = rw (equal (value_cmp key k.key) is) refl in
-      settle-early oldest key i rows early ∙ ap (λ ks. take i rows ++ settle_key oldest key ks) (drop-at rows i k at) ∙ ap (λ ks. take i rows ++ ks) e
+  settle-here : (needed : Needed) (key : Value A) (i : ℕ) (rows : VersionedRows A) (k : KeyVersions A) → AllByRecursion (λ r. is_le (value_cmp key r.key) ≡ false) (take i rows) → slice_get rows i ≡ Some k → same key k.key ≡ true
+      → settle_key needed key rows ≡ take i rows ++ if_version (settled_key needed k) (drop (i + 1) rows)
+  settle-here needed key i rows k early at is =
+      let e : settle_key needed key (k ∷ drop (i + 1) rows) ≡ if_version (settled_key needed k) (drop (i + 1) rows) = rw (equal (value_cmp key k.key) is) refl in
+      settle-early needed key i rows early ∙ ap (λ ks. take i rows ++ settle_key needed key ks) (drop-at rows i k at) ∙ ap (λ ks. take i rows ++ ks) e
 
   -- a key that isn't at its place isn't there
-  pub settle-none : (oldest : ℕ) (key : Value A) (i : ℕ) (rows : VersionedRows A) → AllByRecursion (λ r. is_le (value_cmp key r.key) ≡ false) (take i rows) → AllByRecursion (λ r. is_le (value_cmp key r.key) ≡ true) (drop i rows) → option_map_or (λ k. same key k.key) (slice_get rows i) false ≡ false
-      → rows ≡ settle_key oldest key rows
-  settle-none oldest key i rows early late isnt = sym (settle-early oldest key i rows early ∙ go (slice_get rows i) refl isnt ∙ take-append-drop i rows)
+  pub settle-none : (needed : Needed) (key : Value A) (i : ℕ) (rows : VersionedRows A) → AllByRecursion (λ r. is_le (value_cmp key r.key) ≡ false) (take i rows) → AllByRecursion (λ r. is_le (value_cmp key r.key) ≡ true) (drop i rows) → option_map_or (λ k. same key k.key) (slice_get rows i) false ≡ false
+      → rows ≡ settle_key needed key rows
+  settle-none needed key i rows early late isnt = sym (settle-early needed key i rows early ∙ go (slice_get rows i) refl isnt ∙ take-append-drop i rows)
     where
-      go : (o : Option (KeyVersions A)) → slice_get rows i ≡ o → option_map_or (λ k. same key k.key) o false ≡ false → take i rows ++ settle_key oldest key (drop i rows) ≡ take i rows ++ drop i rows
-      go None at e = ap (λ ks. take i rows ++ settle_key oldest key ks) (slice_get-none rows i at) ∙ ap (λ ks. take i rows ++ ks) (sym (slice_get-none rows i at))
+      go : (o : Option (KeyVersions A)) → slice_get rows i ≡ o → option_map_or (λ k. same key k.key) o false ≡ false → take i rows ++ settle_key needed key (drop i rows) ≡ take i rows ++ drop i rows
+      go None at e = ap (λ ks. take i rows ++ settle_key needed key ks) (slice_get-none rows i at) ∙ ap (λ ks. take i rows ++ ks) (sym (slice_get-none rows i at))
       go (Some k) at e =
           let cut = drop-at rows i k at in
           let late_here = subst (AllByRecursion (λ (r : KeyVersions A). is_le (value_cmp key r.key) ≡ true)) cut late in
           let below : value_cmp key k.key ≡ Less = less (value_cmp key k.key) late_here.0 e in
-          let f : settle_key oldest key (k ∷ drop (i + 1) rows) ≡ k ∷ drop (i + 1) rows = rw below refl in
-          ap (λ ks. take i rows ++ settle_key oldest key ks) cut ∙ ap (λ ks. take i rows ++ ks) (f ∙ sym cut)
+          let f : settle_key needed key (k ∷ drop (i + 1) rows) ≡ k ∷ drop (i + 1) rows = rw below refl in
+          ap (λ ks. take i rows ++ settle_key needed key ks) cut ∙ ap (λ ks. take i rows ++ ks) (f ∙ sym cut)
 
   -- it is there, and has a version left
-  pub settle-kept : (oldest : ℕ) (key : Value A) (i : ℕ) (rows : VersionedRows A) (k more : KeyVersions A) → AllByRecursion (λ r. is_le (value_cmp key r.key) ≡ false) (take i rows) → k ≡ get_or rows i k → option_map_or (λ r. same key r.key) (slice_get rows i) false ≡ true
-      → more ≡ pruned_key oldest k → has_version more ≡ true → set rows i more ≡ settle_key oldest key rows
-  settle-kept oldest key i rows k more early at is made has =
+  pub settle-kept : (needed : Needed) (key : Value A) (i : ℕ) (rows : VersionedRows A) (k more : KeyVersions A) → AllByRecursion (λ r. is_le (value_cmp key r.key) ≡ false) (take i rows) → k ≡ get_or rows i k → option_map_or (λ r. same key r.key) (slice_get rows i) false ≡ true
+      → more ≡ settled_key needed k → has_version more ≡ true → set rows i more ≡ settle_key needed key rows
+  settle-kept needed key i rows k more early at is made has =
       let lt = below-passed (λ (r : KeyVersions A). same key r.key) rows i is in
       let here = slice_get-item rows i k lt at in
       let tied : same key k.key ≡ true = sym (ap (λ o. option_map_or (λ (r : KeyVersions A). same key r.key) o false) here) ∙ is in
-      let left : if_version (pruned_key oldest k) (drop (i + 1) rows) ≡ more ∷ drop (i + 1) rows = ap (λ x. if_version x (drop (i + 1) rows)) (sym made) ∙ rw has refl in
+      let left : if_version (settled_key needed k) (drop (i + 1) rows) ≡ more ∷ drop (i + 1) rows = ap (λ x. if_version x (drop (i + 1) rows)) (sym made) ∙ rw has refl in
       let one_more : suc i ≡ i + 1 = omega arith in
-      set_split rows i more lt ∙ ap (λ n. take i rows ++ more ∷ drop n rows) one_more ∙ sym (settle-here oldest key i rows k early here tied ∙ ap (λ ks. take i rows ++ ks) left)
+      set_split rows i more lt ∙ ap (λ n. take i rows ++ more ∷ drop n rows) one_more ∙ sym (settle-here needed key i rows k early here tied ∙ ap (λ ks. take i rows ++ ks) left)
 
   -- it is there, and goes
-  pub settle-gone : (oldest : ℕ) (key : Value A) (i : ℕ) (rows more : VersionedRows A) (k left : KeyVersions A) → AllByRecursion (λ r. is_le (value_cmp key r.key) ≡ false) (take i rows) → k ≡ get_or rows i k → option_map_or (λ r. same key r.key) (slice_get rows i) false ≡ true
-      → left ≡ pruned_key oldest k → has_version left ≡ false → more ≡ take i (set rows i left) ++ drop (suc i) (set rows i left) → more ≡ settle_key oldest key rows
-  settle-gone oldest key i rows more k left early at is made has put =
+  pub settle-gone : (needed : Needed) (key : Value A) (i : ℕ) (rows more : VersionedRows A) (k left : KeyVersions A) → AllByRecursion (λ r. is_le (value_cmp key r.key) ≡ false) (take i rows) → k ≡ get_or rows i k → option_map_or (λ r. same key r.key) (slice_get rows i) false ≡ true
+      → left ≡ settled_key needed k → has_version left ≡ false → more ≡ take i (set rows i left) ++ drop (suc i) (set rows i left) → more ≡ settle_key needed key rows
+  settle-gone needed key i rows more k left early at is made has put =
       let lt = below-passed (λ (r : KeyVersions A). same key r.key) rows i is in
       let here = slice_get-item rows i k lt at in
       let tied : same key k.key ≡ true = sym (ap (λ o. option_map_or (λ (r : KeyVersions A). same key r.key) o false) here) ∙ is in
-      let none : if_version (pruned_key oldest k) (drop (i + 1) rows) ≡ drop (i + 1) rows = ap (λ x. if_version x (drop (i + 1) rows)) (sym made) ∙ rw has refl in
-      put ∙ cut-set rows i left lt ∙ sym (settle-here oldest key i rows k early here tied ∙ ap (λ ks. take i rows ++ ks) none)
+      let none : if_version (settled_key needed k) (drop (i + 1) rows) ≡ drop (i + 1) rows = ap (λ x. if_version x (drop (i + 1) rows)) (sym made) ∙ rw has refl in
+      put ∙ cut-set rows i left lt ∙ sym (settle-here needed key i rows k early here tied ∙ ap (λ ks. take i rows ++ ks) none)
 
   -- ---- pages one after another
 
   -- a key that isn't there
-  settle-missing : (oldest : ℕ) (key : Value A) (rows : VersionedRows A) → found key rows ≡ None → settle_key oldest key rows ≡ rows
-  settle-missing oldest key [] none = refl
-  settle-missing oldest key (r ∷ rs) none = by_order (value_cmp key r.key) refl none (settle-missing oldest key rs)
+  settle-missing : (needed : Needed) (key : Value A) (rows : VersionedRows A) → found key rows ≡ None → settle_key needed key rows ≡ rows
+  settle-missing needed key [] none = refl
+  settle-missing needed key (r ∷ rs) none = by_order (value_cmp key r.key) refl none (settle-missing needed key rs)
     where
-      by_order : (o : Ordering) → value_cmp key r.key ≡ o → cond (is_eq o) (Some r) (found key rs) ≡ None → (found key rs ≡ None → settle_key oldest key rs ≡ rs) → match_ordering o (r ∷ rs) (if_version (pruned_key oldest r) rs) (r ∷ settle_key oldest key rs) ≡ r ∷ rs
+      by_order : (o : Ordering) → value_cmp key r.key ≡ o → cond (is_eq o) (Some r) (found key rs) ≡ None → (found key rs ≡ None → settle_key needed key rs ≡ rs) → match_ordering o (r ∷ rs) (if_version (settled_key needed r) rs) (r ∷ settle_key needed key rs) ≡ r ∷ rs
       by_order Less is e rest = refl
       by_order Equal is e rest = cc
       by_order Greater is e rest = ap (λ left. r ∷ left) (rest e)
 
-  pub settle-shared : (oldest : ℕ) (key : Value A) (h : Held A) → h.own ≡ false → IsOwnKey key h → h.rows ≡ settle_key oldest key h.rows
-  settle-shared oldest key h shared own = sym (settle-missing oldest key h.rows (own shared))
+  pub settle-shared : (needed : Needed) (key : Value A) (h : Held A) → h.own ≡ false → IsOwnKey key h → h.rows ≡ settle_key needed key h.rows
+  settle-shared needed key h shared own = sym (settle-missing needed key h.rows (own shared))
 
-  settle-after_run : (oldest : ℕ) (key : Value A) (xs ys : VersionedRows A) → AllByRecursion (λ k. is_le (value_cmp key k.key) ≡ false) xs → settle_key oldest key (xs ++ ys) ≡ xs ++ settle_key oldest key ys
-  settle-after_run oldest key [] ys before = refl
-  settle-after_run oldest key (x ∷ xs) ys before = rw (greater (value_cmp key x.key) before.0) (ap (λ rest. x ∷ rest) (settle-after_run oldest key xs ys before.1))
+  settle-after_run : (needed : Needed) (key : Value A) (xs ys : VersionedRows A) → AllByRecursion (λ k. is_le (value_cmp key k.key) ≡ false) xs → settle_key needed key (xs ++ ys) ≡ xs ++ settle_key needed key ys
+  settle-after_run needed key [] ys before = refl
+  settle-after_run needed key (x ∷ xs) ys before = rw (greater (value_cmp key x.key) before.0) (ap (λ rest. x ∷ rest) (settle-after_run needed key xs ys before.1))
 
-  settle-above : (oldest : ℕ) (key : Value A) (ys : VersionedRows A) → IsLeast key ys → settle_key oldest key ys ≡ ys
-  settle-above oldest key [] least = refl
-  settle-above oldest key (y ∷ ys) least = rw least.0 refl
+  settle-above : (needed : Needed) (key : Value A) (ys : VersionedRows A) → IsLeast key ys → settle_key needed key ys ≡ ys
+  settle-above needed key [] least = refl
+  settle-above needed key (y ∷ ys) least = rw least.0 refl
 
-  settle-before_run : (oldest : ℕ) (key : Value A) (xs ys : VersionedRows A) → IsLeast key ys → settle_key oldest key (xs ++ ys) ≡ settle_key oldest key xs ++ ys
-  settle-before_run oldest key [] ys least = settle-above oldest key ys least
-  settle-before_run oldest key (x ∷ xs) ys least = by_order (value_cmp key x.key) (settle-before_run oldest key xs ys least)
+  settle-before_run : (needed : Needed) (key : Value A) (xs ys : VersionedRows A) → IsLeast key ys → settle_key needed key (xs ++ ys) ≡ settle_key needed key xs ++ ys
+  settle-before_run needed key [] ys least = settle-above needed key ys least
+  settle-before_run needed key (x ∷ xs) ys least = by_order (value_cmp key x.key) (settle-before_run needed key xs ys least)
     where
-      if_any : (b : Bool) → cond b (pruned_key oldest x ∷ (xs ++ ys)) (xs ++ ys) ≡ cond b (pruned_key oldest x ∷ xs) xs ++ ys
+      if_any : (b : Bool) → cond b (settled_key needed x ∷ (xs ++ ys)) (xs ++ ys) ≡ cond b (settled_key needed x ∷ xs) xs ++ ys
       if_any true = refl
       if_any false = refl
 
-      by_order : (o : Ordering) → settle_key oldest key (xs ++ ys) ≡ settle_key oldest key xs ++ ys → match_ordering o (x ∷ (xs ++ ys)) (if_version (pruned_key oldest x) (xs ++ ys)) (x ∷ settle_key oldest key (xs ++ ys)) ≡ match_ordering o (x ∷ xs) (if_version (pruned_key oldest x) xs) (x ∷ settle_key oldest key xs) ++ ys
+      by_order : (o : Ordering) → settle_key needed key (xs ++ ys) ≡ settle_key needed key xs ++ ys → match_ordering o (x ∷ (xs ++ ys)) (if_version (settled_key needed x) (xs ++ ys)) (x ∷ settle_key needed key (xs ++ ys)) ≡ match_ordering o (x ∷ xs) (if_version (settled_key needed x) xs) (x ∷ settle_key needed key xs) ++ ys
       by_order Less rest = refl
-      by_order Equal rest = if_any (has_version (pruned_key oldest x))
+      by_order Equal rest = if_any (has_version (settled_key needed x))
       by_order Greater rest = ap (λ left. x ∷ left) rest
 
-  settle-in : (oldest : ℕ) (key : Value A) (pages : List (VersionedRows A)) (i : ℕ) (old new : VersionedRows A) → i < length pages → old ≡ get_or pages i old
-      → AllByRecursion (λ k. is_le (value_cmp key k.key) ≡ false) (joined (take i pages)) → IsLeast key (joined (drop (i + 1) pages)) → new ≡ settle_key oldest key old
-      → joined (set pages i new) ≡ settle_key oldest key (joined pages)
-  settle-in oldest key pages i old new lt at before after made =
+  settle-in : (needed : Needed) (key : Value A) (pages : List (VersionedRows A)) (i : ℕ) (old new : VersionedRows A) → i < length pages → old ≡ get_or pages i old
+      → AllByRecursion (λ k. is_le (value_cmp key k.key) ≡ false) (joined (take i pages)) → IsLeast key (joined (drop (i + 1) pages)) → new ≡ settle_key needed key old
+      → joined (set pages i new) ≡ settle_key needed key (joined pages)
+  settle-in needed key pages i old new lt at before after made =
       flat-set (λ p. p) pages i new lt
       ∙ ap (λ p. joined (take i pages) ++ (p ++ joined (drop (i + 1) pages))) made
       ∙ sym (
-      ap (settle_key oldest key) (flat-split (λ p. p) pages i old lt at)
-      ∙ settle-after_run oldest key (joined (take i pages)) (old ++ joined (drop (i + 1) pages)) before
-      ∙ ap (λ rest. joined (take i pages) ++ rest) (settle-before_run oldest key old (joined (drop (i + 1) pages)) after))
+      ap (settle_key needed key) (flat-split (λ p. p) pages i old lt at)
+      ∙ settle-after_run needed key (joined (take i pages)) (old ++ joined (drop (i + 1) pages)) before
+      ∙ ap (λ rest. joined (take i pages) ++ rest) (settle-before_run needed key old (joined (drop (i + 1) pages)) after))
 
   -- ---- a table's pages
 
   -- the page that a key belongs to is settled
-  pub settled-rows : (oldest : ℕ) (key : Value A) (leaves : List (Held A)) (i : ℕ) (old new : Held A) → old ≡ get_or leaves i old → Placed key leaves i → new.rows ≡ settle_key oldest key old.rows
-      → rows_in (set leaves i new) ≡ settle_key oldest key (rows_in leaves)
-  settled-rows oldest key leaves i old new at p made =
+  pub settled-rows : (needed : Needed) (key : Value A) (leaves : List (Held A)) (i : ℕ) (old new : Held A) → old ≡ get_or leaves i old → Placed key leaves i → new.rows ≡ settle_key needed key old.rows
+      → rows_in (set leaves i new) ≡ settle_key needed key (rows_in leaves)
+  settled-rows needed key leaves i old new at p made =
       ap joined (map-set (λ h. h.rows) leaves i new)
-      ∙ settle-in oldest key (pages_of leaves) i old.rows new.rows (omega (arith, p.range, length-map leaves (λ (h : Held A). h.rows))) (page-at leaves i old at) p.before p.after made
+      ∙ settle-in needed key (pages_of leaves) i old.rows new.rows (omega (arith, p.range, length-map leaves (λ (h : Held A). h.rows))) (page-at leaves i old at) p.before p.after made
 
   no-rows : (rows : VersionedRows A) → has_keys rows ≡ false → rows ≡ []
   no-rows [] e = refl
@@ -165,16 +165,16 @@ module _ {A : Type 0} where
   keys-had [] all = tt
   keys-had (h ∷ hs) all = (all.0, keys-had hs all.1)
 
-  pub settled-laid_out : (oldest : ℕ) (key : Value A) (leaves : List (Held A)) (i : ℕ) (h : Held A) → has_keys h.rows ≡ true → rows_in (set leaves i h) ≡ settle_key oldest key (rows_in leaves) → AreLaidOut (pages_of leaves) → AreLaidOut (pages_of (set leaves i h))
-  settled-laid_out oldest key leaves i h has made laid = (
-    subst IsInOrder (sym made) (settle-in_order oldest key (rows_in leaves) laid.0),
+  pub settled-laid_out : (needed : Needed) (key : Value A) (leaves : List (Held A)) (i : ℕ) (h : Held A) → has_keys h.rows ≡ true → rows_in (set leaves i h) ≡ settle_key needed key (rows_in leaves) → AreLaidOut (pages_of leaves) → AreLaidOut (pages_of (set leaves i h))
+  settled-laid_out needed key leaves i h has made laid = (
+    subst IsInOrder (sym made) (settle-in_order needed key (rows_in leaves) laid.0),
     have-keys (set leaves i h) (all-set (λ (l : Held A). has_keys l.rows ≡ true) leaves i h has (keys-had leaves laid.1)),
   )
 
-  pub dropped-laid_out : (oldest : ℕ) (key : Value A) (leaves left : List (Held A)) (i : ℕ) (h : Held A) → i < length leaves → has_keys h.rows ≡ false → left ≡ take i (set leaves i h) ++ drop (suc i) (set leaves i h)
-      → rows_in (set leaves i h) ≡ settle_key oldest key (rows_in leaves) → AreLaidOut (pages_of leaves) → AreLaidOut (pages_of left)
-  dropped-laid_out oldest key leaves left i h lt none is made laid = subst (λ ls. AreLaidOut (pages_of ls)) (sym is) (
-    subst IsInOrder (sym (dropped-rows leaves i h lt none ∙ made)) (settle-in_order oldest key (rows_in leaves) laid.0),
+  pub dropped-laid_out : (needed : Needed) (key : Value A) (leaves left : List (Held A)) (i : ℕ) (h : Held A) → i < length leaves → has_keys h.rows ≡ false → left ≡ take i (set leaves i h) ++ drop (suc i) (set leaves i h)
+      → rows_in (set leaves i h) ≡ settle_key needed key (rows_in leaves) → AreLaidOut (pages_of leaves) → AreLaidOut (pages_of left)
+  dropped-laid_out needed key leaves left i h lt none is made laid = subst (λ ls. AreLaidOut (pages_of ls)) (sym is) (
+    subst IsInOrder (sym (dropped-rows leaves i h lt none ∙ made)) (settle-in_order needed key (rows_in leaves) laid.0),
     have-keys (take i (set leaves i h) ++ drop (suc i) (set leaves i h)) (dropped-all (λ (l : Held A). has_keys l.rows ≡ true) leaves i h lt (keys-had leaves laid.1)),
   )
 
@@ -208,7 +208,7 @@ module _ {A : Type 0} where
           absurd (true≢false (sym new ∙ rows-not_from fresh.commit key h.rows k below e))
 
   -- the page that is settled can still be undone
-  pub settled-undoable : (oldest commit : ℕ) (key : Value A) (old new : Held A) → new.own ≡ old.own → new.rows ≡ settle_key oldest key old.rows → IsOwnKey key old → IsUndoable commit old → IsUndoable commit new
-  settled-undoable oldest commit key old new own made mine undoable = λ shared.
+  pub settled-undoable : (needed : Needed) (commit : ℕ) (key : Value A) (old new : Held A) → new.own ≡ old.own → new.rows ≡ settle_key needed key old.rows → IsOwnKey key old → IsUndoable commit old → IsUndoable commit new
+  settled-undoable needed commit key old new own made mine undoable = λ shared.
       let was : old.own ≡ false = sym own ∙ shared in
-      subst (RowsAreBelow commit) (sym (made ∙ settle-missing oldest key old.rows (mine was))) (undoable was)
+      subst (RowsAreBelow commit) (sym (made ∙ settle-missing needed key old.rows (mine was))) (undoable was)

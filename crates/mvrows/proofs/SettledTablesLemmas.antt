@@ -14,7 +14,7 @@ use Rattle.schema.specs.declared.changes.Change.{Change}
 use Rattle.schema.specs.Plain.{same}
 use Rattle.mvrows.specs.Versions.{Version, VersionedRows, versions_of}
 use Rattle.mvrows.specs.Installing.{first_version, newer, put_version, install_change, installed}
-use Rattle.mvrows.specs.Settling.{found, settle_key, settle_change, settled}
+use Rattle.mvrows.specs.Settling.{Needed, found, settle_key, settle_change, settled}
 use Rattle.mvrows.specs.Fresh.{is_from, IsFresh, IsFreshIn, AreFresh}
 use Rattle.mvrows.specs.HeldRows.{Held, rows_in, rows_held, AreUndoable}
 use Rattle.mvrows.proofs.VersionLemmas.{all-set}
@@ -116,16 +116,16 @@ module _ {A : Type 0} where
     fresh = subst (λ k. IsFresh f.commit k (rows_in old)) (sym is) (subst (IsFresh f.commit x.key) (ap (versions_of (rows_held tables)) (sym place) ∙ held-at tables t old lt at) f.fresh.0);
   }
 
-  pub settled-held : (oldest : ℕ) (x : Change A) (tables : List (List (Held A))) (t : ℕ) (old h : List (Held A)) (key : Value A) → t ≡ x.table → key ≡ x.key → t < length tables → old ≡ get_or tables t old → rows_in h ≡ settle_key oldest key (rows_in old)
-      → rows_held (set tables t h) ≡ settle_change oldest x (rows_held tables)
-  settled-held oldest x tables t old h key place is lt at made =
+  pub settled-held : (needed : Needed) (x : Change A) (tables : List (List (Held A))) (t : ℕ) (old h : List (Held A)) (key : Value A) → t ≡ x.table → key ≡ x.key → t < length tables → old ≡ get_or tables t old → rows_in h ≡ settle_key needed key (rows_in old)
+      → rows_held (set tables t h) ≡ settle_change needed x (rows_held tables)
+  settled-held needed x tables t old h key place is lt at made =
       map-set rows_in tables t h
-      ∙ ap (set (rows_held tables) t) (made ∙ ap (λ k. settle_key oldest k (rows_in old)) is ∙ ap (settle_key oldest x.key) (sym (held-at tables t old lt at)))
-      ∙ ap (λ n. set (rows_held tables) n (settle_key oldest x.key (versions_of (rows_held tables) n))) place
+      ∙ ap (set (rows_held tables) t) (made ∙ ap (λ k. settle_key needed k (rows_in old)) is ∙ ap (settle_key needed x.key) (sym (held-at tables t old lt at)))
+      ∙ ap (λ n. set (rows_held tables) n (settle_key needed x.key (versions_of (rows_held tables) n))) place
 
-  pub settled-past : (oldest : ℕ) (x : Change A) (tables : List (List (Held A))) (t : ℕ) → t ≡ x.table → length tables ≤ t → rows_held tables ≡ settle_change oldest x (rows_held tables)
-  settled-past oldest x tables t place past = sym (
-      ap (λ n. set (rows_held tables) n (settle_key oldest x.key (versions_of (rows_held tables) n))) (sym place)
+  pub settled-past : (needed : Needed) (x : Change A) (tables : List (List (Held A))) (t : ℕ) → t ≡ x.table → length tables ≤ t → rows_held tables ≡ settle_change needed x (rows_held tables)
+  settled-past needed x tables t place past = sym (
+      ap (λ n. set (rows_held tables) n (settle_key needed x.key (versions_of (rows_held tables) n))) (sym place)
       ∙ set_past (rows_held tables) t _ (rw (length-map tables (λ (y : List (Held A)). rows_in y)) past))
 
   -- the others stay fresh
@@ -150,10 +150,10 @@ module _ {A : Type 0} where
   pub fresh-item : (xs : List (Change A)) (i : ℕ) (x : Change A) (tables : List (List (Held A))) → i < length xs → x ≡ get_or xs i x → AreFresh xs tables → AreFresh (x ∷ []) tables
   fresh-item xs i x tables lt at f = record { commit = f.commit; undoable = f.undoable; fresh = (element-at (IsFreshChange f.commit (rows_held tables)) xs i x lt at f.fresh, tt) }
 
-  pub settled-step : (oldest : ℕ) (xs : List (Change A)) (i : ℕ) (x : Change A) (old new : List (List (Held A))) (whole : List (VersionedRows A)) → i < length xs → x ≡ get_or xs i x → rows_held new ≡ settle_change oldest x (rows_held old)
-      → settled oldest (drop i xs) (rows_held old) ≡ whole → settled oldest (drop (i + 1) xs) (rows_held new) ≡ whole
-  settled-step oldest xs i x old new whole lt at made so_far =
-      ap (settled oldest (drop (i + 1) xs)) made ∙ ap (λ ys. settled oldest ys (rows_held old)) (sym (drop-item xs i x lt at)) ∙ so_far
+  pub settled-step : (needed : Needed) (xs : List (Change A)) (i : ℕ) (x : Change A) (old new : List (List (Held A))) (whole : List (VersionedRows A)) → i < length xs → x ≡ get_or xs i x → rows_held new ≡ settle_change needed x (rows_held old)
+      → settled needed (drop i xs) (rows_held old) ≡ whole → settled needed (drop (i + 1) xs) (rows_held new) ≡ whole
+  settled-step needed xs i x old new whole lt at made so_far =
+      ap (settled needed (drop (i + 1) xs)) made ∙ ap (λ ys. settled needed ys (rows_held old)) (sym (drop-item xs i x lt at)) ∙ so_far
 
-  pub settled-end : (oldest : ℕ) (xs : List (Change A)) (i : ℕ) (now : List (List (Held A))) (whole : List (VersionedRows A)) → length xs ≤ i → settled oldest (drop i xs) (rows_held now) ≡ whole → rows_held now ≡ whole
-  settled-end oldest xs i now whole past so_far = ap (λ ys. settled oldest ys (rows_held now)) (sym (drop_all i xs past)) ∙ so_far
+  pub settled-end : (needed : Needed) (xs : List (Change A)) (i : ℕ) (now : List (List (Held A))) (whole : List (VersionedRows A)) → length xs ≤ i → settled needed (drop i xs) (rows_held now) ≡ whole → rows_held now ≡ whole
+  settled-end needed xs i now whole past so_far = ap (λ ys. settled needed ys (rows_held now)) (sym (drop_all i xs past)) ∙ so_far

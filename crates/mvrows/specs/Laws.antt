@@ -12,7 +12,7 @@ use Rattle.mvrows.specs.Versions.{VersionedRows, AreInOrder, TablesAreBelow, sho
 use Rattle.mvrows.specs.Installing.{opened, installed}
 use Rattle.mvrows.specs.Commits.{changes_key, installed_from, last_change}
 use Rattle.mvrows.specs.Pruning.{ArePruned, KeepsNewest, pruned}
-use Rattle.mvrows.specs.Settling.{AreSettled, settled}
+use Rattle.mvrows.specs.Settling.{Needed, MayBeRead, AreSettled, KeysHaveFew, settled}
 
 -- every snapshot shows the opening
 abbrev pub OpeningIsShown : Type 0 → Type 0
@@ -42,25 +42,29 @@ PruningLeavesOne A = (tables : List (VersionedRows A)) (oldest : ℕ) → ArePru
 abbrev pub PruningKeepsNewest : Type 0 → Type 0
 PruningKeepsNewest A = (tables : List (VersionedRows A)) (oldest t : ℕ) (key : Value A) → AreInOrder tables → KeepsNewest oldest (newest tables t key) (newest (pruned oldest tables) t key)
 
--- where the keys of changes alone are pruned, a snapshot from that number on shows what it showed
+-- where the keys of changes are settled, a snapshot that may still be read shows what it showed
 abbrev pub SettlingIsHidden : Type 0 → Type 0
-SettlingIsHidden A = (tables : List (VersionedRows A)) (changes : List (Change A)) (oldest snapshot : ℕ) → oldest ≤ snapshot → shown snapshot (settled oldest changes tables) ≡ shown snapshot tables
+SettlingIsHidden A = (tables : List (VersionedRows A)) (changes : List (Change A)) (needed : Needed) (snapshot : ℕ) → MayBeRead needed snapshot tables → shown snapshot (settled needed changes tables) ≡ shown snapshot tables
 
--- of each of these keys one version at most isn't above that number
+-- of each of these keys one version at most isn't above the oldest
 abbrev pub SettlingLeavesOne : Type 0 → Type 0
-SettlingLeavesOne A = (tables : List (VersionedRows A)) (changes : List (Change A)) (oldest : ℕ) → AreInOrder tables → AreSettled oldest changes (settled oldest changes tables)
+SettlingLeavesOne A = (tables : List (VersionedRows A)) (changes : List (Change A)) (needed : Needed) → AreInOrder tables → AreSettled needed changes (settled needed changes tables)
 
--- and the number of a key's last commit is as before, or was not above that number and is forgotten
+-- each of these keys has at most one version more than there are snapshots
+abbrev pub SettlingLeavesFew : Type 0 → Type 0
+SettlingLeavesFew A = (tables : List (VersionedRows A)) (changes : List (Change A)) (needed : Needed) → AreInOrder tables → KeysHaveFew needed changes (settled needed changes tables)
+
+-- and the number of a key's last commit is as before, or was not above the oldest and is forgotten
 abbrev pub SettlingKeepsNewest : Type 0 → Type 0
-SettlingKeepsNewest A = (tables : List (VersionedRows A)) (changes : List (Change A)) (oldest t : ℕ) (key : Value A) → AreInOrder tables → KeepsNewest oldest (newest tables t key) (newest (settled oldest changes tables) t key)
+SettlingKeepsNewest A = (tables : List (VersionedRows A)) (changes : List (Change A)) (needed : Needed) (t : ℕ) (key : Value A) → AreInOrder tables → KeepsNewest needed.oldest (newest tables t key) (newest (settled needed changes tables) t key)
 
 -- the keys of each table stay in order
 abbrev pub StaysInOrder : Type 0 → Type 0
-StaysInOrder A = (tables : List (VersionedRows A)) (changes : List (Change A)) (commit oldest : ℕ) → AreInOrder tables → AreInOrder (installed commit changes tables) × AreInOrder (pruned oldest tables) × AreInOrder (settled oldest changes tables)
+StaysInOrder A = (tables : List (VersionedRows A)) (changes : List (Change A)) (commit oldest : ℕ) (needed : Needed) → AreInOrder tables → AreInOrder (installed commit changes tables) × AreInOrder (pruned oldest tables) × AreInOrder (settled needed changes tables)
 
 -- versions are of commits below the next
 abbrev pub StaysBelow : Type 0 → Type 0
-StaysBelow A = (tables : List (VersionedRows A)) (changes : List (Change A)) (commit next oldest : ℕ) → commit < next → TablesAreBelow next tables → TablesAreBelow next (installed commit changes tables) × TablesAreBelow next (pruned oldest tables) × TablesAreBelow next (settled oldest changes tables)
+StaysBelow A = (tables : List (VersionedRows A)) (changes : List (Change A)) (commit next oldest : ℕ) (needed : Needed) → commit < next → TablesAreBelow next tables → TablesAreBelow next (installed commit changes tables) × TablesAreBelow next (pruned oldest tables) × TablesAreBelow next (settled needed changes tables)
 
 -- the number of the last commit of a key is 0 where the opening has it
 abbrev pub NewestIsOpening : Type 0 → Type 0

@@ -1,10 +1,12 @@
 // A key and its versions.
-ghost use Rattle.std.specs.Prelude.{◌≡◌, nat_le, false, take, drop, OnOk, OnErr, IfOk, IfErr, IsTrue};
+ghost use Rattle.std.specs.Prelude.{◌≡◌, ◌<◌, ◌+◌, ◌^◌, nat_le, false, take, drop, length, slice_get, OnSome, OnOk, OnErr, IfOk, IfErr, IsTrue};
+ghost use Rattle.std.specs.List.{remove};
 ghost use Rattle.std.specs.Option.{option_map, option_map_or, option_copied};
 ghost use Rattle.value.specs.Refusals.{out_of_memory};
 ghost use Rattle.mvrows.specs.Versions.{shown_row, newest_version};
 ghost use Rattle.mvrows.specs.Installing.{first_version, newer, opened_row};
 ghost use Rattle.mvrows.specs.Pruning.{pruned_key, pruned_versions, has_version};
+ghost use Rattle.mvrows.specs.Settling.{is_shown_to, read_versions, settled_key};
 ghost use Rattle.mvrows.specs.TakenBack.{key_before};
 
 use schema::changes::Change;
@@ -84,6 +86,15 @@ fn copy_row<A: Allocator + Copy>(alloc: A, row: &Option<Row<A>>) -> Result<Optio
         Some(row) => Ok(Some(row.copy(alloc)?)),
         None => Ok(None),
     }
+}
+
+// Whether one of these snapshots shows a version of this number, where the next has that number.
+fn is_shown_to(snapshots: &[u64], number: u64, next: u64) -> bool
+    ensures { result ≡ is_shown_to snapshots.now number next }
+{
+    snapshots
+        .iter()
+        .any(|snapshot| number <= *snapshot && *snapshot < next)
 }
 
 impl<A: Allocator> Chain<A> {
@@ -199,6 +210,53 @@ impl<A: Allocator> Chain<A> {
     {
         let kept = self.kept(oldest);
         self.versions.truncate(kept);
+    }
+
+    // The number of the version at a place; the newest stands at 0.
+    fn number_at(&self, place: usize) -> Option<u64>
+        ensures number { result ≡ option_map (λ v. v.number) (slice_get self.now.versions place) }
+        ensures within { OnSome result (place + 1 < 2 ^ 64) }
+    {
+        match self.versions.get(place) {
+            Some(version) => Some(version.number),
+            None => None,
+        }
+    }
+
+    // Drops the version at a place.
+    fn drop_at(&mut self, place: usize)
+        requires { place < length self.old.versions }
+        ensures { self.new ≡ record self.old { versions = remove self.old.versions place } }
+    {
+        let _ = self.versions.remove(place);
+    }
+
+    // Leaves the newest version, and of the others those that one of these snapshots shows.
+    fn thin(&mut self, snapshots: &[u64])
+        ensures { self.new ≡ record self.old { versions = read_versions snapshots.now self.old.versions } }
+    {
+        let Some(newest) = self.newest() else {
+            return;
+        };
+        let mut next = newest;
+        let mut place: usize = 1;
+        'versions: while let Some(number) = self.number_at(place) {
+            if is_shown_to(snapshots, number, next) {
+                next = number;
+                place += 1;
+            } else {
+                self.drop_at(place);
+            }
+        }
+    }
+
+    /// Leaves what a pruning leaves, and of that the newest version, and of the others those that one
+    /// of these snapshots shows.
+    pub fn settle(&mut self, oldest: u64, snapshots: &[u64])
+        ensures { self.new ≡ settled_key (record { oldest = oldest; snapshots = snapshots.now }) self.old }
+    {
+        self.prune(oldest);
+        self.thin(snapshots);
     }
 
     // Whether the newest version is of this commit, or a later one.

@@ -1,5 +1,5 @@
 //! What holds of versions, whatever was installed, pruned and settled.
-ghost use Rattle.mvrows.specs.Laws.{OpeningIsShown, OpeningIsFirst, ShowsInstalled, HidesInstalled, PruningIsHidden, PruningLeavesOne, PruningKeepsNewest, SettlingIsHidden, SettlingLeavesOne, SettlingKeepsNewest, StaysInOrder, StaysBelow, NewestIsOpening, NewestIsInstalled, NewestIsLast};
+ghost use Rattle.mvrows.specs.Laws.{OpeningIsShown, OpeningIsFirst, ShowsInstalled, HidesInstalled, PruningIsHidden, PruningLeavesOne, PruningKeepsNewest, SettlingIsHidden, SettlingLeavesOne, SettlingLeavesFew, SettlingKeepsNewest, StaysInOrder, StaysBelow, NewestIsOpening, NewestIsInstalled, NewestIsLast};
 
 use std::alloc::Allocator;
 
@@ -28,10 +28,14 @@ pub fn pruning_is_hidden<A: Allocator>()
     ensures newest { PruningKeepsNewest A }
 {}
 
-/// The same where the keys of changes alone are pruned, one after another.
+/// Where the keys of changes are settled, one after another, a snapshot that may still be read shows what
+/// it showed before; of each of these keys one version at most isn't above the oldest, and there is at most
+/// one more than there are snapshots; and the number of a key's last commit is as before, or was not above
+/// the oldest and is forgotten.
 pub fn settling_is_hidden<A: Allocator>()
     ensures shown { SettlingIsHidden A }
     ensures one { SettlingLeavesOne A }
+    ensures few { SettlingLeavesFew A }
     ensures newest { SettlingKeepsNewest A }
 {}
 

@@ -184,14 +184,14 @@ impl<A: Allocator> Leaf<A> {
         }
     }
 
-    /// Prunes a key of its own.
-    pub fn settle(&mut self, oldest: u64, key: &Key<A>)
+    /// Settles a key of its own.
+    pub fn settle(&mut self, oldest: u64, snapshots: &[u64], key: &Key<A>)
         requires { IsOwnKey key.now self.old }
-        ensures rows { self.new.rows ≡ settle_key oldest key.now self.old.rows }
+        ensures rows { self.new.rows ≡ settle_key (record { oldest = oldest; snapshots = snapshots.now }) key.now self.old.rows }
         ensures own { self.new.own ≡ self.old.own }
     {
         match &mut self.holder {
-            Holder::Own(page) => page.settle(oldest, key),
+            Holder::Own(page) => page.settle(oldest, snapshots, key),
             Holder::Shared(_) => {}
         }
     }

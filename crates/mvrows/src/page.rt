@@ -157,18 +157,24 @@ fn put<A: Allocator + Copy>(
     }
 }
 
-// Prunes a key at its place, if it is there. It goes where no version of it is left.
-fn settle<A: Allocator>(chains: &mut Vec<Chain<A>, A>, place: usize, oldest: u64, key: &Key<A>)
+// Settles a key at its place, if it is there. It goes where no version of it is left.
+fn settle<A: Allocator>(
+    chains: &mut Vec<Chain<A>, A>,
+    place: usize,
+    oldest: u64,
+    snapshots: &[u64],
+    key: &Key<A>,
+)
     requires within_length { place ≤ length chains.old.items }
     requires before { AllByRecursion (λ k. is_le (value_cmp key.now k.key) ≡ false) (take place chains.old.items) }
     requires within { AllByRecursion (λ k. is_le (value_cmp key.now k.key) ≡ true) (drop place chains.old.items) }
-    ensures { chains.new.items ≡ settle_key oldest key.now chains.old.items }
+    ensures { chains.new.items ≡ settle_key (record { oldest = oldest; snapshots = snapshots.now }) key.now chains.old.items }
 {
     if !is_at(chains.as_slice(), place, key) {
         return;
     }
     let chain = &mut chains[place];
-    chain.prune(oldest);
+    chain.settle(oldest, snapshots);
     if !chain.has_version() {
         let _ = chains.remove(place);
     }
@@ -316,12 +322,13 @@ impl<A: Allocator> Page<A> {
         drop_empty(&mut self.chains);
     }
 
-    /// Leaves of a key what a pruning leaves of it, if it is there.
-    pub fn settle(&mut self, oldest: u64, key: &Key<A>)
-        ensures { self.new ≡ settle_key oldest key.now self.old }
+    /// Leaves of a key, if it is there, the versions that may still be read: those at snapshots from the
+    /// oldest on that are among these, and the newest.
+    pub fn settle(&mut self, oldest: u64, snapshots: &[u64], key: &Key<A>)
+        ensures { self.new ≡ settle_key (record { oldest = oldest; snapshots = snapshots.now }) key.now self.old }
     {
         let place = start(self.chains.as_slice(), Bound::From(key));
-        settle(&mut self.chains, place, oldest, key);
+        settle(&mut self.chains, place, oldest, snapshots, key);
     }
 
     /// Takes back the versions of a commit that wasn't finished.

@@ -132,26 +132,36 @@ fn take_all_back<A: Allocator>(tables: &mut Vec<Table<A>, A>, commit: u64)
     }
 }
 
-// Prunes the key of a change, where its table is there.
-fn settle_change<A: Allocator>(tables: &mut Vec<Table<A>, A>, oldest: u64, change: &Change<A>)
+// Settles the key of a change, where its table is there.
+fn settle_change<A: Allocator>(
+    tables: &mut Vec<Table<A>, A>,
+    oldest: u64,
+    snapshots: &[u64],
+    change: &Change<A>,
+)
     requires { AreFresh (change.now ∷ []) tables.old.items }
-    ensures rows { rows_held tables.new.items ≡ settle_change oldest change.now (rows_held tables.old.items) }
+    ensures rows { rows_held tables.new.items ≡ settle_change (record { oldest = oldest; snapshots = snapshots.now }) change.now (rows_held tables.old.items) }
     ensures fresh { (xs : List (Change A)) → AreFresh xs tables.old.items → AreFresh xs tables.new.items }
 {
     let place = change.table().place() as usize;
     if place < tables.len() {
         let table = &mut tables[place];
-        table.settle(oldest, change.key());
+        table.settle(oldest, snapshots, change.key());
     }
 }
 
-// Prunes the key of each change.
-fn settle_all<A: Allocator>(tables: &mut Vec<Table<A>, A>, oldest: u64, changes: &[Change<A>])
+// Settles the key of each change.
+fn settle_all<A: Allocator>(
+    tables: &mut Vec<Table<A>, A>,
+    oldest: u64,
+    snapshots: &[u64],
+    changes: &[Change<A>],
+)
     requires { AreFresh changes.now tables.old.items }
-    ensures { rows_held tables.new.items ≡ settled oldest changes.now (rows_held tables.old.items) }
+    ensures { rows_held tables.new.items ≡ settled (record { oldest = oldest; snapshots = snapshots.now }) changes.now (rows_held tables.old.items) }
 {
     for change in changes {
-        settle_change(tables, oldest, change);
+        settle_change(tables, oldest, snapshots, change);
     }
 }
 
@@ -257,25 +267,27 @@ impl<A: Allocator> Rows<A> {
         Ok(Rows { tables: opening })
     }
 
-    /// Installs the changes of a commit, whose number is above all before, and drops the versions of their
-    /// keys that no snapshot from the oldest on shows. Views stay as they are.
+    /// Installs the changes of a commit, whose number is above all before. Of the versions of their keys
+    /// it leaves the newest, and those that snapshots show which may still be read: none below the oldest,
+    /// and below that commit these alone. Views stay as they are.
     pub fn install(
         &mut self,
         alloc: A,
         oldest: u64,
+        snapshots: &[u64],
         commit: u64,
         changes: &[Change<A>],
     ) -> Result<(), Refusal>
     where
         A: Copy,
         requires { TablesAreBelow commit self.old }
-        ensures ok { OnOk result (self.new ≡ settled oldest changes.now (installed commit changes.now self.old)) }
+        ensures ok { OnOk result (self.new ≡ settled (record { oldest = oldest; snapshots = snapshots.now }) changes.now (installed commit changes.now self.old)) }
         ensures err { OnErr result (self.new ≡ self.old) }
         ensures memory { IfErr result (λ e. e ≡ out_of_memory) }
     {
         match put_all(alloc, &mut self.tables, commit, changes) {
             Ok(()) => {
-                settle_all(&mut self.tables, oldest, changes);
+                settle_all(&mut self.tables, oldest, snapshots, changes);
                 share_all_changed(alloc, &mut self.tables, changes);
                 Ok(())
             }

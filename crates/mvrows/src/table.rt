@@ -316,17 +316,17 @@ fn prune_all<A: Allocator>(leaves: &mut Vec<Leaf<A>, A>, oldest: u64)
 }
 
 // Prunes a key in the page that it belongs to, which goes where no key is left.
-fn settle<A: Allocator>(leaves: &mut Vec<Leaf<A>, A>, oldest: u64, key: &Key<A>)
+fn settle<A: Allocator>(leaves: &mut Vec<Leaf<A>, A>, oldest: u64, snapshots: &[u64], key: &Key<A>)
     requires laid_out { AreLaidOut (pages_of leaves.old.items) }
     requires some { 0 < length leaves.old.items }
     requires fresh { IsFreshIn key.now leaves.old.items }
-    ensures rows { rows_in leaves.new.items ≡ settle_key oldest key.now (rows_in leaves.old.items) }
+    ensures rows { rows_in leaves.new.items ≡ settle_key (record { oldest = oldest; snapshots = snapshots.now }) key.now (rows_in leaves.old.items) }
     ensures laid_out { AreLaidOut (pages_of leaves.new.items) }
     ensures undoable { (commit : ℕ) → AreUndoable commit leaves.old.items → AreUndoable commit leaves.new.items }
 {
     let place = place_of(leaves.as_slice(), key);
     let leaf = &mut leaves[place];
-    leaf.settle(oldest, key);
+    leaf.settle(oldest, snapshots, key);
     if !leaf.has_keys() {
         let _ = leaves.remove(place);
     }
@@ -496,14 +496,14 @@ impl<A: Allocator> Table<A> {
     }
 
     /// Prunes a key that the table has just put in.
-    pub fn settle(&mut self, oldest: u64, key: &Key<A>)
+    pub fn settle(&mut self, oldest: u64, snapshots: &[u64], key: &Key<A>)
         requires { IsFreshIn key.now self.old }
-        ensures rows { rows_in self.new ≡ settle_key oldest key.now (rows_in self.old) }
+        ensures rows { rows_in self.new ≡ settle_key (record { oldest = oldest; snapshots = snapshots.now }) key.now (rows_in self.old) }
         ensures undoable { (commit : ℕ) → AreUndoable commit self.old → AreUndoable commit self.new }
         ensures fresh { (commit : ℕ) (k : Value A) → IsFresh commit k (rows_in self.old) → IsFresh commit k (rows_in self.new) }
     {
         if !self.leaves.is_empty() {
-            settle(&mut self.leaves, oldest, key);
+            settle(&mut self.leaves, oldest, snapshots, key);
         }
     }
 

@@ -5,6 +5,7 @@ pub mod StretchLemmas
 pub mod WalkLemmas
 pub mod LedgerLemmas
 pub mod MergedLemmas
+pub mod OwedLemmas
 pub mod CommitLemmas
 pub mod RunLemmas
 pub mod InstallLemmas

@@ -16,13 +16,14 @@ ghost use Rattle.mvrows.specs.Versions.{AreInOrder, TablesAreBelow};
 ghost use Rattle.plain.specs.Ledger.{after_owned, committed_by, turned_at, txn_at, world_on};
 ghost use Rattle.plain.specs.Stretches.{HoldsStretch};
 ghost use Rattle.plain.specs.Structures.{StructuresHold};
-ghost use Rattle.plain.specs.Versions.{AreCurrent, HasSameCommits, IsInstalled, StayShown, lowest_of, next_commit};
+ghost use Rattle.plain.specs.Versions.{AreCurrent, HasSameCommits, IsInstalled, StayShown, lowest_of, needed_of, next_commit, owed_snapshots};
 
 use crate::answered::Answered;
 use crate::course::Course;
 use crate::dooms::dooms;
 use crate::isolation::{cause_at, has_any_edge};
 use crate::least::{Which, least_owed};
+use crate::owed::owed_snapshots;
 use crate::own::OwnChanges;
 use crate::reply::of_cause;
 use crate::stretch::{Stretch, around};
@@ -143,24 +144,48 @@ fn lowest_with<A: Allocator>(
     least
 }
 
-// Puts in the versions of a commit, of each key the last, and drops of its keys what no snapshot from
-// the oldest on shows. The changes stay.
+// The snapshots that may still be read with the transaction at a place on another course. The
+// transactions stay.
+fn snapshots_with<A: Allocator>(
+    alloc: A,
+    transactions: &mut Vec<Transaction<A>, A>,
+    past: Stretch,
+    at: usize,
+    course: Course,
+) -> Result<Vec<u64, A>, Refusal>
+    requires past { HoldsStretch past transactions.old.items }
+    requires within { at < length transactions.old.items }
+    ensures ok { IfOk result (λ snapshots. snapshots.items ≡ owed_snapshots (turned_at at (on_course course) transactions.old.items)) }
+    ensures same { transactions.new.items ≡ transactions.old.items }
+    ensures memory { IfErr result (λ e. e ≡ out_of_memory) }
+{
+    let before = transactions[at].course();
+    turn(transactions, at, course);
+    let snapshots = owed_snapshots(alloc, transactions.as_slice(), past.without(at));
+    turn(transactions, at, before);
+    snapshots
+}
+
+// Puts in the versions of a commit, of each key the last. Of the others of its keys those stay that
+// snapshots show which may still be read: none below the oldest, and below the commit these alone. The
+// changes stay.
 fn install<A: Allocator + Copy>(
     alloc: A,
     rows: &mut Rows<A>,
     oldest: u64,
+    snapshots: &[u64],
     number: u64,
     changes: &mut OwnChanges<A>,
 ) -> Result<(), Refusal>
     requires order { AreInOrder rows.old }
     requires below { TablesAreBelow number rows.old }
-    ensures ok { OnOk result (IsInstalled oldest number changes.old rows.old rows.new) }
+    ensures ok { OnOk result (IsInstalled (record { oldest = oldest; snapshots = snapshots.now }) number changes.old rows.old rows.new) }
     ensures err { OnErr result (rows.new ≡ rows.old) }
     ensures same { changes.new ≡ changes.old }
     ensures memory { IfErr result (λ e. e ≡ out_of_memory) }
 {
     let last = changes.last_changes(alloc)?;
-    rows.install(alloc, oldest, number, last.as_slice())
+    rows.install(alloc, oldest, snapshots, number, last.as_slice())
 }
 
 // Puts in the versions of the commit of the transaction at a place. The transactions stay.
@@ -168,6 +193,7 @@ fn install_at<A: Allocator + Copy>(
     alloc: A,
     rows: &mut Rows<A>,
     oldest: u64,
+    snapshots: &[u64],
     number: u64,
     transactions: &mut Vec<Transaction<A>, A>,
     at: usize,
@@ -175,13 +201,20 @@ fn install_at<A: Allocator + Copy>(
     requires within { at < length transactions.old.items }
     requires order { AreInOrder rows.old }
     requires below { TablesAreBelow number rows.old }
-    ensures ok { OnOk result (IsInstalled oldest number (txn_at transactions.old.items at).changes rows.old rows.new) }
+    ensures ok { OnOk result (IsInstalled (record { oldest = oldest; snapshots = snapshots.now }) number (txn_at transactions.old.items at).changes rows.old rows.new) }
     ensures err { OnErr result (rows.new ≡ rows.old) }
     ensures same { transactions.new.items ≡ transactions.old.items }
     ensures memory { IfErr result (λ e. e ≡ out_of_memory) }
 {
     let committer = &mut transactions[at];
-    install(alloc, rows, oldest, number, &mut committer.changes)
+    install(
+        alloc,
+        rows,
+        oldest,
+        snapshots,
+        number,
+        &mut committer.changes,
+    )
 }
 
 // The answer to a COMMIT, by the structure that it would make.
@@ -236,6 +269,21 @@ impl<A: Allocator> World<A> {
         lowest_with(&mut self.transactions, self.past, at, committed, number)
     }
 
+    // The snapshots that may still be read after the transaction at a place has committed.
+    fn snapshots_after(
+        &mut self,
+        alloc: A,
+        at: usize,
+        committed: Course,
+    ) -> Result<Vec<u64, A>, Refusal>
+        requires within { at < length self.old.txns }
+        ensures ok { IfOk result (λ snapshots. snapshots.items ≡ owed_snapshots (turned_at at (on_course committed) self.old.txns)) }
+        ensures same { self.new ≡ self.old }
+        ensures memory { IfErr result (λ e. e ≡ out_of_memory) }
+    {
+        snapshots_with(alloc, &mut self.transactions, self.past, at, committed)
+    }
+
     // The structures by which the commit of the open transaction at a place dooms others.
     fn dooms_of(&self, alloc: A, at: usize) -> Result<Vec<Cause, A>, Refusal>
         requires within { at < length self.now.txns }
@@ -262,7 +310,7 @@ impl<A: Allocator> World<A> {
         requires room { self.old.place + 1 < 2 ^ 64 }
         requires current { AreCurrent self.old rows.old }
         requires open { is_open (txn_at self.old.txns at).standing ≡ true }
-        ensures rows { OnOk result (IsInstalled (lowest_of (next_commit self.old) (turned_at at (on_course committed) self.old.txns)) (next_commit self.old) (txn_at self.old.txns at).changes rows.old rows.new) }
+        ensures rows { OnOk result (IsInstalled (needed_of (next_commit self.old) (turned_at at (on_course committed) self.old.txns)) (next_commit self.old) (txn_at self.old.txns at).changes rows.old rows.new) }
         ensures rows_err { OnErr result (rows.new ≡ rows.old) }
         ensures ok { OnOk result (self.new ≡ record self.old { base = record self.old.base { commits = self.old.base.commits + 1 }; txns = map (doomed_by (self.old.place + 1) (spec.dooms node reads_from self.old.txns (txn_at self.old.txns at))) (turned_at at (on_course committed) self.old.txns); place = self.old.place + 1 }) }
         ensures err { OnErr result (self.new ≡ self.old) }
@@ -270,8 +318,17 @@ impl<A: Allocator> World<A> {
     {
         let oldest = self.lowest_after(at, committed);
         let number = self.commits() + 1;
+        let snapshots = self.snapshots_after(alloc, at, committed)?;
         let causes = self.dooms_of(alloc, at)?;
-        install_at(alloc, rows, oldest, number, &mut self.transactions, at)?;
+        install_at(
+            alloc,
+            rows,
+            oldest,
+            snapshots.as_slice(),
+            number,
+            &mut self.transactions,
+            at,
+        )?;
         self.turn_committer(at, committed, causes.as_slice());
         Ok(())
     }

@@ -16,6 +16,7 @@ mod forgetting;
 pub mod isolation;
 pub mod keys;
 pub mod least;
+mod owed;
 pub mod own;
 pub mod party;
 pub mod reader;

@@ -62,7 +62,7 @@ fn refuse_commit<A: Allocator + Copy>(
     let before = told(memory, alloc, &rows)?;
     let start = memory.requests();
     memory.refuse(number);
-    let answer = rows.install(alloc, 0, 1, changes);
+    let answer = rows.install(alloc, 0, [0].as_slice(), 1, changes);
     memory.refuse(0);
     let is_reached = memory.requests().wrapping_sub(start) >= number;
     let after = told(memory, alloc, &rows)?;

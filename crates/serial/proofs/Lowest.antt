@@ -1,5 +1,5 @@
--- The least snapshot of the transactions that their sessions have still to end never falls; and an identifier that doesn't live never does again.
-use Rattle.std.proofs.Common.{◌≡◌, sym, ap, ◌∙◌, ℕ, ◌+◌, ◌≤◌, Bool, true, false, true≢false, cond, ◌&&◌, ◌⊎◌, inl, inr, List, [], ◌∷◌, ◌++◌, length, eqb, length-append, arith}
+-- A transaction that its session has still to end reads a snapshot that one read before the last event, or that of all commits; and an identifier that doesn't live never does again.
+use Rattle.std.proofs.Common.{◌≡◌, sym, ap, subst, ◌∙◌, ℕ, ◌+◌, ◌≤◌, Bool, true, false, true≢false, cond, ◌&&◌, ◌⊎◌, inl, inr, List, [], ◌∷◌, ◌++◌, length, eqb, length-append, arith}
 use Rattle.std.proofs.lemmas.Bool.{eqb-true, eq-eqb}
 use Rattle.value.proofs.IsolationLemmas.{In}
 use Rattle.value.proofs.SerialLemmas.{In-append}
@@ -19,77 +19,76 @@ use Rattle.serial.proofs.NeededOldest.{Exporting, exporting_step}
 use Rattle.serial.proofs.NeededFrom.{commits_step, exporting}
 
 module _ {A : Type 0} where
-  -- No transaction that its session has still to end has a snapshot below n.
-  abbrev pub Lowest : ℕ → List (Txn A) → Type 0
-  Lowest n ts = (t : Txn A) → In t ts → is_owed t.standing ≡ true → n ≤ t.snapshot
+  -- The snapshot of each transaction that its session has still to end passes.
+  abbrev pub AllRead : (ℕ → Type 0) → List (Txn A) → Type 0
+  AllRead P ts = (t : Txn A) → In t ts → is_owed t.standing ≡ true → P t.snapshot
 
-  moved_lowest : (w : World A) (n : ℕ) (t x : Txn A) (log : List (Txn A)) (exports : List Exported_snapshot) → Exporting w → Lowest n w.txns → n ≤ commits w → In t w.txns → is_open t.standing ≡ true
-      → Move w t x log exports → n ≤ x.snapshot
-  moved_lowest w n t x log exports h low most i o Stays = low t i (open_owed t.standing o)
-  moved_lowest w n t x log exports h low most i o Fails = low t i (open_owed t.standing o)
-  moved_lowest w n t x log exports h low most i o Aborts = low t i (open_owed t.standing o)
-  moved_lowest w n t x log exports h low most i o (Commits e) = by_mode (is_read_write t.mode)
-    where
-      by_mode : (b : Bool) → n ≤ (cond b (record (ended w Done t) { commit = commits w + 1 }) (ended w Done t)).snapshot
-      by_mode true = low t i (open_owed t.standing o)
-      by_mode false = low t i (open_owed t.standing o)
-  moved_lowest w n t x log exports h low most i o (Runs q fits a b d) = low t i (open_owed t.standing o)
-  moved_lowest w n t x log exports h low most i o (Asks a) = low t i (open_owed t.standing o)
-  moved_lowest w n t x log exports h low most i o (Polls d k) = polled_keeps (λ y. n ≤ y.snapshot) w t (low t i (open_owed t.standing o)) most
-  moved_lowest w n t x log exports h low most i o (Learns d k e) = polled_keeps (λ y. n ≤ y.snapshot) w t (low t i (open_owed t.standing o)) most
-  moved_lowest w n t x log exports h low most i o (Imports j y d a e) = from (any-In (λ u. eqb u.number y.exporter && is_open u.standing) w.txns living)
-    where
-      f : In y w.exports × ((eqb y.id j && is_living w.txns y) ≡ true)
-      f = found _ w.exports y e
+  module _ (P : ℕ → Type 0) where
+    moved_read : (w : World A) (t x : Txn A) (log : List (Txn A)) (exports : List Exported_snapshot) → Exporting w → AllRead P w.txns → P (commits w) → In t w.txns → is_open t.standing ≡ true
+        → Move w t x log exports → P x.snapshot
+    moved_read w t x log exports h read now i o Stays = read t i (open_owed t.standing o)
+    moved_read w t x log exports h read now i o Fails = read t i (open_owed t.standing o)
+    moved_read w t x log exports h read now i o Aborts = read t i (open_owed t.standing o)
+    moved_read w t x log exports h read now i o (Commits e) = by_mode (is_read_write t.mode)
+      where
+        by_mode : (b : Bool) → P (cond b (record (ended w Done t) { commit = commits w + 1 }) (ended w Done t)).snapshot
+        by_mode true = read t i (open_owed t.standing o)
+        by_mode false = read t i (open_owed t.standing o)
+    moved_read w t x log exports h read now i o (Runs q fits a b d) = read t i (open_owed t.standing o)
+    moved_read w t x log exports h read now i o (Asks a) = read t i (open_owed t.standing o)
+    moved_read w t x log exports h read now i o (Polls d k) = polled_keeps (λ y. P y.snapshot) w t (read t i (open_owed t.standing o)) now
+    moved_read w t x log exports h read now i o (Learns d k e) = polled_keeps (λ y. P y.snapshot) w t (read t i (open_owed t.standing o)) now
+    moved_read w t x log exports h read now i o (Imports j y d a e) = from (any-In (λ u. eqb u.number y.exporter && is_open u.standing) w.txns living)
+      where
+        f : In y w.exports × ((eqb y.id j && is_living w.txns y) ≡ true)
+        f = found _ w.exports y e
 
-      living : is_living w.txns y ≡ true
-      living = (both_true (eqb y.id j) (is_living w.txns y) f.1).1
+        living : is_living w.txns y ≡ true
+        living = (both_true (eqb y.id j) (is_living w.txns y) f.1).1
 
-      from : (u : Txn A) × In u w.txns × ((eqb u.number y.exporter && is_open u.standing) ≡ true) → n ≤ y.snapshot
-      from u =
-          let q = both_true (eqb u.0.number y.exporter) (is_open u.0.standing) u.2 in
-          let p = h.stood y f.0 u.0 u.1 (eqb-true u.0.number y.exporter q.0) q.1 in
-          let m = low u.0 u.1 (open_owed u.0.standing q.1) in omega (arith, m, p.0)
+        from : (u : Txn A) × In u w.txns × ((eqb u.number y.exporter && is_open u.standing) ≡ true) → P y.snapshot
+        from u =
+            let q = both_true (eqb u.0.number y.exporter) (is_open u.0.standing) u.2 in
+            let p = h.stood y f.0 u.0 u.1 (eqb-true u.0.number y.exporter q.0) q.1 in
+            subst P p.0 (read u.0 u.1 (open_owed u.0.standing q.1))
 
-  lowest_step : (w v : World A) (n : ℕ) → Exporting w → Lowest n w.txns → n ≤ commits w → Step w v → Lowest n v.txns
-  lowest_step w v n h low most Nothing = low
-  lowest_step w v n h low most (Begins s m) = λ t k o. go t (In-append (λ (_ : Txn A). (0, 0, 0)) t w.txns (begun w s m ∷ []) k) o
-    where
-      go : (t : Txn A) → In t w.txns ⊎ ((t ≡ begun w s m) ⊎ ⊥) → is_owed t.standing ≡ true → n ≤ t.snapshot
-      go t (inl k) o = low t k o
-      go t (inr (inl p)) o = let e : t.snapshot ≡ commits w = ap (λ (y : Txn A). y.snapshot) p in omega (arith, e, most)
-      go t (inr (inr z)) o = absurd z
-  lowest_step w v n h low most (Moves s t x log exports c o move) = λ u k q. go u (In-replaced u x w.txns k) q
-    where
-      go : (u : Txn A) → (u ≡ x) ⊎ In u w.txns × (eqb u.number x.number ≡ false) → is_owed u.standing ≡ true → n ≤ u.snapshot
-      go u (inl p) q = let e : u.snapshot ≡ x.snapshot = ap (λ (y : Txn A). y.snapshot) p in
-          let m = moved_lowest w n t x log exports h low most (current_in w s t c).0 o move in omega (arith, e, m)
-      go u (inr k) q = low u k.0 q
-  lowest_step w v n h low most (Settles s t st c o d o' d') = λ u k q. go u (In-replaced u (record t { standing = st }) w.txns k) q
-    where
-      go : (u : Txn A) → (u ≡ record t { standing = st }) ⊎ In u w.txns × (eqb u.number t.number ≡ false) → is_owed u.standing ≡ true → n ≤ u.snapshot
-      go u (inl p) q =
-          let e : u.snapshot ≡ t.snapshot = ap (λ (y : Txn A). y.snapshot) p in
-          let i = current_in w s t c in
-          let m = low t i.0 (both_true (eqb t.session s) (is_owed t.standing) i.1).1 in omega (arith, e, m)
-      go u (inr k) q = low u k.0 q
-  lowest_step w v n h low most (Dooms cs) = λ u k q. let f = In-doomed w.place cs u w.txns k in go f.0 u f.1 f.2 q
-    where
-      go : (t u : Txn A) → In t w.txns → Fate w.place t u → is_owed u.standing ≡ true → n ≤ u.snapshot
-      go t u i Spared q = low t i q
-      go t u i (Over c o) q = low t i (open_owed t.standing o)
+    read_step : (w v : World A) → Exporting w → AllRead P w.txns → P (commits w) → Step w v → AllRead P v.txns
+    read_step w v h read now Nothing = read
+    read_step w v h read now (Begins s m) = λ t k o. go t (In-append (λ (_ : Txn A). (0, 0, 0)) t w.txns (begun w s m ∷ []) k) o
+      where
+        go : (t : Txn A) → In t w.txns ⊎ ((t ≡ begun w s m) ⊎ ⊥) → is_owed t.standing ≡ true → P t.snapshot
+        go t (inl k) o = read t k o
+        go t (inr (inl p)) o = subst P (sym (ap (λ (y : Txn A). y.snapshot) p)) now
+        go t (inr (inr z)) o = absurd z
+    read_step w v h read now (Moves s t x log exports c o move) = λ u k q. go u (In-replaced u x w.txns k) q
+      where
+        go : (u : Txn A) → (u ≡ x) ⊎ In u w.txns × (eqb u.number x.number ≡ false) → is_owed u.standing ≡ true → P u.snapshot
+        go u (inl p) q = subst P (sym (ap (λ (y : Txn A). y.snapshot) p)) (moved_read w t x log exports h read now (current_in w s t c).0 o move)
+        go u (inr k) q = read u k.0 q
+    read_step w v h read now (Settles s t st c o d o' d') = λ u k q. go u (In-replaced u (record t { standing = st }) w.txns k) q
+      where
+        go : (u : Txn A) → (u ≡ record t { standing = st }) ⊎ In u w.txns × (eqb u.number t.number ≡ false) → is_owed u.standing ≡ true → P u.snapshot
+        go u (inl p) q =
+            let i = current_in w s t c in
+            subst P (sym (ap (λ (y : Txn A). y.snapshot) p)) (read t i.0 (both_true (eqb t.session s) (is_owed t.standing) i.1).1)
+        go u (inr k) q = read u k.0 q
+    read_step w v h read now (Dooms cs) = λ u k q. let f = In-doomed w.place cs u w.txns k in go f.0 u f.1 f.2 q
+      where
+        go : (t u : Txn A) → In t w.txns → Fate w.place t u → is_owed u.standing ≡ true → P u.snapshot
+        go t u i Spared q = read t i q
+        go t u i (Over c o) q = read t i (open_owed t.standing o)
 
-  lowest_steps : (w v : World A) (n : ℕ) → IsGood w → Exporting w → Lowest n w.txns → n ≤ commits w → Steps w v → Lowest n v.txns
-  lowest_steps w v n g h low most (One v' s) = lowest_step w v n h low most s
-  lowest_steps w v n g h low most (Two u v' s r) = lowest_step u v n (exporting_step w u g h s) (lowest_step w u n h low most s) (let m = commits_step w u g s in omega (arith, m, most)) r
+    read_steps : (w v : World A) → IsGood w → Exporting w → AllRead P w.txns → ((n : ℕ) → commits w ≤ n → P n) → Steps w v → AllRead P v.txns
+    read_steps w v g h read new (One v' s) = read_step w v h read (new (commits w) (omega arith)) s
+    read_steps w v g h read new (Two u v' s r) = read_step u v (exporting_step w u g h s) (read_step w u h read (new (commits w) (omega arith)) s) (new (commits u) (commits_step w u g s)) r
 
-  -- What no unfinished transaction's snapshot was below, none is below after one more event.
-  pub lowest_later : (o : Opening A) (es : List (Record A)) → Legal o es → (s : ℕ) (a : Action A) (n : ℕ) → Allowed (world_of o es).catalog a → Lowest n (world_of o es).txns → n ≤ commits (world_of o es)
-      → Lowest n (follows (world_of o es) (record { session = s; action = a; reply = reply_in (world_of o es) s a })).txns
-  lowest_later o es l s a n fits low most = lowest_steps w (follows w (record { session = s; action = a; reply = reply_in w s a })) n (good_world o es l) (exporting o es l) low most (legal_steps w s a fits)
-    where
-      w : World A
-      w = world_of o es
+    -- What the snapshots of unfinished transactions pass, and the number of all commits and later ones, they pass after one more event.
+    pub read_later : (o : Opening A) (es : List (Record A)) → Legal o es → (s : ℕ) (a : Action A) → Allowed (world_of o es).catalog a → AllRead P (world_of o es).txns → ((n : ℕ) → commits (world_of o es) ≤ n → P n)
+        → AllRead P (follows (world_of o es) (record { session = s; action = a; reply = reply_in (world_of o es) s a })).txns
+    read_later o es l s a fits read new = read_steps w (follows w (record { session = s; action = a; reply = reply_in w s a })) (good_world o es l) (exporting o es l) read new (legal_steps w s a fits)
+      where
+        w : World A
+        w = world_of o es
 
   commits_steps : (w v : World A) → IsGood w → Steps w v → commits w ≤ commits v
   commits_steps w v g (One v' s) = commits_step w v g s

@@ -2,14 +2,14 @@
 use Rattle.std.proofs.Common.{◌≡◌, ◌==◌, refl, sym, ap, subst, ◌∙◌, ℕ, suc, ◌+◌, ◌^◌, ◌<◌, ◌≤◌, true, Bool, false, cond, not, ◌&&◌, ◌||◌, nat_le, true≢false, inl, inr, Result, Ok, Err, List, [], ◌∷◌, ◌++◌, length, map, arith}
 use Rattle.std.specs.List.{filter, list_all}
 use Rattle.std.specs.Option.{option_to_list}
-use Rattle.std.specs.Result.{IfOk, IfErr}
 use Rattle.std.proofs.lemmas.List.Folds.{list_all-map}
+use Rattle.std.proofs.lemmas.Bool.{le-leb}
 use Rattle.std.proofs.lemmas.Bool.Decides.{nat_tests}
 use Rattle.std.proofs.lemmas.List.{length_push}
 use Rattle.value.specs.declared.refusal.Refusal.{Refusal}
 use Rattle.value.specs.declared.refusal.TxnNo.{TxnNo}
 use Rattle.value.specs.declared.refusal.Code.TheVariants as code
-use Rattle.value.specs.Refusals.{AnswersOrNoMemory, of_code, out_of_memory}
+use Rattle.value.specs.Refusals.{AnswersOrNoMemory, of_code}
 use Rattle.value.proofs.IsolationLemmas.{In}
 use Rattle.conflict.proofs.Lists.{both_true, clash, is_false}
 use Rattle.schema.specs.Plain.{is_sound}
@@ -37,7 +37,7 @@ use Rattle.plain.specs.declared.answered.Answered.{Answered}
 use Rattle.plain.specs.Answers.{both}
 use Rattle.plain.specs.Ledger.{Ledger, committed_by, kept, kept_after, kept_current, ready_for, world_on}
 use Rattle.plain.specs.Keys.{committed_at, keyed}
-use Rattle.plain.specs.Versions.{StayShown, versions_at}
+use Rattle.plain.specs.Versions.{StayShown, is_owed_at, versions_at}
 use Rattle.plain.specs.Views.{are_quiet}
 use Rattle.session.specs.Core.{HoldsKeys, HoldsRows, IsKept, is_commit, recorded}
 use Rattle.session.specs.Kept.{Represents}
@@ -45,7 +45,6 @@ use Rattle.session.proofs.CommitAlone.{none_committed}
 use Rattle.session.proofs.CommitOrder.{keys_push}
 use Rattle.session.proofs.Followed.{After, comes_after, follows_place}
 use Rattle.session.proofs.Kept.{length_map}
-use Rattle.session.proofs.Least.{least_most}
 use Rattle.session.proofs.Lent.{catalog_is, good, has_own, r, reply_is, w}
 use Rattle.session.proofs.RowsNext.{shown_next}
 
@@ -188,7 +187,7 @@ module _ {A : Type 0} where
 
     module _ (rows : List (VersionedRows A)) (held : HoldsRows h l rows) where
       tables_now : shown l.base.commits rows ≡ tables_at (w h l k) (commits (w h l k))
-      tables_now = held.shown l.base.commits (least_most (λ u. is_owed u.standing) l.base.commits l.txns) ∙ ap (tables_at (w h l k)) (r h l k).commits
+      tables_now = held.shown l.base.commits (ap (λ b. b || is_owed_at l.base.commits l.txns) (le-leb l.base.commits l.base.commits (omega arith))) ∙ ap (tables_at (w h l k)) (r h l k).commits
 
       opening_is : (c : Catalog) (X : Tables A) (b : Base) → c ≡ h.opening.catalog → b ≡ record { transactions = l.base.transactions + length l.txns; commits = l.base.commits; identifiers = l.base.identifiers + length l.exports; events = l.place }
           → X ≡ shown b.commits rows → opening_after (w h l k) ≡ record { catalog = c; tables = X; base = b }

@@ -7,7 +7,7 @@ use Rattle.value.specs.declared.refusal.Refusal.{Refusal}
 use Rattle.value.specs.Refusals.{AnswersOrNoMemory, of_code}
 use Rattle.value.specs.Isolation.{is_dangerous}
 use Rattle.value.proofs.IsolationLemmas.{In}
-use Rattle.conflict.proofs.Lists.{In-filter, both_true, filter-In, find-alike}
+use Rattle.conflict.proofs.Lists.{In-filter, both_true, filter-In, find-alike, or_right}
 use Rattle.schema.specs.Definition.{Catalog}
 use Rattle.schema.specs.declared.tables.Tables.{Tables}
 use Rattle.schema.specs.Plain.{put_all}
@@ -34,11 +34,11 @@ use Rattle.mvrows.specs.Versions.{VersionedRows, shown}
 use Rattle.plain.specs.Ledger.{Ledger, kept, kept_current, ready_for, with_own, world_on}
 use Rattle.plain.specs.Runs.{HoldsCommitter, HoldsCurrent, IsFoundFor}
 use Rattle.plain.specs.Versions.{versions_at}
+use Rattle.plain.proofs.InstallLemmas.{owed-is_read}
 use Rattle.plain.specs.Views.{reader_on, view_at, view_on}
 use Rattle.session.specs.Core.{HoldsRows, IsFoundReply, IsKept}
 use Rattle.session.specs.Kept.{Represents}
 use Rattle.session.proofs.Kept.{IsLike, find_same, living_kept, on, replaced_kept, same_current, same_numbered, same_ready, same_reply}
-use Rattle.session.proofs.Least.{least_of}
 
 nothing_and : (a b : Bool) → b ≡ false → (a && b) ≡ false
 nothing_and true b e = e
@@ -130,7 +130,7 @@ module _ {A : Type 0} where
 
     module _ (rows : List (VersionedRows A)) (held : HoldsRows h l rows) where
       pub at_snapshot : (s : ℕ) (t : Txn A) → current w s ≡ Some t → shown t.snapshot rows ≡ tables_at w t.snapshot
-      at_snapshot s t e = let i = owed_of s t e in held.shown t.snapshot (least_of (λ u. is_owed u.standing) l.base.commits l.txns (kept t) (owed_in t i.0 i.1) i.1)
+      at_snapshot s t e = let i = owed_of s t e in held.shown t.snapshot (or_right _ _ (owed-is_read l.txns (kept t) (owed_in t i.0 i.1) i.1))
 
       pub has_own : (s : ℕ) (t : Txn A) → current w s ≡ Some t → t.own ≡ put_all t.changes (shown t.snapshot rows)
       has_own s t e = (good.faithful.each t (current_in w s t e).0).own ∙ ap (put_all t.changes) (sym (at_snapshot s t e))

@@ -1,9 +1,8 @@
 -- What the opening of a history answers.
-use Rattle.std.proofs.Common.{◌≡◌, ◌≢◌, ◌==◌, refl, sym, ap, ◌∙◌, ℕ, Bool, true, false, cond, inl, inr, Result, Ok, Err}
-use Rattle.std.specs.Result.{IfOk, IfErr, OnOk}
+use Rattle.std.proofs.Common.{◌≡◌, ap, ◌∙◌, Bool, false, inl, inr, Result, Ok, Err}
+use Rattle.std.specs.Result.{IfOk, IfErr}
 use Rattle.value.specs.declared.refusal.Refusal.{Refusal}
-use Rattle.value.specs.declared.refusal.Code.TheVariants.{ProgramLimitExceeded}
-use Rattle.value.specs.Refusals.{AnswersOrNoMemory, of_code}
+use Rattle.value.specs.Refusals.{AnswersOrNoMemory}
 use Rattle.history.specs.Opening.{opening_refusal}
 
 -- where the number of events is none that is refused

@@ -27,6 +27,7 @@ use Rattle.history.specs.Events.{world_of}
 use Rattle.plain.specs.Ledger.{Ledger}
 use Rattle.plain.specs.Merged.{AreInKeyOrder}
 use Rattle.plain.specs.Versions.{lowest, next_commit}
+use Rattle.plain.proofs.InstallLemmas.{lowest-read}
 use Rattle.session.specs.Core.{HoldsRows}
 
 both_of : (a b : Bool) → (a && b) ≡ true → (a ≡ true) × (b ≡ true)
@@ -82,7 +83,7 @@ module _ {A : Type 0} where
   pub rows_pruned : (h : Recorded A) (l : Ledger A) (rows : List (VersionedRows A)) → HoldsRows h l rows → HoldsRows h l (pruned (lowest l) rows)
   rows_pruned h l rows held = record {
     current = record { order = pruned-in_order (lowest l) rows held.current.order; below = pruned-below (next_commit l) (lowest l) rows held.current.below };
-    shown = λ n above. shown-pruned (lowest l) n rows above ∙ held.shown n above;
+    shown = λ n read. shown-pruned (lowest l) n rows (lowest-read l n read) ∙ held.shown n read;
   }
 
   -- done, or refused for want of memory

@@ -1,9 +1,10 @@
 -- The tables after an event: those before it, and from the number of a commit on with its changes put in.
-use Rattle.std.proofs.Common.{◌≡◌, refl, sym, ap, subst, ◌∙◌, ℕ, ◌+◌, ◌-◌, ◌≤◌, Bool, true, false, cond, ◌⊎◌, inl, inr, List, [], ◌∷◌, ◌++◌, length, length-append, take, Option, Some, None, arith}
+use Rattle.std.proofs.Common.{◌≡◌, refl, sym, ap, subst, ◌∙◌, ℕ, ◌+◌, ◌-◌, ◌≤◌, nat_le, Bool, true, false, cond, ◌||◌, ◌⊎◌, inl, inr, List, [], ◌∷◌, ◌++◌, length, length-append, take, Option, Some, None, arith}
+use Rattle.std.proofs.lemmas.Bool.{le-leb, leb-true}
 use Rattle.std.proofs.lemmas.List.{append-nil, take-append-le, take_all}
 use Rattle.std.specs.Option.{option_map}
 use Rattle.value.proofs.IsolationLemmas.{In}
-use Rattle.conflict.proofs.Lists.{In-filter}
+use Rattle.conflict.proofs.Lists.{In-filter, or_right}
 use Rattle.schema.specs.Definition.{Catalog}
 use Rattle.schema.specs.declared.changes.Change.{Change}
 use Rattle.schema.specs.declared.tables.Tables.{Tables}
@@ -18,13 +19,13 @@ use Rattle.history.specs.Transactions.{Done, Txn, World, commits, current, is_ow
 use Rattle.history.specs.Events.{ended, followed, follows, log_after, numbered, without_transaction}
 use Rattle.history.specs.Answer.{Allowed, reply_in}
 use Rattle.history.specs.Needed.{kept_of}
-use Rattle.serial.proofs.Lowest.{commits_later, lowest_later}
+use Rattle.serial.proofs.Lowest.{AllRead, commits_later, read_later}
 use Rattle.mvrows.specs.Versions.{VersionedRows, shown}
 use Rattle.plain.specs.Ledger.{Ledger, committed_by, kept, kept_current}
-use Rattle.plain.specs.Versions.{StayShown, lowest}
+use Rattle.plain.specs.Versions.{StayShown, is_owed_at, may_be_read}
+use Rattle.plain.proofs.InstallLemmas.{owed-is_read, read-is_owed}
 use Rattle.session.specs.Core.{HoldsRows, IsKept}
 use Rattle.session.specs.Kept.{Represents}
-use Rattle.session.proofs.Least.{least_from, least_most, least_of}
 use Rattle.session.proofs.Lent.{catalog_is, lent_current, lent_is, map-In, owed_in, r, w}
 
 compared : (a b : ℕ) → (a ≤ b) ⊎ (b + 1 ≤ a)
@@ -104,25 +105,37 @@ module _ {A : Type 0} where
     allowed : Allowed old.catalog a
     allowed = subst (λ c. Allowed c a) (sym (catalog_is h l k)) fits
 
-    low : (t : Txn A) → In t old.txns → is_owed t.standing ≡ true → lowest l ≤ t.snapshot
-    low t i o = least_of (λ u. is_owed u.standing) l.base.commits l.txns (kept t) (owed_in h l k t i o) o
+    abbrev Read : ℕ → Type 0
+    Read n = may_be_read l n ≡ true
 
-    seen : lowest l ≤ commits old
-    seen = let p = least_most (λ (u : Txn A). is_owed u.standing) l.base.commits l.txns in let q = (r h l k).commits in omega (arith, p, q)
+    each_read : AllRead Read old.txns
+    each_read t i o = or_right _ _ (owed-is_read l.txns (kept t) (owed_in h l k t i o) o)
 
-    -- the snapshots that may still be read are no earlier ones
-    rises : (m : Ledger A) → Represents next_world m → lowest l ≤ lowest m
-    rises m rep = least_from (λ u. is_owed u.standing) m.base.commits m.txns (lowest l) (let p = seen in let q = commits_later h.opening h.records k.legal s a allowed in let e = rep.commits in omega (arith, p, q, e))
-        (λ u i o. from u (map-In kept (kept_of rep.keep next_world.txns) u (subst (In u) rep.txns i)) o)
+    new_read : (n : ℕ) → commits old ≤ n → Read n
+    new_read n from = ap (λ b. b || is_owed_at n l.txns) (le-leb l.base.commits n (let e = (r h l k).commits in omega (arith, e, from)))
+
+    -- a snapshot that may still be read was one before
+    read_before : (m : Ledger A) → Represents next_world m → (n : ℕ) → may_be_read m n ≡ true → Read n
+    read_before m rep n read = go (nat_le m.base.commits n) refl read
       where
-        from : (u : Txn A) → (y : Txn A) × In y (kept_of rep.keep next_world.txns) × (u ≡ kept y) → is_owed u.standing ≡ true → lowest l ≤ u.snapshot
-        from u y o =
-            let q = lowest_later h.opening h.records k.legal s a (lowest l) allowed low seen y.0 (In-filter (λ (x : Txn A). rep.keep x.number) y.0 next_world.txns y.1).0 (sym (ap (λ (x : Txn A). is_owed x.standing) y.2) ∙ o) in
-            let e : u.snapshot ≡ y.0.snapshot = ap (λ (x : Txn A). x.snapshot) y.2 in omega (arith, q, e)
+        from : (u : Txn A) → In u m.txns → is_owed u.standing ≡ true → Read u.snapshot
+        from u i o = of_one (map-In kept (kept_of rep.keep next_world.txns) u (subst (In u) rep.txns i))
+          where
+            of_one : (y : Txn A) × In y (kept_of rep.keep next_world.txns) × (u ≡ kept y) → Read u.snapshot
+            of_one y =
+                subst Read (sym (ap (λ (x : Txn A). x.snapshot) y.2))
+                (read_later Read h.opening h.records k.legal s a allowed each_read new_read y.0 (In-filter (λ (x : Txn A). rep.keep x.number) y.0 next_world.txns y.1).0 (sym (ap (λ (x : Txn A). is_owed x.standing) y.2) ∙ o))
+
+        owed : (u : Txn A) × In u m.txns × (is_owed u.standing ≡ true) × (u.snapshot ≡ n) → Read n
+        owed u = subst Read u.3 (from u.0 u.1 u.2)
+
+        go : (b : Bool) → nat_le m.base.commits n ≡ b → (b || is_owed_at n m.txns) ≡ true → Read n
+        go true is e = new_read n (let p = leb-true m.base.commits n is in let q = commits_later h.opening h.records k.legal s a allowed in let f = rep.commits in omega (arith, p, q, f))
+        go false is e = owed (read-is_owed n m.txns e)
 
     pub shown_next : (rows : List (VersionedRows A)) → HoldsRows h l rows → (m : Ledger A) (more : List (VersionedRows A)) → Represents next_world m → (c : Catalog) (X : Tables A) → c ≡ h.opening.catalog
-        → StayShown l rows (committed_by a (reply_in old s a) (kept_current c X l s)) m more → (n : ℕ) → lowest m ≤ n → shown n more ≡ tables_at next_world n
-    shown_next rows held m more rep c X p stay n above = go (compared n (commits old))
+        → StayShown l rows (committed_by a (reply_in old s a) (kept_current c X l s)) m more → (n : ℕ) → may_be_read m n ≡ true → shown n more ≡ tables_at next_world n
+    shown_next rows held m more rep c X p stay n read = go (compared n (commits old))
       where
         xs : List (Change A)
         xs = committed_by a (reply_in old s a) (kept_current c X l s)
@@ -134,8 +147,8 @@ module _ {A : Type 0} where
         grown = subst (Logs old next_world) (sym same) (logs old event (current old s))
 
         was : shown n rows ≡ tables_at old n
-        was = held.shown n (let q = rises m rep in omega (arith, q, above))
+        was = held.shown n (read_before m rep n read)
 
         go : (n ≤ commits old) ⊎ (commits old + 1 ≤ n) → shown n more ≡ tables_at next_world n
-        go (inl q) = stay.earlier n above (let e = (r h l k).commits in omega (arith, e, q)) ∙ was ∙ sym (tables_before old next_world xs grown n q)
-        go (inr q) = stay.later n above (let e = (r h l k).commits in omega (arith, e, q)) ∙ ap (put_all xs) was ∙ sym (tables_after old next_world xs grown n q)
+        go (inl q) = stay.earlier n read (let e = (r h l k).commits in omega (arith, e, q)) ∙ was ∙ sym (tables_before old next_world xs grown n q)
+        go (inr q) = stay.later n read (let e = (r h l k).commits in omega (arith, e, q)) ∙ ap (put_all xs) was ∙ sym (tables_after old next_world xs grown n q)

@@ -15,7 +15,8 @@ use Rattle.serial.proofs.SerialTheorem.{good_world}
 use Rattle.mvrows.specs.Versions.{VersionedRows, TablesAreBelow}
 use Rattle.plain.specs.Forgetting.{IsThinned, holds_back, is_left, number_before, oldest}
 use Rattle.plain.specs.Ledger.{Ledger, kept}
-use Rattle.plain.specs.Versions.{lowest}
+use Rattle.plain.specs.Versions.{is_owed_at, may_be_read}
+use Rattle.plain.proofs.InstallLemmas.{owed-is_read, read-is_owed}
 use Rattle.session.specs.Core.{HoldsRows, IsKept}
 use Rattle.session.specs.Kept.{Represents}
 use Rattle.session.proofs.Kept.{any_map, filter_map}
@@ -141,9 +142,15 @@ module _ {A : Type 0} where
     pub rows_thinned : (rows : List (VersionedRows A)) → HoldsRows h l rows → HoldsRows h m rows
     rows_thinned rows held = record {
       current = record { order = held.current.order; below = subst (λ c. TablesAreBelow (c + 1) rows) (sym t.commits) held.current.below };
-      shown = λ i j. held.shown i (let p = lower in omega (arith, p, j));
+      shown = λ i read. held.shown i (left_read i read);
     }
       where
-        lower : lowest l ≤ lowest m
-        lower = least_from (λ u. is_owed u.standing) m.base.commits m.txns (lowest l) (let p = least_most (λ (u : Txn A). is_owed u.standing) l.base.commits l.txns in omega (arith, p, t.commits))
-            (λ u i o. least_of (λ x. is_owed x.standing) l.base.commits l.txns u (In-filter (is_left t.passed n l.txns) u l.txns (subst (In u) t.txns i)).0 o)
+        from_left : (i : ℕ) → (u : Txn A) × In u m.txns × (is_owed u.standing ≡ true) × (u.snapshot ≡ i) → is_owed_at i l.txns ≡ true
+        from_left i u = subst (λ n. is_owed_at n l.txns ≡ true) u.3 (owed-is_read l.txns u.0 (In-filter (is_left t.passed n l.txns) u.0 l.txns (subst (In u.0) t.txns u.1)).0 u.2)
+
+        left_read : (i : ℕ) → may_be_read m i ≡ true → may_be_read l i ≡ true
+        left_read i read = go (nat_le l.base.commits i) (ap (λ c. nat_le c i || is_owed_at i m.txns) (sym t.commits) ∙ read)
+          where
+            go : (b : Bool) → (b || is_owed_at i m.txns) ≡ true → (b || is_owed_at i l.txns) ≡ true
+            go true e = refl
+            go false e = from_left i (read-is_owed i m.txns e)

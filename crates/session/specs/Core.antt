@@ -21,7 +21,7 @@ use Rattle.plain.specs.Courses.{takes_memory}
 use Rattle.plain.specs.Keys.{keyed}
 use Rattle.history.specs.Transactions.{tables_at}
 use Rattle.plain.specs.Ledger.{Ledger}
-use Rattle.plain.specs.Versions.{AreCurrent, lowest}
+use Rattle.plain.specs.Versions.{AreCurrent, may_be_read}
 use Rattle.mvrows.specs.Versions.{VersionedRows, shown}
 use Rattle.session.specs.Kept.{Represents}
 
@@ -41,7 +41,7 @@ module _ {A : Type 0} where
   -- The versions are of the commits so far, and show the tables at each snapshot that may still be read.
   pub record HoldsRows (h : Recorded A) (l : Ledger A) (rows : List (VersionedRows A)) : Type 0 where
     pub current : AreCurrent l rows
-    pub shown : (n : ℕ) → lowest l ≤ n → shown n rows ≡ tables_at (world h) n
+    pub shown : (n : ℕ) → may_be_read l n ≡ true → shown n rows ≡ tables_at (world h) n
 
   -- the action by which transactions commit
   abbrev pub is_commit : Action A → Bool

@@ -113,11 +113,20 @@ fn changes(alloc: Global, all: &[(i64, Option<i64>)]) -> Result<Vec<Change>, Fai
     Ok(changes.into_list(alloc)?)
 }
 
-// Installs changes as the commit of a number, where no snapshot below the oldest is read any more.
+// The least of these snapshots and a number.
+fn least(snapshots: &[u64], number: u64) -> u64 {
+    let mut least = number;
+    for snapshot in snapshots {
+        least = least.min(*snapshot);
+    }
+    least
+}
+
+// Installs changes as the commit of a number, where below it these snapshots alone are still read.
 fn settle(
     alloc: Global,
     versions: &mut Rows,
-    oldest: u64,
+    snapshots: &[u64],
     number: u64,
     all: &[(i64, Option<i64>)],
 ) -> Result<(), Fail>
@@ -126,7 +135,8 @@ fn settle(
     ensures count { OnOk result (length versions.new ≡ length versions.old) }
 {
     let list = changes(alloc, all)?;
-    versions.install(alloc, oldest, number, list.as_slice())?;
+    let oldest = least(snapshots, number);
+    versions.install(alloc, oldest, snapshots, number, list.as_slice())?;
     Ok(())
 }
 
@@ -141,7 +151,11 @@ fn commit(
     ensures below { OnOk result (TablesAreBelow (number + 1) versions.new) }
     ensures count { OnOk result (length versions.new ≡ length versions.old) }
 {
-    settle(alloc, versions, 0, number, all)
+    let mut snapshots = Vec::new(alloc);
+    for snapshot in 0..number {
+        snapshots.push(snapshot)?;
+    }
+    settle(alloc, versions, snapshots.as_slice(), number, all)
 }
 
 // What a snapshot shows, lent and as a view: the same.
@@ -224,7 +238,7 @@ fn write_again_and_again(alloc: Global, versions: &mut Rows) -> Result<(), Fail>
         settle(
             alloc,
             versions,
-            number,
+            [number].as_slice(),
             number,
             [(5, Some(number as i64))].as_slice(),
         )?;
@@ -248,16 +262,68 @@ fn a_key_written_a_thousand_times_keeps_one_version(rt: HostRuntime) -> Result<(
     Ok(())
 }
 
+// Writes a key by a thousand commits beside the snapshot of the opening, and beside that of the third
+// commit once it is there: beside the key stands the commit's number.
+fn write_beside_two(alloc: Global, versions: &mut Rows) -> Result<(), Fail>
+    requires { TablesAreBelow 1 versions.old }
+    ensures { OnOk result (length versions.new ≡ length versions.old) }
+{
+    for number in 1..1001u64 {
+        settle(
+            alloc,
+            versions,
+            [0, if number <= 3 { 0 } else { 3 }].as_slice(),
+            number,
+            [(0, Some(number as i64))].as_slice(),
+        )?;
+    }
+    Ok(())
+}
+
+// Of a thousand versions those stay that the two snapshots show, and the newest. So a snapshot between
+// shows the one before it that stayed.
+#[test]
+fn a_key_keeps_what_open_snapshots_show(rt: HostRuntime) -> Result<(), Fail> {
+    let alloc = rt.alloc();
+    let mut versions = opening(&rt, alloc, 1)?;
+    write_beside_two(alloc, &mut versions)?;
+    for (number, want) in [
+        (0, 0),
+        (1, 0),
+        (2, 0),
+        (3, 3),
+        (4, 3),
+        (500, 3),
+        (999, 3),
+        (1000, 1000),
+    ] {
+        assert_eq!(rt;
+            shown(&rt, alloc, &versions, number)?.as_slice(),
+            [(0, want)].as_slice(),
+            "{number}"
+        );
+    }
+    let table = TableNo::at(0);
+    assert_eq!(rt; versions.newest(table, &key(0)?), Some(1000));
+    Ok(())
+}
+
 #[test]
 fn a_settled_key_stays_what_a_view_shows(rt: HostRuntime) -> Result<(), Fail> {
     let alloc = rt.alloc();
     let mut versions = opening(&rt, alloc, 2)?;
-    settle(alloc, &mut versions, 1, 1, [(1, Some(10))].as_slice())?;
+    settle(
+        alloc,
+        &mut versions,
+        [1].as_slice(),
+        1,
+        [(1, Some(10))].as_slice(),
+    )?;
     let view = versions.view(alloc, 1)?;
     settle(
         alloc,
         &mut versions,
-        1,
+        [1].as_slice(),
         2,
         [(0, None), (1, Some(20))].as_slice(),
     )?;
@@ -269,7 +335,7 @@ fn a_settled_key_stays_what_a_view_shows(rt: HostRuntime) -> Result<(), Fail> {
     settle(
         alloc,
         &mut versions,
-        3,
+        [3].as_slice(),
         3,
         [(0, None), (1, None)].as_slice(),
     )?;

@@ -34,7 +34,13 @@ fn write_scattered(alloc: Global, versions: &mut Rows) -> Result<(), Fail>
 {
     for number in 1..41u64 {
         let part = part_of(alloc, number as u32)?;
-        settle(alloc, versions, number, number, part.as_slice())?;
+        settle(
+            alloc,
+            versions,
+            [number].as_slice(),
+            number,
+            part.as_slice(),
+        )?;
     }
     Ok(())
 }
@@ -100,11 +106,17 @@ fn pages_without_keys_are_passed(rt: HostRuntime) -> Result<(), Fail> {
     settle(
         alloc,
         &mut versions,
-        41,
+        [41].as_slice(),
         41,
         without_most(alloc)?.as_slice(),
     )?;
-    settle(alloc, &mut versions, 42, 42, [(500, Some(7))].as_slice())?;
+    settle(
+        alloc,
+        &mut versions,
+        [42].as_slice(),
+        42,
+        [(500, Some(7))].as_slice(),
+    )?;
     let want = wanted(alloc, |key| match key {
         500 => Some(7),
         100..900 => None,

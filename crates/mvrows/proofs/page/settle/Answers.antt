@@ -9,7 +9,7 @@ use Rattle.mvrows.proofs.page.settle.Goals as goal
 
 pub returns-then-not-is_at : goal.returns-then-not-is_at
 returns-then-not-is_at g c =
-    settle-none c.args.oldest c.args.key.now c.args.place c.args.chains.now.items c.requires.before c.requires.within
+    settle-none (record { oldest = c.args.oldest; snapshots = c.args.snapshots.now }) c.args.key.now c.args.place c.args.chains.now.items c.requires.before c.requires.within
     (ap (λ rs. option_map_or (λ (k : KeyVersions _). same c.args.key.now k.key) (slice_get rs c.args.place) false) (sym c.as_slice.ensures.value) ∙ sym c.is_at.ensures ∙ c.if-not-is_at.true)
 
 pub index_mut-chain-requires : goal.index_mut-chain-requires
@@ -27,9 +27,9 @@ remove-requires g c =
 pub returns-then-not-has_version : goal.returns-then-not-has_version
 returns-then-not-has_version g c =
     let at = ap (λ rs. option_map_or (λ (k : KeyVersions _). same c.args.key.now k.key) (slice_get rs c.args.place) false) (sym c.as_slice.ensures.value) ∙ sym c.is_at.ensures ∙ c.if-not-is_at.false in
-    settle-gone c.args.oldest c.args.key.now c.args.place c.args.chains.now.items c.remove.new.self.items c.index_mut-chain.result.now c.prune.new.self c.requires.before c.index_mut-chain.ensures.value at c.prune.ensures (sym c.has_version.ensures ∙ c.if-not-has_version.true) c.remove.ensures.items
+    settle-gone (record { oldest = c.args.oldest; snapshots = c.args.snapshots.now }) c.args.key.now c.args.place c.args.chains.now.items c.remove.new.self.items c.index_mut-chain.result.now c.settle.new.self c.requires.before c.index_mut-chain.ensures.value at c.settle.ensures (sym c.has_version.ensures ∙ c.if-not-has_version.true) c.remove.ensures.items
 
 pub returns-else-not-has_version : goal.returns-else-not-has_version
 returns-else-not-has_version g c =
     let at = ap (λ rs. option_map_or (λ (k : KeyVersions _). same c.args.key.now k.key) (slice_get rs c.args.place) false) (sym c.as_slice.ensures.value) ∙ sym c.is_at.ensures ∙ c.if-not-is_at.false in
-    settle-kept c.args.oldest c.args.key.now c.args.place c.args.chains.now.items c.index_mut-chain.result.now c.prune.new.self c.requires.before c.index_mut-chain.ensures.value at c.prune.ensures (sym c.has_version.ensures ∙ c.if-not-has_version.false)
+    settle-kept (record { oldest = c.args.oldest; snapshots = c.args.snapshots.now }) c.args.key.now c.args.place c.args.chains.now.items c.index_mut-chain.result.now c.settle.new.self c.requires.before c.index_mut-chain.ensures.value at c.settle.ensures (sym c.has_version.ensures ∙ c.if-not-has_version.false)

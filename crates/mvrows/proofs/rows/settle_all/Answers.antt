@@ -9,6 +9,6 @@ settle_change-requires g c = fresh-item c.args.changes.now c.loop-change.change-
 
 pub loop-change-preserved : goal.loop-change-preserved
 loop-change-preserved g c = (
-  settled-step c.args.oldest c.args.changes.now c.loop-change.change-index c.change-item.result c.loop-change.tables.items c.settle_change.new.tables.items (settled c.args.oldest c.args.changes.now (rows_held c.args.tables.now.items)) (omega arith) c.change-item.is c.settle_change.ensures.rows c.loop-change.invariant.0,
+  settled-step (record { oldest = c.args.oldest; snapshots = c.args.snapshots.now }) c.args.changes.now c.loop-change.change-index c.change-item.result c.loop-change.tables.items c.settle_change.new.tables.items (settled (record { oldest = c.args.oldest; snapshots = c.args.snapshots.now }) c.args.changes.now (rows_held c.args.tables.now.items)) (omega arith) c.change-item.is c.settle_change.ensures.rows c.loop-change.invariant.0,
   c.settle_change.ensures.fresh c.args.changes.now c.loop-change.invariant.1,
 )

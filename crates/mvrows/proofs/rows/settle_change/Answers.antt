@@ -5,7 +5,7 @@ use Rattle.mvrows.proofs.rows.settle_change.Goals as goal
 pub returns-then-place-len-clause-rows : goal.returns-then-place-len-clause-rows
 returns-then-place-len-clause-rows g c =
     let lt : c.place-place.result < length c.args.tables.now.items = omega (arith, c.if-place-len.true, c.len.ensures, c.args.tables.now.ok) in
-    settled-held c.args.oldest c.args.change.now c.args.tables.now.items c.place-place.result c.index_mut-table.result.now c.settle.new.self c.key.result.now (c.place-place.ensures ∙ c.table.ensures) c.key.ensures lt c.index_mut-table.ensures.value c.settle.ensures.rows
+    settled-held (record { oldest = c.args.oldest; snapshots = c.args.snapshots.now }) c.args.change.now c.args.tables.now.items c.place-place.result c.index_mut-table.result.now c.settle.new.self c.key.result.now (c.place-place.ensures ∙ c.table.ensures) c.key.ensures lt c.index_mut-table.ensures.value c.settle.ensures.rows
 
 pub returns-then-place-len-clause-fresh : goal.returns-then-place-len-clause-fresh
 returns-then-place-len-clause-fresh g c = λ xs fresh.

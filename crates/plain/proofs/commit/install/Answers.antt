@@ -8,5 +8,5 @@ pub returns-clause-ok : goal.returns-clause-ok
 returns-clause-ok g c =
     let merged = subst (λ ys. AreMerged ys c.args.changes.now) (sym c.as_slice.ensures.value) c.in_ok-last.ensures.ok in
     on_ok_map _ _ c.install.result
-    (λ e. installs c.args.oldest c.args.number c.as_slice.result.now c.args.changes.now c.args.rows.now c.install.new.self merged e c.requires.order c.requires.below)
+    (λ e. installs (record { oldest = c.args.oldest; snapshots = c.args.snapshots.now }) c.args.number c.as_slice.result.now c.args.changes.now c.args.rows.now c.install.new.self merged e c.requires.order c.requires.below)
     c.install.ensures.ok

@@ -1,4 +1,4 @@
-use Rattle.std.proofs.Common.{ap, sym, subst, rules, ◌∙◌, ◌+◌, ◌≡◌, ◌<◌, ◌≤◌, ◌++◌, length, take, drop, arith, List}
+use Rattle.std.proofs.Common.{ap, sym, subst, rules, ◌∙◌, ◌≡◌, ◌<◌, ◌≤◌, ◌++◌, length, take, drop, arith, List}
 use Rattle.std.proofs.lemmas.List.{get_or_default}
 use Rattle.std.proofs.lemmas.List.Filters.{FiltersInPlace-more_here, FiltersInPlace-more_no, FiltersInPlace-more_swap}
 use Rattle.history.specs.Transactions.{Txn}

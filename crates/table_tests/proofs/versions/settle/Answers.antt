@@ -9,9 +9,9 @@ use Rattle.table_tests.proofs.versions.settle.Goals as goal
 pub returns-clause-below : goal.returns-clause-below
 returns-clause-below c =
     subst (TablesAreBelow (c.args.number + 1)) (sym c.in_ok-install.ensures.ok)
-    (settled-below (c.args.number + 1) c.args.oldest c.as_slice.result.now (installed c.args.number c.as_slice.result.now c.args.versions.now) (installed-next c.args.number c.as_slice.result.now c.args.versions.now c.requires))
+    (settled-below (c.args.number + 1) (record { oldest = c.least-oldest.result; snapshots = c.args.snapshots.now }) c.as_slice.result.now (installed c.args.number c.as_slice.result.now c.args.versions.now) (installed-next c.args.number c.as_slice.result.now c.args.versions.now c.requires))
 
 pub returns-clause-count : goal.returns-clause-count
 returns-clause-count c =
-    ap length c.in_ok-install.ensures.ok ∙ length-settled c.args.oldest c.as_slice.result.now (installed c.args.number c.as_slice.result.now c.args.versions.now)
+    ap length c.in_ok-install.ensures.ok ∙ length-settled (record { oldest = c.least-oldest.result; snapshots = c.args.snapshots.now }) c.as_slice.result.now (installed c.args.number c.as_slice.result.now c.args.versions.now)
     ∙ length-installed c.args.number c.as_slice.result.now c.args.versions.now

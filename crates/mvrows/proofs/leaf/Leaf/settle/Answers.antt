@@ -11,8 +11,8 @@ pub returns-clause-rows : goal.returns-clause-rows
 returns-clause-rows g c = elim c.match-self.branch [
   | in-Own w ↦
       ap (λ s. (held s.holder).rows) w.self-inside-is ∙ w.settle.ensures
-      ∙ ap (settle_key c.args.oldest c.args.key.now) (sym (ap (λ (h : Holder _). (held h).rows) w.in-Own.is) ∙ ap (λ (h : Held _). h.rows) c.self.view_is)
+      ∙ ap (settle_key (record { oldest = c.args.oldest; snapshots = c.args.snapshots.now }) c.args.key.now) (sym (ap (λ (h : Holder _). (held h).rows) w.in-Own.is) ∙ ap (λ (h : Held _). h.rows) c.self.view_is)
   | in-Shared w ↦
       ap (λ s. (held s.holder).rows) w.self-inside-is ∙ ap (λ (h : Held _). h.rows) c.self.view_is
-      ∙ settle-shared c.args.oldest c.args.key.now c.args.self.now (sym (ap (λ (h : Held _). h.own) c.self.view_is) ∙ ap (λ (h : Holder _). (held h).own) w.in-Shared.is) c.requires
+      ∙ settle-shared (record { oldest = c.args.oldest; snapshots = c.args.snapshots.now }) c.args.key.now c.args.self.now (sym (ap (λ (h : Held _). h.own) c.self.view_is) ∙ ap (λ (h : Holder _). (held h).own) w.in-Shared.is) c.requires
 ]

@@ -16,8 +16,8 @@ settle_all-requires g c = fresh-installed c.args.commit c.args.changes.now (rows
 
 pub invariant_of-self : goal.invariant_of-self
 invariant_of-self g c =
-    subst AreVersioned (sym (c.share_all_changed.ensures ∙ c.settle_all.ensures ∙ ap (settled c.args.oldest c.args.changes.now) c.in-Ok.ensures.ok))
-    (settled-versioned c.args.oldest c.args.changes.now (installed c.args.commit c.args.changes.now (rows_held c.self.inside.tables.items)) (installed-versioned c.args.commit c.args.changes.now (rows_held c.self.inside.tables.items) c.self.invariant))
+    subst AreVersioned (sym (c.share_all_changed.ensures ∙ c.settle_all.ensures ∙ ap (settled (record { oldest = c.args.oldest; snapshots = c.args.snapshots.now }) c.args.changes.now) c.in-Ok.ensures.ok))
+    (settled-versioned (record { oldest = c.args.oldest; snapshots = c.args.snapshots.now }) c.args.changes.now (installed c.args.commit c.args.changes.now (rows_held c.self.inside.tables.items)) (installed-versioned c.args.commit c.args.changes.now (rows_held c.self.inside.tables.items) c.self.invariant))
 
 pub invariant_of-self-in-Err : goal.invariant_of-self-in-Err
 invariant_of-self-in-Err g c = subst AreVersioned (sym (c.share_all.ensures ∙ c.take_all_back.ensures ∙ c.put_all.ensures.undo ∙ undone-below c.args.commit c.self.inside.tables.items c.self.invariant (subst (TablesAreBelow c.args.commit) (sym c.self.view_is) c.requires))) c.self.invariant

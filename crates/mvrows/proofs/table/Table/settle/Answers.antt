@@ -10,4 +10,4 @@ returns-then-not-is_empty-clause-undoable g c = λ commit undoable. c.settle.ens
 pub returns-then-not-is_empty-clause-fresh : goal.returns-then-not-is_empty-clause-fresh
 returns-then-not-is_empty-clause-fresh g c = λ commit k fresh.
     subst (IsFresh commit k) (sym c.settle.ensures.rows)
-    (settle-fresh c.args.oldest commit c.args.key.now k (rows_in c.self.inside.leaves.items) c.self.invariant.0 (subst (λ ls. IsFresh commit k (rows_in ls)) (sym c.self.view_is) fresh))
+    (settle-fresh (record { oldest = c.args.oldest; snapshots = c.args.snapshots.now }) commit c.args.key.now k (rows_in c.self.inside.leaves.items) c.self.invariant.0 (subst (λ ls. IsFresh commit k (rows_in ls)) (sym c.self.view_is) fresh))

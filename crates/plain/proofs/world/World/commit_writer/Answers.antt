@@ -10,10 +10,11 @@ pub returns-clause-ok : goal.returns-clause-ok
 returns-clause-ok g c =
     let now : Ledger _ = c.args.self.now in
     let inside = c.self.inside in
-    let same = c.self.view_is ∙ c.lowest_after-oldest.ensures.same in
+    let stayed = c.snapshots_after.ensures.same ∙ c.lowest_after-oldest.ensures.same in
+    let same = c.self.view_is ∙ stayed in
     let txns = ap (λ (l : Ledger _). l.txns) same in
-    let doomed : c.as_slice.result.now ≡ dooms node reads_from now.txns (txn_at now.txns c.args.at) = c.as_slice.ensures.value ∙ c.in_ok-causes.ensures.ok ∙ ap (λ (l : Ledger _). dooms node reads_from l.txns (txn_at l.txns c.args.at)) c.lowest_after-oldest.ensures.same in
+    let doomed : c.as_slice-2.result.now ≡ dooms node reads_from now.txns (txn_at now.txns c.args.at) = c.as_slice-2.ensures.value ∙ c.in_ok-causes.ensures.ok ∙ ap (λ (l : Ledger _). dooms node reads_from l.txns (txn_at l.txns c.args.at)) stayed in
     let stays = ap (λ ts. record { base = inside.base; txns = ts; exports = inside.exports.items; place = inside.place }) c.install_at.ensures.same ∙ same in
     c.turn_committer.ensures
-    ∙ ap (λ (l : Ledger _). record l { base = record l.base { commits = l.base.commits + 1 }; txns = map (doomed_by (l.place + 1) c.as_slice.result.now) (turned_at c.args.at (on_course c.args.committed) l.txns); place = l.place + 1 }) stays
+    ∙ ap (λ (l : Ledger _). record l { base = record l.base { commits = l.base.commits + 1 }; txns = map (doomed_by (l.place + 1) c.as_slice-2.result.now) (turned_at c.args.at (on_course c.args.committed) l.txns); place = l.place + 1 }) stays
     ∙ ap (λ cs. record now { base = record now.base { commits = now.base.commits + 1 }; txns = map (doomed_by (now.place + 1) cs) (turned_at c.args.at (on_course c.args.committed) now.txns); place = now.place + 1 }) doomed

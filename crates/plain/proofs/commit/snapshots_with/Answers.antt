@@ -1,0 +1,19 @@
+use Rattle.std.proofs.Common.{◌∙◌, ap}
+use Rattle.plain.specs.Courses.{on_course}
+use Rattle.plain.specs.Ledger.{turned_at}
+use Rattle.plain.proofs.LedgerLemmas.{length-turned_at, turned_at-again, turned_at-same}
+use Rattle.plain.proofs.StretchLemmas.{held-turned}
+use Rattle.plain.proofs.commit.snapshots_with.Goals as goal
+
+pub turn-requires-2 : goal.turn-requires-2
+turn-requires-2 g c = rw c.turn.ensures (rw length-turned_at c.requires.within)
+
+pub returns-clause-same : goal.returns-clause-same
+returns-clause-same g c =
+    c.turn-2.ensures ∙ ap (turned_at c.args.at (on_course c.course-before.result)) c.turn.ensures
+    ∙ turned_at-again (on_course c.args.course) (on_course c.course-before.result) c.args.transactions.now.items c.args.at
+    ∙ turned_at-same c.course-before.result c.args.transactions.now.items c.args.at c.index.result.now c.requires.within c.index.ensures (c.course-before.ensures.course ∙ c.course-before.ensures.same)
+
+pub owed_snapshots-snapshots-requires : goal.owed_snapshots-snapshots-requires
+owed_snapshots-snapshots-requires g c =
+    rw (c.as_slice.ensures.value, c.turn.ensures, c.without.ensures) (held-turned c.args.past (on_course c.args.course) c.args.transactions.now.items c.args.at c.requires.past)
