@@ -14,8 +14,12 @@ mod examples;
 #[cfg(test)]
 mod faults;
 #[cfg(test)]
+mod free;
+#[cfg(test)]
 mod machine;
 #[cfg(test)]
 mod memory;
 #[cfg(test)]
 mod replies;
+#[cfg(test)]
+mod taker;
