@@ -1,7 +1,7 @@
--- The command line (this project's own choice), in the words of clap: `run SCRIPT`, `audit SCRIPT` and `restore DUMP [--jobs N] --out FILE`.
+-- The command line (this project's own choice), in the words of clap: `run SCRIPT [--events N] [--free]`, `audit SCRIPT [--events N]`, `--version` and `restore DUMP [--jobs N] --out FILE`.
 use Rattle.std.specs.Prelude.{◌≢◌, ◌==◌, true, List, [], ◌∷◌, Some, pos, length, codes, if◌then◌else◌}
 use Rattle.clap.specs.Words.{App, IsAmong, Kinds, Rule, Text, fault_of, new_app, new_rule, with_rule, with_subcommand}
-use Rattle.clap.specs.declared.builder.ArgAction.TheVariants.{Set}
+use Rattle.clap.specs.declared.builder.ArgAction.TheVariants.{Set, SetTrue}
 use Rattle.clap.specs.declared.builder.ValueParser.TheVariants.{Signed}
 use Rattle.clap.specs.declared.error.ErrorKind.{ErrorKind}
 use Rattle.clap.specs.declared.error.ErrorKind.TheVariants.{DisplayHelp, DisplayVersion, OutOfMemory}
@@ -9,6 +9,14 @@ use Rattle.clap.specs.declared.error.ErrorKind.TheVariants.{DisplayHelp, Display
 -- the file of a script
 abbrev pub script : Rule
 script = record (new_rule (codes "SCRIPT")) { required = true; action = Some Set }
+
+-- `--events N`, from 1 to 4294967295
+abbrev pub events : Rule
+events = record (new_rule (codes "events")) { long = Some (codes "events"); value_names = 1; action = Some Set; parser = Some (Signed (pos 1) (pos 4294967295)) }
+
+-- `--free`
+abbrev pub free : Rule
+free = record (new_rule (codes "free")) { long = Some (codes "free"); action = Some SetTrue }
 
 -- the file of a dump
 abbrev pub dump : Rule
@@ -22,18 +30,22 @@ jobs = record (new_rule (codes "jobs")) { long = Some (codes "jobs"); value_name
 abbrev pub out : Rule
 out = record (new_rule (codes "out")) { long = Some (codes "out"); value_names = 1; required = true; action = Some Set }
 
+-- a command on a script
 abbrev pub of_script : Text → App
-of_script name = with_rule (new_app name) script
+of_script name = with_rule (with_rule (new_app name) script) events
+
+abbrev pub run : App
+run = with_rule (of_script (codes "run")) free
 
 abbrev pub restore : App
 restore = with_rule (with_rule (with_rule (new_app (codes "restore")) dump) jobs) out
 
--- the program: its words come without its name, and one of the commands is among them
+-- the program: its words come without its name, it has a version, and one of the commands is among the words
 abbrev pub alone : App
-alone = let a = new_app (codes "pgserial") in record a { top = record a.top { no_binary_name = true; subcommand_required = true } }
+alone = let a = new_app (codes "pgserial") in record a { top = record a.top { has_version = true; no_binary_name = true; subcommand_required = true } }
 
 abbrev pub pgserial : App
-pgserial = with_subcommand (with_subcommand (with_subcommand alone (of_script (codes "run")).top) (of_script (codes "audit")).top) restore.top
+pgserial = with_subcommand (with_subcommand (with_subcommand alone run.top) (of_script (codes "audit")).top) restore.top
 
 -- What may be wrong with some words, in the parser's kinds of errors; nothing where they are a command line. No word at all is one: `run -`.
 abbrev pub faults : List Text → Kinds

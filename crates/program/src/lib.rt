@@ -4,6 +4,7 @@
 mod dumping;
 mod fault;
 pub mod files;
+mod free;
 pub mod host;
 mod ordering;
 mod output;

@@ -8,7 +8,7 @@ use crate::files::{Files, ReadError};
 use crate::ordering::order_text;
 use crate::output::{Printer, fault_of_print, show_refusal};
 use crate::restoring::read_dump;
-use crate::sessions::{MOST_EVENTS, checkpoint, do_command};
+use crate::sessions::{checkpoint, do_command};
 use schema::catalog::Catalog;
 use schema::tables::Tables;
 use script::schedule::Schedule;
@@ -26,6 +26,14 @@ use value::text::Text;
 pub(crate) enum Shown {
     Replies,
     Order,
+}
+
+/// How a script's lines are done one after the other: what is shown of them, and for how many events
+/// the history has room, since its opening or its last checkpoint.
+#[derive(Clone, Copy, Debug, PartialEq, Eq)]
+pub(crate) struct Way {
+    pub(crate) shown: Shown,
+    pub(crate) most_events: u32,
 }
 
 /// The bytes of a path, where `-` is standard input.
@@ -88,9 +96,9 @@ fn empty_tables<'p, A: Allocator + Copy>(
     }
 }
 
-// The tables that a script begins with: those of the dump that it opens, or those that it creates,
-// without rows.
-fn open_tables<'p, A, F>(
+/// The tables that a script begins with: those of the dump that it opens, or those that it creates,
+/// without rows.
+pub(crate) fn open_tables<'p, A, F>(
     alloc: A,
     files: &F,
     opens: Option<&'p Text<A>>,
@@ -113,13 +121,14 @@ fn open_core<'p, A, F>(
     files: &F,
     opens: Option<&'p Text<A>>,
     catalog: Catalog<A>,
+    most_events: u32,
 ) -> Result<Core<A>, Fault<'p>>
 where
     A: Allocator + Copy,
     F: Files<A>,
 {
     let (catalog, tables) = open_tables(alloc, files, opens, catalog)?;
-    match Core::open(alloc, catalog, tables, MOST_EVENTS) {
+    match Core::open(alloc, catalog, tables, most_events) {
         Ok(core) => Ok(core),
         Err(_) => Err(Fault::Script { line: 0 }),
     }
@@ -155,16 +164,16 @@ where
 fn pass_checkpoint<'p, A, W>(
     alloc: A,
     core: Core<A>,
-    shown: Shown,
+    way: Way,
     printer: &mut Printer<'_, W, A>,
 ) -> Result<Core<A>, Fault<'p>>
 where
     A: Allocator + Copy,
     W: Write,
 {
-    let order = order_of(alloc, shown, &core)?;
-    let (core, refusal) = checkpoint(alloc, core);
-    match (shown, refusal) {
+    let order = order_of(alloc, way.shown, &core)?;
+    let (core, refusal) = checkpoint(alloc, core, way.most_events);
+    match (way.shown, refusal) {
         (Shown::Replies, None) => show(b"CHECKPOINT\n", printer)?,
         (Shown::Replies, Some(refusal)) => show_refusal(refusal, printer)?,
         (Shown::Order, None) => show(order.as_slice(), printer)?,
@@ -180,7 +189,7 @@ fn do_lines<'p, A, F, W, T>(
     files: &F,
     mut core: Core<A>,
     lines: &'p [Line<A>],
-    shown: Shown,
+    way: Way,
     printer: &mut Printer<'_, W, A>,
 ) -> Result<(), Fault<'p>>
 where
@@ -193,14 +202,14 @@ where
         match &line.step {
             Step::Session(session, command) => {
                 let text = do_command(rt, alloc, files, &mut core, *session, command)?;
-                if shown == Shown::Replies {
+                if way.shown == Shown::Replies {
                     show(text.as_slice(), printer)?;
                 }
             }
-            Step::Checkpoint => core = pass_checkpoint(alloc, core, shown, printer)?,
+            Step::Checkpoint => core = pass_checkpoint(alloc, core, way, printer)?,
         }
     }
-    let order = order_of(alloc, shown, &core)?;
+    let order = order_of(alloc, way.shown, &core)?;
     show(order.as_slice(), printer)
 }
 
@@ -212,7 +221,7 @@ fn do_script<'p, A, F, W, T>(
     catalog: Catalog<A>,
     opens: Option<&'p Text<A>>,
     lines: &'p [Line<A>],
-    shown: Shown,
+    way: Way,
     printer: &mut Printer<'_, W, A>,
 ) -> Result<(), Fault<'p>>
 where
@@ -221,8 +230,8 @@ where
     W: Write,
     T: Threads + Wait + Sync,
 {
-    let core = open_core(alloc, files, opens, catalog)?;
-    let done = do_lines(rt, alloc, files, core, lines, shown, printer);
+    let core = open_core(alloc, files, opens, catalog, way.most_events)?;
+    let done = do_lines(rt, alloc, files, core, lines, way, printer);
     match printer.flush() {
         Ok(()) => done,
         Err(error) => Err(fault_of_print(error)),
@@ -235,7 +244,7 @@ fn do_read<A, F, W, E, T>(
     alloc: A,
     files: &F,
     script: Script<A>,
-    shown: Shown,
+    way: Way,
     printer: &mut Printer<'_, W, A>,
     err: &mut E,
 ) -> Status
@@ -255,7 +264,7 @@ where
         catalog,
         opens.as_ref(),
         lines.as_slice(),
-        shown,
+        way,
         printer,
     );
     end(done, err)
@@ -268,7 +277,7 @@ pub(crate) fn run_file<A, F, W, E, T>(
     alloc: A,
     files: &F,
     path: &str,
-    shown: Shown,
+    way: Way,
     printer: &mut Printer<'_, W, A>,
     err: &mut E,
 ) -> Status
@@ -285,7 +294,7 @@ where
         Err(fault) => return tell(&fault, err),
     };
     match read_script(alloc, Schedule::InOrder, bytes.as_slice()) {
-        Ok(script) => do_read(rt, alloc, files, script, shown, printer, err),
+        Ok(script) => do_read(rt, alloc, files, script, way, printer, err),
         Err(fault) => tell(&Fault::Script { line: fault.line }, err),
     }
 }

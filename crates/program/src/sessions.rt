@@ -26,10 +26,6 @@ use std::sync::Wait;
 use std::thread::Threads;
 use value::refusal::{Code, Refusal};
 
-/// The greatest number of events that a script's history may have, since its opening or its last
-/// checkpoint.
-pub(crate) const MOST_EVENTS: u32 = 100_000;
-
 /// What a text asks of the core: that its statement is run, or, where it is none, that its refusal is
 /// recorded. Want of memory is told to the session alone.
 fn action_of<A: Allocator + Copy>(
@@ -183,13 +179,14 @@ where
     }
 }
 
-/// Lets the history go on from the tables that it has come to: the core, and the refusal where it
-/// doesn't.
+/// Lets the history go on from the tables that it has come to, with room for so many events more:
+/// the core, and the refusal where it doesn't.
 pub(crate) fn checkpoint<A: Allocator + Copy>(
     alloc: A,
     core: Core<A>,
+    most_events: u32,
 ) -> (Core<A>, Option<Refusal>) {
-    match core.checkpoint(alloc, MOST_EVENTS) {
+    match core.checkpoint(alloc, most_events) {
         Ok(core) => (core, None),
         Err((core, refusal)) => (core, Some(refusal)),
     }

@@ -6,10 +6,11 @@ ghost use Rattle.program.specs.CommandLine.{AreMistaken, IsMistake, MayBeMistake
 
 use crate::fault::{Fault, Status, end, tell};
 use crate::files::Files;
+use crate::free::run_free;
 use crate::output::Printer;
 use crate::request::{Request, read_words};
 use crate::restoring::restore_file;
-use crate::run::{Shown, run_file};
+use crate::run::run_file;
 use clap::Error;
 use clap::error::ErrorKind;
 use std::alloc::{Allocator, Global};
@@ -20,6 +21,7 @@ use std::thread::Threads;
 // Does what the words ask for.
 fn do_request<A, F, W, E, T>(
     rt: &T,
+    words_memory: Global,
     alloc: A,
     request: Request<'_>,
     files: &F,
@@ -28,7 +30,7 @@ fn do_request<A, F, W, E, T>(
 ) -> Status
 where
     A: Allocator + Copy + Send + Sync,
-    F: Files<A>,
+    F: Files<A> + Files<Global> + Sync,
     W: Write,
     E: Write,
     T: Threads + Wait + Sync,
@@ -36,11 +38,22 @@ where
 {
     let mut printer = Printer::new(alloc, out);
     match request {
-        Request::Run { script } => {
-            run_file(rt, alloc, files, script, Shown::Replies, &mut printer, err)
+        Request::Run { script, way } => {
+            run_file(rt, alloc, files, script, way, &mut printer, err)
         }
-        Request::Audit { script } => {
-            run_file(rt, alloc, files, script, Shown::Order, &mut printer, err)
+        Request::Free {
+            script,
+            most_events,
+        } => {
+            run_free(
+                rt,
+                words_memory,
+                files,
+                script,
+                most_events,
+                &mut printer,
+                err,
+            )
         }
         Request::Restore { dump, jobs, out } => {
             let done = restore_file(rt, alloc, files, dump, jobs, out, &mut printer);
@@ -87,7 +100,7 @@ fn done<A, F, W, E, T>(
 ) -> Status
 where
     A: Allocator + Copy + Send + Sync,
-    F: Files<A>,
+    F: Files<A> + Files<Global> + Sync,
     W: Write,
     E: Write,
     T: Threads + Wait + Sync,
@@ -96,14 +109,15 @@ where
 {
     match read_words(words_memory, words) {
         Err(error) => tell_words(&error, out, err),
-        Ok(request) => do_request(rt, alloc, request, files, out, err),
+        Ok(request) => do_request(rt, words_memory, alloc, request, files, out, err),
     }
 }
 
 /// Does what the words behind the program's name ask for, over these files, and gives the exit
 /// status: 0 where it was done, refused statements included; 1 where a script or a dump is refused;
 /// 2 for words that are no command; 3 where a file or standard output failed. Why it wasn't 0 is told
-/// in a line on `err`. The parser of words takes its memory of `words_memory`, all else of `alloc`.
+/// in a line on `err`. The parser of words and sessions that run freely take their memory of
+/// `words_memory`, all else of `alloc`.
 pub fn run_words<A, F, W, E, T>(
     rt: &T,
     words_memory: Global,
@@ -115,7 +129,7 @@ pub fn run_words<A, F, W, E, T>(
 ) -> u8
 where
     A: Allocator + Copy + Send + Sync,
-    F: Files<A>,
+    F: Files<A> + Files<Global> + Sync,
     W: Write,
     E: Write,
     T: Threads + Wait + Sync,

@@ -351,3 +351,29 @@ CREATE TABLE oncall (id bigint PRIMARY KEY, v bigint);
 fn write_skew(rt: HostRuntime) -> Result<(), Fail> {
     assert_prints(&rt, "run -", WRITE_SKEW)
 }
+
+const FREE_WRITERS: &str = "\
+-- Two sessions that run freely, each on a thread of its own, and write to tables of their own.
+-- In every schedule both commit, and the replies come session by session; the last line says that the order of the commits explains them.
+CREATE TABLE a (id bigint PRIMARY KEY);
+CREATE TABLE b (id bigint PRIMARY KEY);
+1 BEGIN;
+2 BEGIN;
+1 INSERT INTO a VALUES (1);
+2 INSERT INTO b VALUES (1);
+1 COMMIT;
+2 COMMIT;
+====
+1 BEGIN
+1 INSERT 0 1
+1 COMMIT
+2 BEGIN
+2 INSERT 0 1
+2 COMMIT
+check yes
+";
+
+#[test]
+fn free_writers(rt: HostRuntime) -> Result<(), Fail> {
+    assert_prints(&rt, "run - --free", FREE_WRITERS)
+}

@@ -113,7 +113,17 @@ fn bytes_that_are_no_text(rt: HostRuntime) -> Result<(), Fail> {
 const MISTAKES: &str = "\n\
 run
 run a b
-run a --free
+run a --free --free
+run a --events
+run a --events 0
+run a --events 4294967296
+run a --events x
+run a --events 1 --events 2
+audit a --free
+audit a --events 0
+restore d --out o --free
+restore d --out o --events 9
+--free a
 run --jobs 2 a
 audit
 audit a b
@@ -156,6 +166,29 @@ fn help(rt: HostRuntime) -> Result<(), Fail> {
         let status = status_of(&rt, Given::of(words, ""), &mut out, &mut err)?;
         assert_eq!(rt; status, 0, "{words}");
         assert!(rt; !out.is_empty() && err.is_empty(), "{words}");
+    }
+    Ok(())
+}
+
+#[test]
+fn version(rt: HostRuntime) -> Result<(), Fail> {
+    assert_ends(&rt, Given::of("--version", ""), (0, "pgserial 0.1.0\n", ""))?;
+    assert_ends(&rt, Given::of("-V", ""), (0, "pgserial 0.1.0\n", ""))
+}
+
+// What a mistake tells of how a command is used begins with the program's name.
+#[test]
+fn usage(rt: HostRuntime) -> Result<(), Fail> {
+    for (words, usage) in [
+        ("run", "Usage: pgserial run <SCRIPT>"),
+        ("audit", "Usage: pgserial audit <SCRIPT>"),
+        ("restore", "Usage: pgserial restore --out <FILE> <DUMP>"),
+    ] {
+        let mut out = Vec::new(rt.alloc());
+        let mut err = Vec::new(rt.alloc());
+        status_of(&rt, Given::of(words, ""), &mut out, &mut err)?;
+        let told = String::from_utf8(err)?;
+        assert!(rt; told.contains(usage), "{told}");
     }
     Ok(())
 }

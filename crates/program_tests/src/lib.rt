@@ -14,6 +14,8 @@ mod examples;
 #[cfg(test)]
 mod faults;
 #[cfg(test)]
+mod free;
+#[cfg(test)]
 mod hostile;
 #[cfg(test)]
 mod machine;
@@ -25,3 +27,5 @@ mod printed;
 mod replies;
 #[cfg(test)]
 mod scripts;
+#[cfg(test)]
+mod taker;

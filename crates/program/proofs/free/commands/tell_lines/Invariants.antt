@@ -1,0 +1,7 @@
+use Rattle.std.proofs.Common.{take}
+use Rattle.program.specs.Freely.{AreTold}
+use Rattle.program.proofs.free.commands.tell_lines.Given as goal
+
+-- the lines so far are told
+abbrev pub invariant-loop-line : goal.invariant-loop-line
+invariant-loop-line g l = AreTold g.J.Naming.opening g.J.Naming.most (take l.line-index l.lines) l.fn.pass l.text.items l.pass

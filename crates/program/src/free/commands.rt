@@ -1,0 +1,255 @@
+//! What a session's line does, on its thread.
+
+ghost use Rattle.std.specs.Prelude.{◌≡◌, ◌++◌, IfOk, OnOk};
+ghost use Rattle.backup.specs.Backed.{seen_by};
+ghost use Rattle.program.specs.Dumps.{IsDumped};
+ghost use Rattle.program.specs.Freely.{AreTold, IsAnswered, IsAtLine, IsDumpTold, IsReplyTold, IsTextAnswered, IsTold};
+
+use crate::dumping::dump_text;
+use crate::fault::Fault;
+use crate::free::sinks::Sinks;
+use backup::{BackupFault, dump_safe};
+use dumpplan::NoGate;
+use dumpworker::DumpFault;
+use history::session_id::SessionId;
+use pass::token::Pass;
+use pass::word::Naming;
+use script::command::{Command, DumpRequest};
+use script::printing::reply_text;
+use script::script::{Line, Step};
+use server::request::Request;
+use server::shared::Server;
+use statement::reply::Reply;
+use std::alloc::Global;
+use std::sync::Wait;
+use std::thread::Threads;
+use value::refusal::{Code, Refusal};
+
+const NO_MEMORY: Fault<'static> = Fault::Script { line: 0 };
+
+// The reply to a text.
+fn say<'w, J, T>(
+    rt: &T,
+    alloc: Global,
+    server: &Server<'w, J>,
+    pass: &mut Pass<'w, J>,
+    text: &str,
+) -> Reply
+where
+    J: Naming<Global>,
+    T: Wait,
+    ensures { IsTextAnswered J.opening J.most pass.old text.now result pass.new }
+{
+    match String::from_str(alloc, text) {
+        Ok(text) => server.call(rt, alloc, pass, Request::Sql(text)),
+        Err(_) => Reply::Refused(Refusal::of_code(Code::OutOfMemory)),
+    }
+}
+
+// The reply to a command that is no dump.
+fn reply_to<'w, J, T>(
+    rt: &T,
+    alloc: Global,
+    server: &Server<'w, J>,
+    pass: &mut Pass<'w, J>,
+    command: &Command,
+) -> Reply
+where
+    J: Naming<Global>,
+    T: Wait,
+    ensures { IsAnswered J.opening J.most pass.old command.now result pass.new }
+{
+    match command {
+        Command::Sql(text) => say(rt, alloc, server, pass, text.as_str()),
+        Command::Begin(mode) => server.call(rt, alloc, pass, Request::Begin(*mode)),
+        Command::Import(identifier) => server.call(rt, alloc, pass, Request::Import(*identifier)),
+        Command::Poll => server.call(rt, alloc, pass, Request::Poll),
+        Command::Wait => server.wait_safe(rt, alloc, pass),
+        Command::Export => server.call(rt, alloc, pass, Request::Export),
+        Command::Commit => server.call(rt, alloc, pass, Request::Commit),
+        Command::Rollback => server.call(rt, alloc, pass, Request::Rollback),
+        Command::Prune | Command::Dump(_) => server.call(rt, alloc, pass, Request::Prune),
+    }
+}
+
+// Does a command that is no dump, and gives what is printed of it.
+fn tell_reply<'p, 'w, J, T>(
+    rt: &T,
+    alloc: Global,
+    server: &Server<'w, J>,
+    pass: &mut Pass<'w, J>,
+    command: &'p Command,
+) -> Result<Vec<u8>, Fault<'p>>
+where
+    J: Naming<Global>,
+    T: Wait,
+    ensures { IfOk result (λ text. IsReplyTold J.opening J.most pass.old command.entry.now text.items pass.new) }
+{
+    let session = pass.session();
+    let reply = reply_to(rt, alloc, server, pass, command);
+    match reply_text(alloc, session, &reply) {
+        Ok(text) => Ok(text),
+        Err(_) => Err(NO_MEMORY),
+    }
+}
+
+// Writes a dump of the safe snapshot of a pass's session to a file.
+fn dump_to_file<'w, J, S, T>(
+    rt: &T,
+    alloc: Global,
+    server: &Server<'w, J>,
+    sinks: &S,
+    pass: &mut Pass<'w, J>,
+    request: &DumpRequest,
+) -> Result<(), BackupFault>
+where
+    J: Naming<Global>,
+    S: Sinks,
+    T: Threads + Wait + Sync,
+    ensures dumped { IsDumped (seen_by J.opening J.most pass.new) pass.new.session result }
+    ensures session { pass.new.session ≡ pass.old.session }
+    ensures mine { pass.new.mine ≡ pass.old.mine }
+{
+    let Ok(mut file) = sinks.create(alloc, request.path.as_str()) else {
+        return Err(BackupFault::Dump(DumpFault::Memory));
+    };
+    dump_safe(
+        rt,
+        alloc,
+        server,
+        pass,
+        request.jobs,
+        request.rows,
+        &mut file,
+        &NoGate,
+    )
+}
+
+// Does a dump, and gives what is printed of it.
+fn tell_dump<'p, 'w, J, S, T>(
+    rt: &T,
+    alloc: Global,
+    server: &Server<'w, J>,
+    sinks: &S,
+    pass: &mut Pass<'w, J>,
+    request: &'p DumpRequest,
+) -> Result<Vec<u8>, Fault<'p>>
+where
+    J: Naming<Global>,
+    S: Sinks,
+    T: Threads + Wait + Sync,
+    ensures { IfOk result (λ text. IsDumpTold J.opening J.most pass.old text.items pass.new) }
+{
+    let session = pass.session();
+    let done = dump_to_file(rt, alloc, server, sinks, pass, request);
+    dump_text(alloc, session, request.path.as_str(), done)
+}
+
+// Does a command, and gives what is printed of it.
+fn tell_command<'p, 'w, J, S, T>(
+    rt: &T,
+    alloc: Global,
+    server: &Server<'w, J>,
+    sinks: &S,
+    pass: &mut Pass<'w, J>,
+    command: &'p Command,
+) -> Result<Vec<u8>, Fault<'p>>
+where
+    J: Naming<Global>,
+    S: Sinks,
+    T: Threads + Wait + Sync,
+    ensures { IfOk result (λ text. IsTold J.opening J.most pass.old command.entry.now text.items pass.new) }
+{
+    match command {
+        Command::Dump(request) => tell_dump(rt, alloc, server, sinks, pass, request),
+        Command::Sql(_)
+        | Command::Begin(_)
+        | Command::Import(_)
+        | Command::Poll
+        | Command::Wait
+        | Command::Export
+        | Command::Commit
+        | Command::Rollback
+        | Command::Prune => tell_reply(rt, alloc, server, pass, command),
+    }
+}
+
+// Does a session's command where the session is the pass's, and gives what is printed of it.
+fn tell_own<'p, 'w, J, S, T>(
+    rt: &T,
+    alloc: Global,
+    server: &Server<'w, J>,
+    sinks: &S,
+    pass: &mut Pass<'w, J>,
+    session: SessionId,
+    command: &'p Command,
+) -> Result<Vec<u8>, Fault<'p>>
+where
+    J: Naming<Global>,
+    S: Sinks,
+    T: Threads + Wait + Sync,
+    ensures { IfOk result (λ text. IsAtLine J.opening J.most (Step.Session session command.entry.now) pass.old text.items pass.new) }
+{
+    if session.number() == pass.session().number() {
+        tell_command(rt, alloc, server, sinks, pass, command)
+    } else {
+        Ok(Vec::new(alloc))
+    }
+}
+
+// Does a line, where it is of the pass's session, and gives what is printed of it.
+fn tell_line<'p, 'w, J, S, T>(
+    rt: &T,
+    alloc: Global,
+    server: &Server<'w, J>,
+    sinks: &S,
+    pass: &mut Pass<'w, J>,
+    line: &'p Line,
+) -> Result<Vec<u8>, Fault<'p>>
+where
+    J: Naming<Global>,
+    S: Sinks,
+    T: Threads + Wait + Sync,
+    ensures { IfOk result (λ text. IsAtLine J.opening J.most line.entry.now.step pass.old text.items pass.new) }
+{
+    match &line.step {
+        Step::Session(session, command) => {
+            tell_own(rt, alloc, server, sinks, pass, *session, command)
+        }
+        Step::Checkpoint => Ok(Vec::new(alloc)),
+    }
+}
+
+// Appends a text.
+fn append(more: &[u8], text: &mut Vec<u8>) -> Result<(), Fault<'static>>
+    ensures { OnOk result (text.new.items ≡ text.old.items ++ more.now) }
+{
+    match text.extend_from_slice(more) {
+        Ok(()) => Ok(()),
+        Err(_) => Err(NO_MEMORY),
+    }
+}
+
+/// Does the lines of the pass's session, in their order, and gives what is printed of them. It stops at
+/// the first fault, and tells it.
+pub(crate) fn tell_lines<'p, 'w, J, S, T>(
+    rt: &T,
+    alloc: Global,
+    server: &Server<'w, J>,
+    sinks: &S,
+    pass: &mut Pass<'w, J>,
+    lines: &'p [Line],
+) -> Result<Vec<u8>, Fault<'p>>
+where
+    J: Naming<Global>,
+    S: Sinks,
+    T: Threads + Wait + Sync,
+    ensures { IfOk result (λ text. AreTold J.opening J.most lines.entry.now pass.old text.items pass.new) }
+{
+    let mut text = Vec::new(alloc);
+    for line in lines {
+        let told = tell_line(rt, alloc, server, sinks, pass, line)?;
+        append(told.as_slice(), &mut text)?;
+    }
+    Ok(text)
+}

@@ -1,0 +1,31 @@
+//! The files that sessions on threads dump to.
+
+ghost use Rattle.std.specs.Prelude.{◌≡◌, [], IfOk};
+
+use crate::files::Files;
+use collector::Device;
+use std::alloc::{AllocError, Global};
+
+/// Where sessions on threads dump to. It is `Files` without a type parameter and without what is read.
+pub(crate) trait Sinks: Sync {
+    type Out: Device + Send + Drop;
+
+    /// A device that opens a path's file at its first write, and has taken nothing yet.
+    fn create(&self, alloc: Global, path: &str) -> Result<Self::Out, AllocError>
+        ensures empty { IfOk result (λ file. Self.Out.taken file ≡ []) }
+        ensures sound { IfOk result (λ file. Self.Out.failures file ≡ 0) };
+}
+
+/// Files, to be written alone.
+#[derive(Drop)]
+pub(crate) struct FilesToWrite<'f, F> {
+    pub(crate) files: &'f F,
+}
+
+impl<'f, F: Files<Global> + Sync> Sinks for FilesToWrite<'f, F> {
+    type Out = F::Out;
+
+    fn create(&self, alloc: Global, path: &str) -> Result<F::Out, AllocError> {
+        self.files.create(alloc, path)
+    }
+}
