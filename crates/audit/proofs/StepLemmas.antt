@@ -1,5 +1,6 @@
 -- Steps of walks over courses, changes and answers.
-use Rattle.std.proofs.Common.{◌≡◌, refl, sym, ap, ◌∙◌, ℕ, suc, zero, ◌+◌, ◌<◌, Bool, true, false, true≢false, cond, ◌||◌, ◌&&◌, ◌-◌, ◌≤◌, map, slice_get, subst, add-one, drop-cons, inl, inr, List, [], ◌∷◌, length, take, drop, get_or, set, Some, None, is_some, eqb, not, ◌++◌, append_assoc, append-nil, IfOk, Result, Ok, Err, arith}
+use Rattle.std.proofs.Common.{◌≡◌, refl, sym, ap, ◌∙◌, ℕ, suc, zero, ◌+◌, ◌<◌, Bool, true, false, true≢false, cond, ◌||◌, ◌&&◌, ◌-◌, ◌≤◌, map, slice_get, subst, add-one, drop-cons, inl, inr, List, [], ◌∷◌, length, take, drop, get_or, set, Some, None, is_some, eqb, IfOk, Result, Ok, Err, nat_lt, not, arith}
+use Rattle.std.proofs.lemmas.Bool.Decides.{nat_tests}
 use Rattle.std.specs.List.{find, list_any}
 use Rattle.value.specs.Refusals.{AnswersOrNoMemory}
 use Rattle.std.specs.List.{filter, list_all}
@@ -113,6 +114,19 @@ module _ {A : Type 0} where
         ap (is_sound c) done ∙ sound_after c (show q).0 X parts.0 sound,
       )
 
+  -- the statement is one that fits
+  pub first-fits : {T : Type 0} (show : T → Statement A × Reply A) (c : Catalog) (qs : List T) (q : T) → 1 ≤ length qs → q ≡ get_or qs 0 q → are_fit c (map show qs) ≡ true → fits c (show q).0 ≡ true
+  first-fits {T} show c qs q long first fit =
+      let rest : List T = take (length qs - 1) (drop 1 qs) in
+      (two (fits c (show q).0) (are_fit c (map show rest)) (sym (ap (λ (xs : List T). are_fit c (map show xs)) (first_and_rest qs q long first)) ∙ fit)).0
+
+  -- it gets another answer
+  pub again-stops : {T : Type 0} (show : T → Statement A × Reply A) (c : Catalog) (qs : List T) (q : T) (X : Tables A) → 1 ≤ length qs → q ≡ get_or qs 0 q → same_answer (outcome c (show q).0 X).reply (show q).1 ≡ false
+      → answers_again c (map show qs) X ≡ false
+  again-stops {T} show c qs q X long first other =
+      let rest : List T = take (length qs - 1) (drop 1 qs) in
+      ap (λ (xs : List T). answers_again c (map show xs) X) (first_and_rest qs q long first) ∙ ap (λ b. b && answers_again c (map show rest) (after c (show q).0 X)) other
+
   pub sound-end : (c : Catalog) (qs : List (Statement A × Reply A)) (X : Tables A) → are_fit c qs ≡ true → is_sound c X ≡ true → is_sound c (end_of c qs X) ≡ true
   sound-end c [] X f h = h
   sound-end c (q ∷ qs) X f h = let p = two (fits c q.0) (are_fit c qs) f in sound-end c qs (after c q.0 X) p.1 (sound_after c q.0 X p.0 h)
@@ -131,13 +145,12 @@ pub if-ok : {T E : Type 0} {P Q : T → Type 0} (r : Result T E) → IfOk r P �
 if-ok (Ok x) h f = f x h
 if-ok (Err e) h f = h
 
-module _ {A : Type 0} where
-  pub keep-step : (n : ℕ) (kept kept' rest rest' : List (Track A)) (x : Track A) → rest ≡ x ∷ rest' → kept' ≡ kept ++ cond (not (eqb x.number n)) (x ∷ []) [] → kept' ++ without n rest' ≡ kept ++ without n rest
-  keep-step n kept kept' rest rest' x e1 e2 = ap (λ ks. ks ++ without n rest') e2 ∙ go (eqb x.number n) ∙ ap (λ r. kept ++ without n r) (sym e1)
-    where
-      go : (b : Bool) → (kept ++ cond (not b) (x ∷ []) []) ++ without n rest' ≡ kept ++ cond (not b) (x ∷ without n rest') (without n rest')
-      go false = append_assoc kept (x ∷ []) (without n rest')
-      go true = ap (λ ks. ks ++ without n rest') (append-nil kept)
+-- one that had ended goes no further, and one that hadn't goes by its answers
+pub ended-before : (a b : ℕ) (r : Bool) → a < b → (not (nat_lt a b) && r) ≡ false
+ended-before a b r lt = let e : nat_lt a b ≡ true = grind (arith, nat_tests) in ap (λ t. not t && r) e
+
+pub not_ended : (a b : ℕ) (r : Bool) → b ≤ a → (not (nat_lt a b) && r) ≡ r
+not_ended a b r le = let e : nat_lt a b ≡ false = grind (arith, nat_tests) in ap (λ t. not t && r) e
 
 -- the number at the front
 pub front_number : (qs : List TxnNo) (d : TxnNo) → 1 ≤ length qs → get_or qs 0 d ≡ get_or qs 0 (get_or qs 0 d)

@@ -1,5 +1,5 @@
 -- The course of a transaction as its session's records tell it: when it began and committed, and what its statements were answered.
-use Rattle.std.specs.Prelude.{ℕ, ◌+◌, ◌-◌, ◌==◌, Bool, true, false, ◌&&◌, if◌then◌else◌, List, [], ◌∷◌, ◌++◌, length}
+use Rattle.std.specs.Prelude.{ℕ, ◌+◌, ◌-◌, ◌==◌, Bool, true, false, ◌&&◌, if◌then◌else◌, ◌≡◌, Option, Some, List, [], ◌∷◌, ◌++◌, length, slice_get}
 use Rattle.std.specs.List.{list_any}
 use Rattle.statement.specs.declared.statement.Statement.{Statement}
 use Rattle.statement.specs.declared.reply.Reply.{Reply}
@@ -72,6 +72,10 @@ module _ {A : Type 0} where
   -- after one more record
   abbrev pub with_record : ℕ → Record A → List (Track A) → List (Track A)
   with_record place e cs = if list_any (is_its e.session) cs then at_first (is_its e.session) (gone_on place e.action e.reply) cs else begins place e.session e.action cs
+
+  -- These are the places of each session's latest transaction: where it has still to end one, that one stands there.
+  abbrev pub AreLatest : (ℕ → Option ℕ) → List (Track A) → Type 0
+  AreLatest place cs = (s i : ℕ) (c : Track A) → slice_get cs i ≡ Some c → is_its s c ≡ true → place s ≡ Some i
 
   -- after these records, the first of them at the place after this one
   abbrev pub courses_after : ℕ → List (Record A) → List (Track A) → List (Track A)

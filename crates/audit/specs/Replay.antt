@@ -1,5 +1,5 @@
 -- Transactions run again alone, one after the other, by their courses.
-use Rattle.std.specs.Prelude.{ℕ, ◌-◌, nat_lt, max, ◌==◌, Bool, true, false, not, ◌&&◌, if◌then◌else◌, Option, Some, None, List, [], ◌∷◌}
+use Rattle.std.specs.Prelude.{ℕ, ◌≡◌, ◌+◌, ◌-◌, slice_get, nat_lt, max, ◌==◌, Bool, true, false, not, ◌&&◌, if◌then◌else◌, Option, Some, None, List, [], ◌∷◌}
 use Rattle.std.specs.List.{filter, find, list_all}
 use Rattle.schema.specs.Definition.{Catalog}
 use Rattle.schema.specs.declared.tables.Tables.{Tables}
@@ -37,6 +37,20 @@ module _ {A : Type 0} where
   -- those without this number
   abbrev pub without : ℕ → List (Track A) → List (Track A)
   without n xs = filter (λ y. not (y.number == n)) xs
+
+  -- a course, if its transaction committed
+  abbrev pub if_committed : Track A → Option (Track A)
+  if_committed x = if x.committed then Some x else None
+
+  -- those that are there
+  abbrev pub present : List (Option (Track A)) → List (Track A)
+  present [] = []
+  present (None ∷ xs) = present xs
+  present (Some x ∷ xs) = x ∷ present xs
+
+  -- each that is there stands at the place before its number
+  abbrev pub AreInPlace : List (Option (Track A)) → Type 0
+  AreInPlace xs = (i : ℕ) (x : Track A) → slice_get xs i ≡ Some (Some x) → x.number ≡ i + 1
 
   abbrev pub is_empty : List (Track A) → Bool
   is_empty [] = true

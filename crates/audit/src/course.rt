@@ -2,15 +2,18 @@
 
 ghost use Rattle.std.specs.Prelude.{◌≡◌, ℕ, ◌+◌, ◌<◌, ◌^◌, [], length, find, slice_get, slice_set, take, Some, true, None, IfOk, IfErr, IfSome, IfNone, OnOk};
 ghost use Rattle.std.specs.List.{list_any};
+ghost use Rattle.std.specs.Ordering.{nat_cmp};
+ghost use Rattle.std.specs.BTreeMap.{get};
 ghost use Rattle.value.specs.Refusals.{out_of_memory};
 ghost use Rattle.history.specs.Answer.{is_refused};
-ghost use Rattle.audit.specs.Course.{Track, begins, course_begun, courses_after, gone_on, is_its, with_record};
+ghost use Rattle.audit.specs.Course.{Track, AreLatest, begins, course_begun, courses_after, gone_on, is_its, with_record};
 
 use history::event::{Action, Record};
 use history::session_id::SessionId;
 use statement::reply::Reply;
 use statement::statement::Statement;
 use std::alloc::Allocator;
+use std::collections::BTreeMap;
 use std::marker::Model;
 use value::refusal::Refusal;
 
@@ -137,18 +140,24 @@ impl<A: Allocator> Course<A> {
 }
 
 // The place of the session's course, which it has still to end.
-fn find_its<A: Allocator>(courses: &[Course<A>], session: SessionId) -> Option<usize>
+fn find_its<A: Allocator>(
+    courses: &[Course<A>],
+    latest: &BTreeMap<u32, usize, A>,
+    session: SessionId,
+) -> Option<usize>
+    requires { AreLatest (get nat_cmp latest.now) courses.now }
     ensures first { IfSome result (λ i. find (is_its session) (take i courses.now) ≡ None) }
     ensures some { IfSome result (λ i. (x : Track A) → slice_get courses.now i ≡ Some x → is_its session x ≡ true) }
     ensures within { IfSome result (λ i. i < length courses.now) }
     ensures none { IfNone result (find (is_its session) courses.now ≡ None) }
 {
-    for (place, course) in courses.iter().enumerate() {
-        if course.is_its(session) {
-            return Some(place);
-        }
+    let place = *latest.get(&session.number())?;
+    let course = courses.get(place)?;
+    if course.is_its(session) {
+        Some(place)
+    } else {
+        None
     }
-    None
 }
 
 // Goes on with the course at a place of the list.
@@ -171,15 +180,20 @@ fn go_on_at<A: Allocator + Copy>(
 fn begin<A: Allocator + Copy>(
     alloc: A,
     courses: &mut Vec<Course<A>, A>,
+    latest: &mut BTreeMap<u32, usize, A>,
     place: u64,
     entry: &Record<A>,
 ) -> Result<(), Refusal>
+    requires latest { AreLatest (get nat_cmp latest.old) courses.old.items }
+    requires none { find (is_its entry.now.session) courses.old.items ≡ None }
     ensures ok { OnOk result (courses.new.items ≡ begins place entry.now.session entry.now.action courses.old.items) }
+    ensures latest { OnOk result (AreLatest (get nat_cmp latest.new) courses.new.items) }
     ensures memory { IfErr result (λ e. e ≡ out_of_memory) }
 {
     if let Action::Begin(_) = &entry.action {
-        let number = courses.len() as u64 + 1;
-        courses.push(Course::begun(alloc, entry.session, number, place))?;
+        let count = courses.len();
+        latest.insert(entry.session.number(), count)?;
+        courses.push(Course::begun(alloc, entry.session, count as u64 + 1, place))?;
     }
     Ok(())
 }
@@ -188,19 +202,22 @@ fn begin<A: Allocator + Copy>(
 fn follow<A: Allocator + Copy>(
     alloc: A,
     courses: &mut Vec<Course<A>, A>,
+    latest: &mut BTreeMap<u32, usize, A>,
     place: u64,
     entry: &Record<A>,
 ) -> Result<(), Refusal>
+    requires { AreLatest (get nat_cmp latest.old) courses.old.items }
     ensures ok { OnOk result (courses.new.items ≡ with_record place entry.now courses.old.items) }
+    ensures latest { OnOk result (AreLatest (get nat_cmp latest.new) courses.new.items) }
     ensures memory { IfErr result (λ e. e ≡ out_of_memory) }
 {
-    match find_its(courses.as_slice(), entry.session) {
+    match find_its(courses.as_slice(), latest, entry.session) {
         Some(i) => {
             go_on_at(alloc, courses, i, place, entry)?;
             Ok(())
         }
         None => {
-            begin(alloc, courses, place, entry)?;
+            begin(alloc, courses, latest, place, entry)?;
             Ok(())
         }
     }
@@ -215,10 +232,11 @@ pub fn courses<A: Allocator + Copy>(
     ensures memory { IfErr result (λ e. e ≡ out_of_memory) }
 {
     let mut courses = Vec::new(alloc);
+    let mut latest = BTreeMap::new(alloc);
     let mut place = 0u64;
     for entry in records {
         place += 1;
-        follow(alloc, &mut courses, place, entry)?;
+        follow(alloc, &mut courses, &mut latest, place, entry)?;
     }
     Ok(courses)
 }

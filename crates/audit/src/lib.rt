@@ -5,5 +5,3 @@ mod answer;
 mod course;
 pub mod keys;
 pub mod order;
-#[cfg(test)]
-mod tests;

@@ -1,8 +1,8 @@
 //! A serial order, checked.
 
-ghost use Rattle.std.specs.Prelude.{◌≡◌, ◌↔◌, ◌-◌, ◌==◌, ◌&&◌, ◌++◌, [], ◌∷◌, ℕ, Bool, true, List, map, max, nat_lt, not, IsTrue, IfOk, IfErr, OnOk, if◌then◌else◌};
-ghost use Rattle.std.specs.List.{filter, find, list_all};
-ghost use Rattle.std.specs.Option.{option_copied};
+ghost use Rattle.std.specs.Prelude.{◌≡◌, ◌↔◌, ◌-◌, ◌==◌, ◌&&◌, ℕ, Bool, true, List, map, max, nat_lt, not, IsTrue, IfOk, IfErr, OnOk};
+ghost use Rattle.std.specs.List.{find, list_all, list_any};
+ghost use Rattle.std.specs.Option.{is_some};
 ghost use Rattle.value.specs.Refusals.{out_of_memory};
 ghost use Rattle.schema.specs.Plain.{is_sound};
 ghost use Rattle.statement.specs.Evaluation.{after, outcome};
@@ -11,7 +11,7 @@ ghost use Rattle.history.specs.Answer.{IsLegal};
 ghost use Rattle.history.specs.Events.{world};
 ghost use Rattle.history.specs.Serial.{IsSerialList};
 ghost use Rattle.audit.specs.Course.{Track};
-ghost use Rattle.audit.specs.Replay.{answers_again, are_fit, end_of, goes_next, latest_with, replays, without};
+ghost use Rattle.audit.specs.Replay.{AreInPlace, answers_again, are_fit, end_of, goes_next, if_committed, latest_with, present, replays, without};
 ghost use Rattle.schema.specs.declared.tables.Tables.{Tables as AnyTables};
 ghost use Rattle.audit.specs.Same.{same_answer};
 
@@ -22,7 +22,6 @@ use schema::catalog::Catalog;
 use schema::tables::Tables;
 use statement::evaluate::evaluate;
 use std::alloc::Allocator;
-use std::mem;
 use value::refusal::{Refusal, TxnNo};
 
 // Does a statement again, which may change the tables: whether it gets the same answer.
@@ -67,68 +66,45 @@ fn answer_again<A: Allocator + Copy>(
     Ok(true)
 }
 
-// Whether it is the course of the transaction with a number, counted from 1 above the base.
-fn is_numbered<A: Allocator>(course: &Course<A>, number: u64) -> bool
-    ensures { result ≡ (course.now.number == number) }
+// A course, if its transaction committed.
+fn if_committed<A: Allocator>(course: Course<A>) -> Option<Course<A>>
+    ensures { result ≡ if_committed course }
 {
-    course.number == number
+    if course.committed { Some(course) } else { None }
 }
 
-// Whether it is another's.
-fn is_other<A: Allocator>(course: &Course<A>, number: u64) -> bool
-    ensures { result ≡ not (course.now.number == number) }
-{
-    course.number != number
-}
-
-// The course with a number, counted from 1 above the base.
-fn find_numbered<A: Allocator>(courses: &[Course<A>], number: u64) -> Option<&Course<A>>
-    ensures { option_copied result ≡ find (λ y. y.number == number) courses.now }
-{
-    for course in courses {
-        if is_numbered(course, number) {
-            return Some(course);
-        }
-    }
-    None
-}
-
-// Adds a course, if it is another's.
-fn keep<A: Allocator>(
-    kept: &mut Vec<Course<A>, A>,
-    course: Course<A>,
-    number: u64,
-) -> Result<(), Refusal>
-    ensures ok { OnOk result (kept.new.items ≡ kept.old.items ++ (if not (course.number == number) then course ∷ [] else [])) }
-    ensures memory { IfErr result (λ e. e ≡ out_of_memory) }
-{
-    if is_other(&course, number) {
-        kept.push(course)?;
-    }
-    Ok(())
-}
-
-// The courses of others than the one with a number.
-fn others<A: Allocator + Copy>(
+// The courses of those that committed, each at the place before its number.
+fn to_come<A: Allocator>(
     alloc: A,
     courses: Vec<Course<A>, A>,
-    number: u64,
-) -> Result<Vec<Course<A>, A>, Refusal>
-    ensures ok { IfOk result (λ kept. kept.items ≡ without number courses.items) }
+) -> Result<Vec<Option<Course<A>>, A>, Refusal>
+    ensures ok { IfOk result (λ left. left.items ≡ map if_committed courses.items) }
     ensures memory { IfErr result (λ e. e ≡ out_of_memory) }
 {
-    let mut kept = Vec::new(alloc);
+    let mut left = Vec::new(alloc);
     for course in courses {
-        keep(&mut kept, course, number)?;
+        left.push(if_committed(course))?;
     }
-    Ok(kept)
+    Ok(left)
 }
 
-// Keeps the courses of those that committed.
-fn keep_committed<A: Allocator>(courses: &mut Vec<Course<A>, A>)
-    ensures { courses.new.items ≡ filter (λ c. c.committed) courses.old.items }
+// Takes out the course with a number, counted from 1 above the base.
+fn take_out<A: Allocator>(left: &mut Vec<Option<Course<A>>, A>, number: u64) -> Option<Course<A>>
+    requires { AreInPlace left.old.items }
+    ensures found { result ≡ find (λ y. y.number == number) (present left.old.items) }
+    ensures others { present left.new.items ≡ without number (present left.old.items) }
+    ensures in_place { AreInPlace left.new.items }
 {
-    courses.retain(|course| course.committed);
+    let place = number.checked_sub(1)?;
+    let course = left.get_mut(place as usize)?;
+    course.take()
+}
+
+// Whether a course is there.
+fn has_one<A: Allocator>(left: &[Option<Course<A>>]) -> bool
+    ensures { result ≡ list_any is_some left.now }
+{
+    left.iter().any(|course| course.is_some())
 }
 
 // The latest BEGIN after one more, of those that haven't imported.
@@ -165,7 +141,8 @@ fn goes_after<A: Allocator + Copy>(
 /// The transactions of a replay that are still to come, and what those before them have come to.
 #[derive(Drop)]
 struct Replay<A: Allocator> {
-    left: Vec<Course<A>, A>,
+    /// Each at the place before its number.
+    left: Vec<Option<Course<A>>, A>,
     tables: Tables<A>,
     /// The latest BEGIN of those that haven't imported.
     latest: u64,
@@ -175,22 +152,22 @@ impl<A: Allocator + Copy> Replay<A> {
     // Goes on with the transaction of a number: whether it is there, hadn't ended before the latest
     // BEGIN, and gets its answers again.
     fn go_next(&mut self, alloc: A, catalog: &Catalog<A>, number: u64) -> Result<bool, Refusal>
-        requires fit { list_all (λ x. are_fit catalog.now x.statements) self.old.left.items ≡ true }
+        requires in_place { AreInPlace self.old.left.items }
+        requires fit { list_all (λ x. are_fit catalog.now x.statements) (present self.old.left.items) ≡ true }
         requires sound { is_sound catalog.now self.old.tables ≡ true }
-        ensures goes { IfOk result (λ b. (rest : ℕ → List (Track A) → AnyTables A → Bool) → goes_next catalog.now self.old.latest self.old.tables (find (λ y. y.number == number) self.old.left.items) (λ l Y. rest l (without number self.old.left.items) Y) ≡ (b && rest self.new.latest self.new.left.items self.new.tables)) }
-        ensures fit { IfOk result (λ b. b ≡ true → list_all (λ x. are_fit catalog.now x.statements) self.new.left.items ≡ true) }
+        ensures goes { IfOk result (λ b. (rest : ℕ → List (Track A) → AnyTables A → Bool) → goes_next catalog.now self.old.latest self.old.tables (find (λ y. y.number == number) (present self.old.left.items)) (λ l Y. rest l (without number (present self.old.left.items)) Y) ≡ (b && rest self.new.latest (present self.new.left.items) self.new.tables)) }
+        ensures in_place { AreInPlace self.new.left.items }
+        ensures fit { list_all (λ x. are_fit catalog.now x.statements) (present self.new.left.items) ≡ true }
         ensures sound { IfOk result (λ b. b ≡ true → is_sound catalog.now self.new.tables ≡ true) }
         ensures memory { IfErr result (λ e. e ≡ out_of_memory) }
     {
-        let Some(course) = find_numbered(self.left.as_slice(), number) else {
+        let Some(course) = take_out(&mut self.left, number) else {
             return Ok(false);
         };
-        if !goes_after(alloc, catalog, &mut self.tables, self.latest, course)? {
+        if !goes_after(alloc, catalog, &mut self.tables, self.latest, &course)? {
             return Ok(false);
         }
-        self.latest = latest_with(self.latest, course);
-        let left = mem::replace(&mut self.left, Vec::new(alloc));
-        self.left = others(alloc, left, number)?;
+        self.latest = latest_with(self.latest, &course);
         Ok(true)
     }
 }
@@ -204,9 +181,10 @@ fn replays<A: Allocator + Copy>(
     replay: Replay<A>,
     numbers: &[TxnNo],
 ) -> Result<bool, Refusal>
-    requires fit { list_all (λ x. are_fit catalog.now x.statements) replay.left.items ≡ true }
+    requires in_place { AreInPlace replay.left.items }
+    requires fit { list_all (λ x. are_fit catalog.now x.statements) (present replay.left.items) ≡ true }
     requires sound { is_sound catalog.now replay.tables ≡ true }
-    ensures answer { IfOk result (λ b. b ≡ replays catalog.now base replay.latest replay.left.items (map (λ n. n.0) numbers.now) replay.tables) }
+    ensures answer { IfOk result (λ b. b ≡ replays catalog.now base replay.latest (present replay.left.items) (map (λ n. n.0) numbers.now) replay.tables) }
     ensures memory { IfErr result (λ e. e ≡ out_of_memory) }
 {
     let mut replay = replay;
@@ -217,7 +195,7 @@ fn replays<A: Allocator + Copy>(
         }
         left = rest;
     }
-    Ok(replay.left.is_empty())
+    Ok(!has_one(replay.left.as_slice()))
 }
 
 /// Whether these are, in this order, the committed transactions of a history, each once, and are a
@@ -233,8 +211,8 @@ pub fn check_order<A: Allocator + Copy>(
     ensures answer { IfOk result (λ b. IsTrue b ↔ IsSerialList (world history.now) (map (λ n. n.0) numbers.now)) }
     ensures memory { IfErr result (λ e. e ≡ out_of_memory) }
 {
-    let mut left = courses(alloc, history.records())?;
-    keep_committed(&mut left);
+    let courses = courses(alloc, history.records())?;
+    let left = to_come(alloc, courses)?;
     let tables = history.tables().copy(alloc)?;
     let replay = Replay {
         left,

@@ -3,10 +3,6 @@
 
 mod fault;
 mod safe;
-#[cfg(test)]
-mod served_tests;
-#[cfg(test)]
-mod tests;
 mod write;
 
 pub use fault::BackupFault;

@@ -3,17 +3,9 @@
 
 mod counter;
 mod encode;
-#[cfg(test)]
-mod example;
 mod fault;
-#[cfg(test)]
-mod flaky;
-#[cfg(test)]
-mod gates;
 mod shelf;
 mod source;
-#[cfg(test)]
-mod tests;
 mod workers;
 mod write;
 

@@ -6,5 +6,3 @@ pub mod event;
 pub mod key;
 pub mod list;
 pub mod session_id;
-#[cfg(test)]
-mod tests;

@@ -9,6 +9,5 @@ pub mod PruningLemmas
 pub mod SettledPageLemmas
 pub mod SettledTablesLemmas
 pub mod SettlingLemmas
-pub mod TestLemmas
 pub mod VersionLemmas
 pub mod ViewLemmas

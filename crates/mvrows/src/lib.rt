@@ -8,6 +8,4 @@ mod leaf;
 mod page;
 pub mod rows;
 mod table;
-#[cfg(test)]
-mod tests;
 pub mod view;

@@ -5,7 +5,5 @@
 pub mod keeper;
 pub mod knowledge;
 mod steps;
-#[cfg(test)]
-mod tests;
 pub mod token;
 pub mod word;

@@ -102,7 +102,7 @@ fn cause_between<T: Party>(first: &T, pivot: &T, transactions: &[T]) -> Option<C
 }
 
 /// The structure that begins at a transaction, with the least pivot, if there is one.
-pub(crate) fn cause_from<T: Party>(first: &T, transactions: &[T]) -> Option<Cause>
+pub fn cause_from<T: Party>(first: &T, transactions: &[T]) -> Option<Cause>
     ensures { result
         ≡ first_some (λ b. caused T.node (edge_of T.node T.reads) first.now b (earliest T.node (edge_of T.node T.reads) (filter (is_dangerous T.node (edge_of T.node T.reads) first.now b) transactions.now))) transactions.now }
 {

@@ -13,11 +13,7 @@ pub mod dooms;
 mod export;
 mod extent;
 mod forgetting;
-#[cfg(test)]
-mod forgetting_tests;
 pub mod isolation;
-#[cfg(test)]
-mod isolation_tests;
 pub mod keys;
 pub mod least;
 pub mod own;
@@ -25,18 +21,12 @@ pub mod party;
 pub mod reader;
 mod record;
 pub mod reply;
-#[cfg(test)]
-mod reply_tests;
 pub mod rows;
 pub mod run;
 mod settle;
 pub mod snapshots;
 mod step;
 pub mod stretch;
-#[cfg(test)]
-mod tests;
 pub mod transaction;
-#[cfg(test)]
-mod transaction_tests;
 mod views;
 pub mod world;

@@ -16,10 +16,16 @@ mod faults;
 #[cfg(test)]
 mod free;
 #[cfg(test)]
+mod hostile;
+#[cfg(test)]
 mod machine;
 #[cfg(test)]
 mod memory;
 #[cfg(test)]
+mod printed;
+#[cfg(test)]
 mod replies;
+#[cfg(test)]
+mod scripts;
 #[cfg(test)]
 mod taker;

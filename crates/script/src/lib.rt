@@ -5,10 +5,6 @@ pub mod command;
 pub mod error;
 pub mod fault;
 pub mod printing;
-#[cfg(test)]
-mod printing_tests;
 pub mod schedule;
 pub mod script;
-#[cfg(test)]
-mod script_tests;
 mod words;

@@ -5,9 +5,5 @@ mod doing;
 mod hold;
 mod locked;
 mod reading;
-#[cfg(test)]
-mod reading_tests;
 pub mod request;
 pub mod shared;
-#[cfg(test)]
-mod tests;

@@ -2,11 +2,15 @@
 #![tactic(auto)]
 
 #[cfg(test)]
+mod audits;
+#[cfg(test)]
 mod conflicts;
 #[cfg(test)]
 mod core_calls;
 #[cfg(test)]
 mod fixture;
+#[cfg(test)]
+mod histories;
 #[cfg(test)]
 mod own_changes;
 #[cfg(test)]

@@ -7,3 +7,5 @@ mod overlays;
 mod tables;
 #[cfg(test)]
 mod values;
+#[cfg(test)]
+mod versions;

@@ -1,13 +1,19 @@
-use Rattle.std.proofs.Common.{◌∙◌, sym, ap, arith}
-use Rattle.std.proofs.lemmas.Option.{get_or_from_slice_get}
-use Rattle.audit.specs.Course.{is_its}
-use Rattle.plain.proofs.WalkLemmas.{find-next}
+use Rattle.std.proofs.Common.{◌∙◌, sym}
+use Rattle.audit.proofs.LatestLemmas.{if-none, its-absent, its-first, its-other, its-past}
 use Rattle.audit.proofs.course.find_its.Goals as goal
 
-pub returns-then-is_its-clause-some : goal.returns-then-is_its-clause-some
-returns-then-is_its-clause-some g c =
-    λ x e. ap (is_its c.args.session) (sym (get_or_from_slice_get c.args.courses.now c.loop-place.place x c.index-courses-place.result e) ∙ sym c.index-courses-place.is) ∙ sym c.is_its.ensures ∙ c.if-is_its.true
+pub returns-in_err-place-clause-none : goal.returns-in_err-place-clause-none
+returns-in_err-place-clause-none g c = if-none c.from_residual.result (its-absent c.args.latest.now c.args.courses.now c.args.session c.number.result c.requires c.number.ensures.value c.in_err-place.ensures.value)
 
-pub loop-place-preserved : goal.loop-place-preserved
-loop-place-preserved g c =
-    find-next (is_its c.args.session) c.args.courses.now c.loop-place.place c.index-courses-place.result (omega arith) c.index-courses-place.is c.loop-place.invariant (sym c.is_its.ensures ∙ c.if-is_its.false)
+pub returns-in_err-course-clause-none : goal.returns-in_err-course-clause-none
+returns-in_err-course-clause-none g c =
+    if-none c.from_residual-in_err-course.result
+    (its-past c.args.latest.now c.args.courses.now c.args.session c.number.result c.in_ok-place.field-0.now c.requires c.number.ensures.value c.in_ok-place.ensures.value c.in_err-course.ensures.lookup.3)
+
+pub returns-then-is_its-clause-first : goal.returns-then-is_its-clause-first
+returns-then-is_its-clause-first g c = its-first c.args.latest.now c.args.courses.now c.args.session c.number.result c.in_ok-place.field-0.now c.requires c.number.ensures.value c.in_ok-place.ensures.value
+
+pub returns-else-is_its-clause-none : goal.returns-else-is_its-clause-none
+returns-else-is_its-clause-none g c =
+    its-other c.args.latest.now c.args.courses.now c.args.session c.number.result c.in_ok-place.field-0.now c.in_ok-course.course.now c.requires c.number.ensures.value c.in_ok-place.ensures.value c.in_ok-course.ensures.lookup.1
+    (sym c.is_its.ensures ∙ c.if-is_its.false)

@@ -1,5 +1,0 @@
-use Rattle.server.proofs.tests.two_scripts_on_threads.Given as goal
-
--- the word that was just made
-abbrev pub ghosts-play_two : goal.ghosts-play_two
-ghosts-play_two g a = record { table = a.word.now.table; opening = a.word.now.opening; most = 100 }

@@ -1,0 +1,282 @@
+ghost use Rattle.std.specs.Prelude.{◌≡◌, ◌<◌, ◌+◌, length, IfOk, OnOk};
+ghost use Rattle.schema.specs.Rows.{HasTable};
+ghost use Rattle.mvrows.specs.Versions.{TablesAreBelow};
+
+mod pages;
+
+use mvrows::rows::Rows;
+use mvrows::view::View;
+use schema::catalog::{Catalog, TableNo};
+use schema::changes::{Change, Changes};
+use schema::definition::{ColumnDef, TableDef};
+use schema::reader::{Bound, SnapshotReader, first_row, row_after};
+use schema::row::Row;
+use schema::tables::Tables;
+use std::alloc::Global;
+use std::process::Abort;
+use std::test::Fail;
+use value::key::Key;
+use value::kind::Kind;
+use value::refusal::Refusal;
+use value::text::Text;
+use value::value::Value;
+
+fn key(number: i64) -> Result<Key, Fail> {
+    Ok(Key::new(Value::Int(number)).ok_or("a null key")?)
+}
+
+// A catalog of one table, of a key and a number.
+fn catalog(alloc: Global) -> Result<Catalog, Refusal> {
+    let mut columns = Vec::new(alloc);
+    for name in ["id", "v"] {
+        let name = Text::from_str(alloc, name)?;
+        columns.push(ColumnDef::new(name, Kind::Bigint, false, None))?;
+    }
+    let mut catalog = Catalog::new(alloc);
+    let name = Text::from_str(alloc, "t")?;
+    catalog.add(alloc, TableDef::new(alloc, name, columns)?)?;
+    Ok(catalog)
+}
+
+fn row(alloc: Global, number: i64, beside: i64) -> Result<Row, Fail> {
+    let mut fields = Vec::new(alloc);
+    fields.push(Value::Int(beside))?;
+    Ok(Row::new(key(number)?, fields))
+}
+
+// Whether there is a row of the key, and one after it, by what workers share.
+fn met<R: SnapshotReader<Global> + Send + Sync>(
+    reader: &R,
+    table: TableNo,
+    key: &Key,
+) -> (bool, bool)
+    requires { HasTable (R.tables reader.now) table }
+{
+    let after = reader.next_row(table, Bound::After(key)).is_some();
+    (reader.get(table, key).is_some(), after)
+}
+
+// A row's key and number.
+fn numbers(row: &Row) -> (i64, i64) {
+    match (row.key().value(), row.fields()) {
+        (Value::Int(number), [Value::Int(beside)]) => (*number, *beside),
+        _ => (0, 0),
+    }
+}
+
+// The rows of the table, in the order in which they are read.
+fn rows<R: SnapshotReader<Global>>(alloc: Global, reader: &R) -> Result<Vec<(i64, i64)>, Fail>
+    requires { HasTable (R.tables reader.now) 0 }
+{
+    let table = TableNo::at(0);
+    let mut rows = Vec::new(alloc);
+    let mut next = first_row(reader, table);
+    while let Some(row) = next {
+        rows.push(numbers(row))?;
+        next = row_after(reader, table, row);
+    }
+    Ok(rows)
+}
+
+// The tables with one row for each number.
+fn tables(rt: &impl Abort, alloc: Global, count: i64) -> Result<Tables, Fail> {
+    let table = TableNo::at(0);
+    let mut tables = Tables::new(alloc, &catalog(alloc)?)?;
+    for number in 0..count {
+        assert!(rt; tables.has(table));
+        tables.put(alloc, table, row(alloc, number, 0)?)?;
+    }
+    Ok(tables)
+}
+
+// Versions of these tables alone.
+fn opening(rt: &impl Abort, alloc: Global, count: i64) -> Result<Rows, Fail>
+    ensures below { IfOk result (λ versions. TablesAreBelow 1 versions) }
+    ensures has { IfOk result (λ versions. 0 < length versions) }
+{
+    let tables = tables(rt, alloc, count)?;
+    assert!(rt; tables.count() == 1);
+    let versions = Rows::of(alloc, tables)?;
+    Ok(versions)
+}
+
+// The changes of a commit: a number beside each key, or none where it goes.
+fn changes(alloc: Global, all: &[(i64, Option<i64>)]) -> Result<Vec<Change>, Fail> {
+    let table = TableNo::at(0);
+    let mut changes = Changes::new(alloc);
+    for (number, beside) in all {
+        match beside {
+            Some(beside) => changes.put_row(alloc, table, row(alloc, *number, *beside)?)?,
+            None => changes.put_absence(alloc, table, key(*number)?)?,
+        }
+    }
+    Ok(changes.into_list(alloc)?)
+}
+
+// Installs changes as the commit of a number, where no snapshot below the oldest is read any more.
+fn settle(
+    alloc: Global,
+    versions: &mut Rows,
+    oldest: u64,
+    number: u64,
+    all: &[(i64, Option<i64>)],
+) -> Result<(), Fail>
+    requires { TablesAreBelow number versions.old }
+    ensures below { OnOk result (TablesAreBelow (number + 1) versions.new) }
+    ensures count { OnOk result (length versions.new ≡ length versions.old) }
+{
+    let list = changes(alloc, all)?;
+    versions.install(alloc, oldest, number, list.as_slice())?;
+    Ok(())
+}
+
+// Installs changes as the commit of a number, where all snapshots are read.
+fn commit(
+    alloc: Global,
+    versions: &mut Rows,
+    number: u64,
+    all: &[(i64, Option<i64>)],
+) -> Result<(), Fail>
+    requires { TablesAreBelow number versions.old }
+    ensures below { OnOk result (TablesAreBelow (number + 1) versions.new) }
+    ensures count { OnOk result (length versions.new ≡ length versions.old) }
+{
+    settle(alloc, versions, 0, number, all)
+}
+
+// What a snapshot shows, lent and as a view: the same.
+fn shown(
+    rt: &impl Abort,
+    alloc: Global,
+    versions: &Rows,
+    number: u64,
+) -> Result<Vec<(i64, i64)>, Fail>
+    requires { 0 < length versions.now }
+{
+    let lent = versions.at(number);
+    let shown = rows(alloc, &lent)?;
+    let view = versions.view(alloc, number)?;
+    let viewed = rows(alloc, &view)?;
+    assert_eq!(rt; viewed.as_slice(), shown.as_slice());
+    Ok(shown)
+}
+
+#[test]
+fn a_key_that_goes_and_comes_again(rt: HostRuntime) -> Result<(), Fail> {
+    let alloc = rt.alloc();
+    let mut versions = opening(&rt, alloc, 1)?;
+    commit(alloc, &mut versions, 1, [(5, Some(50))].as_slice())?;
+    assert_eq!(rt;
+        shown(&rt, alloc, &versions, 1)?.as_slice(),
+        [(0, 0), (5, 50)].as_slice()
+    );
+    commit(alloc, &mut versions, 2, [(5, None)].as_slice())?;
+    assert_eq!(rt;
+        shown(&rt, alloc, &versions, 2)?.as_slice(),
+        [(0, 0)].as_slice()
+    );
+    commit(alloc, &mut versions, 3, [(5, Some(51))].as_slice())?;
+    assert_eq!(rt;
+        shown(&rt, alloc, &versions, 1)?.as_slice(),
+        [(0, 0), (5, 50)].as_slice()
+    );
+    assert_eq!(rt;
+        shown(&rt, alloc, &versions, 3)?.as_slice(),
+        [(0, 0), (5, 51)].as_slice()
+    );
+    let table = TableNo::at(0);
+    assert_eq!(rt; versions.newest(table, &key(0)?), Some(0));
+    assert_eq!(rt; versions.newest(table, &key(5)?), Some(3));
+    assert_eq!(rt; versions.newest(table, &key(6)?), None);
+    versions.prune(alloc, 3)?;
+    assert_eq!(rt; versions.newest(table, &key(5)?), Some(3));
+    Ok(())
+}
+
+#[test]
+fn a_view_has_the_rows_of_its_tables(rt: HostRuntime) -> Result<(), Fail> {
+    let alloc = rt.alloc();
+    let table = TableNo::at(0);
+    let mut tables = Tables::new(alloc, &catalog(alloc)?)?;
+    for number in [1, 3] {
+        assert!(rt; tables.has(table));
+        tables.put(alloc, table, row(alloc, number, 0)?)?;
+    }
+    assert!(rt; tables.has(table));
+    let view = View::of(tables);
+    for (number, want) in [
+        (0, (false, true)),
+        (1, (true, true)),
+        (2, (false, true)),
+        (3, (true, false)),
+    ] {
+        assert_eq!(rt; met(&view, table, &key(number)?), want, "{number}");
+    }
+    Ok(())
+}
+
+// Writes a key by a thousand commits, each of them the oldest snapshot: beside it stands the commit's number.
+fn write_again_and_again(alloc: Global, versions: &mut Rows) -> Result<(), Fail>
+    requires { TablesAreBelow 1 versions.old }
+    ensures { OnOk result (length versions.new ≡ length versions.old) }
+{
+    for number in 1..1001u64 {
+        settle(
+            alloc,
+            versions,
+            number,
+            number,
+            [(5, Some(number as i64))].as_slice(),
+        )?;
+    }
+    Ok(())
+}
+
+#[test]
+fn a_key_written_a_thousand_times_keeps_one_version(rt: HostRuntime) -> Result<(), Fail> {
+    let alloc = rt.alloc();
+    let mut versions = opening(&rt, alloc, 0)?;
+    write_again_and_again(alloc, &mut versions)?;
+    for number in [0, 1, 2, 500, 998, 999] {
+        let shown = shown(&rt, alloc, &versions, number)?;
+        assert_eq!(rt; shown.len(), 0, "{number}");
+    }
+    assert_eq!(rt;
+        shown(&rt, alloc, &versions, 1000)?.as_slice(),
+        [(5, 1000)].as_slice()
+    );
+    Ok(())
+}
+
+#[test]
+fn a_settled_key_stays_what_a_view_shows(rt: HostRuntime) -> Result<(), Fail> {
+    let alloc = rt.alloc();
+    let mut versions = opening(&rt, alloc, 2)?;
+    settle(alloc, &mut versions, 1, 1, [(1, Some(10))].as_slice())?;
+    let view = versions.view(alloc, 1)?;
+    settle(
+        alloc,
+        &mut versions,
+        1,
+        2,
+        [(0, None), (1, Some(20))].as_slice(),
+    )?;
+    let both = [(0, 0), (1, 10)];
+    assert_eq!(rt;
+        shown(&rt, alloc, &versions, 1)?.as_slice(),
+        both.as_slice()
+    );
+    settle(
+        alloc,
+        &mut versions,
+        3,
+        3,
+        [(0, None), (1, None)].as_slice(),
+    )?;
+    assert_eq!(rt; shown(&rt, alloc, &versions, 3)?.len(), 0);
+    let table = TableNo::at(0);
+    assert_eq!(rt; versions.newest(table, &key(0)?), None);
+    assert_eq!(rt; versions.newest(table, &key(1)?), None);
+    assert_eq!(rt; rows(alloc, &view)?.as_slice(), both.as_slice());
+    Ok(())
+}
