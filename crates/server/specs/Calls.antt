@@ -1,10 +1,10 @@
 -- What calls of a server leave in a pass.
-use Rattle.std.specs.Prelude.{ℕ, suc, ◌≡◌, ◌≢◌, ◌⊎◌, ◌==◌, nat_lt, Bool, true, ◌||◌, List, [], ◌∷◌, ◌++◌, length, replicate, slice_get, Some}
+use Rattle.std.specs.Prelude.{ℕ, suc, ◌≡◌, ◌≢◌, ◌⊎◌, ◌==◌, nat_lt, Bool, true, false, ◌||◌, List, [], ◌∷◌, ◌++◌, length, replicate, slice_get, Some}
 use mathlib.Core.List.{IsPrefix}
 use Rattle.value.specs.declared.refusal.Code.TheVariants.{ProgramLimitExceeded}
 use Rattle.value.specs.Refusals.{of_code, out_of_memory}
 use Rattle.statement.specs.declared.reply.Reply.{Reply}
-use Rattle.statement.specs.declared.reply.Reply.TheVariants.{Wait, Refused}
+use Rattle.statement.specs.declared.reply.Reply.TheVariants.{Committed, RolledBack, Wait, Refused}
 use Rattle.history.specs.declared.event.Action.{Action}
 use Rattle.history.specs.declared.event.Action.TheVariants.{Poll}
 use Rattle.history.specs.declared.event.Record.{Record}
@@ -20,6 +20,13 @@ module _ {A : Type 0} where
   -- the passes of sessions 1, 2, .., which have seen and done nothing
   abbrev pub AreFresh : List (Known A) → Type 0
   AreFresh passes = (k : ℕ) (p : Known A) → slice_get passes k ≡ Some p → p ≡ record { session = suc k; seen = []; mine = [] }
+
+  -- The reply says committed, rolled back or refused: its event may have ended a transaction.
+  abbrev pub may_end : Reply A → Bool
+  may_end Committed = true
+  may_end RolledBack = true
+  may_end (Refused r) = true
+  may_end _ = false
 
   -- The call was recorded: with its reply it is the last of what the pass has seen, and of what it has done.
   pub record WasRecorded (p : Known A) (a : Action A) (r : Reply A) (before : List (Record A)) (q : Known A) : Type 0 where

@@ -131,6 +131,8 @@ impl<'w, J: Naming<A>, A: Allocator> Server<'w, J, A> {
         ensures mine { pass.new.mine ≡ of_session pass.new.session pass.new.seen }
         ensures call { IsCall J.most pass.old (Action.Run statement) result pass.new }
     {
+        // The first hold ends with this line. A `match` on the call itself would hold the lock to the
+        // end of its arms, and `read_on` would wait for it for ever.
         let held = self.locked.lock(rt).begin_read(alloc, pass, statement);
         match held {
             FirstHold::Replied(reply) => reply,
@@ -166,6 +168,8 @@ impl<'w, J: Naming<A>, A: Allocator> Server<'w, J, A> {
         gate.before(1);
         let found = found_on(alloc, &self.catalog, &statement, reader);
         gate.after(1);
+        // The second hold. The gate was asked and the statement evaluated before it: what they wait
+        // for may need the lock.
         match found {
             Ok(reply) => self
                 .locked

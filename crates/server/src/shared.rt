@@ -6,7 +6,7 @@ ghost use Rattle.schema.specs.Plain.{is_sound};
 ghost use Rattle.history.specs.Opening.{opening_refusal, zero_base};
 ghost use Rattle.history.specs.Answer.{Allowed, IsLegal, Legal, of_session, view_answer};
 ghost use Rattle.server.specs.Requests.{asked};
-ghost use Rattle.server.specs.Calls.{AreFresh, HasClosed, HasPolled, IsCall, is_no_count};
+ghost use Rattle.server.specs.Calls.{AreFresh, HasClosed, HasPolled, IsCall, is_no_count, may_end};
 
 use crate::locked::Locked;
 use crate::request::Request;
@@ -65,7 +65,9 @@ fn passes_of<'w, J: Naming<A>, A: Allocator>(
 }
 
 // Whether sessions may wait for this reply's event: it may have ended a transaction.
-fn may_end<A: Allocator>(reply: &Reply<A>) -> bool {
+fn may_end<A: Allocator>(reply: &Reply<A>) -> bool
+    ensures { result ≡ may_end reply.now }
+{
     matches!(
         reply,
         Reply::Committed | Reply::RolledBack | Reply::Refused(_)
@@ -211,6 +213,8 @@ impl<'w, J: Naming<A>, A: Allocator> Server<'w, J, A> {
         ensures mine { pass.new.mine ≡ of_session pass.new.session pass.new.seen }
         ensures call { IsCall J.most pass.old action result pass.new }
     {
+        // The hold ends with this line: a session that is woken finds the lock free. A `match` on the
+        // call itself would hold it through the arms, in which no call of the server would return.
         let reply = self.locked.lock(rt).call(alloc, pass, action);
         if may_end(&reply) {
             self.ended.notify_all();
@@ -229,6 +233,8 @@ impl<'w, J: Naming<A>, A: Allocator> Server<'w, J, A> {
         ensures mine { pass.new.mine ≡ of_session pass.new.session pass.new.seen }
         ensures polls { HasPolled J.most pass.old result pass.new }
     {
+        // Held from poll to poll, but for the sleep between, so that no event is missed. A call of the
+        // server in this loop would wait for the lock for ever: the polls go to what lies under it.
         let mut locked = self.locked.lock(rt);
         for _ in rt.forever() {
             let reply = locked.call(alloc, pass, Action::Poll);
@@ -258,6 +264,7 @@ impl<'w, J: Naming<A>, A: Allocator> Server<'w, J, A> {
         ensures exact { pass.new.mine ≡ of_session pass.new.session pass.new.seen }
         ensures view { AnswersOrNoMemory result (view_answer J.opening pass.new.seen pass.new.session) }
     {
+        // The hold ends with the call. Under it another would wait for ever.
         self.locked.lock(rt).view(alloc, pass)
     }
 
