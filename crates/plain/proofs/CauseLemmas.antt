@@ -1,5 +1,5 @@
 -- Structures and dooms, found from the front of a list.
-use Rattle.std.proofs.Common.{◌≡◌, refl, sym, ap, subst, ◌∙◌, ℕ, zero, suc, ◌+◌, ◌<◌, Bool, true, false, true≢false, cond, ◌&&◌, ◌||◌, ◌⊎◌, inl, inr, List, [], ◌∷◌, ◌++◌, length, take, drop, get_or, slice_get, Option, Some, None, is_some, eqb, nat_lt, nat_le, arith}
+use Rattle.std.proofs.Common.{◌≡◌, refl, sym, ap, subst, ◌∙◌, ℕ, zero, suc, ◌+◌, ◌<◌, ◌≤◌, Bool, true, false, true≢false, cond, not, ◌&&◌, ◌||◌, ◌⊎◌, inl, inr, List, [], ◌∷◌, ◌++◌, length, take, drop, get_or, slice_get, Option, Some, None, is_some, eqb, nat_lt, nat_le, arith}
 use Rattle.std.proofs.lemmas.Bool.{eq-eqb, eqb-true}
 use Rattle.std.proofs.lemmas.Bool.Decides.{nat_tests}
 use Rattle.std.proofs.lemmas.List.{append-nil}
@@ -7,7 +7,7 @@ use Rattle.std.proofs.lemmas.List.Elements.{filter-append}
 use Rattle.std.specs.List.{AllByRecursion, filter, list_any}
 use Rattle.std.specs.Option.{option_map}
 use Rattle.value.specs.declared.refusal.Cause.{Cause}
-use Rattle.value.specs.Isolation.{Node, caused, earlier, earliest, first_cause, first_some, is_dangerous}
+use Rattle.value.specs.Isolation.{Node, bound, caused, earlier, earliest, edge_of, first_cause, first_some, is_dangerous}
 use Rattle.plain.specs.Earliest.{first_of}
 use Rattle.plain.specs.Structures.{BeginHold, StructuresHold}
 use Rattle.plain.proofs.WalkLemmas.{split_at, take_next}
@@ -226,6 +226,47 @@ module _ {T : Type 0} (node : T → Node) (edge : T → T → Bool) where
   -- there is none where x has no edge
   pub none-held : (x : T) (ts : List T) → StructuresHold node edge x ts → list_any (edge x) ts ≡ false → None ≡ first_cause node edge ts
   none-held x ts all e = sym (first_some-none (λ a. first_some (through ts a) ts) ts (none_from x ts (no_edges x ts e) ts all))
+
+-- ---- a first whose bound isn't above the middle's snapshot
+
+leads : (a b c : Bool) → (a && b && c) ≡ true → b ≡ true
+leads true true c q = refl
+leads true false c q = absurd (true≢false (sym q))
+leads false b c q = absurd (true≢false (sym q))
+
+closes : (a b c d e f g : Bool) → (a && b && c && d && e && f && g) ≡ true → g ≡ true
+closes true true true true true true g q = q
+closes true true true true true false g q = absurd (true≢false (sym q))
+closes true true true true false f g q = absurd (true≢false (sym q))
+closes true true true false e f g q = absurd (true≢false (sym q))
+closes true true false d e f g q = absurd (true≢false (sym q))
+closes true false c d e f g q = absurd (true≢false (sym q))
+closes false b c d e f g q = absurd (true≢false (sym q))
+
+in_between : (low middle high : ℕ) → high ≤ low → nat_lt low middle ≡ true → nat_le middle high ≡ true → ⊥
+in_between low middle high le after before = grind (arith, nat_tests)
+
+module _ {T : Type 0} (node : T → Node) (reads : T → T → Bool) where
+  abbrev seen_edge : T → T → Bool
+  seen_edge = edge_of node reads
+
+  not_closed : (a x c : T) → bound node seen_edge a ≤ (node x).snapshot → is_dangerous node seen_edge a x c ≡ true → ⊥
+  not_closed a x c le q =
+      in_between (node x).snapshot (node c).commit (bound node seen_edge a) le
+      (leads (not (eqb (node x).number (node c).number)) (nat_lt (node x).snapshot (node c).commit) (reads x c) (edges node seen_edge a x c q).1)
+      (closes (node a).committed (node x).committed (node c).committed (seen_edge a x) (seen_edge x c) (nat_lt (node c).commit (node x).commit) (nat_le (node c).commit (bound node seen_edge a)) q)
+
+  none_closes : (a x : T) → bound node seen_edge a ≤ (node x).snapshot → (cs : List T) → AllByRecursion (λ c. is_dangerous node seen_edge a x c ≡ true → ⊥) cs
+  none_closes a x le [] = tt
+  none_closes a x le (c ∷ cs) = (not_closed a x c le, none_closes a x le cs)
+
+  -- it begins no structure with that middle
+  pub bounded-none : (a x : T) (ts : List T) → bound node (edge_of node reads) a ≤ (node x).snapshot → None ≡ caused node (edge_of node reads) a x (earliest node (edge_of node reads) (filter (is_dangerous node (edge_of node reads) a x) ts))
+  bounded-none a x ts le = go (is_some (through node seen_edge ts a x)) refl
+    where
+      go : (d : Bool) → is_some (through node (edge_of node reads) ts a x) ≡ d → None ≡ through node (edge_of node reads) ts a x
+      go true e = absurd (through_some node (edge_of node reads) ⊥ a x ts (none_closes a x le ts) e)
+      go false e = sym (none_of (through node (edge_of node reads) ts a x) e)
 
 -- what holds of each holds of the one at a place
 pub held_at : {X : Type 0} (P : X → Type 0) (xs : List X) (i : ℕ) (x : X) → i < length xs → x ≡ get_or xs i x → AllByRecursion P xs → P x

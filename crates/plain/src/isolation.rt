@@ -41,8 +41,8 @@ pub fn is_dangerous<T: Party>(first: &T, pivot: &T, last: &T) -> bool
         && end.committed
         && end.commit < middle.commit
         && end.commit <= bound(first)
-        && has_edge(first, pivot)
         && has_edge(pivot, last)
+        && has_edge(first, pivot)
 }
 
 /// A structure, by the numbers of its transactions.
@@ -133,6 +133,9 @@ fn cause_through<T: Party>(transactions: &[T], at: usize, first: &T) -> Option<C
     let committer = &transactions[at];
     if first.facts().number == committer.facts().number {
         cause_from(first, transactions)
+    } else if bound(first) <= committer.facts().snapshot {
+        // The committer has no edge to what committed that early.
+        None
     } else {
         cause_between(first, committer, transactions)
     }
