@@ -1,1 +1,2 @@
+pub mod NextCommit
 pub mod Opened

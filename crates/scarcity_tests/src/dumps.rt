@@ -18,11 +18,11 @@ use value::refusal::{Code, Refusal};
 use value::text::Text;
 use value::value::Value;
 
-// A device that keeps what it is given, in ample memory.
+/// A device that keeps what it is given, in ample memory.
 #[derive(Drop)]
-struct Keeping<'r, R: Abort> {
+pub struct Keeping<'r, R: Abort> {
     rt: &'r R,
-    taken: Vec<u8>,
+    pub taken: Vec<u8>,
     failures: u64,
 }
 
@@ -42,8 +42,8 @@ impl<'r, R: Abort> Device for Keeping<'r, R> {
 }
 
 impl<'r, R: Abort> Keeping<'r, R> {
-    // A device that was given nothing.
-    fn new(rt: &'r R, alloc: Global) -> Keeping<'r, R> {
+    /// A device that was given nothing.
+    pub fn new(rt: &'r R, alloc: Global) -> Keeping<'r, R> {
         Keeping {
             rt,
             taken: Vec::new(alloc),

@@ -20,3 +20,5 @@ mod tables;
 mod values;
 #[cfg(test)]
 mod versions;
+#[cfg(test)]
+mod views;
