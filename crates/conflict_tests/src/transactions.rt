@@ -91,13 +91,12 @@ fn modes(rt: HostRuntime) -> Result<(), Fail> {
 // A deferrable transaction waits for the writer that was open when it began, and for none that begins later.
 #[test]
 fn a_snapshot_waits_for_older_writers(rt: HostRuntime) -> Result<(), Fail> {
-    let [first, second] = two(rt.alloc())?;
-    let later = begun(rt.alloc(), 3, Mode::ReadWrite, 9, 2)?;
-    assert!(rt; is_pending(&[first, later], &second));
-    let later = begun(rt.alloc(), 3, Mode::ReadWrite, 9, 2)?;
-    assert!(rt; !is_pending(&[later], &second));
-    let all = two(rt.alloc())?;
-    assert!(rt; !is_spoilt(&all, &second));
+    let alloc = rt.alloc();
+    let reader = begun(alloc, 2, Mode::Deferrable, 4, 2)?;
+    let older = [begun(alloc, 1, Mode::ReadWrite, 1, 1)?];
+    let later = [begun(alloc, 3, Mode::ReadWrite, 9, 2)?];
+    assert!(rt; is_pending(&older, &reader) && !is_spoilt(&older, &reader));
+    assert!(rt; !is_pending(&later, &reader) && !is_spoilt(&later, &reader));
     Ok(())
 }
 
