@@ -9,8 +9,6 @@ pub mod host;
 mod ordering;
 mod output;
 mod request;
-#[cfg(test)]
-mod request_tests;
 mod restoring;
 mod run;
 mod sessions;
