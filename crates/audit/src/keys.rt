@@ -1,4 +1,5 @@
-// The serial order of a core's history.
+//! The serial order of a core's history.
+
 ghost use Rattle.std.specs.Prelude.{◌≡◌, map, IfOk, IfErr};
 ghost use Rattle.std.specs.List.Sorted.{IsSortedBy, IsStableBy};
 ghost use Rattle.value.specs.Isolation as spec;

@@ -1,4 +1,5 @@
 //! A serial order, checked: its transactions are run again alone, one after the other.
+
 #![tactic(auto)]
 
 mod answer;

@@ -1,3 +1,5 @@
+//! Why there is no whole dump.
+
 use dumpworker::DumpFault;
 use value::refusal::Refusal;
 

@@ -1,4 +1,5 @@
 //! Backups: a dump of a session's safe snapshot, which is a state of the serial order.
+
 #![tactic(auto)]
 
 mod fault;

@@ -1,4 +1,5 @@
-// Dumps of a server's safe snapshots.
+//! Dumps of a server's safe snapshots.
+
 ghost use Rattle.std.specs.Prelude.{◌≡◌, ◌++◌, length, Ok, Err, IfOk, IfErr, OnOk};
 ghost use mathlib.Core.List.{IsPrefix};
 ghost use Rattle.value.specs.Refusals.{AnswersOrNoMemory};

@@ -1,3 +1,5 @@
+//! Dumps of what a session of a core may view.
+
 ghost use Rattle.std.specs.Prelude.{◌≡◌, ◌++◌, length, true, Ok, Err, IfOk, IfErr, OnOk};
 ghost use Rattle.value.specs.Refusals.{AnswersOrNoMemory};
 ghost use Rattle.schema.specs.Plain.{is_sound};

@@ -3,7 +3,8 @@ use Rattle.std.specs.Prelude.{ℕ, ◌+◌, ◌-◌, ◌≤◌, ◌<◌, ◌≡�
 use Rattle.dumpplan.specs.Pieces.{joined}
 use Rattle.collector.specs.Written.{Began, WroteSome}
 
--- the texts of all pieces, what the device had taken before, what it has taken, and what waits
+-- A collector's work so far: `texts` are those of all pieces, of which `waiting` has, place by place, the ones that were given and not yet written, and `next` counts those written.
+-- The device is the one of this `name`; it had taken the bytes `before` and failed `failures_before` times when the work began, and has now taken `taken` and failed `failures` times. Once it has `failed` nothing more is written.
 pub record Gathering : Type 0 where
   pub texts : List (List ℕ)
   pub name : ℕ

@@ -1,4 +1,5 @@
 //! What takes the bytes of a dump, and the pieces of a dump written in their order.
+
 #![tactic(auto)]
 
 mod answers;

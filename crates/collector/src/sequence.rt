@@ -1,4 +1,5 @@
 //! The pieces of a dump, of which the next is written as long as it is here.
+
 ghost use Rattle.std.specs.Prelude.{◌≡◌, ◌+◌, ◌-◌, ◌<◌, ◌≤◌, [], ℕ, length, true, false, is_some, None, IfOk, IfErr, OnOk, OnErr, slice_index_or};
 ghost use Rattle.value.specs.Refusals.{out_of_memory};
 ghost use Rattle.dumpplan.specs.Pieces.{piece_texts};

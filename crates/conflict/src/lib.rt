@@ -1,5 +1,6 @@
 //! Conflicts between transactions, and the dangerous structures among them, of those alone that
 //! may still be part of one.
+
 #![tactic(auto)]
 
 mod cause;

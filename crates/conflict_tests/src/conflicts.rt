@@ -1,4 +1,5 @@
 //! The tracker of conflicts, with and without forgetting after each step.
+
 use crate::words::{cut, not_a_case, number, txn};
 use conflict::conflicts::Conflicts;
 use std::alloc::{Allocator, Global};

@@ -1,4 +1,5 @@
 //! Locks: what a transaction's reads cover, few and many, taken back and released.
+
 use crate::words::{cut, not_a_case};
 use schema::catalog::TableNo;
 use siread::locks::Locks;

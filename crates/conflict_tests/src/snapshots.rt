@@ -1,4 +1,5 @@
 //! What makes a snapshot safe, and what spoils it.
+
 use crate::words::{cut, not_a_case, number, txn};
 use safesnap::waiting::{State, Waiting};
 use value::refusal::{Refusal, TxnNo};

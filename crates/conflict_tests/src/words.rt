@@ -1,4 +1,5 @@
 //! Numbers in the texts of cases.
+
 use value::refusal::{Code, Refusal, TxnNo};
 
 /// The refusal of a case that isn't written as it should be. No tried call answers it.

@@ -1,4 +1,4 @@
--- What a line of COPY text reads as, in this project's profile of the format.
+-- What a line of COPY text reads as. The format is that of PostgreSQL's manual, "COPY", "Text Format"; stricter than there, a field holds no newline and no carriage return, not even behind a backslash.
 use Rattle.std.specs.Prelude.{ℕ, zero, suc, ◌+◌, ◌*◌, ◌==◌, nat_lt, Bool, false, not, ◌&&◌, ◌||◌, if◌then◌else◌, List, [], ◌∷◌, length, slice_get, Option, Some, None, is_some, Result, Ok, Err}
 use Rattle.std.specs.Char.{is_digit, digit_value}
 use Rattle.std.specs.List.{list_all, list_any}
@@ -25,6 +25,7 @@ cut_after is_escaped (b ∷ line) =
     if not is_escaped && (b == tab) then [] ∷ cut_after false line
     else onto_first b (cut_after (not is_escaped && (b == backslash)) line)
 
+-- the raw bytes of the fields: the line between its tabs
 abbrev pub cut : List ℕ → List (List ℕ)
 cut line = cut_after false line
 
@@ -62,6 +63,7 @@ byte_of c =
     else if c == 114 then 13
     else c
 
+-- the byte that the bytes behind a backslash make, and how many of them it takes; none for a backslash at the end, or where octal digits make no byte
 abbrev pub escape : List ℕ → Option (ℕ × ℕ)
 escape [] = None
 escape (c ∷ text) =
@@ -87,6 +89,7 @@ content raw = content_after raw 0
 abbrev pub is_break : ℕ → Bool
 is_break b = (b == newline) || (b == carriage_return)
 
+-- raw bytes that a field may have
 abbrev pub is_field : List ℕ → Bool
 is_field raw = not (list_any is_break raw) && is_some (content raw)
 
@@ -105,6 +108,7 @@ module _ {A : Type 0} where
   abbrev pub field_value : Kind → List ℕ → Result (Value A) Code
   field_value kind raw = if is_null_mark raw then Ok Null else content_value kind (content raw)
 
+  -- a value in front of others, or the first fault
   abbrev pub onto_values : Result (Value A) Code → Result (List (Value A)) Code → Result (List (Value A)) Code
   onto_values (Ok value) (Ok values) = Ok (value ∷ values)
   onto_values (Ok value) (Err code) = Err code

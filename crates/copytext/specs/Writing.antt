@@ -1,4 +1,4 @@
--- The text of a field and of a row, in the text format of COPY.
+-- The text of a field and of a row, as COPY TO writes it (PostgreSQL's manual, "COPY", "Text Format").
 use Rattle.std.specs.Prelude.{ℕ, ◌==◌, if◌then◌else◌, List, [], ◌∷◌, ◌++◌, map, codes, Option, Some, None}
 use Rattle.std.specs.Fmt.{signed_decimal}
 use Rattle.std.specs.List.{flat_map, join_with_byte}
@@ -6,6 +6,7 @@ use Rattle.value.specs.Printed.{bytea_text}
 use Rattle.value.specs.declared.value.Value.{Value}
 use Rattle.value.specs.declared.value.Value.TheVariants.{Null, Int, Text, Bytes}
 
+-- the bytes that the format knows by name: what parts fields, what ends a row, and what escapes
 abbrev pub tab : ℕ
 tab = 9
 

@@ -1,4 +1,5 @@
 //! COPY text: what a field and a row are written as, and what a line reads as.
+
 #![tactic(auto)]
 
 mod escape;

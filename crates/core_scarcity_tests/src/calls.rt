@@ -1,4 +1,5 @@
 //! The core's calls and the audit's.
+
 use crate::driver::{Call, Memory, refuse_each};
 use scarce::Scarce;
 use std::alloc::Allocator;

@@ -1,4 +1,5 @@
 //! How a call on a core is tried.
+
 use crate::fixture::{core_after, not_asked, reply};
 use audit::keys::{serial_keys, serial_order};
 use audit::order::check_order;

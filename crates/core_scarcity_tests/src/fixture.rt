@@ -1,4 +1,5 @@
 //! Cores made of texts.
+
 ghost use Rattle.std.specs.Prelude.{IfOk};
 ghost use Rattle.history.specs.Answer.{Allowed};
 

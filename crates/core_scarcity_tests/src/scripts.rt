@@ -1,5 +1,6 @@
 //! Whole scripts. A script goes on behind an event that was refused, and ends where it can't be read or its replies
 //! can't be printed.
+
 use crate::driver::Memory;
 use crate::fixture::not_asked;
 use crate::sinks::Texts;

@@ -1,4 +1,5 @@
 //! Files in memory.
+
 ghost use Rattle.std.specs.Prelude.{◌≡◌, ◌+◌, ◌++◌, length, map};
 
 use collector::{Device, DeviceError};

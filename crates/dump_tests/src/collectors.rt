@@ -1,4 +1,5 @@
 //! Devices, and the collector of a dump's pieces.
+
 ghost use Rattle.std.specs.Prelude.{◌≡◌, ◌-◌, ◌<◌, ◌≤◌, ◌∷◌, [], IfOk, slice_index_or};
 ghost use Rattle.dumpplan.specs.Parts.{head_text, end_text};
 ghost use Rattle.dumpplan.specs.declared.piece.Piece.TheVariants.{Head, End};

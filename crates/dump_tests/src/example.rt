@@ -1,4 +1,5 @@
 //! The tables of the tests: names, and bytes that may belong to one.
+
 use schema::catalog::{Catalog, TableNo};
 use schema::definition::{ColumnDef, TableDef};
 use schema::row::Row;

@@ -1,4 +1,5 @@
 //! Fields, rows and lines of COPY text.
+
 use crate::fixture::{cut, not_a_case};
 use copytext::{read_row, reads_what_is_written, write_field, write_row, write_values};
 use schema::row::Row;

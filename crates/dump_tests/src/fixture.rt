@@ -1,4 +1,5 @@
 //! Tables that are read of a dump.
+
 use restore::restore_one;
 use schema::catalog::Catalog;
 use schema::tables::Tables;

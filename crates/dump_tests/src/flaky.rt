@@ -1,4 +1,5 @@
 //! A device that fails where a test says so.
+
 use collector::{Device, DeviceError};
 use std::alloc::Global;
 use std::process::Abort;

@@ -1,4 +1,5 @@
 //! Gates of the tests.
+
 use dumpplan::Gate;
 use std::alloc::{AllocError, Global};
 use std::sync::atomic::{AtomicBool, AtomicU64, Ordering};

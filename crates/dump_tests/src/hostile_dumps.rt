@@ -1,4 +1,5 @@
 //! Dumps with which something is wrong, and rows that come in another order.
+
 use crate::readings::{fault_of, written};
 use dumpplan::{Jobs, NoGate};
 use restore::{restore, restore_one};

@@ -1,4 +1,5 @@
 //! Tests alone: COPY text, plans of dumps, and collectors of their pieces.
+
 #![tactic(auto)]
 
 #[cfg(test)]

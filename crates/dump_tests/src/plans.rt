@@ -1,4 +1,5 @@
 //! Numbers of jobs and rows, plans and pieces.
+
 use crate::fixture::{
     NOTHING, SEVEN_KEYS, SEVEN_KEYS_AND_NONE, SIX_KEYS, THREE_KEYS, cut, not_a_case, tables_of,
 };

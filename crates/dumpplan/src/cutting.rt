@@ -1,4 +1,5 @@
 //! How a dump is cut into pieces.
+
 ghost use Rattle.std.specs.Prelude.{◌≡◌, ◌<◌, ◌∷◌, ◌++◌, [], length, map, OnOk, IfOk, IfErr, None};
 ghost use Rattle.std.specs.List.{AllByRecursion};
 ghost use Rattle.value.specs.Refusals.{out_of_memory};

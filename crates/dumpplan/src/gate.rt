@@ -1,13 +1,17 @@
-//! Gates, which workers ask round each piece.
+//! Gates: what is asked before and after each piece of work that threads share.
 
-/// Is asked by a worker when it has drawn a piece, and after the piece's result was handed over. Pieces are numbered from 1.
+/// What is asked round each piece of work, numbered from 1: a piece of a dump, some lines of a restore, and a server's SELECT,
+/// which is piece 1. A gate can hold a thread there, so that a test can show what goes on meanwhile; it says nothing about the
+/// work itself, and no contract rests on it.
 pub trait Gate: Sync {
+    /// Asked when a thread has drawn the piece, before it works on it.
     fn before(&self, piece: u64);
 
+    /// Asked when the piece's result was handed over.
     fn after(&self, piece: u64);
 }
 
-/// A gate that does nothing.
+/// A gate that holds nobody: all programs have this one.
 #[derive(Clone, Copy, Debug)]
 pub struct NoGate;
 

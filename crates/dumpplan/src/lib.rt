@@ -1,4 +1,5 @@
 //! What a dump looks like, and how it is cut into pieces.
+
 #![tactic(auto)]
 
 mod create;

@@ -1,4 +1,5 @@
 //! The text of a piece of a table.
+
 ghost use Rattle.std.specs.Prelude.{◌≡◌, ◌++◌, ◌<◌, length, OnOk, IfOk, IfErr};
 ghost use Rattle.value.specs.Refusals.{out_of_memory};
 ghost use Rattle.schema.specs.Rows.{HasTable, rows_left};

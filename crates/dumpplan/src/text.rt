@@ -1,4 +1,5 @@
 //! The parts of a dump, as they are written.
+
 ghost use Rattle.std.specs.Prelude.{◌≡◌, ◌+◌, ◌<◌, [], ◌∷◌, ◌++◌, length, take, map, codes, OnOk, IfOk, IfErr};
 ghost use Rattle.std.specs.List.{flat_map};
 ghost use Rattle.value.specs.Refusals.{out_of_memory};

@@ -1,4 +1,5 @@
 //! The counter that workers draw the numbers of pieces from.
+
 ghost use Rattle.std.specs.Prelude.{◌≡◌, ◌-◌, ◌<◌, ◌≤◌, ◌++◌, ◌∷◌, [], IfOk};
 ghost use Rattle.dumpworker.specs.Drawn.{hand, first_hand};
 

@@ -1,4 +1,5 @@
 //! The text of a piece of a dump.
+
 ghost use Rattle.std.specs.Prelude.{◌≡◌, length, IfOk, IfErr};
 ghost use Rattle.value.specs.Refusals.{out_of_memory};
 ghost use Rattle.dumpplan.specs.Pieces.{piece_text, IsPieceOf};

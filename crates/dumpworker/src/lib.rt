@@ -1,4 +1,5 @@
 //! The dump of a snapshot's tables to a device, by workers.
+
 #![tactic(auto)]
 
 mod counter;

@@ -1,4 +1,5 @@
 //! Where the workers of a dump hand its pieces over.
+
 ghost use Rattle.std.specs.Prelude.{◌≡◌, ◌-◌, [], ℕ, List, true, false, IfOk, OnOk, OnErr, slice_index_or};
 ghost use Rattle.dumpworker.specs.Shelved.{IsOffered};
 

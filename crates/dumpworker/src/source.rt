@@ -1,4 +1,5 @@
 //! What the workers of a dump share to make its pieces.
+
 ghost use Rattle.std.specs.Prelude.{◌≡◌, ◌-◌, ◌<◌, ◌≤◌, [], length, IfOk, IfErr, slice_index_or};
 ghost use Rattle.std.specs.List.{AllByRecursion};
 ghost use Rattle.value.specs.Refusals.{out_of_memory};

@@ -1,4 +1,5 @@
 //! The workers of a dump: each draws a piece, makes its text, and hands it over.
+
 ghost use Rattle.std.specs.Prelude.{◌≡◌, ◌^◌, ◌<◌, ◌≤◌, length, OnOk};
 ghost use Rattle.dumpworker.specs.Drawn.{HasNoneLeft, first_hand};
 ghost use denote.Param.Send.{IsSend, IsSync, Frees};

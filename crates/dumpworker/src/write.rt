@@ -1,4 +1,5 @@
 //! A dump's way from the tables to the device.
+
 ghost use Rattle.std.specs.Prelude.{◌≡◌, length, Err};
 ghost use Rattle.std.specs.List.{AllByRecursion};
 ghost use Rattle.dumpplan.specs.Lines.{dump_text};

@@ -1,5 +1,6 @@
 //! Tests alone: texts of statements, what they are read as, and what they answer and write over a
 //! reader of the tests' own.
+
 #![tactic(auto)]
 
 #[cfg(test)]

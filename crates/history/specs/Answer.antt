@@ -1,4 +1,5 @@
 -- The reply to an action after a history, and the histories in which each reply is that.
+-- Sources: PostgreSQL's manual, "Transaction Isolation", "BEGIN", "COMMIT", "ROLLBACK", "SET TRANSACTION", and "PostgreSQL Error Codes" for the refusals; the SSI paper (Ports and Grittner, VLDB 2012), its sections on dangerous structures and on safe snapshots.
 use Rattle.std.specs.Prelude.{◌≡◌, ◌≢◌, ℕ, ◌+◌, nat_lt, nat_le, ◌^◌, ◌==◌, Bool, true, false, not, ◌&&◌, ◌||◌, if◌then◌else◌, Option, Some, None, is_some, Result, Ok, Err, List, [], ◌∷◌}
 use Rattle.std.specs.List.{list_any}
 use Rattle.value.specs.declared.refusal.Code.{Code}
@@ -31,22 +32,26 @@ abbrev pub of_cause : Cause → Refusal
 of_cause c = record { code = code.SerializationFailure; place = place.Cause c }
 
 module _ {A : Type 0} where
+  -- the refusal with this code alone
   abbrev pub refuses : Code → Reply A
   refuses c = Refused (of_code c)
 
   -- ---- a session without a transaction, and those whose transaction is over
 
+  -- A session without a transaction can begin one and prune; all else needs a transaction (25P01).
   abbrev pub idle : Action A → Reply A
   idle (Begin m) = Begun
   idle Prune = Pruned
   idle _ = refuses code.NoActiveSqlTransaction
 
+  -- Once a statement was refused, the transaction can only be rolled back, which COMMIT does too; all else is refused (25P02).
   abbrev pub failed : Action A → Reply A
   failed Commit = RolledBack
   failed Rollback = RolledBack
   failed Prune = Pruned
   failed _ = refuses code.InFailedSqlTransaction
 
+  -- Another's commit has ended it: the next reply that isn't to BEGIN, PRUNE or ROLLBACK tells why (40001).
   abbrev pub doomed : Cause → Action A → Reply A
   doomed c (Begin m) = refuses code.ActiveSqlTransaction
   doomed c Rollback = RolledBack
@@ -55,6 +60,7 @@ module _ {A : Type 0} where
 
   -- ---- a statement in an open transaction
 
+  -- a refusal, of any code
   abbrev pub is_refused : Reply A → Bool
   is_refused (Refused r) = true
   is_refused _ = false
@@ -75,6 +81,7 @@ module _ {A : Type 0} where
   abbrev pub meets_another : World A → Txn A → List (Change A) → Bool
   meets_another w t xs = list_any (λ x. list_any (λ u. is_taken t u x) w.txns) xs
 
+  -- refused for the sake of a row that another has written: the first updater wins (40001; the manual, "Repeatable Read Isolation Level")
   abbrev pub refuses_row : Reply A
   refuses_row = Refused (record { code = code.SerializationFailure; place = place.Row })
 
@@ -82,6 +89,7 @@ module _ {A : Type 0} where
   abbrev pub evaluated : World A → Txn A → Outcome A → Reply A
   evaluated w t o = if is_refused o.reply then o.reply else if meets_another w t o.changes then refuses_row else o.reply
 
+  -- A statement waits for a safe snapshot where one is asked for (55000), and writes only in a read-write transaction (25006).
   abbrev pub run_reply : World A → Txn A → Statement A → Reply A
   run_reply w t q =
       if must_wait t then refuses code.ObjectNotInPrerequisiteState
@@ -90,6 +98,7 @@ module _ {A : Type 0} where
 
   -- ---- snapshots of an open transaction
 
+  -- A deferrable transaction is told whether its snapshot is safe, with a new one where the old one can't become so; any other has nothing to poll for (55000).
   abbrev pub poll_reply : World A → Txn A → Reply A
   poll_reply w t =
       if not (is_deferrable t.mode) then refuses code.ObjectNotInPrerequisiteState
@@ -97,9 +106,11 @@ module _ {A : Type 0} where
       else if is_pending w.txns (polled w t) then Wait
       else Safe (polled w t).snapshot
 
+  -- A snapshot gets the next identifier (the manual, "Snapshot Synchronization Functions"), but not while it waits to be safe (55000).
   abbrev pub export_reply : World A → Txn A → Reply A
   export_reply w t = if must_wait t then refuses code.ObjectNotInPrerequisiteState else Exported (next_identifier w)
 
+  -- A READ ONLY transaction takes the snapshot of an identifier that lives, before its first statement (the manual, "SET TRANSACTION").
   abbrev pub import_reply : World A → Txn A → ℕ → Reply A
   import_reply w t i =
       if not (is_read_only t.mode) then refuses code.ObjectNotInPrerequisiteState
@@ -117,12 +128,14 @@ module _ {A : Type 0} where
   abbrev pub cause_of : World A → Txn A → Option Cause
   cause_of w t = first_cause node edge (committing w t)
 
+  -- committed, unless that would make a dangerous structure
   abbrev pub commit_reply : Option Cause → Reply A
   commit_reply None = Committed
   commit_reply (Some c) = Refused (of_cause c)
 
   -- ---- any action
 
+  -- the reply to any action in an open transaction
   abbrev pub open_reply : World A → Txn A → Action A → Reply A
   open_reply w t (Begin m) = refuses code.ActiveSqlTransaction
   open_reply w t (Run q) = run_reply w t q
@@ -141,10 +154,12 @@ module _ {A : Type 0} where
   reply_from Failed w t a = failed a
   reply_from _ w t a = idle a
 
+  -- the reply to a session with this transaction, or with none
   abbrev pub reply_of : World A → Option (Txn A) → Action A → Reply A
   reply_of w None a = idle a
   reply_of w (Some t) a = reply_from t.standing w t a
 
+  -- the reply that is due to a session's action in this world
   abbrev pub reply_in : World A → ℕ → Action A → Reply A
   reply_in w s a = reply_of w (current w s) a
 
@@ -185,10 +200,12 @@ module _ {A : Type 0} where
   view_from Failed w t = Err (of_code code.InFailedSqlTransaction)
   view_from _ w t = if t.known then Ok (tables_at w t.snapshot) else Err (of_code code.ObjectNotInPrerequisiteState)
 
+  -- the same of a session with this transaction, or with none
   abbrev pub view_of : World A → Option (Txn A) → Result (Tables A) Refusal
   view_of w None = Err (of_code code.NoActiveSqlTransaction)
   view_of w (Some t) = view_from t.standing w t
 
+  -- what a session's view shows after these events, or why it gets none
   abbrev pub view_answer : Opening A → List (Record A) → ℕ → Result (Tables A) Refusal
   view_answer o es s = view_of (world_of o es) (current (world_of o es) s)
 
@@ -198,10 +215,12 @@ module _ {A : Type 0} where
   reader_from Failed t = Err (of_code code.InFailedSqlTransaction)
   reader_from _ t = if must_wait t then Err (of_code code.ObjectNotInPrerequisiteState) else Ok t.own
 
+  -- the same of a session with this transaction, or with none
   abbrev pub reader_of : Option (Txn A) → Result (Tables A) Refusal
   reader_of None = Err (of_code code.NoActiveSqlTransaction)
   reader_of (Some t) = reader_from t.standing t
 
+  -- what a session's SELECTs are evaluated over after these events, or why it has no reader
   abbrev pub reader_answer : Opening A → List (Record A) → ℕ → Result (Tables A) Refusal
   reader_answer o es s = reader_of (current (world_of o es) s)
 

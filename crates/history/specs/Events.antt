@@ -1,4 +1,5 @@
 -- What events make of transactions: a history's records, taken one after the other.
+-- Sources: PostgreSQL's manual, "Transaction Isolation" (a snapshot is taken at the beginning, commits are seen whole or not at all) and "SET TRANSACTION" (DEFERRABLE, SNAPSHOT); the SSI paper, its section on safe retry for who is aborted.
 use Rattle.std.specs.Prelude.{ℕ, ◌+◌, ◌==◌, Bool, true, false, not, ◌&&◌, if◌then◌else◌, Option, Some, None, List, [], ◌∷◌, ◌++◌, length, map}
 use Rattle.std.specs.List.{find}
 use Rattle.value.specs.declared.refusal.Mode.{Mode}
@@ -121,6 +122,7 @@ module _ {A : Type 0} where
   turned_from Failed w a r t = record t { standing = settled a t.standing }
   turned_from _ w a r t = t
 
+  -- what the event makes of its session's transaction
   abbrev pub turned : World A → Action A → Reply A → Txn A → Txn A
   turned w a r t = turned_from t.standing w a r t
 
@@ -131,6 +133,7 @@ module _ {A : Type 0} where
   causes w Commit Committed t = if is_read_write t.mode then dooms node reads_from w.txns t else []
   causes w _ _ t = []
 
+  -- over at this place for this cause, if there is one
   abbrev pub doomed_with : ℕ → Option Cause → Txn A → Txn A
   doomed_with place None t = t
   doomed_with place (Some c) t = record t { standing = Doomed c; end = place }
@@ -143,11 +146,13 @@ module _ {A : Type 0} where
   abbrev pub replaced : Txn A → List (Txn A) → List (Txn A)
   replaced x ts = map (λ t. if t.number == x.number then x else t) ts
 
+  -- all transactions: the session's turned, and those doomed that its commit dooms
   abbrev pub txns_after : World A → Action A → Reply A → Txn A → List (Txn A)
   txns_after w a r t = map (doomed_by (w.place + 1) (causes w a r t)) (replaced (turned w a r t) w.txns)
 
   -- ---- an event
 
+  -- the read-write transactions that have committed, in the order of their commits
   abbrev pub log_after : World A → Action A → Reply A → Txn A → List (Txn A)
   log_after w Commit Committed t = if is_read_write t.mode then w.log ++ numbered w t ∷ [] else w.log
   log_after w _ _ t = w.log
@@ -156,6 +161,7 @@ module _ {A : Type 0} where
   abbrev pub next_identifier : World A → ℕ
   next_identifier w = w.base.identifiers + length w.exports + 1
 
+  -- the snapshots that have been exported, each with what its exporter knew of it
   abbrev pub exports_after : World A → Action A → Reply A → Txn A → List Exported_snapshot
   exports_after w Export (Exported i) t = w.exports ++ record { id = i; exporter = t.number; snapshot = t.snapshot; taken = t.taken; known = t.known } ∷ []
   exports_after w _ _ t = w.exports
@@ -165,6 +171,7 @@ module _ {A : Type 0} where
   without_transaction w s (Begin m) Begun = record w { txns = w.txns ++ begun w s m ∷ []; place = w.place + 1 }
   without_transaction w s _ _ = record w { place = w.place + 1 }
 
+  -- the world after an event of a session with this transaction, or with none
   abbrev pub followed : World A → Record A → Option (Txn A) → World A
   followed w e None = without_transaction w e.session e.action e.reply
   followed w e (Some t) = record w {
@@ -180,9 +187,11 @@ module _ {A : Type 0} where
 
   -- ---- a history
 
+  -- the world at an opening: nobody has begun
   abbrev pub start : Opening A → World A
   start o = record { catalog = o.catalog; opening = o.tables; base = o.base; log = []; txns = []; exports = []; place = o.base.events }
 
+  -- a world after these events, the first first
   abbrev pub run : World A → List (Record A) → World A
   run w [] = w
   run w (e ∷ es) = run (follows w e) es
@@ -191,5 +200,6 @@ module _ {A : Type 0} where
   abbrev pub world_of : Opening A → List (Record A) → World A
   world_of o es = run (start o) es
 
+  -- what a history has come to
   abbrev pub world : Recorded A → World A
   world h = world_of h.opening h.records

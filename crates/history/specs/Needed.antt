@@ -1,4 +1,5 @@
 -- Which transactions of a history still matter: what each later question to it needs of those that are over.
+-- The SSI paper forgets in its section on memory usage what overlaps no active transaction; here it is said exactly, and the answers to all later events are proved to need no more.
 use Rattle.std.specs.Prelude.{◌≡◌, ℕ, ◌≤◌, nat_lt, Bool, true, false, not, ◌&&◌, ◌||◌, ◌⊎◌, ◌==◌, Some, List}
 use Rattle.std.specs.List.{filter, list_any, AllByRecursion}
 use Rattle.value.specs.Isolation.{is_dangerous}
@@ -37,6 +38,7 @@ module _ {A : Type 0} where
     pub oldest : IsOldest w n
     pub needed : AllByRecursion (λ u. is_needed n w.txns u ≡ true → keep u.number ≡ true) w.txns
 
+  -- the transactions whose numbers are kept
   abbrev pub kept_of : (ℕ → Bool) → List (Txn A) → List (Txn A)
   kept_of keep ts = filter (λ u. keep u.number) ts
 

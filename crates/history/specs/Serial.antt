@@ -1,4 +1,5 @@
 -- The serial order, and what it means that a history has one.
+-- Sources: the SSI paper, its sections on serializability theory (the apparent serial order) and on safe snapshots; PostgreSQL's manual, "Serializable Isolation Level": the effect is that of the transactions run one at a time.
 use Rattle.std.specs.Prelude.{◌≡◌, ℕ, ◌≤◌, nat_lt, nat_le, Bool, true, false, not, ◌&&◌, ◌||◌, Some, List, [], ◌∷◌, ◌++◌, map}
 use Rattle.std.specs.List.{filter, list_all, AllByRecursion}
 use Rattle.std.specs.List.Sorted.{IsPermutation}
@@ -17,6 +18,7 @@ use Rattle.history.specs.Transactions.{Txn, World, node, edge, is_done, is_read_
 module _ {A : Type 0} where
   -- ---- keys and order
 
+  -- the committed transactions, as they began
   abbrev pub committed : World A → List (Txn A)
   committed w = filter (λ t. is_done t.standing) w.txns
 
@@ -131,15 +133,17 @@ module _ {A : Type 0} where
 
   -- ---- what the records of transactions say
 
-  -- what these statements, done one after the other from X, read, change and mark
+  -- what these statements, done one after the other, read
   abbrev pub read_by : Catalog → List (Statement A × Reply A) → List (Reading A)
   read_by c [] = []
   read_by c (q ∷ qs) = footprint c q.0 ++ read_by c qs
 
+  -- and what they change
   abbrev pub changed_by : Catalog → List (Statement A × Reply A) → Tables A → List (Change A)
   changed_by c [] X = []
   changed_by c (q ∷ qs) X = (outcome c q.0 X).changes ++ changed_by c qs (after c q.0 X)
 
+  -- and the references that they mark as read
   abbrev pub marked_by : Catalog → List (Statement A × Reply A) → Tables A → List (Mark A)
   marked_by c [] X = []
   marked_by c (q ∷ qs) X = (outcome c q.0 X).marks ++ marked_by c qs (after c q.0 X)

@@ -15,15 +15,18 @@ pub enum Action<A: Allocator = Global> {
     Run(Statement<A>),
     /// A text that isn't a statement, with its refusal.
     Broken(Refusal),
-    /// Whether a deferrable transaction's snapshot is safe yet.
+    /// POLL: whether a deferrable transaction's snapshot is safe yet. It takes a new one where its own can't become so. PostgreSQL
+    /// has no such command: there BEGIN itself waits.
     Poll,
-    /// An identifier of the transaction's snapshot.
+    /// EXPORT: an identifier under which others can take the transaction's snapshot, as by pg_export_snapshot().
     Export,
-    /// The snapshot of an identifier, for the transaction's own.
+    /// IMPORT: the snapshot of an identifier in place of the transaction's own, as by SET TRANSACTION SNAPSHOT.
     Import(u64),
+    /// COMMIT, which can be refused (40001).
     Commit,
+    /// ROLLBACK, which is never refused where there is a transaction.
     Rollback,
-    /// That versions which no transaction can see any more are dropped.
+    /// PRUNE: that versions which no transaction can see any more are dropped. It changes no reply, and needs no transaction.
     Prune,
 }
 

@@ -1,4 +1,5 @@
 //! Events, and the list of those that a server has answered.
+
 #![tactic(auto)]
 
 pub mod base;

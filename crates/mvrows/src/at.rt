@@ -1,4 +1,5 @@
 //! The tables at a snapshot, lent by those who keep their versions.
+
 ghost use Rattle.std.specs.Prelude.{◌≡◌};
 ghost use Rattle.schema.specs.Rows.{HasTable};
 ghost use Rattle.schema.specs.Plain.{rows_of};

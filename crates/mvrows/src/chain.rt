@@ -1,4 +1,5 @@
-// A key and its versions.
+//! A key and its versions.
+
 ghost use Rattle.std.specs.Prelude.{◌≡◌, ◌<◌, ◌+◌, ◌^◌, nat_le, false, take, drop, length, slice_get, OnSome, OnOk, OnErr, IfOk, IfErr, IsTrue};
 ghost use Rattle.std.specs.List.{remove};
 ghost use Rattle.std.specs.Option.{option_map, option_map_or, option_copied};

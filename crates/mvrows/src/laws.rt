@@ -1,4 +1,5 @@
 //! What holds of versions, whatever was installed, pruned and settled.
+
 ghost use Rattle.mvrows.specs.Laws.{OpeningIsShown, OpeningIsFirst, ShowsInstalled, HidesInstalled, PruningIsHidden, PruningLeavesOne, PruningKeepsNewest, SettlingIsHidden, SettlingLeavesOne, SettlingLeavesFew, SettlingKeepsNewest, StaysInOrder, StaysBelow, NewestIsOpening, NewestIsInstalled, NewestIsLast};
 
 use std::alloc::Allocator;

@@ -1,4 +1,5 @@
-// A page of a table, which views may share.
+//! A page of a table, which views may share.
+
 ghost use Rattle.std.specs.Prelude.{◌≡◌, ◌≤◌, ◌++◌, ◌⊎◌, length, true, OnOk, OnErr, IfOk, IfErr};
 ghost use Rattle.value.specs.Refusals.{out_of_memory};
 ghost use Rattle.mvrows.specs.Installing.{put_version};

@@ -1,4 +1,5 @@
 //! Versions of rows: views of the tables at a snapshot, which never change.
+
 #![tactic(auto)]
 
 pub mod at;

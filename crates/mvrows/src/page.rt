@@ -1,4 +1,5 @@
-// Keys with their versions, side by side: what views share of a table.
+//! Keys with their versions, side by side: what views share of a table.
+
 ghost use Rattle.std.specs.Prelude.{◌≡◌, ◌≤◌, ◌++◌, ◌∷◌, [], true, false, not, length, take, drop, slice_get, map, filter, find, OnOk, OnErr, IfOk, IfErr, IsTrue};
 ghost use Rattle.std.specs.List.{AllByRecursion};
 ghost use Rattle.std.specs.Option.{option_copied, option_map_or};

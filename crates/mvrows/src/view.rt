@@ -1,4 +1,5 @@
-// The tables at a snapshot.
+//! The tables at a snapshot.
+
 ghost use Rattle.std.specs.Prelude.{◌≡◌};
 ghost use Rattle.std.specs.Option.{option_copied};
 ghost use Rattle.schema.specs.Rows.{HasTable, IsInKeyOrder, next_row};

@@ -1,5 +1,6 @@
 //! The word that counts a shared history, and what the threads of its sessions know of that
 //! history.
+
 #![tactic(auto)]
 
 pub mod keeper;

@@ -1,5 +1,6 @@
 //! `pgserial`: scripts of sessions on an in-memory relational server whose transactions are
 //! serializable, and dumps.
+
 #![tactic(auto)]
 
 use program::host::HostFiles;

@@ -1,4 +1,5 @@
-// What a statement adds to its transaction.
+//! What a statement adds to its transaction.
+
 ghost use Rattle.std.specs.Prelude.{◌≡◌, OnOk, OnErr, IfErr, length, vec_len, vec_capacity, ◌<◌, ◌≤◌, ◌+◌, ◌++◌, ◌^◌};
 ghost use Rattle.value.specs.Refusals.{out_of_memory};
 ghost use Rattle.plain.specs.Runs.{adds};

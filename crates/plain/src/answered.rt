@@ -1,4 +1,5 @@
-// What is answered to an event, for its session and for the history.
+//! What is answered to an event, for its session and for the history.
+
 ghost use Rattle.std.specs.Prelude.{◌≡◌};
 ghost use Rattle.plain.specs.Courses.{IsBrief};
 

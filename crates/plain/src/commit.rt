@@ -1,4 +1,5 @@
-// Commits: the structure that one would make, and those that it dooms.
+//! Commits: the structure that one would make, and those that it dooms.
+
 ghost use Rattle.std.specs.Prelude.{◌≡◌, ◌+◌, ◌^◌, ◌<◌, ◌==◌, [], find, length, map, true, Some, None, IfOk, IfErr, OnErr, OnOk};
 ghost use Rattle.std.specs.List.{list_any};
 ghost use Rattle.value.specs.Isolation as spec;

@@ -1,4 +1,5 @@
-// Walks over what was read in a table.
+//! Walks over what was read in a table.
+
 ghost use Rattle.std.specs.Prelude.{◌≡◌, nat_lt};
 ghost use Rattle.std.specs.List.{list_any};
 ghost use Rattle.plain.specs.Extents.{count, counts, is_read, is_sought};

@@ -1,4 +1,5 @@
-// How a transaction stands and what it sees, apart from what its statements have done.
+//! How a transaction stands and what it sees, apart from what its statements have done.
+
 ghost use Rattle.std.specs.Prelude.{◌≡◌, true};
 ghost use Rattle.plain.specs.Courses.{on_course};
 ghost use Rattle.plain.specs.Ledger.{kept};

@@ -1,4 +1,5 @@
-// What readings cover: few keys, ranges and references as they were read, many as more.
+//! What readings cover: few keys, ranges and references as they were read, many as more.
+
 ghost use Rattle.std.specs.Prelude.{◌≡◌};
 ghost use Rattle.std.specs.List.{list_any};
 ghost use Rattle.std.specs.Ordering.{is_le, is_ge};

@@ -1,4 +1,5 @@
-// What is answered to a session's transaction where nothing but its course turns.
+//! What is answered to a session's transaction where nothing but its course turns.
+
 ghost use Rattle.std.specs.Prelude.{◌≡◌, ◌+◌, ◌^◌, ◌<◌, ◌&&◌, not, true};
 ghost use Rattle.schema.specs.Definition.{Catalog};
 ghost use Rattle.schema.specs.declared.tables.Tables.{Tables};

@@ -1,5 +1,6 @@
-// What a deferrable transaction asks of the others: whether its snapshot can still become safe, and
-// whether it is to wait.
+//! What a deferrable transaction asks of the others: whether its snapshot can still become safe, and
+//! whether it is to wait.
+
 ghost use Rattle.std.specs.Prelude.{◌≡◌, ◌&&◌, nat_le};
 ghost use Rattle.std.specs.List.{list_any};
 ghost use Rattle.history.specs.Transactions as spec;

@@ -1,4 +1,5 @@
-// The open transactions that a commit dooms: each is the middle of a structure that it closes.
+//! The open transactions that a commit dooms: each is the middle of a structure that it closes.
+
 ghost use Rattle.std.specs.Prelude.{◌≡◌, ◌++◌, find, fold, IfOk, IfErr, OnOk};
 ghost use Rattle.std.specs.Option.{option_map};
 ghost use Rattle.value.specs.Isolation as spec;

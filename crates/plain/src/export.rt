@@ -1,4 +1,5 @@
-// Identifiers of snapshots.
+//! Identifiers of snapshots.
+
 ghost use Rattle.std.specs.Prelude.{◌≡◌, ◌+◌, ◌^◌, ◌<◌, ◌∷◌, [], ◌++◌, length, true, IfOk, IfErr, OnErr, OnOk};
 ghost use Rattle.value.specs.Refusals.{out_of_memory};
 ghost use Rattle.schema.specs.Definition.{Catalog};

@@ -1,4 +1,5 @@
-// Tests of single extents.
+//! Tests of single extents.
+
 ghost use Rattle.std.specs.Prelude.{◌≡◌};
 ghost use Rattle.plain.specs.Extents.{has_form, is_sought};
 ghost use Rattle.statement.specs.Cover.{is_from, is_to, same_end, same_extent};

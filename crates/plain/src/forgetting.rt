@@ -1,4 +1,5 @@
-// What is forgotten: transactions that no later question asks for, and identifiers that don't live.
+//! What is forgotten: transactions that no later question asks for, and identifiers that don't live.
+
 ghost use Rattle.std.specs.Prelude.{◌≡◌, ◌≤◌, ◌<◌, ◌^◌, ◌&&◌, ◌++◌, drop, length, take};
 ghost use Rattle.std.specs.List.{filter, list_any};
 ghost use Rattle.history.specs.Needed as spec;

@@ -1,5 +1,6 @@
-// Conflicts between transactions, dangerous structures among them, and where they stand in the
-// serial order, over a list of them.
+//! Conflicts between transactions, dangerous structures among them, and where they stand in the
+//! serial order, over a list of them.
+
 ghost use Rattle.std.specs.Prelude.{◌≡◌, ◌<◌, ◌&&◌, if◌then◌else◌, length, min, nat_lt, slice_get, None, Some};
 ghost use Rattle.std.specs.List.{filter, list_any};
 ghost use Rattle.std.specs.Option.{option_map};

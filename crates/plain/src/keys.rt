@@ -1,4 +1,5 @@
-// Serial keys of committed transactions, among all transactions.
+//! Serial keys of committed transactions, among all transactions.
+
 ghost use Rattle.std.specs.Prelude.{◌≡◌, if◌then◌else◌, ◌&&◌, ◌==◌, min, nat_lt};
 ghost use Rattle.std.specs.List.{filter, find};
 ghost use Rattle.std.specs.Option.{option_copied, option_map};

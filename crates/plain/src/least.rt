@@ -1,4 +1,5 @@
-// The least snapshot of some transactions.
+//! The least snapshot of some transactions.
+
 ghost use Rattle.std.specs.Prelude.{◌≡◌, ◌&&◌, if◌then◌else◌, min, true};
 ghost use Rattle.history.specs.Needed as spec;
 ghost use Rattle.plain.specs.Forgetting.{holds_back, is_looked_at};

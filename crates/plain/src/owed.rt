@@ -1,4 +1,5 @@
 //! The snapshots that transactions may still read which their sessions have still to end.
+
 ghost use Rattle.std.specs.Prelude.{◌≡◌, ◌++◌, IfOk, IfErr, OnOk};
 ghost use Rattle.value.specs.Refusals.{out_of_memory};
 ghost use Rattle.plain.specs.Stretches.{HoldsStretch};

@@ -1,4 +1,5 @@
-// What a transaction has written, and what its statements come to on tables with that put in.
+//! What a transaction has written, and what its statements come to on tables with that put in.
+
 ghost use Rattle.std.specs.Prelude.{◌≡◌, ◌≤◌, ◌++◌, [], true, length, take, OnOk, OnErr, IfOk, IfErr};
 ghost use Rattle.value.specs.Refusals.{out_of_memory};
 ghost use Rattle.schema.specs.Changing.{put_change};

@@ -1,4 +1,5 @@
-// What isolation asks of a transaction.
+//! What isolation asks of a transaction.
+
 ghost use Rattle.std.specs.Prelude.{◌≡◌, Bool};
 ghost use Rattle.value.specs.Isolation.{Node};
 

@@ -1,4 +1,5 @@
 //! What a session's transaction reads.
+
 ghost use Rattle.std.specs.Prelude.{◌≡◌, Some, IfOk, IfErr};
 ghost use Rattle.value.specs.Refusals.{AnswersOrNoMemory, out_of_memory};
 ghost use Rattle.schema.specs.Definition.{Catalog};

@@ -1,4 +1,5 @@
-// Statements that only read, whose replies were found before.
+//! Statements that only read, whose replies were found before.
+
 ghost use Rattle.std.specs.Prelude.{◌≡◌, ◌+◌, ◌^◌, ◌<◌, [], length, true, false, Some, IfOk, IfErr, OnErr, OnOk};
 ghost use Rattle.value.specs.Refusals.{out_of_memory};
 ghost use Rattle.statement.specs.Evaluation.{answers, writes};

@@ -1,4 +1,5 @@
-// What a session is answered that has no transaction, or whose transaction is over.
+//! What a session is answered that has no transaction, or whose transaction is over.
+
 ghost use Rattle.std.specs.Prelude.{◌≡◌};
 ghost use Rattle.history.specs.Answer as spec;
 ghost use Rattle.plain.specs.Courses.{IsBrief};

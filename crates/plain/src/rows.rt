@@ -1,4 +1,5 @@
-// Rows that a transaction would write, and another has written.
+//! Rows that a transaction would write, and another has written.
+
 ghost use Rattle.std.specs.Prelude.{◌≡◌, ◌==◌, ◌&&◌};
 ghost use Rattle.std.specs.List.{list_any};
 ghost use Rattle.schema.specs.Plain.{same};

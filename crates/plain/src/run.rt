@@ -1,4 +1,5 @@
-// Statements in open transactions.
+//! Statements in open transactions.
+
 ghost use Rattle.std.specs.Prelude.{◌≡◌, ◌+◌, ◌^◌, ◌<◌, [], length, true, false, not, ◌&&◌, if◌then◌else◌, ℕ, IfSome, IfNone, IfOk, IfErr, OnErr, OnOk};
 ghost use Rattle.value.specs.Refusals.{out_of_memory};
 ghost use Rattle.statement.specs.Evaluation.{outcome, writes};

@@ -1,4 +1,5 @@
-// Events that turn only the course of a session's transaction, or begin it.
+//! Events that turn only the course of a session's transaction, or begin it.
+
 ghost use Rattle.std.specs.Prelude.{◌≡◌, ◌+◌, ◌^◌, ◌<◌, ◌∷◌, [], ◌++◌, None, true, length, IfOk, IfErr, OnErr, OnOk};
 ghost use Rattle.value.specs.Refusals.{out_of_memory};
 ghost use Rattle.schema.specs.Definition.{Catalog};

@@ -1,4 +1,5 @@
-// Sessions' transactions, and the snapshots that are exported, among all transactions.
+//! Sessions' transactions, and the snapshots that are exported, among all transactions.
+
 ghost use Rattle.std.specs.Prelude.{◌≡◌, ◌==◌, ◌&&◌, ◌<◌, find, length, slice_get, None, IfSome, IfNone};
 ghost use Rattle.history.specs.Transactions.{is_living, is_of, is_open};
 ghost use Rattle.plain.specs.Stretches.{HoldsStretch};

@@ -1,4 +1,5 @@
-// One event of a session.
+//! One event of a session.
+
 ghost use Rattle.std.specs.Prelude.{◌≡◌, ◌+◌, ◌^◌, ◌<◌, [], length, true, Some, IfOk, IfErr, OnErr, OnOk};
 ghost use Rattle.value.specs.Refusals.{out_of_memory};
 ghost use Rattle.history.specs.Transactions.{is_open};

@@ -1,4 +1,5 @@
-// Stretches of transactions that are over, which most questions pass over.
+//! Stretches of transactions that are over, which most questions pass over.
+
 ghost use Rattle.std.specs.Prelude.{◌≡◌, ◌≤◌, ◌+◌, ◌&&◌, if◌then◌else◌, nat_le, nat_lt, length, max, ◌<◌, ◌^◌, IsTrue};
 ghost use Rattle.plain.specs.Stretches.{HoldsStretch, IsAround, IsPast, no_stretch};
 

@@ -1,4 +1,5 @@
-// Transactions, as the core keeps them.
+//! Transactions, as the core keeps them.
+
 ghost use Rattle.std.specs.Prelude.{◌≡◌};
 ghost use Rattle.std.specs.List.{list_any};
 ghost use Rattle.statement.specs.Cover.{covers, covers_value};

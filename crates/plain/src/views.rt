@@ -1,4 +1,5 @@
-// What is asked of the world beside its events.
+//! What is asked of the world beside its events.
+
 ghost use Rattle.std.specs.Prelude.{◌≡◌, ◌+◌, ◌≤◌, ◌<◌, ◌^◌, length, not, Some, Err};
 ghost use Rattle.value.specs.Refusals.{AnswersOrNoMemory};
 ghost use Rattle.schema.specs.Definition.{Catalog};

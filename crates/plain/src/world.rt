@@ -1,4 +1,5 @@
-// What the plain body keeps of a history's world.
+//! What the plain body keeps of a history's world.
+
 ghost use Rattle.std.specs.Prelude.{◌≡◌, ◌+◌, ◌^◌, ◌<◌, ◌≤◌, [], length};
 ghost use Rattle.plain.specs.Courses.{on_course};
 ghost use Rattle.plain.specs.Ledger.{turned_at};

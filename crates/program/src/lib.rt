@@ -1,4 +1,5 @@
 //! The program `pgserial`: scripts of sessions, and dumps, over files.
+
 #![tactic(auto)]
 
 mod dumping;

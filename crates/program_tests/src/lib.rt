@@ -1,4 +1,5 @@
 //! Tests alone: the program's words over files in memory, against what it prints and how it ends.
+
 #![tactic(auto)]
 
 #[cfg(test)]

@@ -1,4 +1,5 @@
 //! A file that tells which of some dumps it has taken.
+
 ghost use Rattle.std.specs.Prelude.{◌≡◌, ◌++◌, map};
 
 use collector::{Device, DeviceError};

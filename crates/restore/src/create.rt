@@ -1,4 +1,5 @@
 //! What a CREATE TABLE line says.
+
 ghost use Rattle.std.specs.Prelude.{◌≡◌, ◌==◌, OnErr};
 ghost use Rattle.std.specs.List.{slice_split};
 ghost use Rattle.schema.specs.Adding.{defined};

@@ -1,3 +1,5 @@
+//! Why a dump isn't taken.
+
 ghost use Rattle.std.specs.Prelude.{◌≡◌};
 ghost use Rattle.restore.specs.Steps.{line_error, read_error, restore_fault};
 ghost use Rattle.restore.specs.declared.error.LineError.TheVariants as line;

@@ -1,4 +1,5 @@
 //! What a dump reads as, of all dumps.
+
 ghost use Rattle.std.specs.Prelude.{◌≡◌, ℕ, List, Ok, Err, true};
 ghost use Rattle.schema.specs.Definition.{Catalog};
 ghost use Rattle.schema.specs.declared.tables.Tables.{Tables};

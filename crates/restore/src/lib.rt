@@ -1,4 +1,5 @@
 //! Reading a dump back.
+
 #![tactic(auto)]
 
 mod create;

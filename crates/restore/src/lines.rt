@@ -1,4 +1,5 @@
 //! The lines of a dump.
+
 ghost use Rattle.std.specs.Prelude.{◌≡◌, ◌+◌, ◌<◌, ◌≤◌, length, Some, false, vec_len, IfOk, IfErr, IfSome};
 ghost use Rattle.std.specs.Str.{bytes_eq};
 ghost use Rattle.dumpplan.specs.Lines.{end_of_rows};

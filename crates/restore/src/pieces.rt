@@ -1,4 +1,5 @@
 //! Rows that are put behind those of a table, a piece of lines after another.
+
 ghost use Rattle.std.specs.Prelude.{◌≡◌, ◌≢◌, ◌+◌, ◌<◌, ◌^◌, ◌++◌, ◌&&◌, ℕ, Bool, List, [], length, vec_len, map, is_some, true, IfOk, IfErr, OnOk};
 ghost use Rattle.std.specs.List.{AllByRecursion, list_any, list_all};
 ghost use Rattle.std.specs.Ordering.{is_lt};

@@ -1,4 +1,5 @@
 //! What a dump reads as.
+
 ghost use Rattle.std.specs.Prelude.{◌≡◌, ◌⊎◌, ◌+◌, ◌<◌, Bool, [], length, true, IfOk};
 ghost use Rattle.schema.specs.Plain.{is_sound};
 ghost use Rattle.schema.specs.Inserting.{empty_tables};

@@ -1,3 +1,5 @@
+//! That whatever a dump reads as is sound.
+
 ghost use Rattle.std.specs.Prelude.{◌≡◌, ℕ, List, true, Ok};
 ghost use Rattle.schema.specs.Definition.{Catalog};
 ghost use Rattle.schema.specs.Plain.{is_sound};

@@ -1,4 +1,5 @@
 //! Lines of rows read by several threads.
+
 ghost use Rattle.std.specs.Prelude.{◌≡◌, ◌⊎◌, ◌+◌, ◌<◌, ◌≤◌, ◌^◌, ◌∷◌, Bool, true, false, map, length, IfOk, IfErr};
 ghost use Rattle.std.specs.Str.{bytes_eq};
 ghost use Rattle.schema.specs.Definition.{columns_of};

@@ -1,4 +1,5 @@
 //! What a deferrable transaction waits for: whether its snapshot is safe.
+
 #![tactic(auto)]
 
 pub mod waiting;

@@ -1,4 +1,5 @@
 //! An allocator for tests: it counts the requests for memory, and refuses one of them.
+
 #![tactic(auto)]
 
 ghost use Rattle.std.specs.Prelude.{◌≡◌};

@@ -1,4 +1,5 @@
 //! What no contract can say, since a shared counter's number has no name in a clause.
+
 use crate::Scarce;
 use std::alloc::Allocator;
 use std::test::Fail;

@@ -1,4 +1,5 @@
 //! COPY text of rows, and the reading of a dump, by one thread and by workers.
+
 ghost use Rattle.schema.specs.Rows.{HasTable};
 
 use crate::driver::{Call, Memory, assert_needs, assert_takes, is_out_of_memory};

@@ -1,4 +1,5 @@
 //! How a call is tried.
+
 use crate::fixture::not_asked;
 use scarce::Scarce;
 use std::alloc::{AllocError, Global};

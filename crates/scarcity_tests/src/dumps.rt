@@ -1,4 +1,5 @@
 //! Dumps, of which a beginning may be written, their plans and their collectors.
+
 ghost use Rattle.std.specs.Prelude.{◌≡◌, true, length};
 
 use crate::driver::{Call, Memory, assert_takes, is_out_of_memory};

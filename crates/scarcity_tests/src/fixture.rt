@@ -1,4 +1,5 @@
 //! Tables made of texts.
+
 use schema::catalog::{Catalog, TableNo};
 use schema::row::Row;
 use schema::tables::Tables;

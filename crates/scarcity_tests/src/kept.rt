@@ -1,4 +1,5 @@
 //! What is kept of reads.
+
 use crate::driver::{Call, Memory, assert_takes};
 use crate::fixture::not_asked;
 use scarce::Scarce;

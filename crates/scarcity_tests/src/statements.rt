@@ -1,4 +1,5 @@
 //! Parsing, footprints, what statements come to, and copies of statements and replies.
+
 use crate::driver::{Call, Memory, assert_makes, assert_takes};
 use crate::fixture::{CREATES, catalog, not_asked, some_tables};
 use scarce::Scarce;

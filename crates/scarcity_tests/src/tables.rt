@@ -1,4 +1,5 @@
 //! Definitions, catalogs, tables and changes.
+
 use crate::driver::{Call, Memory, assert_takes};
 use crate::fixture::{Database, catalog, insert, not_asked, row, some_tables};
 use scarce::Scarce;

@@ -1,4 +1,5 @@
 //! Literals, copies of values and keys, and their texts.
+
 use crate::driver::{Call, Memory, assert_makes};
 use scarce::Scarce;
 use std::alloc::Allocator;

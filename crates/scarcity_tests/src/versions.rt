@@ -1,4 +1,5 @@
 //! Versions of rows, which views share.
+
 ghost use Rattle.std.specs.Prelude.{IfOk};
 ghost use Rattle.mvrows.specs.Versions.{TablesAreBelow};
 

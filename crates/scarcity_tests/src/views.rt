@@ -1,4 +1,5 @@
 //! Views of versions of rows: what they show beside commits and prunings, and how little memory they take.
+
 ghost use Rattle.std.specs.Prelude.{◌≡◌, length, IfOk, OnOk};
 ghost use Rattle.mvrows.specs.Versions.{TablesAreBelow};
 

@@ -1,4 +1,4 @@
--- What a call that changes a value answers, with the value that it leaves.
+-- What a call that changes a value answers, with the value that it leaves. So one equation can say both: what `&mut self` has become where the call succeeds, and the refusal where it doesn't.
 use Rattle.std.specs.Prelude.{Result, Ok, Err}
 
 -- the answer, with the value that is left in place of what it holds

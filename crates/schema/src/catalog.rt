@@ -93,7 +93,7 @@ impl<A: Allocator> Column<A> {
         self.references
     }
 
-    /// An equal column.
+    /// An equal column, with memory of its own. Refused only for want of it (53200).
     pub fn copy(&self, alloc: A) -> Result<Column<A>, Refusal>
         ensures ok { IfOk result (λ c. c ≡ self.now) }
         ensures err { IfErr result (λ e. e ≡ out_of_memory) }
@@ -168,7 +168,7 @@ impl<A: Allocator> TableSchema<A> {
         Some(place as u32)
     }
 
-    /// An equal table.
+    /// An equal table, with memory of its own. Refused only for want of it (53200).
     pub fn copy(&self, alloc: A) -> Result<TableSchema<A>, Refusal>
     where
         A: Copy,

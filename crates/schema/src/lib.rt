@@ -1,4 +1,5 @@
 //! The catalog, plain tables of rows by key, changes, and what a reader of tables gives.
+
 #![tactic(auto)]
 
 pub mod catalog;

@@ -68,7 +68,7 @@ impl<A: Allocator> Row<A> {
         }
     }
 
-    /// An equal row.
+    /// An equal row, with memory of its own. Refused only for want of it (53200).
     pub fn copy(&self, alloc: A) -> Result<Row<A>, Refusal>
     where
         A: Copy,

@@ -142,7 +142,7 @@ impl<A: Allocator> Tables<A> {
         Ok(moved)
     }
 
-    /// Equal tables.
+    /// Equal tables, with memory of their own. Refused only for want of it (53200).
     pub fn copy(&self, alloc: A) -> Result<Tables<A>, Refusal>
     where
         A: Copy,

@@ -1,4 +1,5 @@
 //! Why a line of a script was not read.
+
 ghost use Rattle.std.specs.Prelude.{◌≡◌};
 ghost use Rattle.script.specs.declared.error.LineError.TheVariants.{Memory};
 

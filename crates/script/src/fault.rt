@@ -1,4 +1,5 @@
 //! Why a script was not read.
+
 ghost use Rattle.std.specs.Prelude.{◌≡◌};
 
 /// The first line that may not stand where it stands, counted from 1; 0 where a growth was refused.

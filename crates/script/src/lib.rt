@@ -1,4 +1,5 @@
 //! What a script of sessions says, and how the replies to it are printed.
+
 #![tactic(auto)]
 
 pub mod command;

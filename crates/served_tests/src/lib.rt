@@ -1,4 +1,5 @@
 //! Tests alone: passes, the server on threads, and dumps of a session's safe snapshot.
+
 #![tactic(auto)]
 
 #[cfg(test)]

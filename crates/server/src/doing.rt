@@ -1,4 +1,5 @@
-// What a call does under the lock.
+//! What a call does under the lock.
+
 ghost use Rattle.std.specs.Prelude.{◌≡◌};
 ghost use Rattle.session.specs.Core.{IsStep};
 ghost use Rattle.server.specs.Doings.{IsAllowedFor, action_of};

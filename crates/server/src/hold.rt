@@ -1,4 +1,5 @@
-// What the first hold of the lock gives for a SELECT.
+//! What the first hold of the lock gives for a SELECT.
+
 use session::reader::SessionReader;
 use statement::reply::Reply;
 use statement::statement::Statement;

@@ -1,4 +1,5 @@
 //! The core under a lock, for the threads of its sessions.
+
 #![tactic(auto)]
 
 mod doing;

@@ -1,4 +1,5 @@
-// What lies under the lock.
+//! What lies under the lock.
+
 ghost use Rattle.std.specs.Prelude.{◌≡◌, false, [], All};
 ghost use mathlib.Core.List.{IsPrefix};
 ghost use Rattle.value.specs.Refusals.{AnswersOrNoMemory};

@@ -1,4 +1,5 @@
-// SELECTs, which are evaluated while the lock is free.
+//! SELECTs, which are evaluated while the lock is free.
+
 ghost use Rattle.std.specs.Prelude.{◌≡◌, true, false, Ok, IfOk, IfErr};
 ghost use mathlib.Core.List.{IsPrefix};
 ghost use Rattle.value.specs.Refusals.{out_of_memory};

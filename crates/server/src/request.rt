@@ -1,4 +1,5 @@
-// What sessions ask for.
+//! What sessions ask for.
+
 ghost use Rattle.std.specs.Prelude.{◌≡◌, ◌≢◌, true, IfOk, IfErr, OnErr};
 ghost use Rattle.value.specs.Refusals.{out_of_memory};
 ghost use Rattle.history.specs.Answer.{Allowed};

@@ -1,4 +1,5 @@
-// The server.
+//! The server.
+
 ghost use Rattle.std.specs.Prelude.{◌≡◌, ◌≢◌, ◌≤◌, ◌==◌, ◌||◌, true, false, [], length, All, IsTrue, IfOk, IfErr};
 ghost use mathlib.Core.List.{IsPrefix};
 ghost use Rattle.value.specs.Refusals.{AnswersOrNoMemory, out_of_memory};

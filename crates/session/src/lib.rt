@@ -1,4 +1,5 @@
 //! The core of the server: one event of a session at a time.
+
 #![tactic(auto)]
 
 pub mod reader;

@@ -1,2 +1,3 @@
-// What a session's transaction reads.
+//! What a session's transaction reads.
+
 pub use plain::reader::SessionReader;

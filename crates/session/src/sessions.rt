@@ -1,4 +1,5 @@
-// The core: a history, what is kept of its world, and the keys of what has committed.
+//! The core: a history, what is kept of its world, and the keys of what has committed.
+
 ghost use Rattle.std.specs.Prelude.{◌≡◌, ◌≢◌, ◌<◌, ◌≤◌, ◌+◌, ◌^◌, ◌==◌, ◌||◌, ◌++◌, nat_le, [], true, length, map, vec_capacity, IsTrue, Ok, Err, IfOk, IfErr, OnErr, OnOk, if◌then◌else◌};
 ghost use Rattle.std.specs.Option.{option_to_list};
 ghost use Rattle.value.specs.Refusals.{AnswersOrNoMemory, of_code, out_of_memory};

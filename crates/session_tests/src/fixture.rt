@@ -1,4 +1,5 @@
 //! Scripts of sessions: what each says, and the printed reply.
+
 ghost use Rattle.std.specs.Prelude.{◌≡◌, IfOk, IfSome, Ok};
 ghost use Rattle.schema.specs.Definition.{Catalog as AnyCatalog};
 ghost use Rattle.statement.specs.Fits.{Fits};

@@ -1,4 +1,5 @@
 //! Tests alone: scripts of sessions on a core, against their printed replies.
+
 #![tactic(auto)]
 
 #[cfg(test)]

@@ -1,4 +1,5 @@
 //! The locks of what transactions have read (SIREAD locks).
+
 #![tactic(auto)]
 
 mod copies;

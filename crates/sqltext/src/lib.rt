@@ -1,4 +1,5 @@
 //! The text of statements: from bytes to tokens, to a syntax tree, to a statement of the catalog's tables.
+
 #![tactic(auto)]
 
 pub mod create;

@@ -1,4 +1,5 @@
 //! Statements, what they answer and change, and what they read.
+
 #![tactic(auto)]
 
 pub mod condition;

@@ -1,4 +1,5 @@
 //! Tests alone: values, tables, and readers over tables.
+
 #![tactic(auto)]
 
 #[cfg(test)]

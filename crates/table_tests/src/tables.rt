@@ -1,4 +1,5 @@
 //! Catalogs, plain tables, rows, changes, and a reader of the tests' own.
+
 ghost use Rattle.schema.specs.Rows.{HasTable};
 
 use schema::catalog::{Catalog, TableNo};

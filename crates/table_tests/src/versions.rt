@@ -1,3 +1,5 @@
+//! Tests of tables with versions: what commits, prunings and views leave and show.
+
 ghost use Rattle.std.specs.Prelude.{◌≡◌, ◌<◌, ◌+◌, length, IfOk, OnOk};
 ghost use Rattle.schema.specs.Rows.{HasTable};
 ghost use Rattle.mvrows.specs.Versions.{TablesAreBelow};

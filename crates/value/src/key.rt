@@ -63,7 +63,7 @@ impl<A: Allocator> Key<A> {
         value
     }
 
-    /// An equal key.
+    /// An equal key, with memory of its own. Refused only for want of it (53200).
     pub fn copy(&self, alloc: A) -> Result<Key<A>, Refusal>
         ensures ok { IfOk result (λ k. k ≡ self.now) }
         ensures err { IfErr result (λ e. e ≡ out_of_memory) }

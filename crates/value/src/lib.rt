@@ -1,4 +1,5 @@
 //! The values of a column, the keys made of them, their order, and what a literal stands for.
+
 #![tactic(auto)]
 
 pub mod bytes;

@@ -1,4 +1,5 @@
-// What has committed in a core, and that its history is legal.
+//! What has committed in a core, and that its history is legal.
+
 ghost use Rattle.std.specs.Prelude.{◌≡◌, map};
 ghost use Rattle.history.specs.Answer.{IsLegal};
 ghost use Rattle.history.specs.Events.{world};

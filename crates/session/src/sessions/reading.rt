@@ -1,4 +1,5 @@
-// SELECTs in two halves: what a session's transaction sees, and the event with the reply that was found there.
+//! SELECTs in two halves: what a session's transaction sees, and the event with the reply that was found there.
+
 ghost use Rattle.std.specs.Prelude.{◌≡◌, false, Ok, IfOk, IfErr, OnErr};
 ghost use Rattle.value.specs.Refusals.{AnswersOrNoMemory, out_of_memory};
 ghost use Rattle.statement.specs.Evaluation.{writes};

@@ -1,4 +1,5 @@
-// Tables of many pages: keys between others, deletions that leave pages without keys, and a view beside them.
+//! Tables of many pages: keys between others, deletions that leave pages without keys, and a view beside them.
+
 ghost use Rattle.std.specs.Prelude.{◌≡◌, ◌<◌, length, OnOk};
 ghost use Rattle.mvrows.specs.Versions.{TablesAreBelow};
 
