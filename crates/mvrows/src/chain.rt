@@ -11,7 +11,7 @@ ghost use Rattle.mvrows.specs.Settling.{is_shown_to, read_versions, settled_key}
 ghost use Rattle.mvrows.specs.TakenBack.{key_before};
 
 use schema::changes::Change;
-use schema::row::Row;
+use schema::row::{Row, copy_all};
 use std::alloc::{Allocator, Global};
 use std::collections::VecDeque;
 use std::marker::Model;
@@ -48,21 +48,6 @@ impl<A: Allocator> Model for Chain<A> {
     ghost invariant = { λ c. c.versions.items ≡ map (stored c.key) (map told c.versions.items) };
 }
 
-// Equal values.
-fn copy_values<A: Allocator + Copy>(
-    alloc: A,
-    values: &[Value<A>],
-) -> Result<Vec<Value<A>, A>, Refusal>
-    ensures ok { IfOk result (λ copy. copy.items ≡ values.now) }
-    ensures err { IfErr result (λ e. e ≡ out_of_memory) }
-{
-    let mut copy = Vec::with_capacity(alloc, values.len())?;
-    for value in values {
-        copy.push(value.copy(alloc)?)?;
-    }
-    Ok(copy)
-}
-
 // The row of a key and the fields beside it, where there are any.
 fn row_of<A: Allocator + Copy>(
     alloc: A,
@@ -73,7 +58,7 @@ fn row_of<A: Allocator + Copy>(
     ensures err { IfErr result (λ e. e ≡ out_of_memory) }
 {
     match fields {
-        Some(fields) => Ok(Some(Row::new(key.copy(alloc)?, copy_values(alloc, fields)?))),
+        Some(fields) => Ok(Some(Row::new(key.copy(alloc)?, copy_all(alloc, fields)?))),
         None => Ok(None),
     }
 }

@@ -13,7 +13,7 @@ use crate::added::append_reserved;
 use schema::catalog::Catalog;
 use schema::changes::{Change, Changes};
 use schema::reader::SnapshotReader;
-use schema::row::Row;
+use schema::row::{Row, copy_all};
 use snapshot::overlay::Overlay;
 use statement::evaluate::evaluate;
 use statement::outcome::Outcome;
@@ -46,21 +46,6 @@ impl<A: Allocator> Model for OwnChanges<A> {
     ghost invariant = { λ o. (o.count ≤ length o.list.items) × AreMerged o.merged (take o.count o.list.items) };
 }
 
-// Equal values.
-fn copy_values<A: Allocator + Copy>(
-    alloc: A,
-    values: &[Value<A>],
-) -> Result<Vec<Value<A>, A>, Refusal>
-    ensures ok { IfOk result (λ copies. copies.items ≡ values.now) }
-    ensures memory { IfErr result (λ e. e ≡ out_of_memory) }
-{
-    let mut copies = Vec::with_capacity(alloc, values.len())?;
-    for value in values {
-        copies.push(value.copy(alloc)?)?;
-    }
-    Ok(copies)
-}
-
 // Puts in a copy of a change, over any of its key.
 fn put_over<A: Allocator + Copy>(
     alloc: A,
@@ -74,7 +59,7 @@ fn put_over<A: Allocator + Copy>(
     let key = change.key().copy(alloc)?;
     match change.fields() {
         Some(fields) => {
-            let row = Row::new(key, copy_values(alloc, fields)?);
+            let row = Row::new(key, copy_all(alloc, fields)?);
             merged.put_row(alloc, change.table(), row)
         }
         None => merged.put_absence(alloc, change.table(), key),

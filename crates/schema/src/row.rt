@@ -81,8 +81,8 @@ impl<A: Allocator> Row<A> {
     }
 }
 
-/// Equal values.
-pub(crate) fn copy_all<A: Allocator + Copy>(
+/// Equal values, with memory of their own. Refused only for want of it (53200).
+pub fn copy_all<A: Allocator + Copy>(
     alloc: A,
     values: &[Value<A>],
 ) -> Result<Vec<Value<A>, A>, Refusal>

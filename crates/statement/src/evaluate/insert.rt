@@ -21,7 +21,7 @@ use crate::reply::Reply;
 use crate::values::Values;
 use schema::catalog::{Catalog, Column, TableNo};
 use schema::reader::SnapshotReader;
-use schema::row::Row;
+use schema::row::{Row, copy_all};
 use std::alloc::Allocator;
 use value::refusal::{Code, Place, Refusal};
 use value::value::Value;
@@ -125,21 +125,6 @@ fn inserting_fault<A: Allocator + Copy, R: SnapshotReader<A>>(
     }
 }
 
-// Equal values.
-fn copy_values<A: Allocator + Copy>(
-    alloc: A,
-    values: &[Value<A>],
-) -> Result<Vec<Value<A>, A>, Refusal>
-    ensures ok { IfOk result (λ copy. copy.items ≡ values.now) }
-    ensures memory { IfErr result (λ e. e ≡ out_of_memory) }
-{
-    let mut copy = Vec::with_capacity(alloc, values.len())?;
-    for value in values {
-        copy.push(value.copy(alloc)?)?;
-    }
-    Ok(copy)
-}
-
 // Writes a row that is new.
 fn insert_row<A: Allocator + Copy>(
     alloc: A,
@@ -204,7 +189,7 @@ fn insert_values<A: Allocator + Copy, R: SnapshotReader<A>>(
             Ok(answers(alloc, Reply::Refused(fault)))
         }
         Some(key) => {
-            let row = Row::new(key, copy_values(alloc, fields)?);
+            let row = Row::new(key, copy_all(alloc, fields)?);
             insert_or_refuse(alloc, catalog, reader, table, row, values)
         }
     }
