@@ -10,6 +10,7 @@ pub mod ReadLemmas
 pub mod SettledPageLemmas
 pub mod SettledTablesLemmas
 pub mod SettlingLemmas
+pub mod SharedLemmas
 pub mod ThinningLemmas
 pub mod VersionLemmas
 pub mod ViewLemmas

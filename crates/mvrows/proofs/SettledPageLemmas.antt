@@ -87,7 +87,7 @@ module _ {A : Type 0} where
   -- ---- pages one after another
 
   -- a key that isn't there
-  settle-missing : (needed : Needed) (key : Value A) (rows : VersionedRows A) → found key rows ≡ None → settle_key needed key rows ≡ rows
+  pub settle-missing : (needed : Needed) (key : Value A) (rows : VersionedRows A) → found key rows ≡ None → settle_key needed key rows ≡ rows
   settle-missing needed key [] none = refl
   settle-missing needed key (r ∷ rs) none = by_order (value_cmp key r.key) refl none (settle-missing needed key rs)
     where
@@ -187,7 +187,7 @@ module _ {A : Type 0} where
       go [] small = refl
       go (v ∷ vs) small = not-le commit v.number small.0
 
-  rows-not_from : (commit : ℕ) (key : Value A) (rows : VersionedRows A) (k : KeyVersions A) → RowsAreBelow commit rows → found key rows ≡ Some k → is_from commit k ≡ false
+  pub rows-not_from : (commit : ℕ) (key : Value A) (rows : VersionedRows A) (k : KeyVersions A) → RowsAreBelow commit rows → found key rows ≡ Some k → is_from commit k ≡ false
   rows-not_from commit key [] k below e = cc
   rows-not_from commit key (r ∷ rs) k below e = by_key (same key r.key) e (rows-not_from commit key rs k below.1)
     where

@@ -7,6 +7,7 @@ pub mod Installing
 pub mod Laws
 pub mod Pruning
 pub mod Settling
+pub mod SharedTable
 pub mod Sources
 pub mod Stored
 pub mod TakenBack

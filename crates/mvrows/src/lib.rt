@@ -8,5 +8,6 @@ pub mod laws;
 mod leaf;
 mod page;
 pub mod rows;
+mod shared;
 mod table;
 pub mod view;

@@ -13,6 +13,7 @@ ghost use Rattle.mvrows.specs.Fresh.{AreFresh};
 ghost use Rattle.mvrows.specs.HeldRows.{rows_in, rows_held, undone_in, AreUndoable, own_pruned_in, AreVersioned};
 
 use crate::at::At;
+use crate::shared::SharedTable;
 use crate::table::Table;
 use crate::view::View;
 use schema::catalog::{Catalog, TableNo};
@@ -30,7 +31,7 @@ use value::refusal::Refusal;
 #[derive(Drop)]
 #[derive_where(Debug)]
 pub struct Rows<A: Allocator = Global> {
-    tables: Vec<Table<A>, A>,
+    tables: Vec<SharedTable<A>, A>,
 }
 
 impl<A: Allocator> Model for Rows<A> {
@@ -68,14 +69,16 @@ fn all_in_key_order<A: Allocator>(tables: &Tables<A>)
 fn open_tables<A: Allocator + Copy>(
     alloc: A,
     tables: Vec<Vec<Row<A>, A>, A>,
-) -> Result<Vec<Table<A>, A>, Refusal>
+) -> Result<Vec<SharedTable<A>, A>, Refusal>
     requires { AllByRecursion IsInKeyOrder (map (λ rows. rows.items) tables.items) }
     ensures ok { IfOk result (λ opening. rows_held opening.items ≡ opened (map (λ rows. rows.items) tables.items)) }
     ensures err { IfErr result (λ e. e ≡ out_of_memory) }
 {
     let mut opening = Vec::with_capacity(alloc, tables.len())?;
     for rows in tables {
-        opening.push(Table::open(alloc, rows)?)?;
+        let mut table = SharedTable::of(Table::open(alloc, rows)?);
+        table.share(alloc);
+        opening.push(table)?;
     }
     Ok(opening)
 }
@@ -83,7 +86,7 @@ fn open_tables<A: Allocator + Copy>(
 // Puts in a newer version of a change's key, where its table is there.
 fn put_change<A: Allocator + Copy>(
     alloc: A,
-    tables: &mut Vec<Table<A>, A>,
+    tables: &mut Vec<SharedTable<A>, A>,
     commit: u64,
     change: &Change<A>,
 ) -> Result<(), Refusal>
@@ -107,7 +110,7 @@ fn put_change<A: Allocator + Copy>(
 // Puts in a newer version of each change's key.
 fn put_all<A: Allocator + Copy>(
     alloc: A,
-    tables: &mut Vec<Table<A>, A>,
+    tables: &mut Vec<SharedTable<A>, A>,
     commit: u64,
     changes: &[Change<A>],
 ) -> Result<(), Refusal>
@@ -125,7 +128,7 @@ fn put_all<A: Allocator + Copy>(
 }
 
 // Takes back the versions of a commit that wasn't finished.
-fn take_all_back<A: Allocator>(tables: &mut Vec<Table<A>, A>, commit: u64)
+fn take_all_back<A: Allocator>(tables: &mut Vec<SharedTable<A>, A>, commit: u64)
     ensures { rows_held tables.new.items ≡ map (undone_in commit) tables.old.items }
 {
     for table in tables.iter_mut() {
@@ -135,7 +138,7 @@ fn take_all_back<A: Allocator>(tables: &mut Vec<Table<A>, A>, commit: u64)
 
 // Settles the key of a change, where its table is there.
 fn settle_change<A: Allocator>(
-    tables: &mut Vec<Table<A>, A>,
+    tables: &mut Vec<SharedTable<A>, A>,
     oldest: u64,
     snapshots: &[u64],
     change: &Change<A>,
@@ -153,7 +156,7 @@ fn settle_change<A: Allocator>(
 
 // Settles the key of each change.
 fn settle_all<A: Allocator>(
-    tables: &mut Vec<Table<A>, A>,
+    tables: &mut Vec<SharedTable<A>, A>,
     oldest: u64,
     snapshots: &[u64],
     changes: &[Change<A>],
@@ -169,7 +172,7 @@ fn settle_all<A: Allocator>(
 // Puts a copy of each row that a snapshot shows into as many tables without rows.
 fn copy_all_shown<A: Allocator + Copy>(
     alloc: A,
-    tables: &[Table<A>],
+    tables: &[SharedTable<A>],
     snapshot: u64,
     copies: &mut Tables<A>,
 ) -> Result<(), Refusal>
@@ -179,22 +182,29 @@ fn copy_all_shown<A: Allocator + Copy>(
     ensures memory { IfErr result (λ e. e ≡ out_of_memory) }
 {
     for place in 0..tables.len() {
-        tables[place].copy_shown(alloc, snapshot, copies, TableNo::at(place as u32))?;
+        tables[place]
+            .table()
+            .copy_shown(alloc, snapshot, copies, TableNo::at(place as u32))?;
     }
     Ok(())
 }
 
 // Lets views share all pages, where there is memory for that.
-fn share_all<A: Allocator + Copy>(alloc: A, tables: &mut Vec<Table<A>, A>)
+fn share_all<A: Allocator + Copy>(alloc: A, tables: &mut Vec<SharedTable<A>, A>)
     ensures { rows_held tables.new.items ≡ rows_held tables.old.items }
 {
     for table in tables.iter_mut() {
-        table.share_all(alloc);
+        table.share_pages(alloc);
+        table.share(alloc);
     }
 }
 
 // Lets views share the page that a change's key belongs to, where its table is there.
-fn share_changed<A: Allocator + Copy>(alloc: A, tables: &mut Vec<Table<A>, A>, change: &Change<A>)
+fn share_changed<A: Allocator + Copy>(
+    alloc: A,
+    tables: &mut Vec<SharedTable<A>, A>,
+    change: &Change<A>,
+)
     ensures { rows_held tables.new.items ≡ rows_held tables.old.items }
 {
     let place = change.table().place() as usize;
@@ -202,13 +212,13 @@ fn share_changed<A: Allocator + Copy>(alloc: A, tables: &mut Vec<Table<A>, A>, c
         return;
     }
     let table = &mut tables[place];
-    table.share(alloc, change.key());
+    table.share_page(alloc, change.key());
 }
 
 // Lets views share the pages that changes' keys belong to.
 fn share_all_changed<A: Allocator + Copy>(
     alloc: A,
-    tables: &mut Vec<Table<A>, A>,
+    tables: &mut Vec<SharedTable<A>, A>,
     changes: &[Change<A>],
 )
     ensures { rows_held tables.new.items ≡ rows_held tables.old.items }
@@ -218,10 +228,38 @@ fn share_all_changed<A: Allocator + Copy>(
     }
 }
 
+// Lets views share the table of a change, where it is there.
+fn share_table<A: Allocator + Copy>(
+    alloc: A,
+    tables: &mut Vec<SharedTable<A>, A>,
+    change: &Change<A>,
+)
+    ensures { rows_held tables.new.items ≡ rows_held tables.old.items }
+{
+    let place = change.table().place() as usize;
+    if place < tables.len() {
+        let table = &mut tables[place];
+        table.share(alloc);
+    }
+}
+
+// Lets views share the tables of changes.
+fn share_all_tables<A: Allocator + Copy>(
+    alloc: A,
+    tables: &mut Vec<SharedTable<A>, A>,
+    changes: &[Change<A>],
+)
+    ensures { rows_held tables.new.items ≡ rows_held tables.old.items }
+{
+    for change in changes {
+        share_table(alloc, tables, change);
+    }
+}
+
 // Makes pages its own, where a pruning has something to do.
 fn make_all_prunable<A: Allocator + Copy>(
     alloc: A,
-    tables: &mut Vec<Table<A>, A>,
+    tables: &mut Vec<SharedTable<A>, A>,
     oldest: u64,
 ) -> Result<(), Refusal>
     ensures same { rows_held tables.new.items ≡ rows_held tables.old.items }
@@ -235,7 +273,7 @@ fn make_all_prunable<A: Allocator + Copy>(
 }
 
 // Prunes the pages that each table has for its own.
-fn prune_all<A: Allocator>(tables: &mut Vec<Table<A>, A>, oldest: u64)
+fn prune_all<A: Allocator>(tables: &mut Vec<SharedTable<A>, A>, oldest: u64)
     ensures { rows_held tables.new.items ≡ map (own_pruned_in oldest) tables.old.items }
 {
     for table in tables.iter_mut() {
@@ -290,6 +328,7 @@ impl<A: Allocator> Rows<A> {
             Ok(()) => {
                 settle_all(&mut self.tables, oldest, snapshots, changes);
                 share_all_changed(alloc, &mut self.tables, changes);
+                share_all_tables(alloc, &mut self.tables, changes);
                 Ok(())
             }
             Err(refusal) => {
@@ -333,7 +372,7 @@ impl<A: Allocator> Rows<A> {
         requires { table < length self.now }
         ensures { rows_in result.now ≡ versions_of self.now table }
     {
-        &self.tables[table.place() as usize]
+        self.tables[table.place() as usize].table()
     }
 
     /// The number of a key's last commit, 0 for the opening. Nothing where the key was never there,
@@ -342,7 +381,7 @@ impl<A: Allocator> Rows<A> {
         ensures { result ≡ last_commit self.now table key.now }
     {
         match self.tables.get(table.place() as usize) {
-            Some(table) => newest_in(table, key),
+            Some(table) => newest_in(table.table(), key),
             None => None,
         }
     }

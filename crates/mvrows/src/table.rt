@@ -399,6 +399,15 @@ fn share_around<A: Allocator + Copy>(alloc: A, leaves: &mut Vec<Leaf<A>, A>, key
 }
 
 impl<A: Allocator> Table<A> {
+    /// A table without rows.
+    pub fn new(alloc: A) -> Table<A>
+        ensures { result ≡ [] }
+    {
+        Table {
+            leaves: Vec::new(alloc),
+        }
+    }
+
     /// The opening of a table.
     pub fn open(alloc: A, rows: Vec<Row<A>, A>) -> Result<Table<A>, Refusal>
     where

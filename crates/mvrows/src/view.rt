@@ -7,6 +7,7 @@ ghost use Rattle.schema.specs.Plain.{rows_of};
 ghost use Rattle.mvrows.specs.Versions.{shown, shown_rows};
 ghost use Rattle.mvrows.specs.HeldRows.{rows_in, rows_held};
 
+use crate::shared::SharedTable;
 use crate::table::Table;
 use schema::catalog::TableNo;
 use schema::reader::{Bound, SnapshotReader};
@@ -20,7 +21,7 @@ use value::key::Key;
 #[derive(Drop)]
 #[derive_where(Debug)]
 struct Versions<A: Allocator = Global> {
-    tables: Vec<Table<A>, A>,
+    tables: Vec<SharedTable<A>, A>,
     snapshot: u64,
 }
 
@@ -69,7 +70,7 @@ impl<A: Allocator> Versions<A> {
         requires { HasTable (shown self.now.snapshot (rows_held self.now.tables.items)) table }
         ensures { shown_rows self.now.snapshot (rows_in result.now) ≡ rows_of (shown self.now.snapshot (rows_held self.now.tables.items)) table }
     {
-        &self.tables[table.place() as usize]
+        self.tables[table.place() as usize].table()
     }
 }
 
@@ -84,7 +85,7 @@ impl<A: Allocator> View<A> {
     }
 
     /// The view of what a snapshot shows of these tables.
-    pub(crate) fn at(tables: Vec<Table<A>, A>, snapshot: u64) -> View<A>
+    pub(crate) fn at(tables: Vec<SharedTable<A>, A>, snapshot: u64) -> View<A>
         ensures { result ≡ shown snapshot (rows_held tables.items) }
     {
         View {

@@ -4,7 +4,7 @@ use Rattle.std.specs.declared.vec.Vec.{Vec}
 use Rattle.std.proofs.lemmas.List.{nil_from_length}
 use Rattle.schema.specs.Rows.{IsInKeyOrder}
 use Rattle.mvrows.specs.Installing.{opened}
-use Rattle.mvrows.specs.HeldRows.{rows_held}
+use Rattle.mvrows.specs.HeldRows.{rows_in, rows_held}
 use Rattle.mvrows.proofs.HeldLemmas.{open_tables-step}
 use Rattle.mvrows.proofs.rows.open_tables.Goals as goal
 
@@ -13,7 +13,7 @@ open-requires g c = (subst (λ rs. AllByRecursion IsInKeyOrder (map (λ (rows : 
 
 pub loop-rows-preserved : goal.loop-rows-preserved
 loop-rows-preserved g c = record {
-  done = open_tables-step (λ (rows : Vec _ _). rows.items) c.loop-rows.opening.items c.push.new.self.items c.in_ok-open.field-0 c.in-Some.rows c.loop-rows.rows-iterator.rest.items c.next.new.self.rest.items (opened (map (λ (rows : Vec _ _). rows.items) c.args.tables.items)) c.in_ok-push.ensures.items c.in_ok-open.ensures.ok c.in-Some.ensures.steps.0 c.loop-rows.invariant.done;
+  done = open_tables-step (λ (rows : Vec _ _). rows.items) c.loop-rows.opening.items c.push.new.self.items c.share.new.self c.in-Some.rows c.loop-rows.rows-iterator.rest.items c.next.new.self.rest.items (opened (map (λ (rows : Vec _ _). rows.items) c.args.tables.items)) c.in_ok-push.ensures.items (c.share.ensures ∙ ap rows_in c.of-table.ensures ∙ c.in_ok-open.ensures.ok) c.in-Some.ensures.steps.0 c.loop-rows.invariant.done;
   sorted = (subst (λ rs. AllByRecursion IsInKeyOrder (map (λ (rows : Vec _ _). rows.items) rs)) c.in-Some.ensures.steps.0 c.loop-rows.invariant.sorted).1;
 }
 

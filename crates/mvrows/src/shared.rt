@@ -1,0 +1,231 @@
+//! A table that views may share whole, with all its pages.
+
+ghost use Rattle.std.specs.Prelude.{ℕ, ◌≡◌, OnOk, OnErr, IfOk, IfErr};
+ghost use Rattle.value.specs.Refusals.{out_of_memory};
+ghost use Rattle.value.specs.declared.value.Value.{Value};
+ghost use Rattle.mvrows.specs.Installing.{put_version};
+ghost use Rattle.mvrows.specs.Pruning.{pruned_rows};
+ghost use Rattle.mvrows.specs.Fresh.{IsFresh, IsFreshIn};
+ghost use Rattle.mvrows.specs.Settling.{settle_key};
+ghost use Rattle.mvrows.specs.HeldRows.{rows_in, undone_in, AreUndoable, own_pruned_in, AllVersioned};
+ghost use Rattle.mvrows.specs.SharedTable.{held_table};
+
+use crate::table::Table;
+use schema::changes::Change;
+use std::alloc::{Allocator, Global};
+use std::marker::Model;
+use std::mem;
+use std::sync::Arc;
+use value::key::Key;
+use value::refusal::Refusal;
+
+// Who has a table: nobody else, or views too.
+#[derive(Drop)]
+#[derive_where(Debug)]
+enum Owner<A: Allocator = Global> {
+    Own(Table<A>),
+    Shared(Arc<Table<A>, A>),
+}
+
+/// A table with the versions of its keys. A view takes a share of it, whatever its size. It changes a table of its own: one
+/// whose pages are shared, where a view has the other.
+#[derive(Drop)]
+#[derive_where(Debug)]
+pub(crate) struct SharedTable<A: Allocator = Global> {
+    owner: Owner<A>,
+}
+
+impl<A: Allocator> Model for SharedTable<A> {
+    ghost use Rattle.std.specs.Prelude.{List};
+    ghost use Rattle.mvrows.specs.HeldRows.{Held};
+    ghost use Rattle.mvrows.specs.SharedTable.{held_table};
+
+    ghost Value = { List (Held A) };
+
+    ghost view = { λ t. held_table t.owner };
+}
+
+// The table that nobody else has, out of its owner; another of the same pages where views share it.
+fn owned<A: Allocator + Copy>(alloc: A, owner: Owner<A>) -> Result<Table<A>, (Owner<A>, Refusal)>
+    ensures rows { IfOk result (λ table. rows_in table ≡ rows_in (held_table owner)) }
+    ensures undo { (commit : ℕ) → IfOk result (λ table. AllVersioned (rows_in (held_table owner)) → AreUndoable commit (held_table owner) → undone_in commit table ≡ undone_in commit (held_table owner)) }
+    ensures undoable { (commit : ℕ) → IfOk result (λ table. AreUndoable commit (held_table owner) → AreUndoable commit table) }
+    ensures err { IfErr result (λ e. e.0 ≡ owner) }
+    ensures memory { IfErr result (λ e. e.1 ≡ out_of_memory) }
+{
+    match owner {
+        Owner::Own(table) => Ok(table),
+        Owner::Shared(shared) => match Arc::try_unwrap(shared) {
+            Ok(table) => Ok(table),
+            Err(shared) => match shared.lend(alloc) {
+                Ok(table) => Ok(table),
+                Err(refusal) => Err((Owner::Shared(shared), refusal)),
+            },
+        },
+    }
+}
+
+// The table of an owner, shared where there is memory for that.
+fn shared<A: Allocator + Copy>(alloc: A, owner: Owner<A>) -> Owner<A>
+    ensures { rows_in (held_table result) ≡ rows_in (held_table owner) }
+{
+    match owner {
+        Owner::Own(table) => match Arc::new(alloc, table) {
+            Ok(shared) => Owner::Shared(shared),
+            Err(failed) => Owner::Own(failed.value),
+        },
+        Owner::Shared(shared) => Owner::Shared(shared),
+    }
+}
+
+impl<A: Allocator> SharedTable<A> {
+    /// A table that nobody else has.
+    pub fn of(table: Table<A>) -> SharedTable<A>
+        ensures { result ≡ table }
+    {
+        SharedTable {
+            owner: Owner::Own(table),
+        }
+    }
+
+    /// The table itself, to read it.
+    pub fn table(&self) -> &Table<A>
+        ensures { rows_in result.now ≡ rows_in self.now }
+    {
+        match &self.owner {
+            Owner::Own(table) => table,
+            Owner::Shared(shared) => shared,
+        }
+    }
+
+    // Moves the table out, to be changed and put back: a table of its own.
+    fn take(&mut self, alloc: A) -> Result<Table<A>, Refusal>
+    where
+        A: Copy,
+        ensures rows { IfOk result (λ table. rows_in table ≡ rows_in self.old) }
+        ensures undo { (commit : ℕ) → IfOk result (λ table. AllVersioned (rows_in self.old) → AreUndoable commit self.old → undone_in commit table ≡ undone_in commit self.old) }
+        ensures undoable { (commit : ℕ) → IfOk result (λ table. AreUndoable commit self.old → AreUndoable commit table) }
+        ensures err { OnErr result (self.new ≡ self.old) }
+        ensures memory { IfErr result (λ e. e ≡ out_of_memory) }
+    {
+        let owner = mem::replace(&mut self.owner, Owner::Own(Table::new(alloc)));
+        match owned(alloc, owner) {
+            Ok(table) => Ok(table),
+            Err((owner, refusal)) => {
+                self.owner = owner;
+                Err(refusal)
+            }
+        }
+    }
+
+    /// Puts in a newer version of a change's key.
+    pub fn put(&mut self, alloc: A, commit: u64, change: &Change<A>) -> Result<(), Refusal>
+    where
+        A: Copy,
+        ensures ok { OnOk result (rows_in self.new ≡ put_version change.now.key (record { number = commit; fields = change.now.fields }) (rows_in self.old)) }
+        ensures err { OnErr result (rows_in self.new ≡ rows_in self.old) }
+        ensures undo { AllVersioned (rows_in self.old) → AreUndoable commit self.old → undone_in commit self.new ≡ undone_in commit self.old }
+        ensures undoable { AreUndoable commit self.old → AreUndoable commit self.new }
+        ensures memory { IfErr result (λ e. e ≡ out_of_memory) }
+    {
+        let mut table = self.take(alloc)?;
+        let put = table.put(alloc, commit, change);
+        self.owner = Owner::Own(table);
+        put
+    }
+
+    /// Takes back the versions of a commit that wasn't finished.
+    pub fn take_back(&mut self, commit: u64)
+        ensures { rows_in self.new ≡ undone_in commit self.old }
+    {
+        match &mut self.owner {
+            Owner::Own(table) => table.take_back(commit),
+            Owner::Shared(_) => {}
+        }
+    }
+
+    /// Makes the table and its pages its own, where a pruning has something to do.
+    pub fn make_prunable(&mut self, alloc: A, oldest: u64) -> Result<(), Refusal>
+    where
+        A: Copy,
+        ensures same { rows_in self.new ≡ rows_in self.old }
+        ensures ok { OnOk result (own_pruned_in oldest self.new ≡ pruned_rows oldest (rows_in self.old)) }
+        ensures memory { IfErr result (λ e. e ≡ out_of_memory) }
+    {
+        let mut table = self.take(alloc)?;
+        let made = table.make_prunable(alloc, oldest);
+        self.owner = Owner::Own(table);
+        made
+    }
+
+    /// Prunes its own.
+    pub fn prune(&mut self, oldest: u64)
+        ensures { rows_in self.new ≡ own_pruned_in oldest self.old }
+    {
+        match &mut self.owner {
+            Owner::Own(table) => table.prune(oldest),
+            Owner::Shared(_) => {}
+        }
+    }
+
+    /// Prunes a key that the table has just put in.
+    pub fn settle(&mut self, oldest: u64, snapshots: &[u64], key: &Key<A>)
+        requires { IsFreshIn key.now self.old }
+        ensures rows { rows_in self.new ≡ settle_key (record { oldest = oldest; snapshots = snapshots.now }) key.now (rows_in self.old) }
+        ensures undoable { (commit : ℕ) → AreUndoable commit self.old → AreUndoable commit self.new }
+        ensures fresh { (commit : ℕ) (k : Value A) → IsFresh commit k (rows_in self.old) → IsFresh commit k (rows_in self.new) }
+    {
+        match &mut self.owner {
+            Owner::Own(table) => table.settle(oldest, snapshots, key),
+            Owner::Shared(_) => {}
+        }
+    }
+
+    /// Lets views share the page that a key belongs to, and those of its own around it, where there is memory for that.
+    pub fn share_page(&mut self, alloc: A, key: &Key<A>)
+    where
+        A: Copy,
+        ensures { rows_in self.new ≡ rows_in self.old }
+    {
+        match &mut self.owner {
+            Owner::Own(table) => table.share(alloc, key),
+            Owner::Shared(_) => {}
+        }
+    }
+
+    /// Lets views share all pages, where there is memory for that.
+    pub fn share_pages(&mut self, alloc: A)
+    where
+        A: Copy,
+        ensures { rows_in self.new ≡ rows_in self.old }
+    {
+        match &mut self.owner {
+            Owner::Own(table) => table.share_all(alloc),
+            Owner::Shared(_) => {}
+        }
+    }
+
+    /// Lets views share the table, where there is memory for that.
+    pub fn share(&mut self, alloc: A)
+    where
+        A: Copy,
+        ensures { rows_in self.new ≡ rows_in self.old }
+    {
+        let owner = mem::replace(&mut self.owner, Owner::Own(Table::new(alloc)));
+        self.owner = shared(alloc, owner);
+    }
+
+    /// A share of the table; another of the same pages where it could not be shared before.
+    pub fn lend(&self, alloc: A) -> Result<SharedTable<A>, Refusal>
+    where
+        A: Copy,
+        ensures ok { IfOk result (λ table. rows_in table ≡ rows_in self.now) }
+        ensures err { IfErr result (λ e. e ≡ out_of_memory) }
+    {
+        let owner = match &self.owner {
+            Owner::Own(table) => Owner::Own(table.lend(alloc)?),
+            Owner::Shared(shared) => Owner::Shared(Arc::try_clone(shared)?),
+        };
+        Ok(SharedTable { owner })
+    }
+}
