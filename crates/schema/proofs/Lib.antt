@@ -5,6 +5,8 @@ mod KeyedLemmas
 mod LevelsLemmas
 mod MadeLemmas
 mod NamedLemmas
+mod PageLemmas
+mod PagedLemmas
 pub mod RowsInOrder
 pub mod PlainLemmas
 pub mod SoundLemmas

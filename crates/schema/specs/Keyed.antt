@@ -1,20 +1,14 @@
--- How the code keeps rows: each beside the value of its key.
-use Rattle.std.specs.Prelude.{List, map}
+-- A bound, as the start of a range of keys in a map.
 use Rattle.std.specs.Borrow.{Bor}
 use Rattle.std.specs.Range.Bound.{bound_map}
 use Rattle.std.specs.declared.ops.Bound.{Bound as RangeBound}
 use Rattle.std.specs.declared.ops.Bound.TheVariants as range
 use Rattle.value.specs.declared.key.Key.{Key}
 use Rattle.value.specs.declared.value.Value.{Value}
-use Rattle.schema.specs.declared.row.Row.{Row}
 use Rattle.schema.specs.declared.reader.Bound.{Bound}
 use Rattle.schema.specs.declared.reader.Bound.TheVariants.{Start, From, After}
 
 module _ {A : Type 0} where
-  -- rows beside their keys
-  abbrev pub keyed : List (Row A) → List (Value A × Row A)
-  keyed rows = map (λ row. (row.0, row)) rows
-
   -- a bound as the start of a range of keys
   abbrev pub start_of : Bound (Bor (Key A)) → RangeBound (Value A)
   start_of Start = range.Unbounded

@@ -9,6 +9,7 @@ pub mod Left
 pub mod Levels
 pub mod Named
 pub mod Names
+pub mod Paged
 pub mod Plain
 pub mod Rows
 pub mod WellFormed

@@ -25,14 +25,14 @@ pub enum Bound<K> {
 }
 
 impl<'k, A: Allocator> Bound<&'k Key<A>> {
-    /// The same, as the start of a range of values.
-    pub fn start(self) -> ops::Bound<&'k Value<A>>
-        ensures { shown_bound result ≡ start_of self.entry }
+    /// The same, of the value of its key.
+    pub(crate) fn of_values(self) -> Bound<&'k Value<A>>
+        ensures { (rows : Rows A) → next_row rows result ≡ next_row rows self.entry }
     {
         match self {
-            Bound::Start => ops::Bound::Unbounded,
-            Bound::From(key) => ops::Bound::Included(key.value()),
-            Bound::After(key) => ops::Bound::Excluded(key.value()),
+            Bound::Start => Bound::Start,
+            Bound::From(key) => Bound::From(key.value()),
+            Bound::After(key) => Bound::After(key.value()),
         }
     }
 

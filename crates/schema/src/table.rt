@@ -1,43 +1,259 @@
-//! The rows of one table by key.
+//! The rows of one table by key, page by page.
 
-ghost use Rattle.std.specs.Prelude.{◌≡◌, [], None, length, is_some, OnOk, OnErr, IfOk, IfErr};
+ghost use Rattle.std.specs.Prelude.{◌≡◌, ◌≤◌, ◌<◌, ◌+◌, ◌++◌, ◌∷◌, [], None, true, false, length, take, drop, map, is_some, slice_get, slice_index_or, OnOk, OnErr, IfOk, IfErr, IsTrue};
 ghost use Rattle.std.specs.FinMap.{find};
-ghost use Rattle.value.specs.Order.{value_cmp};
+ghost use Rattle.std.specs.List.{AllByRecursion};
 ghost use Rattle.std.specs.Option.{option_copied};
+ghost use Rattle.std.specs.Ordering.{is_le};
+ghost use Rattle.std.specs.declared.cmp.Ordering.TheVariants.{Less};
+ghost use Rattle.value.specs.Order.{value_cmp};
 ghost use Rattle.value.specs.Refusals.{out_of_memory};
+ghost use Rattle.schema.specs.Paged.{joined, has_rows, AreLaidOut, is_before};
 ghost use Rattle.schema.specs.Plain.{changed};
-ghost use Rattle.schema.specs.Rows.{IsInKeyOrder, row_of, next_row, put_row, rows_left, rows_after};
+ghost use Rattle.schema.specs.declared.row.Row.{Row};
+ghost use Rattle.schema.specs.Rows.{IsInKeyOrder, row_of, next_row, put_row};
+
+mod page;
 
 use crate::reader::Bound;
 use crate::row::{Row, copy_all};
-use std::alloc::{Allocator, Global};
-use std::collections::BTreeMap;
+pub(crate) use page::Page;
+use page::{full_room, is_of};
+use std::alloc::{AllocError, Allocator, Global};
 use std::marker::Model;
-use std::ops;
 use value::key::Key;
 use value::refusal::Refusal;
 use value::value::Value;
 
-/// The rows of one table by key.
+/// The rows of one table by key. They stand in pages, so that a row that is put in moves few others, and one behind all
+/// others none.
 #[derive(Drop)]
 #[derive_where(Debug)]
 pub struct Table<A: Allocator = Global> {
-    pub(crate) rows: BTreeMap<Value<A>, Row<A>, A>,
+    pages: Vec<Page<A>, A>,
+    /// How many rows all pages have.
+    count: usize,
 }
 
 impl<A: Allocator> Model for Table<A> {
-    ghost use Rattle.std.specs.Prelude.{◌≡◌, List};
-    ghost use Rattle.std.specs.Map.{values_of};
+    ghost use Rattle.std.specs.Prelude.{◌≡◌, List, length};
     ghost use Rattle.schema.specs.declared.row.Row.{Row};
+    ghost use Rattle.schema.specs.Paged.{joined, AreLaidOut};
 
     ghost Value = { List (Row A) };
 
-    ghost use Rattle.schema.specs.Keyed.{keyed};
+    ghost view = { λ t. joined t.pages.items };
 
-    ghost view = { λ t. values_of t.rows.entries };
+    ghost invariant = { λ t. AreLaidOut t.pages.items × (t.count ≡ length (joined t.pages.items)) };
+}
 
-    // Each row stands beside its own key.
-    ghost invariant = { λ t. t.rows.entries ≡ keyed (values_of t.rows.entries) };
+// The place of the first page with a row within a bound.
+fn start<A: Allocator>(pages: &[Page<A>], bound: Bound<&Value<A>>) -> usize
+    requires { AreLaidOut pages.now }
+    ensures within_length { result ≤ length pages.now }
+    ensures before { AllByRecursion (λ page. is_before bound.entry page ≡ true) (take result pages.now) }
+    ensures within { AllByRecursion (λ page. is_before bound.entry page ≡ false) (drop result pages.now) }
+{
+    pages.partition_point(
+        |page: &Page<A>| -> bool
+            ensures { result ≡ is_before bound.entry page.now }
+        { page.is_before(bound) },
+    )
+}
+
+// What stands at a place.
+fn at<A: Allocator>(pages: &[Page<A>], place: usize) -> Option<&Page<A>>
+    ensures { option_copied result ≡ slice_get pages.now place }
+{
+    pages.get(place)
+}
+
+// The place of the page that a key belongs to.
+fn place_of<A: Allocator>(pages: &[Page<A>], key: &Value<A>) -> usize
+    requires laid_out { AreLaidOut pages.now }
+    requires some { 0 < length pages.now }
+    ensures range { result < length pages.now }
+    ensures before { AllByRecursion (λ row. is_le (value_cmp key.now row.0) ≡ false) (joined (take result pages.now)) }
+    ensures after { AllByRecursion (λ l. value_cmp key.now l ≡ Less) (map (λ row. row.0) (joined (drop (result + 1) pages.now))) }
+{
+    let from = start(pages, Bound::From(key));
+    if from < pages.len() {
+        from
+    } else {
+        pages.len() - 1
+    }
+}
+
+// Whether a key comes behind all rows.
+fn is_behind<A: Allocator>(pages: &[Page<A>], key: &Value<A>) -> bool
+    requires { AreLaidOut pages.now }
+    ensures behind { IsTrue result → AllByRecursion (λ row. is_le (value_cmp key.now row.0) ≡ false) (joined pages.now) }
+    ensures some { result ≡ false → 0 < length pages.now }
+{
+    match pages.last() {
+        Some(page) => page.is_before(Bound::From(key)),
+        None => true,
+    }
+}
+
+// Whether the last page has no room for a further row.
+fn is_full<A: Allocator>(pages: &[Page<A>]) -> bool
+    ensures { result ≡ false → 0 < length pages.now }
+{
+    match pages.last() {
+        Some(page) => page.is_full(),
+        None => true,
+    }
+}
+
+// Puts a row behind all others, into a page of its own.
+fn push_page<A: Allocator>(
+    alloc: A,
+    pages: &mut Vec<Page<A>, A>,
+    row: Row<A>,
+) -> Result<(), Refusal>
+    requires laid_out { AreLaidOut pages.old.items }
+    requires behind { AllByRecursion (λ r. is_le (value_cmp row.0 r.0) ≡ false) (joined pages.old.items) }
+    ensures ok { OnOk result (joined pages.new.items ≡ put_row (joined pages.old.items) row) }
+    ensures err { OnErr result (joined pages.new.items ≡ joined pages.old.items) }
+    ensures laid_out { AreLaidOut pages.new.items }
+    ensures memory { IfErr result (λ e. e ≡ out_of_memory) }
+{
+    let room = if pages.is_empty() { 1 } else { full_room() };
+    let page = Page::of(alloc, row, room)?;
+    pages.push(page)?;
+    Ok(())
+}
+
+// Puts a row behind all others, into the last page.
+fn push_last<A: Allocator>(pages: &mut Vec<Page<A>, A>, row: Row<A>) -> Result<(), Refusal>
+    requires some { 0 < length pages.old.items }
+    requires laid_out { AreLaidOut pages.old.items }
+    requires behind { AllByRecursion (λ r. is_le (value_cmp row.0 r.0) ≡ false) (joined pages.old.items) }
+    ensures ok { OnOk result (joined pages.new.items ≡ put_row (joined pages.old.items) row) }
+    ensures err { OnErr result (joined pages.new.items ≡ joined pages.old.items) }
+    ensures laid_out { AreLaidOut pages.new.items }
+    ensures memory { IfErr result (λ e. e ≡ out_of_memory) }
+{
+    let place = pages.len() - 1;
+    let page = &mut pages[place];
+    page.push(row)
+}
+
+// Puts a row behind all others.
+fn push<A: Allocator>(alloc: A, pages: &mut Vec<Page<A>, A>, row: Row<A>) -> Result<(), Refusal>
+    requires laid_out { AreLaidOut pages.old.items }
+    requires behind { AllByRecursion (λ r. is_le (value_cmp row.0 r.0) ≡ false) (joined pages.old.items) }
+    ensures ok { OnOk result (joined pages.new.items ≡ put_row (joined pages.old.items) row) }
+    ensures err { OnErr result (joined pages.new.items ≡ joined pages.old.items) }
+    ensures laid_out { AreLaidOut pages.new.items }
+    ensures memory { IfErr result (λ e. e ≡ out_of_memory) }
+{
+    if is_full(pages.as_slice()) {
+        push_page(alloc, pages, row)
+    } else {
+        push_last(pages, row)
+    }
+}
+
+// Cuts a page in two.
+fn cut<A: Allocator + Copy>(pages: &mut Vec<Page<A>, A>, place: usize) -> Result<(), Refusal>
+    requires range { place < length pages.old.items }
+    requires two { 2 ≤ length (slice_index_or pages.old.items place []) }
+    requires laid_out { AreLaidOut pages.old.items }
+    ensures rows { joined pages.new.items ≡ joined pages.old.items }
+    ensures laid_out { AreLaidOut pages.new.items }
+    ensures some { 0 < length pages.new.items }
+    ensures memory { IfErr result (λ e. e ≡ out_of_memory) }
+{
+    pages.reserve(1)?;
+    let page = &mut pages[place];
+    let upper = page.cut()?;
+    pages.insert(place + 1, upper)?;
+    Ok(())
+}
+
+// Whether the page at a place has no room for a further row.
+fn is_full_at<A: Allocator>(pages: &[Page<A>], place: usize) -> bool
+    requires { place < length pages.now }
+    ensures { IsTrue result → 2 ≤ length (slice_index_or pages.now place []) }
+{
+    let page = &pages[place];
+    page.is_full()
+}
+
+// Cuts the page that a key belongs to, where it has no room for a further row.
+fn make_room<A: Allocator + Copy>(
+    pages: &mut Vec<Page<A>, A>,
+    key: &Value<A>,
+) -> Result<(), Refusal>
+    requires laid_out { AreLaidOut pages.old.items }
+    requires some { 0 < length pages.old.items }
+    ensures rows { joined pages.new.items ≡ joined pages.old.items }
+    ensures laid_out { AreLaidOut pages.new.items }
+    ensures some { 0 < length pages.new.items }
+    ensures memory { IfErr result (λ e. e ≡ out_of_memory) }
+{
+    let lent = pages.as_slice();
+    let place = place_of(lent, key);
+    if is_full_at(lent, place) {
+        cut(pages, place)
+    } else {
+        Ok(())
+    }
+}
+
+// Puts a row into the page that its key belongs to, over any of its key.
+fn put_at<A: Allocator>(pages: &mut Vec<Page<A>, A>, row: Row<A>) -> Result<(), Refusal>
+    requires laid_out { AreLaidOut pages.old.items }
+    requires some { 0 < length pages.old.items }
+    ensures ok { OnOk result (joined pages.new.items ≡ put_row (joined pages.old.items) row) }
+    ensures err { OnErr result (joined pages.new.items ≡ joined pages.old.items) }
+    ensures laid_out { AreLaidOut pages.new.items }
+    ensures memory { IfErr result (λ e. e ≡ out_of_memory) }
+{
+    let place = place_of(pages.as_slice(), row.key().value());
+    let page = &mut pages[place];
+    page.put(row)
+}
+
+// Puts a row into pages that have rows, over any of its key.
+fn put_within<A: Allocator + Copy>(pages: &mut Vec<Page<A>, A>, row: Row<A>) -> Result<(), Refusal>
+    requires laid_out { AreLaidOut pages.old.items }
+    requires some { 0 < length pages.old.items }
+    ensures ok { OnOk result (joined pages.new.items ≡ put_row (joined pages.old.items) row) }
+    ensures err { OnErr result (joined pages.new.items ≡ joined pages.old.items) }
+    ensures laid_out { AreLaidOut pages.new.items }
+    ensures memory { IfErr result (λ e. e ≡ out_of_memory) }
+{
+    make_room(pages, row.key().value())?;
+    put_at(pages, row)
+}
+
+// A row more. A number past those of 64 bits is told as want of memory: no table has so many rows.
+fn one_more(count: usize) -> Result<usize, Refusal>
+    ensures ok { IfOk result (λ n. n ≡ count + 1) }
+    ensures memory { IfErr result (λ e. e ≡ out_of_memory) }
+{
+    match count.checked_add(1) {
+        Some(more) => Ok(more),
+        None => Err(Refusal::from(AllocError)),
+    }
+}
+
+// Takes the row of a key away from the page that it belongs to, if there is one, and the page that has no other.
+fn remove<A: Allocator>(pages: &mut Vec<Page<A>, A>, key: &Value<A>)
+    requires laid_out { AreLaidOut pages.old.items }
+    requires some { 0 < length pages.old.items }
+    ensures rows { joined pages.new.items ≡ changed key.now None (joined pages.old.items) }
+    ensures laid_out { AreLaidOut pages.new.items }
+{
+    let place = place_of(pages.as_slice(), key);
+    let page = &mut pages[place];
+    page.remove(key);
+    if !page.has_rows() {
+        let _ = pages.remove(place);
+    }
 }
 
 impl<A: Allocator> Table<A> {
@@ -45,7 +261,8 @@ impl<A: Allocator> Table<A> {
         ensures { result ≡ [] }
     {
         Table {
-            rows: BTreeMap::new(alloc),
+            pages: Vec::new(alloc),
+            count: 0,
         }
     }
 
@@ -53,21 +270,51 @@ impl<A: Allocator> Table<A> {
     pub fn len(&self) -> usize
         ensures { result ≡ length self.now }
     {
-        self.rows.len()
+        self.count
+    }
+
+    /// Its pages.
+    pub(crate) fn pages(&self) -> &[Page<A>]
+        ensures rows { joined result.now ≡ self.now }
+        ensures ordered { IsInKeyOrder self.now }
+    {
+        self.pages.as_slice()
+    }
+
+    // The row of the least key within a bound.
+    fn first_within(&self, bound: Bound<&Value<A>>) -> Option<&Row<A>>
+        ensures row { option_copied result ≡ next_row self.now bound.entry }
+        ensures ordered { IsInKeyOrder self.now }
+    {
+        let pages = self.pages.as_slice();
+        match at(pages, start(pages, bound)) {
+            Some(page) => page.next_row(bound),
+            None => None,
+        }
+    }
+
+    // The row of a key.
+    fn find(&self, key: &Value<A>) -> Option<&Row<A>>
+        ensures { option_copied result ≡ row_of self.now key.now }
+    {
+        match self.first_within(Bound::From(key)) {
+            Some(row) => { if is_of(row, key) { Some(row) } else { None } }
+            None => None,
+        }
     }
 
     /// The row of a key.
     pub fn get(&self, key: &Key<A>) -> Option<&Row<A>>
         ensures { option_copied result ≡ row_of self.now key.now }
     {
-        self.rows.get(key.value())
+        self.find(key.value())
     }
 
     /// Whether it has a row of this key. A null is no key.
     pub fn has(&self, key: &Value<A>) -> bool
         ensures { result ≡ is_some (find value_cmp key.now self.now) }
     {
-        self.rows.contains_key(key)
+        self.find(key).is_some()
     }
 
     /// The row of the least key within a bound.
@@ -75,27 +322,19 @@ impl<A: Allocator> Table<A> {
         ensures row { option_copied result ≡ next_row self.now after.entry }
         ensures ordered { IsInKeyOrder self.now }
     {
-        let range = (after.start(), ops::Bound::Unbounded);
-        match self.rows.range(range).next() {
-            Some((_, row)) => Some(row),
-            None => None,
+        self.first_within(after.of_values())
+    }
+
+    // How many rows there are once a row of a key is put in.
+    fn count_with(&self, key: &Value<A>) -> Result<usize, Refusal>
+        ensures ok { IfOk result (λ n. (row : Row A) → row.0 ≡ key.now → n ≡ length (put_row self.now row)) }
+        ensures memory { IfErr result (λ e. e ≡ out_of_memory) }
+    {
+        if self.find(key).is_some() {
+            Ok(self.count)
+        } else {
+            one_more(self.count)
         }
-    }
-
-    // The first row.
-    fn first<'t>(&'t self) -> Option<&'t Row<A>>
-        ensures { rows_left self.now result ≡ self.now }
-    {
-        let start: Bound<&'t Key<A>> = Bound::Start;
-        self.next_row(start)
-    }
-
-    // The row after one.
-    fn after(&self, row: &Row<A>) -> Option<&Row<A>>
-        ensures left { rows_left self.now result ≡ rows_after self.now row.now.0 }
-        ensures ordered { IsInKeyOrder self.now }
-    {
-        self.next_row(Bound::After(row.key()))
     }
 
     /// Puts in a row, over any of its key.
@@ -106,8 +345,15 @@ impl<A: Allocator> Table<A> {
         ensures err { OnErr result (self.new ≡ self.old) }
         ensures memory { IfErr result (λ e. e ≡ out_of_memory) }
     {
-        let key = row.key().value().copy(alloc)?;
-        self.rows.insert(key, row)?;
+        if is_behind(self.pages.as_slice(), row.key().value()) {
+            let count = one_more(self.count)?;
+            push(alloc, &mut self.pages, row)?;
+            self.count = count;
+        } else {
+            let count = self.count_with(row.key().value())?;
+            put_within(&mut self.pages, row)?;
+            self.count = count;
+        }
         Ok(())
     }
 
@@ -115,9 +361,10 @@ impl<A: Allocator> Table<A> {
     pub fn remove(&mut self, key: &Key<A>)
         ensures { self.new ≡ changed key.now None self.old }
     {
-        // The count tells that the keys rise.
-        let _count = self.rows.len();
-        let _ = self.rows.remove(key.value());
+        if self.has(key.value()) {
+            remove(&mut self.pages, key.value());
+            self.count -= 1;
+        }
     }
 
     /// Puts in fields beside a key, over any row of it, or takes its row away where there are none.
@@ -150,10 +397,9 @@ impl<A: Allocator> Table<A> {
         ensures ok { IfOk result (λ rows. rows.items ≡ self) }
         ensures err { IfErr result (λ e. e ≡ out_of_memory) }
     {
-        let Table { rows } = self;
-        let mut moved = Vec::with_capacity(alloc, rows.len())?;
-        for (_, row) in rows {
-            moved.push(row)?;
+        let mut moved = Vec::with_capacity(alloc, self.count)?;
+        for page in self.pages {
+            page.move_into(&mut moved)?;
         }
         Ok(moved)
     }
@@ -165,12 +411,13 @@ impl<A: Allocator> Table<A> {
         ensures ok { IfOk result (λ t. t ≡ self.now) }
         ensures err { IfErr result (λ e. e ≡ out_of_memory) }
     {
-        let mut copy = Table::new(alloc);
-        let mut next = self.first();
-        while let Some(row) = next {
-            copy.put(alloc, row.copy(alloc)?)?;
-            next = self.after(row);
+        let mut pages = Vec::with_capacity(alloc, self.pages.len())?;
+        for page in &self.pages {
+            pages.push(page.copy(alloc)?)?;
         }
-        Ok(copy)
+        Ok(Table {
+            pages,
+            count: self.count,
+        })
     }
 }

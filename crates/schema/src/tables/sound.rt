@@ -9,7 +9,7 @@ use super::Tables;
 use super::insert::{bytes_are_bytes, is_null, text_is_utf8};
 use crate::catalog::{Catalog, Column, TableNo, TableSchema};
 use crate::row::Row;
-use crate::table::Table;
+use crate::table::{Page, Table};
 use std::alloc::Allocator;
 use value::kind::Kind;
 use value::value::Value;
@@ -75,12 +75,26 @@ impl<A: Allocator> Tables<A> {
             }
     }
 
+    // Whether each row of a page may stand in its table.
+    fn fits_page(&self, columns: &[Column<A>], page: &Page<A>) -> bool
+        ensures { result ≡ list_all (λ row. not (is_null row.0) && fits_columns self.now columns.now (cells row)) page.now }
+    {
+        page.rows().iter().all(|row| self.fits_row(columns, row))
+    }
+
+    // Whether each row of some pages may stand in their table.
+    fn fits_pages(&self, columns: &[Column<A>], pages: &[Page<A>]) -> bool
+        ensures { result ≡ list_all (λ page. list_all (λ row. not (is_null row.0) && fits_columns self.now columns.now (cells row)) page) pages.now }
+    {
+        pages.iter().all(|page| self.fits_page(columns, page))
+    }
+
     // Whether each row of a table may stand in it.
     fn fits_rows(&self, columns: &[Column<A>], table: &Table<A>) -> bool
         ensures rows { result ≡ list_all (λ row. not (is_null row.0) && fits_columns self.now columns.now (cells row)) table.now }
         ensures ordered { IsInKeyOrder table.now }
     {
-        table.rows.values().all(|row| self.fits_row(columns, row))
+        self.fits_pages(columns, table.pages())
     }
 
     // Whether a table is sound.

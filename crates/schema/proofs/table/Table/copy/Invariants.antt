@@ -1,10 +1,6 @@
-use Rattle.std.proofs.Common.{◌≡◌, ◌++◌, length}
-use Rattle.schema.specs.Rows.{rows_left}
+use Rattle.std.proofs.Common.{◌≡◌, take}
 use Rattle.schema.proofs.table.Table.copy.Given as goal
 
--- the rows copied so far, and those left
-abbrev pub invariant-loop-next : goal.invariant-loop-next
-invariant-loop-next g l = l.copy ++ rows_left l.self l.next ≡ l.self
-
-abbrev pub decreases-loop-next : goal.decreases-loop-next
-decreases-loop-next g l = length (rows_left l.self l.next)
+-- the pages so far
+abbrev pub invariant-loop-page : goal.invariant-loop-page
+invariant-loop-page g l = l.pages.items ≡ take l.page-index l.page-items

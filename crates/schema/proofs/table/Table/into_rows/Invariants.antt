@@ -1,6 +1,7 @@
-use Rattle.std.proofs.Common.{◌≡◌, ◌++◌, map}
+use Rattle.std.proofs.Common.{◌≡◌, ◌++◌}
+use Rattle.schema.specs.Paged.{joined}
 use Rattle.schema.proofs.table.Table.into_rows.Given as goal
 
--- the rows moved so far, and those left
-abbrev pub invariant-loop-row : goal.invariant-loop-row
-invariant-loop-row g l = l.moved.items ++ map (λ entry. entry.1) l.row-iterator ≡ l.fn.self
+-- the rows moved so far, and those of the pages left
+abbrev pub invariant-loop-page : goal.invariant-loop-page
+invariant-loop-page g l = l.moved.items ++ joined l.page-iterator.rest.items ≡ l.fn.self

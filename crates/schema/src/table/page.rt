@@ -1,0 +1,243 @@
+//! A page: rows of a table side by side, in key order.
+
+ghost use Rattle.std.specs.Prelude.{◌≡◌, ◌≤◌, ◌<◌, ◌++◌, ◌∷◌, [], None, true, false, not, length, take, drop, slice_get, OnOk, OnErr, IfOk, IfErr, IsTrue};
+ghost use Rattle.std.specs.List.{AllByRecursion, list_all};
+ghost use Rattle.std.specs.Option.{option_copied, option_map_or};
+ghost use Rattle.std.specs.Ordering.{is_le};
+ghost use Rattle.value.specs.Order.{value_cmp};
+ghost use Rattle.value.specs.Refusals.{out_of_memory};
+ghost use Rattle.schema.specs.Paged.{has_rows, is_before};
+ghost use Rattle.schema.specs.Plain.{changed, same};
+ghost use Rattle.schema.specs.Rows.{IsInKeyOrder, is_within, next_row, put_row};
+
+use crate::reader::Bound;
+use crate::row::Row;
+use std::alloc::{Allocator, Global};
+use std::marker::Model;
+use value::refusal::Refusal;
+use value::value::Value;
+
+/// How many rows a page has at most.
+const MOST_ROWS: usize = 128;
+
+/// Some rows of a table, in key order.
+#[derive(Drop)]
+#[derive_where(Debug)]
+pub(crate) struct Page<A: Allocator = Global> {
+    rows: Vec<Row<A>, A>,
+}
+
+impl<A: Allocator> Model for Page<A> {
+    ghost use Rattle.schema.specs.Rows.{Rows, IsInKeyOrder};
+
+    ghost Value = { Rows A };
+
+    ghost view = { λ p. p.rows.items };
+
+    ghost invariant = { λ p. IsInKeyOrder p.rows.items };
+}
+
+// Whether a key comes before all that a bound lets in.
+fn comes_before<A: Allocator>(key: &Value<A>, bound: Bound<&Value<A>>) -> bool
+    ensures { result ≡ not (is_within bound.entry key.now) }
+{
+    match bound {
+        Bound::Start => false,
+        Bound::From(first) => !first.cmp(key).is_le(),
+        Bound::After(before) => !before.cmp(key).is_lt(),
+    }
+}
+
+// The place of the first row within a bound.
+fn start<A: Allocator>(rows: &[Row<A>], bound: Bound<&Value<A>>) -> usize
+    requires { IsInKeyOrder rows.now }
+    ensures within_length { result ≤ length rows.now }
+    ensures before { AllByRecursion (λ row. is_within bound.entry row.0 ≡ false) (take result rows.now) }
+    ensures within { AllByRecursion (λ row. is_within bound.entry row.0 ≡ true) (drop result rows.now) }
+{
+    rows.partition_point(
+        |row: &Row<A>| -> bool
+            ensures { result ≡ not (is_within bound.entry row.now.0) }
+        { comes_before(row.key().value(), bound) },
+    )
+}
+
+// What stands at a place.
+fn at<A: Allocator>(rows: &[Row<A>], place: usize) -> Option<&Row<A>>
+    ensures { option_copied result ≡ slice_get rows.now place }
+{
+    rows.get(place)
+}
+
+/// Whether this is the row of a key.
+pub(crate) fn is_of<A: Allocator>(row: &Row<A>, key: &Value<A>) -> bool
+    ensures { result ≡ same key.now row.now.0 }
+{
+    key.cmp(row.key().value()).is_eq()
+}
+
+// Whether the row of a key stands at a place.
+fn is_at<A: Allocator>(rows: &[Row<A>], place: usize, key: &Value<A>) -> bool
+    ensures { result ≡ option_map_or (λ row. same key.now row.0) (slice_get rows.now place) false }
+{
+    match at(rows, place) {
+        Some(row) => is_of(row, key),
+        None => false,
+    }
+}
+
+// Puts a row in at its place, over any of its key.
+fn put<A: Allocator>(rows: &mut Vec<Row<A>, A>, place: usize, row: Row<A>) -> Result<(), Refusal>
+    requires within_length { place ≤ length rows.old.items }
+    requires before { AllByRecursion (λ r. is_le (value_cmp row.0 r.0) ≡ false) (take place rows.old.items) }
+    requires within { AllByRecursion (λ r. is_le (value_cmp row.0 r.0) ≡ true) (drop place rows.old.items) }
+    ensures ok { OnOk result (rows.new.items ≡ put_row rows.old.items row) }
+    ensures err { OnErr result (rows.new.items ≡ rows.old.items) }
+    ensures memory { IfErr result (λ e. e ≡ out_of_memory) }
+{
+    if is_at(rows.as_slice(), place, row.key().value()) {
+        rows[place] = row;
+    } else {
+        rows.insert(place, row)?;
+    }
+    Ok(())
+}
+
+// Takes the row of a key away from its place, if it is there.
+fn remove<A: Allocator>(rows: &mut Vec<Row<A>, A>, place: usize, key: &Value<A>)
+    requires within_length { place ≤ length rows.old.items }
+    requires before { AllByRecursion (λ r. is_le (value_cmp key.now r.0) ≡ false) (take place rows.old.items) }
+    requires within { AllByRecursion (λ r. is_le (value_cmp key.now r.0) ≡ true) (drop place rows.old.items) }
+    requires ordered { IsInKeyOrder rows.old.items }
+    ensures { rows.new.items ≡ changed key.now None rows.old.items }
+{
+    if is_at(rows.as_slice(), place, key) {
+        let _ = rows.remove(place);
+    }
+}
+
+impl<A: Allocator> Page<A> {
+    /// A page of one row, with room for some more.
+    pub fn of(alloc: A, row: Row<A>, room: usize) -> Result<Page<A>, Refusal>
+        ensures ok { IfOk result (λ page. page ≡ row ∷ []) }
+        ensures err { IfErr result (λ e. e ≡ out_of_memory) }
+    {
+        let mut rows = Vec::with_capacity(alloc, room)?;
+        rows.push(row)?;
+        Ok(Page { rows })
+    }
+
+    /// Its rows.
+    pub fn rows(&self) -> &[Row<A>]
+        ensures rows { result.now ≡ self.now }
+        ensures ordered { IsInKeyOrder self.now }
+    {
+        self.rows.as_slice()
+    }
+
+    /// Whether no row is within a bound.
+    pub fn is_before(&self, bound: Bound<&Value<A>>) -> bool
+        ensures { result ≡ is_before bound.entry self.now }
+    {
+        match self.rows.last() {
+            Some(row) => comes_before(row.key().value(), bound),
+            None => true,
+        }
+    }
+
+    /// The row of the least key within a bound.
+    pub fn next_row(&self, bound: Bound<&Value<A>>) -> Option<&Row<A>>
+        ensures { option_copied result ≡ next_row self.now bound.entry }
+    {
+        let rows = self.rows.as_slice();
+        at(rows, start(rows, bound))
+    }
+
+    /// Whether there is a row.
+    pub fn has_rows(&self) -> bool
+        ensures { result ≡ has_rows self.now }
+    {
+        !self.rows.is_empty()
+    }
+
+    /// Whether there is no room for a further row.
+    pub fn is_full(&self) -> bool
+        ensures { IsTrue result → 2 ≤ length self.now }
+    {
+        self.rows.len() >= MOST_ROWS
+    }
+
+    /// Puts a row in behind all others.
+    pub fn push(&mut self, row: Row<A>) -> Result<(), Refusal>
+        requires { AllByRecursion (λ r. is_le (value_cmp row.0 r.0) ≡ false) self.old }
+        ensures ok { OnOk result (self.new ≡ put_row self.old row) }
+        ensures err { OnErr result (self.new ≡ self.old) }
+        ensures memory { IfErr result (λ e. e ≡ out_of_memory) }
+    {
+        self.rows.push(row)?;
+        Ok(())
+    }
+
+    /// Puts a row in, over any of its key.
+    pub fn put(&mut self, row: Row<A>) -> Result<(), Refusal>
+        ensures ok { OnOk result (self.new ≡ put_row self.old row) }
+        ensures err { OnErr result (self.new ≡ self.old) }
+        ensures memory { IfErr result (λ e. e ≡ out_of_memory) }
+    {
+        let place = start(self.rows.as_slice(), Bound::From(row.key().value()));
+        put(&mut self.rows, place, row)
+    }
+
+    /// Takes the row of a key away, if there is one.
+    pub fn remove(&mut self, key: &Value<A>)
+        ensures { self.new ≡ changed key.now None self.old }
+    {
+        let place = start(self.rows.as_slice(), Bound::From(key));
+        remove(&mut self.rows, place, key);
+    }
+
+    /// Moves the upper half of the rows out.
+    pub fn cut(&mut self) -> Result<Page<A>, Refusal>
+    where
+        A: Copy,
+        requires { 2 ≤ length self.old }
+        ensures parts { IfOk result (λ upper. self.new ++ upper ≡ self.old) }
+        ensures rows { IfOk result (λ upper. (has_rows self.new ≡ true) × (has_rows upper ≡ true)) }
+        ensures err { OnErr result (self.new ≡ self.old) }
+        ensures memory { IfErr result (λ e. e ≡ out_of_memory) }
+    {
+        let half = self.rows.len() / 2;
+        let rows = self.rows.split_off(half)?;
+        Ok(Page { rows })
+    }
+
+    /// Moves the rows out, behind others.
+    pub fn move_into(self, moved: &mut Vec<Row<A>, A>) -> Result<(), Refusal>
+        ensures ok { OnOk result (moved.new.items ≡ moved.old.items ++ self) }
+        ensures err { IfErr result (λ e. e ≡ out_of_memory) }
+    {
+        for row in self.rows {
+            moved.push(row)?;
+        }
+        Ok(())
+    }
+
+    /// Equal rows.
+    pub fn copy(&self, alloc: A) -> Result<Page<A>, Refusal>
+    where
+        A: Copy,
+        ensures ok { IfOk result (λ page. page ≡ self.now) }
+        ensures err { IfErr result (λ e. e ≡ out_of_memory) }
+    {
+        let mut rows = Vec::with_capacity(alloc, self.rows.len())?;
+        for row in &self.rows {
+            rows.push(row.copy(alloc)?)?;
+        }
+        Ok(Page { rows })
+    }
+}
+
+/// How much room a page is given that follows a full one.
+pub(crate) fn full_room() -> usize {
+    MOST_ROWS
+}
