@@ -129,7 +129,7 @@ fn assert_takes<A: Allocator + Copy>(
 #[test]
 fn calls_of_core_and_audit(rt: HostRuntime) -> Result<(), Refusal> {
     let memory = Scarce::new(rt.alloc());
-    assert_takes(&rt, &memory, &memory, (BEFORE, Call::View), 4)?;
+    assert_takes(&rt, &memory, &memory, (BEFORE, Call::View), 1)?;
     assert_takes(&rt, &memory, &memory, (BEFORE, Call::SerialKeys), 1)?;
     for (call, least) in [
         (Call::Checkpoint, 8),
