@@ -44,7 +44,7 @@ module _ {A : Type 0} where
   idle Prune = Pruned
   idle _ = refuses code.NoActiveSqlTransaction
 
-  -- Once a statement was refused, the transaction can only be rolled back, which COMMIT does too; all else is refused (25P02).
+  -- Once a statement was refused, the transaction can only be rolled back, which COMMIT does too; all else but PRUNE is refused (25P02).
   abbrev pub failed : Action A → Reply A
   failed Commit = RolledBack
   failed Rollback = RolledBack
@@ -89,7 +89,7 @@ module _ {A : Type 0} where
   abbrev pub evaluated : World A → Txn A → Outcome A → Reply A
   evaluated w t o = if is_refused o.reply then o.reply else if meets_another w t o.changes then refuses_row else o.reply
 
-  -- A statement waits for a safe snapshot where one is asked for (55000), and writes only in a read-write transaction (25006).
+  -- A statement is refused while its snapshot has still to become safe (55000), and where it would write in a transaction that isn't read-write (25006).
   abbrev pub run_reply : World A → Txn A → Statement A → Reply A
   run_reply w t q =
       if must_wait t then refuses code.ObjectNotInPrerequisiteState

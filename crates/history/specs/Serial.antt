@@ -18,7 +18,7 @@ use Rattle.history.specs.Transactions.{Txn, World, node, edge, is_done, is_read_
 module _ {A : Type 0} where
   -- ---- keys and order
 
-  -- the committed transactions, as they began
+  -- the committed transactions, in the order in which they began
   abbrev pub committed : World A → List (Txn A)
   committed w = filter (λ t. is_done t.standing) w.txns
 

@@ -27,8 +27,8 @@ enum Owner<A: Allocator = Global> {
     Shared(Arc<Table<A>, A>),
 }
 
-/// A table with the versions of its keys. A view takes a share of it, whatever its size. It changes a table of its own: one
-/// whose pages are shared, where a view has the other.
+/// A table with the versions of its keys. A view takes a share of it, whatever its size. A change goes to a table that nobody
+/// else has: where a view has this one, to another list of the same pages.
 #[derive(Drop)]
 #[derive_where(Debug)]
 pub(crate) struct SharedTable<A: Allocator = Global> {

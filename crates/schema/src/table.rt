@@ -257,6 +257,7 @@ fn remove<A: Allocator>(pages: &mut Vec<Page<A>, A>, key: &Value<A>)
 }
 
 impl<A: Allocator> Table<A> {
+    /// A table without rows, which takes no memory yet.
     pub fn new(alloc: A) -> Table<A>
         ensures { result ≡ [] }
     {
