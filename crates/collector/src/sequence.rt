@@ -154,6 +154,7 @@ impl<'a, R: SnapshotReader<A>, W: Device, A: Allocator> Sequence<'a, R, W, A> {
     pub(crate) fn in_turn(&self)
         ensures { IsInTurn self.now }
     {
+        // Naming a field tells what the type keeps true.
         let _next = self.next;
     }
 
