@@ -113,6 +113,7 @@ impl<'w, J: Naming<A>, A: Allocator> Keeper<'w, J, A> {
     pub fn is_legal(&self)
         ensures { Legal J.opening self.now.records }
     {
+        // Naming a field tells what the type keeps true.
         let _seat = &self.seat;
     }
 }

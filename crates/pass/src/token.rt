@@ -58,6 +58,7 @@ impl<'w, J: Naming<A>, A: Allocator> Pass<'w, J, A> {
         ensures legal { Legal J.opening self.now.seen }
         ensures exact { self.now.mine ≡ of_session self.now.session self.now.seen }
     {
+        // Naming a field tells what the type keeps true.
         let _seat = &self.seat;
         self.session
     }
@@ -85,6 +86,7 @@ impl<'w, J: Naming<A>, A: Allocator> Pass<'w, J, A> {
     {
         self.learn(other);
         other.learn(self);
+        // The call tells what every pass keeps true.
         let _session = self.session();
     }
 }
