@@ -357,6 +357,7 @@ impl<A: Allocator> World<A> {
         ensures cause { (c : Catalog) (X : Tables A) → result ≡ cause_of (world_on c X self.old) (txn_at self.old.txns at) }
         ensures same { self.new ≡ self.old }
     {
+        // Naming a field tells what the type keeps true.
         let _place = self.place;
         try_course(&mut self.transactions, self.past, at, committed)
     }
@@ -369,6 +370,7 @@ impl<A: Allocator> World<A> {
         ensures world { (c : Catalog) (X : Tables A) → self.new ≡ after_owned (world_on c X self.old) Action.Commit (commit_reply (Some cause)) (txn_at self.old.txns at) }
         ensures log { HasSameCommits self.old self.new }
     {
+        // The contract alone speaks of the cause.
         let _cause = cause;
         let aborted = self.transactions[at].ends(Standing::Aborted, self.place + 1);
         self.turn(at, aborted);

@@ -305,6 +305,7 @@ impl<A: Allocator> World<A> {
         ensures err { OnErr result (self.new ≡ self.old) }
         ensures memory { IfErr result (λ e. e ≡ out_of_memory) }
     {
+        // Naming a field tells what the type keeps true.
         let _place = self.place;
         match self.ran(alloc, catalog, rows, at, statement)? {
             Ran::Refused(refusal) => Ok(self.refuse(at, refusal)),
