@@ -138,6 +138,7 @@ pub fn read_count<'d, A: Allocator + Copy>(
     requires { table < length tables.now }
     ensures { Reads (λ l. read_lines l.number (Before counted catalog.now tables.now (table + 1)) (lines_of l.text.now)) result (read_lines lines.entry.number (ended counted catalog.now tables.now table) (lines_of lines.entry.text.now)) }
 {
+    // The contract alone speaks of the catalog.
     let _catalog = catalog;
     if counted {
         match rows_line(alloc, tables.len(table) as u64) {
