@@ -222,6 +222,7 @@ impl<A: Allocator> Catalog<A> {
     pub fn well_formed(&self)
         ensures { is_catalog self.now ≡ true }
     {
+        // Naming a field tells what the type keeps true.
         let _tables = &self.tables;
     }
 
@@ -271,6 +272,7 @@ impl<A: Allocator> Catalog<A> {
         ensures place { result ≡ table_named self.now name.now }
         ensures has { IfSome result (λ t. t < length self.now) }
     {
+        // Naming a field tells what the type keeps true.
         let _tables = &self.tables;
         match str::from_utf8(name) {
             Ok(name) => self.find(name),

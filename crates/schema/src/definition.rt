@@ -188,6 +188,7 @@ impl<A: Allocator> TableDef<A> {
         ensures made { is_well_made self.now.name self.now.columns ≡ true }
         ensures unmarked { without_key_mark self.now.columns ≡ self.now.columns }
     {
+        // Naming a field tells what the type keeps true.
         let _columns = &self.columns;
     }
 

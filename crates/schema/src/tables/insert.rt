@@ -111,6 +111,7 @@ fn has_zero_byte<A: Allocator>(value: &Value<A>) -> bool
             false
         }
         Value::Int(number) => {
+            // Its value is one of 64 bits.
             let _number = *number;
             false
         }

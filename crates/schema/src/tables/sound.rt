@@ -21,6 +21,7 @@ pub fn has_kind<A: Allocator>(kind: Kind, value: &Value<A>) -> bool
     match (kind, value) {
         (_, Value::Null) => true,
         (Kind::Bigint, Value::Int(number)) => {
+            // Its value is one of 64 bits.
             let _number = *number;
             true
         }
