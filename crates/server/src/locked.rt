@@ -74,6 +74,7 @@ impl<'w, J: Naming<A>, A: Allocator> Locked<'w, J, A> {
         } else {
             self.keeper.show(pass);
         }
+        // The call tells what every pass keeps true.
         let _session = pass.session();
         reply
     }
@@ -156,6 +157,7 @@ impl<'w, J: Naming<A>, A: Allocator> Locked<'w, J, A> {
         ensures mine { pass.new.mine ≡ of_session pass.new.session pass.new.seen }
         ensures call { IsCall J.most pass.old (Action.Run statement) result pass.new }
     {
+        // The call tells what every pass keeps true.
         let _session = pass.session();
         self.keeper.show(pass);
         self.core.is_legal();

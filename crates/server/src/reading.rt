@@ -84,6 +84,7 @@ impl<'w, J: Naming<A>, A: Allocator> Server<'w, J, A> {
         match request.into_action(alloc, &self.catalog) {
             Ok(action) => self.act_gated(rt, alloc, pass, action, gate),
             Err(refusal) => {
+                // The call tells what every pass keeps true.
                 let _session = pass.session();
                 Reply::Refused(refusal)
             }
@@ -163,6 +164,7 @@ impl<'w, J: Naming<A>, A: Allocator> Server<'w, J, A> {
         ensures mine { pass.new.mine ≡ of_session pass.new.session pass.new.seen }
         ensures call { IsCall J.most pass.old (Action.Run statement) result pass.new }
     {
+        // The call tells what every pass keeps true.
         let _session = pass.session();
         readers_are_sound::<A>();
         readers_stay::<A>();
