@@ -17,6 +17,7 @@ impl<A: Allocator> Core<A> {
     pub fn is_legal(&self)
         ensures { IsLegal self.now }
     {
+        // Naming a field tells what the type keeps true.
         let _history = &self.history;
     }
 
