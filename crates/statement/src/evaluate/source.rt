@@ -54,6 +54,7 @@ fn is_in_range<A: Allocator>(value: &Value<A>)
     ensures { out_of_range value.now ≡ false }
 {
     if let Value::Int(number) = value {
+        // Its value is one of 64 bits.
         let _number = *number;
     }
 }
