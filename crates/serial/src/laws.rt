@@ -117,8 +117,8 @@ pub fn views_are_backups<A: Allocator>()
     ensures { (o : Opening A) → (es : List (AnyRecord A)) → (s : ℕ) → (X : AnyTables A) → Legal o es → view_answer o es s ≡ Ok X → IsBackup o es s X }
 {}
 
-/// As long as a session does nothing, what it may read stays: whatever others do, the tables that its
-/// transaction sees are those that it saw, or it is doomed and may read none.
+/// As long as a session does nothing, what its transaction sees stays, whatever others do, where it may
+/// still read. It may not where another's commit has doomed it.
 pub fn readers_stay<A: Allocator>()
     ensures { (o : Opening A) → (es more : List (AnyRecord A)) → (s : ℕ) → (X Y : AnyTables A) → Legal o (es ++ more) → of_session s (es ++ more) ≡ of_session s es
         → reader_answer o es s ≡ Ok X → reader_answer o (es ++ more) s ≡ Ok Y → Y ≡ X }
