@@ -1,5 +1,5 @@
 -- The parts of a dump: what stands before the tables, each table, and what stands after them.
-use Rattle.std.specs.Prelude.{ℕ, zero, suc, true, List, [], ◌∷◌, ◌++◌, map}
+use Rattle.std.specs.Prelude.{ℕ, true, List, [], ◌∷◌, ◌++◌, map}
 use Rattle.std.specs.List.{flat_map}
 use Rattle.schema.specs.Definition.{TableSchema, Catalog}
 use Rattle.schema.specs.declared.row.Row.{Row}
@@ -20,9 +20,3 @@ table_text d rows = ended (table_lines true d rows)
 -- the last line
 abbrev pub end_text : List ℕ
 end_text = ended (last_line ∷ [])
-
--- the text of a table of the catalog, counted from 0
-abbrev pub table_of : {A : Type 0} → Catalog → List (List (Row A)) → ℕ → List ℕ
-table_of (d ∷ ds) (rows ∷ more) zero = table_text d rows
-table_of (d ∷ ds) (rows ∷ more) (suc t) = table_of ds more t
-table_of c X t = []

@@ -118,16 +118,4 @@ impl<A: Allocator> History<A> {
     {
         self.records.last()
     }
-
-    /// The catalog and the tables, taken out.
-    pub fn into_opening(self) -> (Catalog<A>, Tables<A>)
-        ensures { result ≡ (self.opening.catalog, self.opening.tables) }
-    {
-        let History {
-            catalog,
-            tables,
-            ..
-        } = self;
-        (catalog, tables)
-    }
 }

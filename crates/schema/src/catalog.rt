@@ -151,14 +151,6 @@ impl<A: Allocator> TableSchema<A> {
         self.columns.as_slice()
     }
 
-    /// The place of the column of a name, counted from 0.
-    pub fn find_column(&self, name: &str) -> Option<u32>
-        ensures place { result ≡ column_named self.now.columns name.now }
-        ensures has { IfSome result (λ n. n < length self.now.columns) }
-    {
-        self.find_column_bytes(name.as_bytes())
-    }
-
     /// The place of the column of a name's bytes, counted from 0.
     pub fn find_column_bytes(&self, name: &[u8]) -> Option<u32>
         ensures place { result ≡ column_named self.now.columns name.now }
