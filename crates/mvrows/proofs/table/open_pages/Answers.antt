@@ -1,4 +1,4 @@
-use Rattle.std.proofs.Common.{sym, subst, ap, map, arith, ◌∷◌, ◌∙◌}
+use Rattle.std.proofs.Common.{sym, subst, ap, map, ◌∷◌, ◌∙◌}
 use Rattle.schema.specs.Plain.{rows_of}
 use Rattle.schema.specs.Rows.{rows_left, rows_after}
 use Rattle.mvrows.specs.Versions.{IsInOrder}
