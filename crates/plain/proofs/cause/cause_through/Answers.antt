@@ -1,31 +1,33 @@
-use Rattle.std.proofs.Common.{ap, sym, ◌∙◌, ◌≡◌, ◌≤◌, arith, false, eqb}
-use Rattle.value.specs.Isolation.{Node, bound, edge_of}
-use Rattle.plain.proofs.CauseLemmas.{apart, bounded-none, got_at, only-through}
-use Rattle.plain.proofs.isolation.cause_through.Goals as goal
+use Rattle.std.proofs.Common.{ap, sym, ◌∙◌, ◌≡◌, ◌≤◌, arith}
+use Rattle.value.specs.Isolation.{bound}
+use Rattle.history.specs.Transactions.{Txn, edge, node, reads_from}
+use Rattle.plain.specs.Ledger.{txn_at}
+use Rattle.plain.specs.Structures.{closed_pair}
+use Rattle.plain.proofs.AroundLemmas.{at-place}
+use Rattle.plain.proofs.CauseLemmas.{bounded-none, only-through}
+use Rattle.plain.proofs.LedgerLemmas.{txn_at-is}
+use Rattle.plain.proofs.cause.cause_through.Goals as goal
 
-pub returns-then-bound-facts : goal.returns-then-bound-facts
-returns-then-bound-facts g c =
-    let node = g.T.Party.node in
-    let edge = edge_of g.T.Party.node g.T.Party.reads in
-    let x = c.index-transactions-at.result in
-    let a = c.args.first.now in
-    let ts = c.args.transactions.now in
-    let first : c.facts-3.inside.number ≡ (node a).number = ap (λ (f : Node). f.number) (c.facts-3.view_is ∙ c.facts.ensures) in
-    let middle : c.facts-4.inside.number ≡ (node x).number = ap (λ (f : Node). f.number) (c.facts-4.view_is ∙ c.facts-2.ensures) in
-    let differ : eqb (node a).number (node x).number ≡ false = apart _ _ (λ e. c.if-facts.false (first ∙ e ∙ sym middle)) in
-    let snapshot : c.facts-else-facts-2.inside.snapshot ≡ (node x).snapshot = ap (λ (f : Node). f.snapshot) (c.facts-else-facts-2.view_is ∙ c.facts-else-facts.ensures) in
-    let early : bound node edge a ≤ (node x).snapshot = omega (arith, c.if-bound-facts.true, c.bound.ensures, snapshot) in
-    bounded-none node g.T.Party.reads a x ts early
-    ∙ only-through node edge ts c.args.at x a c.requires.within c.index-transactions-at.is (c.requires.committer x (got_at ts c.args.at x c.requires.within c.index-transactions-at.is)) differ
+pub returns-then-bound-committer : goal.returns-then-bound-committer
+returns-then-bound-committer g c =
+    let ts = c.args.all.now in
+    let x = txn_at ts c.args.at in
+    let same : c.index-all-at.result ≡ x = sym (txn_at-is ts c.args.at c.index-all-at.result c.requires.within c.index-all-at.is) in
+    let snapshot : c.committer.inside.snapshot ≡ x.snapshot = ap (λ (t : Txn _). t.snapshot) (c.committer.view_is ∙ same) in
+    let first : c.first.inside.number ≡ c.args.first.now.number = ap (λ (t : Txn _). t.number) c.first.view_is in
+    let middle : c.committer.inside.number ≡ x.number = ap (λ (t : Txn _). t.number) (c.committer.view_is ∙ same) in
+    let early : bound node edge c.args.first.now ≤ x.snapshot = omega (arith, c.if-bound-committer.true, c.bound.ensures, snapshot) in
+    bounded-none node reads_from c.args.first.now x ts early
+    ∙ only-through node edge ts c.args.at x c.args.first.now c.requires.within (at-place ts c.args.at c.requires.within) c.requires.committer
+    (λ e. c.if-first-committer.false (first ∙ ap (λ (t : Txn _). t.number) e ∙ sym middle))
 
-pub returns-else-bound-facts : goal.returns-else-bound-facts
-returns-else-bound-facts g c =
-    let node = g.T.Party.node in
-    let edge = edge_of g.T.Party.node g.T.Party.reads in
-    let x = c.index-transactions-at.result in
-    let first : c.facts-3.inside.number ≡ (node c.args.first.now).number = ap (λ (f : Node). f.number) (c.facts-3.view_is ∙ c.facts.ensures) in
-    let middle : c.facts-4.inside.number ≡ (node x).number = ap (λ (f : Node). f.number) (c.facts-4.view_is ∙ c.facts-2.ensures) in
-    let differ : eqb (node c.args.first.now).number (node x).number ≡ false = apart _ _ (λ e. c.if-facts.false (first ∙ e ∙ sym middle)) in
-    c.cause_between.ensures
-    ∙ only-through node edge c.args.transactions.now c.args.at x c.args.first.now c.requires.within c.index-transactions-at.is
-    (c.requires.committer x (got_at c.args.transactions.now c.args.at x c.requires.within c.index-transactions-at.is)) differ
+pub returns-else-bound-committer : goal.returns-else-bound-committer
+returns-else-bound-committer g c =
+    let ts = c.args.all.now in
+    let x = txn_at ts c.args.at in
+    let same : c.index-all-at.result ≡ x = sym (txn_at-is ts c.args.at c.index-all-at.result c.requires.within c.index-all-at.is) in
+    let first : c.first.inside.number ≡ c.args.first.now.number = ap (λ (t : Txn _). t.number) c.first.view_is in
+    let middle : c.committer.inside.number ≡ x.number = ap (λ (t : Txn _). t.number) (c.committer.view_is ∙ same) in
+    c.cause_of_pair.ensures ∙ ap (closed_pair node edge ts c.args.first.now) same
+    ∙ only-through node edge ts c.args.at x c.args.first.now c.requires.within (at-place ts c.args.at c.requires.within) c.requires.committer
+    (λ e. c.if-first-committer.false (first ∙ ap (λ (t : Txn _). t.number) e ∙ sym middle))

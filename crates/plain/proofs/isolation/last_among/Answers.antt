@@ -2,8 +2,8 @@ use Rattle.std.proofs.Common.{◌∙◌, sym, ap, Some, arith}
 use Rattle.value.specs.Isolation.{edge_of, is_dangerous}
 use Rattle.plain.specs.Earliest.{first_of}
 use Rattle.plain.proofs.CauseLemmas.{earliest-next, earliest-same}
-use Rattle.plain.proofs.isolation.last_of.Goals as goal
-use Rattle.plain.proofs.isolation.last_of.Goals.{then-is_dangerous, else-is_dangerous}
+use Rattle.plain.proofs.isolation.last_among.Goals as goal
+use Rattle.plain.proofs.isolation.last_among.Goals.{then-is_dangerous, else-is_dangerous}
 
 pub loop-candidate-preserved : goal.loop-candidate-preserved
 loop-candidate-preserved g c =
