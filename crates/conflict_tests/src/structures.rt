@@ -3,7 +3,7 @@
 ghost use Rattle.std.specs.Prelude.{◌≡◌, ◌==◌, ◌||◌};
 
 use plain::dooms::dooms;
-use plain::isolation::{cause_from, first_part, has_edge, is_dangerous, serial_key};
+use plain::isolation::{cause_between, first_part, has_edge, is_dangerous, serial_key};
 use plain::party::{Facts, Party};
 use std::test::Fail;
 use value::refusal::{Cause, TxnNo};
@@ -49,10 +49,21 @@ fn committed(number: u64, snapshot: u64, commit: u64, place: u64, source: u64) -
     }
 }
 
+// The structure that begins at a transaction, with the least middle one.
+fn begun(first: &Sample, all: &[Sample]) -> Option<Cause> {
+    for pivot in all {
+        let cause = cause_between(first, pivot, &[], all);
+        if cause.is_some() {
+            return cause;
+        }
+    }
+    None
+}
+
 // The structure of the least first transaction that begins one.
 fn named(all: &[Sample]) -> Option<Cause> {
     for first in all {
-        let cause = cause_from(first, all);
+        let cause = begun(first, all);
         if cause.is_some() {
             return cause;
         }

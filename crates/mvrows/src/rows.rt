@@ -3,8 +3,6 @@
 ghost use Rattle.std.specs.Prelude.{List, [], ◌∷◌, ◌≡◌, ◌≤◌, ◌<◌, ◌^◌, length, map, OnOk, OnErr, IfOk, IfErr};
 ghost use Rattle.std.specs.List.{AllByRecursion};
 ghost use Rattle.value.specs.Refusals.{out_of_memory};
-ghost use Rattle.schema.specs.Rows.{HasTable, IsInKeyOrder};
-ghost use Rattle.schema.specs.Plain.{rows_of};
 ghost use Rattle.mvrows.specs.Versions.{TablesAreBelow, newest as last_commit, newest_in, shown, versions_of};
 ghost use Rattle.mvrows.specs.Installing.{opened, install_change, installed};
 ghost use Rattle.mvrows.specs.Pruning.{pruned, pruned_rows};
@@ -18,8 +16,6 @@ use crate::table::Table;
 use crate::view::View;
 use schema::catalog::{Catalog, TableNo};
 use schema::changes::Change;
-use schema::reader::first_row;
-use schema::row::Row;
 use schema::tables::Tables;
 use std::alloc::{Allocator, Global};
 use std::marker::Model;
@@ -47,36 +43,18 @@ impl<A: Allocator> Model for Rows<A> {
     ghost invariant = { λ r. AreVersioned (rows_held r.tables.items) };
 }
 
-// The rows of a table rise. Nothing is changed.
-fn in_key_order<A: Allocator>(tables: &Tables<A>, table: TableNo)
-    requires { HasTable tables.now table }
-    ensures { IsInKeyOrder (rows_of tables.now table) }
-{
-    let _row = first_row(tables, table);
-}
-
-// So do those of each table.
-fn all_in_key_order<A: Allocator>(tables: &Tables<A>)
-    requires { length tables.now ≤ 2 ^ 32 }
-    ensures { AllByRecursion IsInKeyOrder tables.now }
-{
-    for place in 0..tables.count() {
-        in_key_order(tables, TableNo::at(place as u32));
-    }
-}
-
 // The opening of each table.
 fn open_tables<A: Allocator + Copy>(
     alloc: A,
-    tables: Vec<Vec<Row<A>, A>, A>,
+    tables: &Tables<A>,
 ) -> Result<Vec<SharedTable<A>, A>, Refusal>
-    requires { AllByRecursion IsInKeyOrder (map (λ rows. rows.items) tables.items) }
-    ensures ok { IfOk result (λ opening. rows_held opening.items ≡ opened (map (λ rows. rows.items) tables.items)) }
+    requires { length tables.now ≤ 2 ^ 32 }
+    ensures ok { IfOk result (λ opening. rows_held opening.items ≡ opened tables.now) }
     ensures err { IfErr result (λ e. e ≡ out_of_memory) }
 {
-    let mut opening = Vec::with_capacity(alloc, tables.len())?;
-    for rows in tables {
-        let mut table = SharedTable::of(Table::open(alloc, rows)?);
+    let mut opening = Vec::with_capacity(alloc, tables.count())?;
+    for place in 0..tables.count() {
+        let mut table = SharedTable::of(Table::open(alloc, tables, TableNo::at(place as u32))?);
         table.share(alloc);
         opening.push(table)?;
     }
@@ -300,9 +278,18 @@ impl<A: Allocator> Rows<A> {
         ensures ok { IfOk result (λ r. r ≡ opened tables) }
         ensures err { IfErr result (λ e. e ≡ out_of_memory) }
     {
-        all_in_key_order(&tables);
-        let rows = tables.into_rows(alloc)?;
-        let opening = open_tables(alloc, rows)?;
+        Rows::of_lent(alloc, &tables)
+    }
+
+    /// The opening of tables that stay as they are: a version of a copy of each row.
+    pub fn of_lent(alloc: A, tables: &Tables<A>) -> Result<Rows<A>, Refusal>
+    where
+        A: Copy,
+        requires { length tables.now ≤ 2 ^ 32 }
+        ensures ok { IfOk result (λ r. r ≡ opened tables.now) }
+        ensures err { IfErr result (λ e. e ≡ out_of_memory) }
+    {
+        let opening = open_tables(alloc, tables)?;
         Ok(Rows { tables: opening })
     }
 

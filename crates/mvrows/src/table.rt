@@ -23,7 +23,7 @@ use crate::leaf::Leaf;
 use crate::page::Page;
 use schema::catalog::TableNo;
 use schema::changes::Change;
-use schema::reader::Bound;
+use schema::reader::{Bound, first_row, row_after};
 use schema::row::Row;
 use schema::tables::Tables;
 use std::alloc::{Allocator, Global};
@@ -145,21 +145,24 @@ fn with_room<A: Allocator + Copy>(
     }
 }
 
-// The pages of the opening.
+// The pages of the opening: of a copy of each row of a table.
 fn open_pages<A: Allocator + Copy>(
     alloc: A,
-    rows: Vec<Row<A>, A>,
+    tables: &Tables<A>,
+    table: TableNo,
 ) -> Result<Vec<Leaf<A>, A>, Refusal>
-    requires { IsInKeyOrder rows.items }
-    ensures ok { IfOk result (λ leaves. rows_in leaves.items ≡ map opened_row rows.items) }
+    requires { HasTable tables.now table }
+    ensures ok { IfOk result (λ leaves. rows_in leaves.items ≡ map opened_row (rows_of tables.now table)) }
     ensures laid_out { IfOk result (λ leaves. AreLaidOut (pages_of leaves.items)) }
     ensures memory { IfErr result (λ e. e ≡ out_of_memory) }
 {
     let mut leaves = Vec::new(alloc);
     let mut page = Page::new(alloc);
-    for row in rows {
+    let mut next = first_row(tables, table);
+    while let Some(row) = next {
         page = with_room(alloc, &mut leaves, page)?;
-        page.push_opened(alloc, row)?;
+        page.push_opened(alloc, row.copy(alloc)?)?;
+        next = row_after(tables, table, row);
     }
     push_page(&mut leaves, page)?;
     Ok(leaves)
@@ -408,15 +411,15 @@ impl<A: Allocator> Table<A> {
         }
     }
 
-    /// The opening of a table.
-    pub fn open(alloc: A, rows: Vec<Row<A>, A>) -> Result<Table<A>, Refusal>
+    /// The opening of a table, of a copy of each of its rows.
+    pub fn open(alloc: A, tables: &Tables<A>, table: TableNo) -> Result<Table<A>, Refusal>
     where
         A: Copy,
-        requires { IsInKeyOrder rows.items }
-        ensures ok { IfOk result (λ table. rows_in table ≡ map opened_row rows.items) }
+        requires { HasTable tables.now table }
+        ensures ok { IfOk result (λ opened. rows_in opened ≡ map opened_row (rows_of tables.now table)) }
         ensures err { IfErr result (λ e. e ≡ out_of_memory) }
     {
-        let mut leaves = open_pages(alloc, rows)?;
+        let mut leaves = open_pages(alloc, tables, table)?;
         share_all(alloc, &mut leaves);
         Ok(Table { leaves })
     }

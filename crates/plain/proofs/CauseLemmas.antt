@@ -1,15 +1,14 @@
 -- Structures and dooms, found from the front of a list.
 use Rattle.std.proofs.Common.{◌≡◌, refl, sym, ap, subst, ◌∙◌, ℕ, zero, suc, ◌+◌, ◌<◌, ◌≤◌, Bool, true, false, true≢false, cond, not, ◌&&◌, ◌||◌, ◌⊎◌, inl, inr, List, [], ◌∷◌, ◌++◌, length, take, drop, get_or, slice_get, Option, Some, None, is_some, eqb, nat_lt, nat_le, arith}
-use Rattle.std.proofs.lemmas.Bool.{eq-eqb, eqb-true}
+use Rattle.std.proofs.lemmas.Bool.{eqb-true}
 use Rattle.std.proofs.lemmas.Bool.Decides.{nat_tests}
 use Rattle.std.proofs.lemmas.List.{append-nil}
 use Rattle.std.proofs.lemmas.List.Elements.{filter-append}
 use Rattle.std.specs.List.{AllByRecursion, filter, list_any}
 use Rattle.std.specs.Option.{option_map}
-use Rattle.value.specs.declared.refusal.Cause.{Cause}
 use Rattle.value.specs.Isolation.{Node, bound, caused, earlier, earliest, edge_of, first_cause, first_some, is_dangerous}
-use Rattle.plain.specs.Earliest.{first_of}
-use Rattle.plain.specs.Structures.{BeginHold, StructuresHold}
+use Rattle.plain.specs.Earliest.{first_of, first_of_both}
+use Rattle.plain.specs.Structures.{BeginHold, StructuresHold, closed_pair}
 use Rattle.plain.proofs.WalkLemmas.{split_at, take_next}
 
 -- ---- the first that a function gives
@@ -76,6 +75,27 @@ first_some-only {A} {B} f xs x i lt at all = go (is_some (f x)) refl
     go true e = found_only f x e xs i lt at all
     go false e = none_of (f x) e ∙ sym (first_some-none f xs (others_none f x e xs all))
 
+-- ---- of several lists, one behind the other
+
+first_some-found : {A B : Type 0} (f : A → Option B) (xs ys : List A) → is_some (first_some f xs) ≡ true → first_some f xs ≡ first_some f (xs ++ ys)
+first_some-found f [] ys some = absurd (true≢false (sym some))
+first_some-found {A} {B} f (x ∷ xs) ys some = go (f x) (first_some-found f xs ys) some
+  where
+    go : (o : Option B) → (is_some (first_some f xs) ≡ true → first_some f xs ≡ first_some f (xs ++ ys)) → is_some (cond (is_some o) o (first_some f xs)) ≡ true → cond (is_some o) o (first_some f xs) ≡ cond (is_some o) o (first_some f (xs ++ ys))
+    go None rest e = rest e
+    go (Some y) rest e = refl
+
+-- it gives something of the front
+pub first_some-front : {A B : Type 0} (f : A → Option B) (xs front rest : List A) → xs ≡ front ++ rest → (o : Option B) → o ≡ first_some f front → is_some o ≡ true → o ≡ first_some f xs
+first_some-front f xs front rest whole o e some = e ∙ first_some-found f front rest (ap is_some (sym e) ∙ some) ∙ ap (first_some f) (sym whole)
+
+-- it gives nothing of the front, nor of what is between
+pub first_some-back : {A B : Type 0} (f : A → Option B) (xs front between back : List A) → xs ≡ front ++ (between ++ back) → AllByRecursion (λ x. f x ≡ None) between
+    → (o : Option B) → o ≡ first_some f front → is_some o ≡ false → (p : Option B) → p ≡ first_some f back → p ≡ first_some f xs
+first_some-back f xs front between back whole all o e empty p found =
+    found ∙ sym (first_some-passes f between back (first_some-none f between all))
+    ∙ sym (first_some-passes f front (between ++ back) (sym e ∙ none_of o empty)) ∙ ap (first_some f) (sym whole)
+
 -- ---- the first to commit
 
 before_or_after : (a b c : ℕ) → nat_lt a b ≡ false → nat_lt b c ≡ false → nat_lt a c ≡ false
@@ -116,6 +136,21 @@ module _ {T : Type 0} (node : T → Node) (edge : T → T → Bool) where
       ∙ earlier_first (node y) (option_map node (earliest node edge ys)) (node x)
       ∙ ap (λ n. first_of (Some n) (node x)) (sym (node-earlier y (earliest node edge ys))))
 
+  both-none : (p : Option Node) → p ≡ first_of_both None p
+  both-none None = refl
+  both-none (Some m) = refl
+
+  -- of two lists, one behind the other
+  pub earliest-append : (xs ys : List T) → option_map node (earliest node edge (xs ++ ys)) ≡ first_of_both (option_map node (earliest node edge xs)) (option_map node (earliest node edge ys))
+  earliest-append [] ys = both-none (option_map node (earliest node edge ys))
+  earliest-append (x ∷ xs) ys =
+      ap Some (node-earlier x (earliest node edge (xs ++ ys)) ∙ ap (earlier_of (node x)) (earliest-append xs ys)) ∙ go (option_map node (earliest node edge ys))
+      ∙ ap (λ n. first_of_both (Some n) (option_map node (earliest node edge ys))) (sym (node-earlier x (earliest node edge xs)))
+    where
+      go : (p : Option Node) → Some (earlier_of (node x) (first_of_both (option_map node (earliest node edge xs)) p)) ≡ first_of_both (Some (earlier_of (node x) (option_map node (earliest node edge xs)))) p
+      go None = refl
+      go (Some m) = ap Some (earlier_first (node x) (option_map node (earliest node edge xs)) m)
+
   filter-push : (p : T → Bool) (xs : List T) (i : ℕ) (x : T) → i < length xs → x ≡ get_or xs i x → filter p (take (i + 1) xs) ≡ filter p (take i xs) ++ cond (p x) (x ∷ []) []
   filter-push p xs i x lt at = ap (filter p) (take_next xs i x lt at) ∙ filter-append p (take i xs) (x ∷ [])
 
@@ -153,22 +188,18 @@ module _ {T : Type 0} (node : T → Node) (edge : T → T → Bool) where
 
   -- ---- structures that have one transaction among their first two
 
-  -- the structure that begins at a and b, if there is one
-  abbrev through : List T → T → T → Option Cause
-  through ts a b = caused node edge a b (earliest node edge (filter (is_dangerous node edge a b) ts))
-
   -- what follows from each of them follows where one is named
-  through_some : (Q : Type 0) (a b : T) (cs : List T) → AllByRecursion (λ c. is_dangerous node edge a b c ≡ true → Q) cs → is_some (through cs a b) ≡ true → Q
+  through_some : (Q : Type 0) (a b : T) (cs : List T) → AllByRecursion (λ c. is_dangerous node edge a b c ≡ true → Q) cs → is_some (closed_pair node edge cs a b) ≡ true → Q
   through_some Q a b [] all e = absurd (true≢false (sym e))
   through_some Q a b (c ∷ cs) all e = go (is_dangerous node edge a b c) refl e (through_some Q a b cs all.1)
     where
       go : (d : Bool) → is_dangerous node edge a b c ≡ d
-          → is_some (caused node edge a b (earliest node edge (cond d (c ∷ filter (is_dangerous node edge a b) cs) (filter (is_dangerous node edge a b) cs)))) ≡ true → (is_some (through cs a b) ≡ true → Q) → Q
+          → is_some (caused node edge a b (earliest node edge (cond d (c ∷ filter (is_dangerous node edge a b) cs) (filter (is_dangerous node edge a b) cs)))) ≡ true → (is_some (closed_pair node edge cs a b) ≡ true → Q) → Q
       go true p some rest = all.0 p
       go false p some rest = rest some
 
   begin_at : (x a : T) (ts : List T) → (a ≡ x → ⊥) → (bs : List T) → AllByRecursion (λ b. AllByRecursion (λ c. is_dangerous node edge a b c ≡ true → (a ≡ x) ⊎ (b ≡ x)) ts) bs
-      → AllByRecursion (λ b. is_some (through ts a b) ≡ true → b ≡ x) bs
+      → AllByRecursion (λ b. is_some (closed_pair node edge ts a b) ≡ true → b ≡ x) bs
   begin_at x a ts other [] all = tt
   begin_at x a ts other (b ∷ bs) all = (λ e. middle (through_some ((a ≡ x) ⊎ (b ≡ x)) a b ts all.0 e), begin_at x a ts other bs all.1)
     where
@@ -177,10 +208,10 @@ module _ {T : Type 0} (node : T → Node) (edge : T → T → Bool) where
       middle (inr p) = p
 
   -- one that doesn't begin at x has it in its middle
-  pub only-through : (ts : List T) (i : ℕ) (x a : T) → i < length ts → x ≡ get_or ts i x → BeginHold node edge x a ts → eqb (node a).number (node x).number ≡ false
-      → through ts a x ≡ first_some (through ts a) ts
+  pub only-through : (ts : List T) (i : ℕ) (x a : T) → i < length ts → x ≡ get_or ts i x → BeginHold node edge x a ts → (a ≡ x → ⊥)
+      → closed_pair node edge ts a x ≡ first_some (closed_pair node edge ts a) ts
   only-through ts i x a lt at holds differ =
-      first_some-only (through ts a) ts x i lt at (begin_at x a ts (λ p. true≢false (sym (eq-eqb (node a).number (node x).number (ap (λ y. (node y).number) p)) ∙ differ)) ts holds)
+      first_some-only (closed_pair node edge ts a) ts x i lt at (begin_at x a ts differ ts holds)
 
   danger_edges : (a b c d e f g : Bool) → (a && b && c && d && e && f && g) ≡ true → (d ≡ true) × (e ≡ true)
   danger_edges true true true true true f g q = (refl, refl)
@@ -192,6 +223,21 @@ module _ {T : Type 0} (node : T → Node) (edge : T → T → Bool) where
 
   edges : (a b c : T) → is_dangerous node edge a b c ≡ true → (edge a b ≡ true) × (edge b c ≡ true)
   edges a b c q = danger_edges (node a).committed (node b).committed (node c).committed (edge a b) (edge b c) (nat_lt (node c).commit (node b).commit) (nat_le (node c).commit (cond (node a).read_write (node a).commit (node a).snapshot)) q
+
+  -- the middle has no edge to the last
+  no_close : (a b c d e f g : Bool) → e ≡ false → (a && b && c && d && e && f && g) ≡ false
+  no_close true true true true e f g q = ap (λ x. x && f && g) q
+  no_close true true true false e f g q = refl
+  no_close true true false d e f g q = refl
+  no_close true false c d e f g q = refl
+  no_close false b c d e f g q = refl
+
+  pub none_closed : (a b : T) (cs : List T) → AllByRecursion (λ c. edge b c ≡ false) cs → filter (is_dangerous node edge a b) cs ≡ []
+  none_closed a b [] all = refl
+  none_closed a b (c ∷ cs) all =
+      ap (λ x. cond x (c ∷ filter (is_dangerous node edge a b) cs) (filter (is_dangerous node edge a b) cs))
+      (no_close (node a).committed (node b).committed (node c).committed (edge a b) (edge b c) (nat_lt (node c).commit (node b).commit) (nat_le (node c).commit (cond (node a).read_write (node a).commit (node a).snapshot)) all.0)
+      ∙ none_closed a b cs all.1
 
   no_edges : (x : T) (ts : List T) → list_any (edge x) ts ≡ false → AllByRecursion (λ b. edge x b ≡ false) ts
   no_edges x [] e = tt
@@ -211,21 +257,21 @@ module _ {T : Type 0} (node : T → Node) (edge : T → T → Bool) where
       go (inr p) h = true≢false (sym h.1 ∙ ap (λ y. edge y c) p ∙ out.0)
 
   none_through : (x a : T) (ts : List T) → AllByRecursion (λ c. edge x c ≡ false) ts → (bs : List T) → AllByRecursion (λ b. edge x b ≡ false) bs
-      → AllByRecursion (λ b. AllByRecursion (λ c. is_dangerous node edge a b c ≡ true → (a ≡ x) ⊎ (b ≡ x)) ts) bs → AllByRecursion (λ b. through ts a b ≡ None) bs
+      → AllByRecursion (λ b. AllByRecursion (λ c. is_dangerous node edge a b c ≡ true → (a ≡ x) ⊎ (b ≡ x)) ts) bs → AllByRecursion (λ b. closed_pair node edge ts a b ≡ None) bs
   none_through x a ts out [] into all = tt
-  none_through x a ts out (b ∷ bs) into all = (go (is_some (through ts a b)) refl, none_through x a ts out bs into.1 all.1)
+  none_through x a ts out (b ∷ bs) into all = (go (is_some (closed_pair node edge ts a b)) refl, none_through x a ts out bs into.1 all.1)
     where
-      go : (d : Bool) → is_some (through ts a b) ≡ d → through ts a b ≡ None
+      go : (d : Bool) → is_some (closed_pair node edge ts a b) ≡ d → closed_pair node edge ts a b ≡ None
       go true p = absurd (through_some ⊥ a b ts (none_last x a b into.0 ts out all.0) p)
-      go false p = none_of (through ts a b) p
+      go false p = none_of (closed_pair node edge ts a b) p
 
-  none_from : (x : T) (ts : List T) → AllByRecursion (λ c. edge x c ≡ false) ts → (firsts : List T) → AllByRecursion (λ a. BeginHold node edge x a ts) firsts → AllByRecursion (λ a. first_some (through ts a) ts ≡ None) firsts
+  none_from : (x : T) (ts : List T) → AllByRecursion (λ c. edge x c ≡ false) ts → (firsts : List T) → AllByRecursion (λ a. BeginHold node edge x a ts) firsts → AllByRecursion (λ a. first_some (closed_pair node edge ts a) ts ≡ None) firsts
   none_from x ts out [] all = tt
-  none_from x ts out (a ∷ firsts) all = (first_some-none (through ts a) ts (none_through x a ts out ts out all.0), none_from x ts out firsts all.1)
+  none_from x ts out (a ∷ firsts) all = (first_some-none (closed_pair node edge ts a) ts (none_through x a ts out ts out all.0), none_from x ts out firsts all.1)
 
   -- there is none where x has no edge
   pub none-held : (x : T) (ts : List T) → StructuresHold node edge x ts → list_any (edge x) ts ≡ false → None ≡ first_cause node edge ts
-  none-held x ts all e = sym (first_some-none (λ a. first_some (through ts a) ts) ts (none_from x ts (no_edges x ts e) ts all))
+  none-held x ts all e = sym (first_some-none (λ a. first_some (closed_pair node edge ts a) ts) ts (none_from x ts (no_edges x ts e) ts all))
 
 -- ---- a first whose bound isn't above the middle's snapshot
 
@@ -262,11 +308,11 @@ module _ {T : Type 0} (node : T → Node) (reads : T → T → Bool) where
 
   -- it begins no structure with that middle
   pub bounded-none : (a x : T) (ts : List T) → bound node (edge_of node reads) a ≤ (node x).snapshot → None ≡ caused node (edge_of node reads) a x (earliest node (edge_of node reads) (filter (is_dangerous node (edge_of node reads) a x) ts))
-  bounded-none a x ts le = go (is_some (through node seen_edge ts a x)) refl
+  bounded-none a x ts le = go (is_some (closed_pair node seen_edge ts a x)) refl
     where
-      go : (d : Bool) → is_some (through node (edge_of node reads) ts a x) ≡ d → None ≡ through node (edge_of node reads) ts a x
+      go : (d : Bool) → is_some (closed_pair node (edge_of node reads) ts a x) ≡ d → None ≡ closed_pair node (edge_of node reads) ts a x
       go true e = absurd (through_some node (edge_of node reads) ⊥ a x ts (none_closes a x le ts) e)
-      go false e = sym (none_of (through node (edge_of node reads) ts a x) e)
+      go false e = sym (none_of (closed_pair node (edge_of node reads) ts a x) e)
 
 -- what holds of each holds of the one at a place
 pub held_at : {X : Type 0} (P : X → Type 0) (xs : List X) (i : ℕ) (x : X) → i < length xs → x ≡ get_or xs i x → AllByRecursion P xs → P x

@@ -1,5 +1,6 @@
 pub mod CauseLemmas
 pub mod ExtentLemmas
+mod AroundLemmas
 mod ForgettingLemmas
 pub mod StretchLemmas
 pub mod WalkLemmas

@@ -52,11 +52,11 @@ all-both : {X : Type 0} (P Q : X → Type 0) (xs : List X) → AllByRecursion P 
 all-both P Q [] a b = tt
 all-both P Q (x ∷ xs) a b = ((a.0, b.0), all-both P Q xs a.1 b.1)
 
-all-front : {X : Type 0} (P : X → Type 0) (xs ys : List X) → AllByRecursion P (xs ++ ys) → AllByRecursion P xs
+pub all-front : {X : Type 0} (P : X → Type 0) (xs ys : List X) → AllByRecursion P (xs ++ ys) → AllByRecursion P xs
 all-front P [] ys a = tt
 all-front P (x ∷ xs) ys a = (a.0, all-front P xs ys a.1)
 
-all-back : {X : Type 0} (P : X → Type 0) (xs ys : List X) → AllByRecursion P (xs ++ ys) → AllByRecursion P ys
+pub all-back : {X : Type 0} (P : X → Type 0) (xs ys : List X) → AllByRecursion P (xs ++ ys) → AllByRecursion P ys
 all-back P [] ys a = a
 all-back P (x ∷ xs) ys a = all-back P xs ys a.1
 
@@ -153,7 +153,7 @@ module _ {A : Type 0} where
       together = omega arith
 
   later-past : (n m p q : ℕ) → n ≤ m → p ≤ q → (u : Txn A) → IsPast n p u → IsPast m q u
-  later-past n m p q le lt u h = record { over = h.over; seen = (let k = h.seen in omega arith); ended = (let k = h.ended in omega arith) }
+  later-past n m p q le lt u h = record { over = h.over; seen = (let k = h.seen in omega arith); begun = (let k = h.begun in omega arith); ended = (let k = h.ended in omega arith) }
 
   pub around-held : (s : Stretch) (ts f b : List (Txn A)) (snapshot place : ℕ) → HoldsStretch s ts → s.newest ≤ snapshot → s.until < place → f ≡ take s.from ts → b ≡ drop s.to ts → IsAround snapshot place ts f b
   around-held s ts f b snapshot place h le lt front back = record {
@@ -398,16 +398,16 @@ module _ {A : Type 0} where
       each [] a = tt
       each (x ∷ xs) a = (past-doomed s.newest (s.until + 1) place causes x a.0, each xs a.1)
 
-  -- the one behind it too
-  pub held-more : (s : Stretch) (ts : List (Txn A)) (n place : ℕ) (u : Txn A) → HoldsStretch s ts → s.to < length ts → u ≡ get_or ts s.to u → IsPast n (place + 1) u
-      → HoldsStretch (record { from = s.from; to = s.to + 1; newest = max s.newest u.commit; until = max s.until place }) ts
-  held-more s ts n place u h lt at p = record {
+  -- the one behind it too, where its commit and its snapshot are no greater than m
+  pub held-more : (s : Stretch) (ts : List (Txn A)) (n place m : ℕ) (u : Txn A) → HoldsStretch s ts → s.to < length ts → u ≡ get_or ts s.to u → IsPast n (place + 1) u → u.commit ≤ m → u.snapshot ≤ m
+      → HoldsStretch (record { from = s.from; to = s.to + 1; newest = max s.newest m; until = max s.until place }) ts
+  held-more s ts n place m u h lt at p commit snapshot = record {
     order = (let o = h.order in omega arith);
     within = omega arith;
-    past = subst (AllByRecursion (IsPast (max s.newest u.commit) (max s.until place + 1))) (sym longer)
-        (all-append (IsPast (max s.newest u.commit) (max s.until place + 1)) (between s.from s.to ts) (u ∷ [])
-        (all-mapped (IsPast s.newest (s.until + 1)) (IsPast (max s.newest u.commit) (max s.until place + 1)) (later-past s.newest (max s.newest u.commit) (s.until + 1) (max s.until place + 1) (omega arith) (omega arith)) (between s.from s.to ts) h.past)
-        (record { over = p.over; seen = omega arith; ended = (let e = p.ended in omega arith) }, tt));
+    past = subst (AllByRecursion (IsPast (max s.newest m) (max s.until place + 1))) (sym longer)
+        (all-append (IsPast (max s.newest m) (max s.until place + 1)) (between s.from s.to ts) (u ∷ [])
+        (all-mapped (IsPast s.newest (s.until + 1)) (IsPast (max s.newest m) (max s.until place + 1)) (later-past s.newest (max s.newest m) (s.until + 1) (max s.until place + 1) (omega arith) (omega arith)) (between s.from s.to ts) h.past)
+        (record { over = p.over; seen = omega arith; begun = omega arith; ended = (let e = p.ended in omega arith) }, tt));
   }
     where
       there : u ≡ get_or (drop s.from ts) (s.to - s.from) u

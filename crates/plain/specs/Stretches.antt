@@ -10,10 +10,11 @@ abbrev pub no_stretch : Stretch
 no_stretch = record { from = 0; to = 0; newest = 0; until = 0 }
 
 module _ {A : Type 0} where
-  -- It is over, was over before a place, and didn't commit as a number above that of a snapshot.
+  -- It is over, was over before a place, and neither its commit nor its snapshot is a number above that of a snapshot.
   pub record IsPast (snapshot place : ℕ) (u : Txn A) : Type 0 where
     pub over : is_owed u.standing ≡ false
     pub seen : u.commit ≤ snapshot
+    pub begun : u.snapshot ≤ snapshot
     pub ended : u.end < place
 
   -- the transactions from a place on, before another

@@ -20,9 +20,10 @@ ghost use Rattle.plain.specs.Structures.{StructuresHold};
 ghost use Rattle.plain.specs.Versions.{AreCurrent, HasSameCommits, IsInstalled, StayShown, lowest_of, needed_of, next_commit, owed_snapshots};
 
 use crate::answered::Answered;
+use crate::cause::cause_at;
 use crate::course::Course;
 use crate::dooms::dooms;
-use crate::isolation::{cause_at, has_any_edge};
+use crate::isolation::has_any_edge;
 use crate::least::{Which, least_owed};
 use crate::owed::owed_snapshots;
 use crate::own::OwnChanges;
@@ -97,7 +98,7 @@ fn cause_of_all<A: Allocator>(
     ensures { result ≡ first_cause node edge transactions.now }
 {
     if has_edge_from(transactions, past, at) {
-        cause_at(transactions, at)
+        cause_at(transactions, past, at)
     } else {
         None
     }

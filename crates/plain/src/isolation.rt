@@ -1,12 +1,12 @@
 //! Conflicts between transactions, dangerous structures among them, and where they stand in the
 //! serial order, over a list of them.
 
-ghost use Rattle.std.specs.Prelude.{◌≡◌, ◌<◌, ◌&&◌, if◌then◌else◌, length, min, nat_lt, slice_get, None, Some};
+ghost use Rattle.std.specs.Prelude.{◌≡◌, ◌++◌, ◌&&◌, if◌then◌else◌, min, nat_lt};
 ghost use Rattle.std.specs.List.{filter, list_any};
 ghost use Rattle.std.specs.Option.{option_map};
-ghost use Rattle.value.specs.Isolation.{bound, caused, earliest, edge_of, first_cause, first_part, first_some, is_dangerous, serial_key, structure, write_key};
-ghost use Rattle.plain.specs.Earliest.{first_of};
-ghost use Rattle.plain.specs.Structures.{BeginHold, StructuresHold};
+ghost use Rattle.value.specs.Isolation.{bound, earliest, edge_of, first_part, is_dangerous, serial_key, structure, write_key};
+ghost use Rattle.plain.specs.Earliest.{first_of, first_of_both};
+ghost use Rattle.plain.specs.Structures.{closed_pair};
 
 use crate::party::{Facts, Party};
 use value::refusal::{Cause, TxnNo};
@@ -19,8 +19,8 @@ pub fn has_edge<T: Party>(reader: &T, writer: &T) -> bool
     from.number != to.number && from.snapshot < to.commit && reader.reads_from(writer)
 }
 
-// The last commit that may close a structure on a transaction.
-fn bound<T: Party>(first: &T) -> u64
+/// The last commit that may close a structure on a transaction.
+pub(crate) fn bound<T: Party>(first: &T) -> u64
     ensures { result ≡ bound T.node (edge_of T.node T.reads) first.now }
 {
     let facts = first.facts();
@@ -67,8 +67,18 @@ fn first_of(before: Option<Facts>, next: Facts) -> Facts
     }
 }
 
+// The first to commit of those before and those behind.
+fn first_of_both(before: Option<Facts>, behind: Option<Facts>) -> Option<Facts>
+    ensures { result ≡ first_of_both before behind }
+{
+    match behind {
+        Some(next) => Some(first_of(before, next)),
+        None => before,
+    }
+}
+
 // Of the transactions that close a structure on two others, the first to commit.
-fn last_of<T: Party>(first: &T, pivot: &T, transactions: &[T]) -> Option<Facts>
+fn last_among<T: Party>(first: &T, pivot: &T, transactions: &[T]) -> Option<Facts>
     ensures { result
         ≡ option_map T.node (earliest T.node (edge_of T.node T.reads) (filter (is_dangerous T.node (edge_of T.node T.reads) first.now pivot.now) transactions.now)) }
 {
@@ -81,6 +91,17 @@ fn last_of<T: Party>(first: &T, pivot: &T, transactions: &[T]) -> Option<Facts>
     last
 }
 
+// The same of two lists, one behind the other.
+fn last_of<T: Party>(first: &T, pivot: &T, front: &[T], back: &[T]) -> Option<Facts>
+    ensures { result
+        ≡ option_map T.node (earliest T.node (edge_of T.node T.reads) (filter (is_dangerous T.node (edge_of T.node T.reads) first.now pivot.now) (front.now ++ back.now))) }
+{
+    first_of_both(
+        last_among(first, pivot, front),
+        last_among(first, pivot, back),
+    )
+}
+
 // Whether a transaction committed, and has an edge to another.
 fn is_followed<T: Party>(first: &T, pivot: &T) -> bool
     ensures { result ≡ ((T.node first.now).committed && edge_of T.node T.reads first.now pivot.now) }
@@ -88,32 +109,18 @@ fn is_followed<T: Party>(first: &T, pivot: &T) -> bool
     first.facts().committed && has_edge(first, pivot)
 }
 
-// The structure of two transactions and the first to commit that closes it, if there is one.
-fn cause_between<T: Party>(first: &T, pivot: &T, transactions: &[T]) -> Option<Cause>
-    ensures { result
-        ≡ caused T.node (edge_of T.node T.reads) first.now pivot.now (earliest T.node (edge_of T.node T.reads) (filter (is_dangerous T.node (edge_of T.node T.reads) first.now pivot.now) transactions.now)) }
+/// The structure of two transactions and the first to commit that closes it, if there is one, of the
+/// transactions of two lists, one behind the other.
+pub fn cause_between<T: Party>(first: &T, pivot: &T, front: &[T], back: &[T]) -> Option<Cause>
+    ensures { result ≡ closed_pair T.node (edge_of T.node T.reads) (front.now ++ back.now) first.now pivot.now }
 {
     if !is_followed(first, pivot) {
         return None;
     }
-    match last_of(first, pivot, transactions) {
+    match last_of(first, pivot, front, back) {
         Some(last) => Some(structure(first.facts(), pivot.facts(), last)),
         None => None,
     }
-}
-
-/// The structure that begins at a transaction, with the least pivot, if there is one.
-pub fn cause_from<T: Party>(first: &T, transactions: &[T]) -> Option<Cause>
-    ensures { result
-        ≡ first_some (λ b. caused T.node (edge_of T.node T.reads) first.now b (earliest T.node (edge_of T.node T.reads) (filter (is_dangerous T.node (edge_of T.node T.reads) first.now b) transactions.now))) transactions.now }
-{
-    for pivot in transactions {
-        let cause = cause_between(first, pivot, transactions);
-        if cause.is_some() {
-            return cause;
-        }
-    }
-    None
 }
 
 /// Whether a transaction has an edge to one of these.
@@ -121,42 +128,6 @@ pub(crate) fn has_any_edge<T: Party>(reader: &T, transactions: &[T]) -> bool
     ensures { result ≡ list_any (edge_of T.node T.reads reader.now) transactions.now }
 {
     transactions.iter().any(|writer| has_edge(reader, writer))
-}
-
-// The structure that begins at a transaction, where each of them has the transaction at a place, the
-// committer, as its first or its middle: with the least pivot, if there is one.
-fn cause_through<T: Party>(transactions: &[T], at: usize, first: &T) -> Option<Cause>
-    requires within { at < length transactions.now }
-    requires committer { (x : T) → slice_get transactions.now at ≡ Some x → BeginHold T.node (edge_of T.node T.reads) x first.now transactions.now }
-    ensures { result
-        ≡ first_some (λ b. caused T.node (edge_of T.node T.reads) first.now b (earliest T.node (edge_of T.node T.reads) (filter (is_dangerous T.node (edge_of T.node T.reads) first.now b) transactions.now))) transactions.now }
-{
-    let committer = &transactions[at];
-    if first.facts().number == committer.facts().number {
-        cause_from(first, transactions)
-    } else if bound(first) <= committer.facts().snapshot {
-        // The committer has no edge to what committed that early.
-        None
-    } else {
-        cause_between(first, committer, transactions)
-    }
-}
-
-/// The dangerous structure that is named, of transactions in the order of their numbers: the one
-/// of the least first transaction, then of the least pivot, then of the first to commit. Each has the
-/// transaction at a place, the committer, as its first or its middle. It takes no memory.
-pub fn cause_at<T: Party>(transactions: &[T], at: usize) -> Option<Cause>
-    requires within { at < length transactions.now }
-    requires committer { (x : T) → slice_get transactions.now at ≡ Some x → StructuresHold T.node (edge_of T.node T.reads) x transactions.now }
-    ensures { result ≡ first_cause T.node (edge_of T.node T.reads) transactions.now }
-{
-    for first in transactions {
-        let cause = cause_through(transactions, at, first);
-        if cause.is_some() {
-            return cause;
-        }
-    }
-    None
 }
 
 /// The number of a transaction's commit.

@@ -4,6 +4,7 @@
 
 pub mod added;
 pub mod answered;
+mod cause;
 mod commit;
 mod count;
 pub mod course;

@@ -14,7 +14,7 @@ pub struct Stretch {
     pub from: usize,
     /// The place behind its last.
     pub to: usize,
-    /// None of them committed as a number above this one.
+    /// None of them committed as a number above this one, or has a snapshot above it.
     pub newest: u64,
     /// All were over with the event at this place.
     pub until: u64,
@@ -44,23 +44,23 @@ impl Stretch {
         }
     }
 
-    // The stretch and the transaction behind it, which committed as this number, all over with the
-    // event at a place.
-    fn with(self, commit: u64, place: u64) -> Stretch
+    // The stretch and the transaction behind it, whose commit and snapshot are no greater than this
+    // number, all over with the event at a place.
+    fn with(self, newest: u64, place: u64) -> Stretch
         requires { self.to + 1 < 2 ^ 64 }
-        ensures { result ≡ record { from = self.from; to = self.to + 1; newest = max self.newest commit; until = max self.until place } }
+        ensures { result ≡ record { from = self.from; to = self.to + 1; newest = max self.newest newest; until = max self.until place } }
     {
         Stretch {
             from: self.from,
             to: self.to + 1,
-            newest: self.newest.max(commit),
+            newest: self.newest.max(newest),
             until: self.until.max(place),
         }
     }
 }
 
-/// The transactions before and behind a stretch, where all of it committed as numbers up to that of
-/// a snapshot and was over before a place; else all of them, and none.
+/// The transactions before and behind a stretch, where all commits and snapshots of it are numbers up
+/// to that of a snapshot and it was over before a place; else all of them, and none.
 pub fn around<A: Allocator>(
     transactions: &[Transaction<A>],
     stretch: Stretch,
@@ -82,12 +82,15 @@ pub fn around<A: Allocator>(
 // So many more transactions behind a stretch than in it are worth another stretch.
 const FEW: usize = 64;
 
-// Whether a transaction was over with the event at a place, and didn't commit as a number above that
-// of a snapshot.
+// Whether a transaction was over with the event at a place, and neither its commit nor its snapshot is
+// a number above that of a snapshot.
 fn is_past<A: Allocator>(transaction: &Transaction<A>, snapshot: u64, place: u64) -> bool
     ensures { IsTrue result → IsPast snapshot (place + 1) transaction.now }
 {
-    !transaction.standing.is_owed() && transaction.commit <= snapshot && transaction.end <= place
+    !transaction.standing.is_owed()
+        && transaction.commit <= snapshot
+        && transaction.snapshot <= snapshot
+        && transaction.end <= place
 }
 
 // The place at which the longest stretch of transactions that are over begins.
@@ -142,7 +145,8 @@ pub(crate) fn grown<A: Allocator>(
         if !is_past(transaction, snapshot, place) {
             return stretch;
         }
-        stretch = stretch.with(transaction.commit, place);
+        let newest = transaction.commit.max(transaction.snapshot);
+        stretch = stretch.with(newest, place);
     }
     stretch
 }

@@ -9,7 +9,7 @@ use Rattle.history.specs.Events.{begun, ended, follows, run, start, world_of}
 use Rattle.history.specs.Answer.{IsAnswered, Legal, reply_in}
 use Rattle.serial.proofs.Legal.{Move, Stays, Fails, Aborts, Commits, Runs, Asks, Polls, Learns, Imports, Step, Nothing, Begins, Moves, Settles, Dooms, Steps, One, Two, current_in, found, legal_steps}
 use Rattle.serial.proofs.Dooms.{Fate, Spared, Over, In-doomed}
-use Rattle.serial.proofs.Numbers.{Adds, In-replaced, adds, not_done, polled_keeps}
+use Rattle.serial.proofs.Numbers.{Adds, In-replaced, adds, polled_keeps, no_commit}
 use Rattle.serial.proofs.SerialTheorem.{IsGood, good_start, good_step, good_steps, sound_proper}
 
 module _ {A : Type 0} where
@@ -70,11 +70,7 @@ module _ {A : Type 0} where
       i = (current_in w s t c).0
 
       z : t.commit ≡ 0
-      z = none (g.numbered.kind t i)
-        where
-          none : In t w.log ⊎ (t.commit ≡ 0) × (is_done t.standing ≡ true → is_read_write t.mode ≡ false) → t.commit ≡ 0
-          none (inl j) = absurd (not_done t.standing o (g.numbered.logged t j).1)
-          none (inr k) = k.0
+      z = no_commit w g.numbered t i o
 
       a : Adds w t x log
       a = adds w t x log exports g.numbered o z (g.numbered.shown t i) move

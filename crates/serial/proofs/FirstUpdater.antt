@@ -18,7 +18,7 @@ use Rattle.history.specs.Events.{ended, ran, begun}
 use Rattle.history.specs.Answer.{is_taken}
 use Rattle.serial.proofs.Legal.{Move, Stays, Fails, Aborts, Commits, Runs, Asks, Polls, Learns, Imports, Step, Nothing, Begins, Moves, Settles, Dooms, current_in}
 use Rattle.serial.proofs.Dooms.{Fate, Spared, Over, In-doomed}
-use Rattle.serial.proofs.Numbers.{IsNumbered, adds, In-replaced, polled_keeps, not_done}
+use Rattle.serial.proofs.Numbers.{IsNumbered, adds, In-replaced, polled_keeps, not_done, no_commit}
 use Rattle.serial.proofs.Faithful.{IsFaithful, AllFaithful, waits}
 
 none_in : {A : Type 0} (p : A → Bool) (xs : List A) (x : A) → list_any p xs ≡ false → In x xs → p x ≡ false
@@ -196,11 +196,7 @@ module _ {A : Type 0} where
       i = (current_in w s t c).0
 
       z : t.commit ≡ 0
-      z = none (num.kind t i)
-        where
-          none : In t w.log ⊎ (t.commit ≡ 0) × (is_done t.standing ≡ true → is_read_write t.mode ≡ false) → t.commit ≡ 0
-          none (inl j) = absurd (not_done t.standing o (num.logged t j).1)
-          none (inr k) = k.0
+      z = no_commit w num t i o
 
       number : x.number ≡ t.number
       number = (adds w t x log exports num o z (num.shown t i) move).number

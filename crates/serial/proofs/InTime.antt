@@ -6,7 +6,7 @@ use Rattle.history.specs.Transactions.{Done, Txn, World, Exported_snapshot, comm
 use Rattle.history.specs.Events.{ended, begun, replaced}
 use Rattle.serial.proofs.Legal.{Move, Stays, Fails, Aborts, Commits, Runs, Asks, Polls, Learns, Imports, Step, Nothing, Begins, Moves, Settles, Dooms, current_in}
 use Rattle.serial.proofs.Dooms.{Fate, Spared, Over, In-doomed}
-use Rattle.serial.proofs.Numbers.{IsNumbered, adds, In-replaced, polled_keeps, not_done}
+use Rattle.serial.proofs.Numbers.{IsNumbered, adds, In-replaced, polled_keeps, not_done, no_commit}
 
 module _ {A : Type 0} where
   -- what a committed transaction adds, or showed, is in the snapshot
@@ -169,11 +169,7 @@ module _ {A : Type 0} where
       i = (current_in w s t c).0
 
       z : t.commit ≡ 0
-      z = none (num.kind t i)
-        where
-          none : In t w.log ⊎ (t.commit ≡ 0) × (is_done t.standing ≡ true → is_read_write t.mode ≡ false) → t.commit ≡ 0
-          none (inl j) = absurd (not_done t.standing o (num.logged t j).1)
-          none (inr k) = k.0
+      z = no_commit w num t i o
   in_time_step w v num inv (Settles s t st c o d o' d') = in_time_replaced w t (record t { standing = st }) w.log w.exports num inv (current_in w s t c).0 refl
       (record { begin = refl; end = (λ e. absurd (true≢false (sym e ∙ d')), inl refl); snapshot = inl (refl, refl) })
   in_time_step w v num inv (Dooms cs) = record {

@@ -1,6 +1,5 @@
 -- What more events leave as it is: the committed transactions, their keys and order, and the tables of each commit.
 use Rattle.std.proofs.Common.{◌≡◌, refl, sym, ap, subst, ◌∙◌, ℕ, zero, suc, ◌+◌, ◌-◌, ◌<◌, ◌≤◌, Bool, true, false, true≢false, cond, not, ◌&&◌, ◌⊎◌, inl, inr, List, [], ◌∷◌, ◌++◌, length, take, eqb, nat_lt, nat_le, append_assoc, arith}
-use Rattle.std.proofs.lemmas.Bool.Decides.{nat_tests}
 use Rattle.std.proofs.lemmas.Bool.{eqb-true}
 use Rattle.std.specs.List.{filter}
 use Rattle.value.specs.Isolation.{write_key}
@@ -17,24 +16,11 @@ use Rattle.history.proofs.Alone.{In-filter, filter-In, in_order}
 use Rattle.history.specs.Answer.{reply_in, Legal, IsAnswered}
 use Rattle.serial.proofs.Legal.{Step, Nothing, Begins, Moves, Settles, Dooms, Steps, One, Two, current_in, legal_steps}
 use Rattle.serial.proofs.Dooms.{Fate, Spared, Over, In-doomed, done-In}
-use Rattle.serial.proofs.Numbers.{IsNumbered, Adds, adds, In-replaced, replaced-In, not_done}
+use Rattle.serial.proofs.Numbers.{IsNumbered, Adds, adds, In-replaced, replaced-In, not_done, no_commit}
 use Rattle.serial.proofs.InTime.{keeps}
 use Rattle.serial.proofs.Stamps.{Stamp, Stands, stamp, stamp_step}
-use Rattle.serial.proofs.SafePrefix.{all_by, by_all, is_safe, has_earlier}
+use Rattle.serial.proofs.SafePrefix.{all_by, by_all, has_earlier, is_least, is_less, is_safe, least_so, two_of}
 use Rattle.serial.proofs.SerialTheorem.{IsGood, good_step, good_steps, good_world, isolated_world}
-
-is_least : (a b : ℕ) → nat_le a b ≡ true → a ≤ b
-is_least a b e = grind (arith, nat_tests)
-
-least_so : (a b : ℕ) → a ≤ b → nat_le a b ≡ true
-least_so a b h = grind (arith, nat_tests)
-
-is_less : (a b : ℕ) → nat_lt a b ≡ true → a < b
-is_less a b e = grind (arith, nat_tests)
-
-two_of : (a b : Bool) → (a && b) ≡ true → (a ≡ true) × (b ≡ true)
-two_of true b e = (refl, e)
-two_of false b e = absurd (true≢false (sym e))
 
 module _ {A : Type 0} where
   -- v is what w has become
@@ -111,12 +97,8 @@ module _ {A : Type 0} where
       i : In t u.txns
       i = (current_in u s t c).0
 
-      none : In t u.log ⊎ (t.commit ≡ 0) × (is_done t.standing ≡ true → is_read_write t.mode ≡ false) → t.commit ≡ 0
-      none (inl j) = absurd (not_done t.standing o (num.logged t j).1)
-      none (inr k) = k.0
-
       added : Adds u t x log
-      added = adds u t x log exports num o (none (num.kind t i)) (num.shown t i) move
+      added = adds u t x log exports num o (no_commit u num t i o) (num.shown t i) move
 
       nil : (ts : List (Txn A)) → ts ≡ ts ++ []
       nil [] = refl

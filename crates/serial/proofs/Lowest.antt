@@ -7,12 +7,12 @@ use Rattle.conflict.proofs.Lists.{In-any, and_true, any-In, both_true, clash}
 use Rattle.history.specs.declared.event.Action.{Action}
 use Rattle.history.specs.declared.event.Record.{Record}
 use Rattle.history.specs.Opening.{Opening}
-use Rattle.history.specs.Transactions.{Done, Txn, World, Exported_snapshot, commits, is_done, is_living, is_open, is_owed, is_read_write}
+use Rattle.history.specs.Transactions.{Done, Txn, World, Exported_snapshot, commits, is_living, is_open, is_owed, is_read_write}
 use Rattle.history.specs.Events.{begun, ended, follows, world_of}
 use Rattle.history.specs.Answer.{Allowed, Legal, reply_in}
 use Rattle.serial.proofs.Legal.{Move, Stays, Fails, Aborts, Commits, Runs, Asks, Polls, Learns, Imports, Step, Nothing, Begins, Moves, Settles, Dooms, Steps, One, Two, current_in, found, legal_steps}
 use Rattle.serial.proofs.Dooms.{Fate, Spared, Over, In-doomed, length-doomed}
-use Rattle.serial.proofs.Numbers.{In-replaced, adds, length-replaced, not_done, polled_keeps}
+use Rattle.serial.proofs.Numbers.{In-replaced, adds, length-replaced, polled_keeps, no_commit}
 use Rattle.serial.proofs.SerialTheorem.{IsGood, good_step, good_world}
 use Rattle.serial.proofs.NeededCause.{open_owed}
 use Rattle.serial.proofs.NeededOldest.{Exporting, exporting_step}
@@ -134,11 +134,7 @@ module _ {A : Type 0} where
       i = (current_in w s t c).0
 
       z : t.commit ≡ 0
-      z = none (g.numbered.kind t i)
-        where
-          none : In t w.log ⊎ (t.commit ≡ 0) × (is_done t.standing ≡ true → is_read_write t.mode ≡ false) → t.commit ≡ 0
-          none (inl j) = absurd (not_done t.standing o (g.numbered.logged t j).1)
-          none (inr k) = k.0
+      z = no_commit w g.numbered t i o
 
       same : x.number ≡ t.number
       same = (adds w t x log exports g.numbered o z (g.numbered.shown t i) move).number

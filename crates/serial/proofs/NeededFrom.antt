@@ -9,7 +9,7 @@ use Rattle.history.specs.Events.{follows, run, start, world_of}
 use Rattle.history.specs.Answer.{Allowed, IsAnswered, Legal, reply_in}
 use Rattle.history.specs.Needed.{IsOldest, is_safe_reader}
 use Rattle.serial.proofs.Legal.{Step, Nothing, Begins, Moves, Settles, Dooms, Steps, One, Two, current_in, legal_steps}
-use Rattle.serial.proofs.Numbers.{adds, not_done}
+use Rattle.serial.proofs.Numbers.{adds, no_commit}
 use Rattle.serial.proofs.SafePrefix.{all_by, by_all}
 use Rattle.serial.proofs.SerialTheorem.{IsGood, good_start, good_step, good_steps, good_world, sound_proper}
 use Rattle.serial.proofs.NeededOldest.{Exporting, Oldest, exporting_step, oldest_step}
@@ -18,14 +18,10 @@ module _ {A : Type 0} where
   pub commits_step : (w v : World A) → IsGood w → Step w v → commits w ≤ commits v
   commits_step w v g Nothing = omega arith
   commits_step w v g (Begins s m) = omega arith
-  commits_step w v g (Moves s t x log exports c o move) = go (adds w t x log exports g.numbered o (none (g.numbered.kind t i)) (g.numbered.shown t i) move).log_is
+  commits_step w v g (Moves s t x log exports c o move) = go (adds w t x log exports g.numbered o (no_commit w g.numbered t i o) (g.numbered.shown t i) move).log_is
     where
       i : In t w.txns
       i = (current_in w s t c).0
-
-      none : In t w.log ⊎ (t.commit ≡ 0) × (is_done t.standing ≡ true → is_read_write t.mode ≡ false) → t.commit ≡ 0
-      none (inl j) = absurd (not_done t.standing o (g.numbered.logged t j).1)
-      none (inr k) = k.0
 
       go : (log ≡ w.log) × (x.commit ≡ 0) × (is_done x.standing ≡ true → is_read_write x.mode ≡ false)
           ⊎ (log ≡ w.log ++ x ∷ []) × (x.commit ≡ commits w + 1) × (is_done x.standing ≡ true) × (is_read_write x.mode ≡ true) → w.base.commits + length w.log ≤ w.base.commits + length log

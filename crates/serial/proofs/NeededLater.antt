@@ -16,7 +16,7 @@ use Rattle.history.specs.Answer.{Allowed, Legal, reply_in, reply_of}
 use Rattle.history.specs.Needed.{is_recent, is_late_reader, is_met, is_needed, is_safe_reader, IsOldest, Keeps, kept_of}
 use Rattle.serial.proofs.Legal.{Move, Stays, Fails, Aborts, Commits, Runs, Asks, Polls, Learns, Imports, Step, Nothing, Begins, Moves, Settles, Dooms, before, current_in, first_step}
 use Rattle.serial.proofs.Dooms.{Fate, Spared, Over, In-doomed}
-use Rattle.serial.proofs.Numbers.{In-replaced, adds, not_done, polled_keeps}
+use Rattle.serial.proofs.Numbers.{In-replaced, adds, not_done, polled_keeps, no_commit}
 use Rattle.serial.proofs.SafePrefix.{all_by, by_all}
 use Rattle.serial.proofs.SerialTheorem.{IsGood, edge_parts, good_world}
 use Rattle.serial.proofs.NeededCause.{c, in_log, open_owed}
@@ -109,11 +109,7 @@ module _ {A : Type 0} where
       i = (current_in w s t e).0
 
       z : t.commit ≡ 0
-      z = none (g.numbered.kind t i)
-        where
-          none : In t w.log ⊎ (t.commit ≡ 0) × (is_done t.standing ≡ true → is_read_write t.mode ≡ false) → t.commit ≡ 0
-          none (inl j) = absurd (not_done t.standing o (g.numbered.logged t j).1)
-          none (inr k) = k.0
+      z = no_commit w g.numbered t i o
 
       same : x.number ≡ t.number
       same = (adds w t x log exports g.numbered o z (g.numbered.shown t i) move).number

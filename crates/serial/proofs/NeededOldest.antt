@@ -6,13 +6,13 @@ use Rattle.value.specs.declared.refusal.Mode.TheVariants.{ReadWrite, ReadOnly, D
 use Rattle.value.proofs.IsolationLemmas.{In}
 use Rattle.value.proofs.SerialLemmas.{In-append}
 use Rattle.conflict.proofs.Lists.{any-In, both_true, clash}
-use Rattle.history.specs.Transactions.{Done, Txn, World, Exported_snapshot, commits, is_done, is_living, is_open, is_read_only, is_read_write, must_wait}
+use Rattle.history.specs.Transactions.{Done, Txn, World, Exported_snapshot, commits, is_living, is_open, is_read_only, is_read_write, must_wait}
 use Rattle.history.specs.Events.{begun, ended}
 use Rattle.history.specs.Needed.{is_safe_reader}
 use Rattle.serial.proofs.Legal.{Move, Stays, Fails, Aborts, Commits, Runs, Asks, Polls, Learns, Imports, Step, Nothing, Begins, Moves, Settles, Dooms, current_in, found}
 use Rattle.serial.proofs.Dooms.{Fate, Spared, Over, In-doomed, length-doomed}
 use Rattle.serial.proofs.Faithful.{waits}
-use Rattle.serial.proofs.Numbers.{In-replaced, adds, length-replaced, not_done, polled_keeps}
+use Rattle.serial.proofs.Numbers.{In-replaced, adds, length-replaced, polled_keeps, no_commit}
 use Rattle.serial.proofs.SerialTheorem.{IsGood}
 
 reads : (m : Mode) → is_read_only m ≡ true → is_read_write m ≡ false
@@ -79,11 +79,7 @@ module _ {A : Type 0} where
       i = (current_in w s t c).0
 
       z : t.commit ≡ 0
-      z = none (g.numbered.kind t i)
-        where
-          none : In t w.log ⊎ (t.commit ≡ 0) × (is_done t.standing ≡ true → is_read_write t.mode ≡ false) → t.commit ≡ 0
-          none (inl j) = absurd (not_done t.standing o (g.numbered.logged t j).1)
-          none (inr k) = k.0
+      z = no_commit w g.numbered t i o
 
       same : x.number ≡ t.number
       same = (adds w t x log exports g.numbered o z (g.numbered.shown t i) move).number

@@ -68,6 +68,14 @@ module _ {A : Type 0} where
     pub shown : (t : Txn A) → In t w.txns → Shown w t.snapshot
     pub exports : (x : Exported_snapshot) → In x w.exports → Shown w x.snapshot
 
+  -- an open transaction has no commit number
+  pub no_commit : (w : World A) → IsNumbered w → (t : Txn A) → In t w.txns → is_open t.standing ≡ true → t.commit ≡ 0
+  no_commit w inv t i o = go (inv.kind t i)
+    where
+      go : In t w.log ⊎ (t.commit ≡ 0) × (is_done t.standing ≡ true → is_read_write t.mode ≡ false) → t.commit ≡ 0
+      go (inl j) = absurd (not_done t.standing o (inv.logged t j).1)
+      go (inr k) = k.0
+
   -- A move adds no commit, or one that has the next number.
   pub record Adds (w : World A) (t x : Txn A) (log : List (Txn A)) : Type 0 where
     pub number : x.number ≡ t.number
@@ -261,12 +269,8 @@ module _ {A : Type 0} where
       shown t (inr (inr p)) = absurd p
   numbers_step w v inv (Moves s t x log exports c o move) =
       let i = (current_in w s t c).0 in
-      let z : t.commit ≡ 0 = none (inv.kind t i) in
+      let z : t.commit ≡ 0 = no_commit w inv t i o in
       replaced_numbers w t x log exports inv i z (adds w t x log exports inv o z (inv.shown t i) move) (exports_kept w t x log exports inv (inv.shown t i) move)
-    where
-      none : In t w.log ⊎ (t.commit ≡ 0) × (is_done t.standing ≡ true → is_read_write t.mode ≡ false) → t.commit ≡ 0
-      none (inl j) = absurd (not_done t.standing o (inv.logged t j).1)
-      none (inr k) = k.0
   numbers_step w v inv (Settles s t st c o d o' d') = replaced_numbers w t (record t { standing = st }) w.log w.exports inv i none (record { number = refl; mode = refl; shown = inv.shown t i; log_is = inl (refl, none, λ e. absurd (true≢false (sym e ∙ d'))) }) inv.exports
     where
       i : In t w.txns

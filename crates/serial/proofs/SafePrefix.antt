@@ -35,16 +35,16 @@ same_test false false f g = refl
 compared : (a b : ℕ) → (a ≤ b) ⊎ (b < a)
 compared a b = grind arith
 
-is_least : (a b : ℕ) → nat_le a b ≡ true → a ≤ b
+pub is_least : (a b : ℕ) → nat_le a b ≡ true → a ≤ b
 is_least a b e = grind (arith, nat_tests)
 
-least_so : (a b : ℕ) → a ≤ b → nat_le a b ≡ true
+pub least_so : (a b : ℕ) → a ≤ b → nat_le a b ≡ true
 least_so a b h = grind (arith, nat_tests)
 
-is_less : (a b : ℕ) → nat_lt a b ≡ true → a < b
+pub is_less : (a b : ℕ) → nat_lt a b ≡ true → a < b
 is_less a b e = grind (arith, nat_tests)
 
-two_of : (a b : Bool) → (a && b) ≡ true → (a ≡ true) × (b ≡ true)
+pub two_of : (a b : Bool) → (a && b) ≡ true → (a ≡ true) × (b ≡ true)
 two_of true b e = (refl, e)
 two_of false b e = absurd (true≢false (sym e))
 

@@ -67,8 +67,7 @@ fn open_rows<A: Allocator + Copy>(
 {
     // The catalog's tables are few.
     let _count = catalog.len();
-    let copy = tables.copy(alloc)?;
-    Rows::of(alloc, copy)
+    Rows::of_lent(alloc, tables)
 }
 
 // A core of nothing yet on a history of nothing yet.

@@ -1,5 +1,6 @@
-use Rattle.std.proofs.Common.{sym, subst, map, arith}
-use Rattle.std.proofs.lemmas.List.{nil_from_length}
+use Rattle.std.proofs.Common.{sym, subst, ap, map, ◌∷◌, ◌∙◌}
+use Rattle.schema.specs.Plain.{rows_of}
+use Rattle.schema.specs.Rows.{rows_left, rows_after}
 use Rattle.mvrows.specs.Versions.{IsInOrder}
 use Rattle.mvrows.specs.Installing.{opened_row}
 use Rattle.mvrows.specs.HeldRows.{rows_in}
@@ -9,23 +10,23 @@ use Rattle.mvrows.proofs.table.open_pages.Goals as goal
 
 pub push_opened-requires : goal.push_opened-requires
 push_opened-requires g c =
-    open-order (rows_in c.loop-row.leaves.items) c.loop-row.page (rows_in c.with_room.new.leaves.items) c.in_ok-page.page c.in-Some.row c.loop-row.row-iterator.rest.items c.next.new.self.rest.items (map opened_row c.args.rows.items) c.in_ok-page.ensures.ok c.in-Some.ensures.steps.0 c.loop-row.invariant.rows (opened-in_order c.args.rows.items c.requires)
+    let rows = rows_of c.args.tables.now c.args.table in
+    open-order (rows_in c.loop-next.leaves.items) c.loop-next.page (rows_in c.with_room.new.leaves.items) c.in_ok-page.page c.in_ok-copy.field-0 (rows_left rows c.loop-next.next) (rows_after rows c.in-Some.row.now.0) (map opened_row rows) c.in_ok-page.ensures.ok
+    (ap (rows_left rows) c.in-Some.is ∙ ap (λ r. r ∷ rows_after rows c.in-Some.row.now.0) (sym c.in_ok-copy.ensures.ok))
+    c.loop-next.invariant.rows (opened-in_order rows c.first_row-next.ensures.ordered)
 
-pub loop-row-preserved : goal.loop-row-preserved
-loop-row-preserved g c = record {
-  rows = open-step (rows_in c.loop-row.leaves.items) c.loop-row.page (rows_in c.with_room.new.leaves.items) c.in_ok-page.page c.push_opened.new.self c.in-Some.row c.loop-row.row-iterator.rest.items c.next.new.self.rest.items (map opened_row c.args.rows.items) c.in_ok-page.ensures.ok c.in_ok-push_opened.ensures.ok c.in-Some.ensures.steps.0 c.loop-row.invariant.rows;
-  keys = c.with_room.ensures.keys;
-}
-
-pub returns-clause-ok : goal.returns-clause-ok
-returns-clause-ok g c =
-    let rest = c.loop-row.row-iterator.rest in
-    let none = nil_from_length rest.items (omega (arith, rest.ok.0, c.in-None.ensures.steps.0)) in
-    open-end (rows_in c.loop-row.leaves.items) c.loop-row.page (rows_in c.push_page.new.leaves.items) rest.items (map opened_row c.args.rows.items) c.in_ok-push_page.ensures.ok none c.loop-row.invariant.rows
+pub loop-next-preserved : goal.loop-next-preserved
+loop-next-preserved g c =
+    let rows = rows_of c.args.tables.now c.args.table in
+    record {
+      rows = open-step (rows_in c.loop-next.leaves.items) c.loop-next.page (rows_in c.with_room.new.leaves.items) c.in_ok-page.page c.push_opened.new.self c.in_ok-copy.field-0 (rows_left rows c.loop-next.next) (rows_left rows c.row_after-next.result) (map opened_row rows) c.in_ok-page.ensures.ok c.in_ok-push_opened.ensures.ok
+          (ap (rows_left rows) c.in-Some.is ∙ ap (λ r. r ∷ rows_after rows c.in-Some.row.now.0) (sym c.in_ok-copy.ensures.ok) ∙ ap (λ rest. c.in_ok-copy.field-0 ∷ rest) (sym c.row_after-next.ensures.left))
+          c.loop-next.invariant.rows;
+      keys = c.with_room.ensures.keys;
+    }
 
 pub returns-clause-laid_out : goal.returns-clause-laid_out
 returns-clause-laid_out g c =
-    let rest = c.loop-row.row-iterator.rest in
-    let none = nil_from_length rest.items (omega (arith, rest.ok.0, c.in-None.ensures.steps.0)) in
-    let whole = open-end (rows_in c.loop-row.leaves.items) c.loop-row.page (rows_in c.push_page.new.leaves.items) rest.items (map opened_row c.args.rows.items) c.in_ok-push_page.ensures.ok none c.loop-row.invariant.rows in
-    (subst IsInOrder (sym whole) (opened-in_order c.args.rows.items c.requires), c.push_page.ensures.keys)
+    let rows = rows_of c.args.tables.now c.args.table in
+    let whole = open-end (rows_in c.loop-next.leaves.items) c.loop-next.page (rows_in c.push_page.new.leaves.items) (rows_left rows c.loop-next.next) (map opened_row rows) c.in_ok-push_page.ensures.ok (ap (rows_left rows) c.in_default.is) c.loop-next.invariant.rows in
+    (subst IsInOrder (sym whole) (opened-in_order rows c.first_row-next.ensures.ordered), c.push_page.ensures.keys)

@@ -1,20 +1,19 @@
-use Rattle.std.proofs.Common.{◌∙◌, sym, ap, Some, arith}
-use Rattle.value.specs.Isolation.{edge_of, is_dangerous}
-use Rattle.plain.specs.Earliest.{first_of}
-use Rattle.plain.proofs.CauseLemmas.{earliest-next, earliest-same}
+use Rattle.std.proofs.Common.{ap, sym, ◌∙◌}
+use Rattle.std.specs.List.{filter}
+use Rattle.std.specs.Option.{option_map}
+use Rattle.std.proofs.lemmas.List.Elements.{filter-append}
+use Rattle.value.specs.Isolation.{earliest, edge_of, is_dangerous}
+use Rattle.plain.specs.Earliest.{first_of_both}
+use Rattle.plain.proofs.CauseLemmas.{earliest-append}
 use Rattle.plain.proofs.isolation.last_of.Goals as goal
-use Rattle.plain.proofs.isolation.last_of.Goals.{then-is_dangerous, else-is_dangerous}
 
-pub loop-candidate-preserved : goal.loop-candidate-preserved
-loop-candidate-preserved g c =
+pub returns : goal.returns
+returns g c =
     let node = g.T.Party.node in
     let edge = edge_of g.T.Party.node g.T.Party.reads in
     let test = is_dangerous node edge c.args.first.now c.args.pivot.now in
-    elim c.if-is_dangerous.branch [
-      | then-is_dangerous w ↦
-          w.last-is ∙ ap Some (w.first_of.ensures ∙ ap (first_of c.loop-candidate.last) w.facts.ensures)
-          ∙ earliest-next node edge test c.args.transactions.now c.loop-candidate.candidate-index c.candidate-item.result (omega arith) c.candidate-item.is (sym c.is_dangerous.ensures ∙ w.if-is_dangerous.true) c.loop-candidate.last c.loop-candidate.invariant
-      | else-is_dangerous w ↦
-          w.last-is
-          ∙ earliest-same node edge test c.args.transactions.now c.loop-candidate.candidate-index c.candidate-item.result (omega arith) c.candidate-item.is (sym c.is_dangerous.ensures ∙ w.if-is_dangerous.false) c.loop-candidate.last c.loop-candidate.invariant
-    ]
+    let front = c.args.front.now in
+    let back = c.args.back.now in
+    c.first_of_both.ensures ∙ ap (λ o. first_of_both o c.last_among-2.result) c.last_among.ensures
+    ∙ ap (first_of_both (option_map node (earliest node edge (filter test front)))) c.last_among-2.ensures
+    ∙ sym (ap (λ xs. option_map node (earliest node edge xs)) (filter-append test front back) ∙ earliest-append node edge (filter test front) (filter test back))

@@ -2,7 +2,7 @@ use Rattle.std.proofs.Common.{◌≡◌, take}
 use Rattle.std.specs.List.{filter}
 use Rattle.std.specs.Option.{option_map}
 use Rattle.value.specs.Isolation.{earliest, edge_of, is_dangerous}
-use Rattle.plain.proofs.isolation.last_of.Given as goal
+use Rattle.plain.proofs.isolation.last_among.Given as goal
 
 -- the first to commit of those so far that close it
 abbrev pub invariant-loop-candidate : goal.invariant-loop-candidate
