@@ -1,4 +1,5 @@
 mod AddingLemmas
+pub mod BatchLemmas
 pub mod ChangingLemmas
 pub mod InsertingLemmas
 mod KeyedLemmas
