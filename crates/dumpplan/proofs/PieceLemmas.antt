@@ -6,12 +6,14 @@ use Rattle.std.specs.Ordering.{is_le, is_lt, ordering_reverse}
 use Rattle.std.specs.declared.cmp.Ordering.{Ordering}
 use Rattle.std.specs.declared.cmp.Ordering.TheVariants.{Less, Equal, Greater}
 use Rattle.std.proofs.lemmas.List.{append-nil}
+use Rattle.std.proofs.lemmas.Bool.Decides.{nat_tests}
+use Rattle.std.proofs.lemmas.List.Kept.{IsStrictlySortedBy-filter}
 use Rattle.std.proofs.lemmas.List.Concat.{flat_map-append}
 use Rattle.value.specs.Order.{value_cmp, value_cmp-total, value_cmp-exact}
 use Rattle.value.specs.declared.key.Key.{Key}
 use Rattle.schema.specs.Definition.{TableSchema, Catalog}
 use Rattle.schema.specs.Plain.{rows_of}
-use Rattle.schema.specs.Rows.{IsInKeyOrder, rows_left, rows_after}
+use Rattle.schema.specs.Rows.{IsInKeyOrder}
 use Rattle.schema.specs.declared.row.Row.{Row}
 use Rattle.copytext.specs.Writing.{row_text}
 use Rattle.dumpplan.specs.declared.piece.Piece.{Piece}
@@ -174,27 +176,53 @@ module _ {A : Type 0} where
 
   -- ---- reading the rows of a piece
 
-  not_before : (end : RowsEnd A) (k l : Key A) → value_cmp k l ≡ Less → is_before end k ≡ false → is_before end l ≡ false
-  not_before (Before end) k l later h = still_not_below k l end later h
-  not_before (Last count) k l later h = absurd cc
+  none_later : (end : RowsEnd A) (k : Key A) (rows : List (Row A)) → AllByRecursion (λ l. value_cmp k l ≡ Less) (map (λ row. row.0) rows) → is_before end k ≡ false → rows_before end rows ≡ []
+  none_later (Before end) k rows later h = none_before end k rows later h
+  none_later (Last count) k rows later h = absurd cc
 
-  none_after : (end : RowsEnd A) (k : Key A) (rows : List (Row A)) → is_before end k ≡ false → rows_before end (rows_after rows k) ≡ []
-  none_after end k [] h = refl
-  none_after end k (row ∷ rows) h = by_order (value_cmp k row.0) refl (none_after end k rows h)
-    where
-      by_order : (o : Ordering) → value_cmp k row.0 ≡ o → rows_before end (rows_after rows k) ≡ [] → rows_before end (cond (is_lt o) (row ∷ rows_after rows k) (rows_after rows k)) ≡ []
-      by_order Less is rest = rw (not_before end k row.0 is h) rest
-      by_order Equal is rest = rest
-      by_order Greater is rest = rest
-
-  -- a row that is not before the end is the first of none that are
-  pub read_over : (end : RowsEnd A) (row : Bor (Row A)) (rows : List (Row A)) → is_before end row.now.0 ≡ false → rows_before end (rows_left rows (Some row)) ≡ []
-  read_over end row rows h = rw h (none_after end row.now.0 rows h)
+  -- where the first row is not before the end, none is
+  pub none_left : (end : RowsEnd A) (rows rest : List (Row A)) (row : Row A) → rows ≡ row ∷ rest → IsInKeyOrder rows → is_before end row.0 ≡ false → rows_before end rows ≡ []
+  unfolding IsStrictlySortedBy
+  none_left end rows rest row is sorted h = let order = subst IsInKeyOrder is sorted in rw (is, h) (none_later end row.0 rest order.0 h)
 
   -- a row that is before it
-  pub read_row : (end : RowsEnd A) (row : Bor (Row A)) (next : Option (Bor (Row A))) (rows : List (Row A)) (old new total : List ℕ) → is_before end row.now.0 ≡ true → rows_left rows next ≡ rows_after rows row.now.0 → old ++ rows_text (rows_before end (rows_left rows (Some row))) ≡ total
-      → new ≡ old ++ row_text (row.now.0 ∷ row.now.1) → new ++ rows_text (rows_before end (rows_left rows next)) ≡ total
-  read_row end row next rows old new total h left so_far made =
-      let rest : List ℕ = rows_text (rows_before end (rows_after rows row.now.0)) in
-      let whole : rows_text (rows_before end (rows_left rows (Some row))) ≡ row_text (row.now.0 ∷ row.now.1) ++ rest = rw h refl in
-      ap (λ (rs : List (Row A)). new ++ rows_text (rows_before end rs)) left ∙ ap (λ (t : List ℕ). t ++ rest) made ∙ append_assoc old (row_text (row.now.0 ∷ row.now.1)) rest ∙ ap (λ (t : List ℕ). old ++ t) (sym whole) ∙ so_far
+  pub read_row : (end : RowsEnd A) (rows rest : List (Row A)) (row : Row A) (old new total : List ℕ) → rows ≡ row ∷ rest → IsInKeyOrder rows → is_before end row.0 ≡ true → old ++ rows_text (rows_before end rows) ≡ total
+      → new ≡ old ++ row_text (row.0 ∷ row.1) → (new ++ rows_text (rows_before end rest) ≡ total) × IsInKeyOrder rest
+  unfolding IsStrictlySortedBy
+  read_row end rows rest row old new total is sorted h so_far made =
+      let more : List ℕ = rows_text (rows_before end rest) in
+      let whole : rows_text (rows_before end rows) ≡ row_text (row.0 ∷ row.1) ++ more = rw (is, h) refl in
+      let order = subst IsInKeyOrder is sorted in
+      (ap (λ (t : List ℕ). t ++ more) made ∙ append_assoc old (row_text (row.0 ∷ row.1)) more ∙ ap (λ (t : List ℕ). old ++ t) (sym whole) ∙ so_far, order.1)
+
+  -- the rows from a key on are in key order too
+  keys_from : (from : Option (Key A)) (rows : List (Row A)) → map (λ row. row.0) (rows_from from rows) ≡ filter (is_from from) (map (λ row. row.0) rows)
+  keys_from from [] = refl
+  keys_from from (row ∷ rows) = by_test (is_from from row.0) (keys_from from rows)
+    where
+      by_test : (b : Bool) → map (λ row. row.0) (rows_from from rows) ≡ filter (is_from from) (map (λ row. row.0) rows)
+          → map (λ row. row.0) (cond b (row ∷ rows_from from rows) (rows_from from rows)) ≡ cond b (row.0 ∷ filter (is_from from) (map (λ row. row.0) rows)) (filter (is_from from) (map (λ row. row.0) rows))
+      by_test true e = ap (λ keys. row.0 ∷ keys) e
+      by_test false e = e
+
+  pub rows_from-rise : (from : Option (Key A)) (rows : List (Row A)) → IsInKeyOrder rows → IsInKeyOrder (rows_from from rows)
+  rows_from-rise from rows sorted = subst (IsStrictlySortedBy value_cmp) (sym (keys_from from rows)) (IsStrictlySortedBy-filter value_cmp (is_from from) (map (λ row. row.0) rows) sorted)
+
+  -- ---- cutting a table
+
+  -- a row that is not the first of a further piece
+  pub goes_on : (most room n count : ℕ) (keys : List (Key A)) (total : List (Key A)) (rows rest : List (Row A)) (row : Row A) → rows ≡ row ∷ rest → 0 < room → keys ++ cuts most room rows ≡ total → n + length rows ≡ count
+      → (keys ++ cuts most (room - 1) rest ≡ total) × (n + 1 + length rest ≡ count)
+  goes_on most room n count keys total rows rest row is inside so_far counted =
+      let full : (room == 0) ≡ false = grind (arith, nat_tests) in
+      let same : cuts most room rows ≡ cuts most (room - 1) rest = rw (is, full) refl in
+      let longer : length rows ≡ suc (length rest) = ap length is in
+      (ap (λ ks. keys ++ ks) (sym same) ∙ so_far, omega arith)
+
+  -- one that is
+  pub is_cut : (most room n count : ℕ) (keys more : List (Key A)) (total : List (Key A)) (rows rest : List (Row A)) (row : Row A) → rows ≡ row ∷ rest → room ≡ 0 → keys ++ cuts most room rows ≡ total → more ≡ keys ++ row.0 ∷ [] → n + length rows ≡ count
+      → (more ++ cuts most (most - 1) rest ≡ total) × (n + 1 + length rest ≡ count)
+  is_cut most room n count keys more total rows rest row is full so_far made counted =
+      let same : cuts most room rows ≡ row.0 ∷ cuts most (most - 1) rest = rw (is, full) refl in
+      let longer : length rows ≡ suc (length rest) = ap length is in
+      (ap (λ ks. ks ++ cuts most (most - 1) rest) made ∙ append_assoc keys (row.0 ∷ []) (cuts most (most - 1) rest) ∙ ap (λ ks. keys ++ ks) (sym same) ∙ so_far, omega arith)

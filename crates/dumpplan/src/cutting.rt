@@ -13,7 +13,7 @@ use crate::jobs::PieceRows;
 use crate::piece::{Piece, Plan, RowRange, RowsEnd};
 use crate::text::one_more;
 use schema::catalog::{Catalog, TableNo};
-use schema::reader::{SnapshotReader, first_row, row_after};
+use schema::walk::{RowsReader, Walk};
 use std::alloc::Allocator;
 use value::key::Key;
 use value::refusal::Refusal;
@@ -25,7 +25,7 @@ struct TableCuts<A: Allocator> {
 }
 
 // Where a table is cut: it is read once, and the keys that begin a further piece are copied.
-fn cut_table<A: Allocator + Copy, R: SnapshotReader<A>>(
+fn cut_table<A: Allocator + Copy, R: RowsReader<A>>(
     alloc: A,
     reader: &R,
     table: TableNo,
@@ -41,15 +41,14 @@ fn cut_table<A: Allocator + Copy, R: SnapshotReader<A>>(
     let mut keys = Vec::new(alloc);
     let mut rows = 0;
     let mut room = most;
-    let mut next = first_row(reader, table);
-    while let Some(row) = next {
+    let mut walk = Walk::over(alloc, reader, table)?;
+    while let Some(row) = walk.next()? {
         if room == 0 {
             keys.push(row.key().copy(alloc)?)?;
             room = most;
         }
         room -= 1;
         rows = one_more(rows)?;
-        next = row_after(reader, table, row);
     }
     Ok(TableCuts { keys, rows })
 }
@@ -78,7 +77,7 @@ fn push_ranges<A: Allocator + Copy>(
 }
 
 // Appends the pieces of a table.
-fn push_table<A: Allocator + Copy, R: SnapshotReader<A>>(
+fn push_table<A: Allocator + Copy, R: RowsReader<A>>(
     alloc: A,
     reader: &R,
     table: TableNo,
@@ -96,7 +95,7 @@ fn push_table<A: Allocator + Copy, R: SnapshotReader<A>>(
 
 /// Cuts the dump of a reader's tables, which are the catalog's: the head is a piece, each table's rows are pieces of at most
 /// so many, an empty table is one piece, and the last line is one.
-pub fn plan<A: Allocator + Copy, R: SnapshotReader<A>>(
+pub fn plan<A: Allocator + Copy, R: RowsReader<A>>(
     alloc: A,
     reader: &R,
     catalog: &Catalog<A>,

@@ -2,7 +2,7 @@
 
 ghost use Rattle.std.specs.Prelude.{◌≡◌, ◌++◌, ◌<◌, length, OnOk, IfOk, IfErr};
 ghost use Rattle.value.specs.Refusals.{out_of_memory};
-ghost use Rattle.schema.specs.Rows.{HasTable, rows_left};
+ghost use Rattle.schema.specs.Rows.{HasTable, IsInKeyOrder};
 ghost use Rattle.schema.specs.Plain.{rows_of};
 ghost use Rattle.dumpplan.specs.Pieces.{is_before, rows_from, rows_before, rows_text, start_text, stop_text, range_text};
 
@@ -10,8 +10,8 @@ use crate::piece::{RowRange, RowsEnd};
 use crate::text::{append_copy_line, append_end_of_rows};
 use copytext::write_row;
 use schema::catalog::TableSchema;
-use schema::reader::{Bound, SnapshotReader, first_row, row_after, row_within};
-use schema::row::Row;
+use schema::reader::Bound;
+use schema::walk::{RowsReader, Walk};
 use std::alloc::Allocator;
 use value::key::Key;
 use value::refusal::Refusal;
@@ -57,22 +57,26 @@ fn is_before<A: Allocator>(end: &RowsEnd<A>, key: &Key<A>) -> bool
     }
 }
 
-// The first row from the start of a piece on.
-fn first_of<'r, A: Allocator, R: SnapshotReader<A>>(
+// A walk from the start of a piece on.
+fn walk_from<'r, A: Allocator + Copy, R: RowsReader<A>>(
+    alloc: A,
     reader: &'r R,
     range: &RowRange<A>,
-) -> Option<&'r Row<A>>
+) -> Result<Walk<'r, R, A>, Refusal>
     requires { HasTable (R.tables reader.now) range.now.table }
-    ensures { rows_left (rows_of (R.tables reader.now) range.now.table) result ≡ rows_from range.now.from (rows_of (R.tables reader.now) range.now.table) }
+    ensures rows { IfOk result (λ walk. walk ≡ rows_from range.now.from (rows_of (R.tables reader.now) range.now.table)) }
+    ensures ordered { IsInKeyOrder (rows_of (R.tables reader.now) range.now.table) }
+    ensures memory { IfErr result (λ e. e ≡ out_of_memory) }
 {
     match &range.from {
-        None => first_row(reader, range.table),
-        Some(key) => row_within(reader, range.table, Bound::From(key)),
+        None => Walk::over(alloc, reader, range.table),
+        Some(key) => Walk::within(alloc, reader, range.table, Bound::From(key)),
     }
 }
 
 // Appends the rows of a piece.
-fn append_range<A: Allocator, R: SnapshotReader<A>>(
+fn append_range<A: Allocator + Copy, R: RowsReader<A>>(
+    alloc: A,
     reader: &R,
     range: &RowRange<A>,
     text: &mut Vec<u8, A>,
@@ -81,19 +85,18 @@ fn append_range<A: Allocator, R: SnapshotReader<A>>(
     ensures ok { OnOk result (text.new.items ≡ text.old.items ++ rows_text (rows_before range.now.end (rows_from range.now.from (rows_of (R.tables reader.now) range.now.table)))) }
     ensures memory { IfErr result (λ e. e ≡ out_of_memory) }
 {
-    let mut next = first_of(reader, range);
-    while let Some(row) = next {
+    let mut walk = walk_from(alloc, reader, range)?;
+    while let Some(row) = walk.next()? {
         if !is_before(&range.end, row.key()) {
             return Ok(());
         }
         write_row(row, text)?;
-        next = row_after(reader, range.table, row);
     }
     Ok(())
 }
 
 /// The text of a piece of a table.
-pub fn range_text<A: Allocator + Copy, R: SnapshotReader<A>>(
+pub fn range_text<A: Allocator + Copy, R: RowsReader<A>>(
     alloc: A,
     reader: &R,
     table: &TableSchema<A>,
@@ -105,7 +108,7 @@ pub fn range_text<A: Allocator + Copy, R: SnapshotReader<A>>(
 {
     let mut text = Vec::new(alloc);
     append_start(alloc, table, &range.from, &mut text)?;
-    append_range(reader, range, &mut text)?;
+    append_range(alloc, reader, range, &mut text)?;
     append_stop(alloc, &range.end, &mut text)?;
     Ok(text)
 }

@@ -8,20 +8,20 @@ ghost use Rattle.dumpplan.specs.Pieces.{piece_texts, IsPieceOf};
 use crate::encode::encode_piece;
 use dumpplan::Plan;
 use schema::catalog::Catalog;
-use schema::reader::SnapshotReader;
+use schema::walk::RowsReader;
 use std::alloc::Allocator;
 use std::marker::Model;
 use value::refusal::Refusal;
 
 // A plan, and the tables that it was made of. To a contract it is the texts of the pieces.
 #[derive(Drop)]
-pub(crate) struct Source<'a, R: SnapshotReader<A>, A: Allocator> {
+pub(crate) struct Source<'a, R: RowsReader<A>, A: Allocator> {
     reader: &'a R,
     catalog: &'a Catalog<A>,
     plan: &'a Plan<A>,
 }
 
-impl<'a, R: SnapshotReader<A>, A: Allocator> Model for Source<'a, R, A> {
+impl<'a, R: RowsReader<A>, A: Allocator> Model for Source<'a, R, A> {
     ghost use Rattle.std.specs.Prelude.{◌≡◌, ℕ, List, length};
     ghost use Rattle.std.specs.List.{AllByRecursion};
     ghost use Rattle.dumpplan.specs.Pieces.{piece_texts, IsPieceOf};
@@ -33,7 +33,7 @@ impl<'a, R: SnapshotReader<A>, A: Allocator> Model for Source<'a, R, A> {
     ghost invariant = { λ s. (length (R.tables s.reader.now) ≡ length s.catalog.now) × AllByRecursion (IsPieceOf (length s.catalog.now)) s.plan.now };
 }
 
-impl<'a, R: SnapshotReader<A>, A: Allocator> Source<'a, R, A> {
+impl<'a, R: RowsReader<A>, A: Allocator> Source<'a, R, A> {
     pub(crate) fn new(reader: &'a R, catalog: &'a Catalog<A>, plan: &'a Plan<A>) -> Source<'a, R, A>
         requires counted { length (R.tables reader.now) ≡ length catalog.now }
         requires known { AllByRecursion (IsPieceOf (length catalog.now)) plan.now }

@@ -9,7 +9,7 @@ use crate::shelf::{Job, Shelf, Stopped};
 use crate::source::Source;
 use collector::Device;
 use dumpplan::{Gate, Jobs};
-use schema::reader::SnapshotReader;
+use schema::walk::RowsReader;
 use std::alloc::Allocator;
 use std::sync::{Mutex, Wait};
 use std::thread;
@@ -31,7 +31,7 @@ fn work<A, R, W, G, T, D>(
 ) -> (Drawer, Result<(), Stopped>)
 where
     A: Allocator + Copy,
-    R: SnapshotReader<A>,
+    R: RowsReader<A>,
     W: Device,
     G: Gate,
     T: Wait,
@@ -71,7 +71,7 @@ pub(crate) fn work_in_scope<A, R, W, G, T, D>(
 )
 where
     A: Allocator + Copy + Send + Sync,
-    R: SnapshotReader<A> + Sync,
+    R: RowsReader<A> + Sync,
     W: Device + Send,
     G: Gate,
     T: Threads + Wait + Sync,

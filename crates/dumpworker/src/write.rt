@@ -14,7 +14,7 @@ use crate::workers::work_in_scope;
 use collector::{Collector, Device, Finish};
 use dumpplan::{Gate, Jobs, PieceRows, Plan, plan};
 use schema::catalog::Catalog;
-use schema::reader::SnapshotReader;
+use schema::walk::RowsReader;
 use std::alloc::Allocator;
 use std::marker::Brand;
 use std::sync::{Mutex, Wait};
@@ -39,7 +39,7 @@ fn write_pieces<'a, A, R, W, G, T, D>(
 ) -> Lent<'a, W>
 where
     A: Allocator + Copy + Send + Sync,
-    R: SnapshotReader<A> + Sync,
+    R: RowsReader<A> + Sync,
     W: Device + Send,
     G: Gate,
     T: Threads + Wait + Sync,
@@ -89,7 +89,7 @@ pub fn dump<A, R, W, G, T>(
 ) -> Result<(), DumpFault>
 where
     A: Allocator + Copy + Send + Sync,
-    R: SnapshotReader<A> + Sync,
+    R: RowsReader<A> + Sync,
     W: Device + Send,
     G: Gate,
     T: Threads + Wait + Sync,

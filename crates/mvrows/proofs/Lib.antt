@@ -1,3 +1,4 @@
+pub mod BatchLemmas
 pub mod ChainLemmas
 pub mod CopiedLemmas
 pub mod HeldLemmas

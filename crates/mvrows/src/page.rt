@@ -7,7 +7,8 @@ ghost use Rattle.std.specs.Ordering.{is_le};
 ghost use Rattle.value.specs.Order.{value_cmp};
 ghost use Rattle.value.specs.Refusals.{out_of_memory};
 ghost use Rattle.schema.specs.Plain.{same};
-ghost use Rattle.schema.specs.Rows.{HasTable, is_within, next_row};
+ghost use Rattle.schema.specs.Rows.{HasTable, is_within, next_row, rows_within};
+ghost use Rattle.schema.specs.Walking.{lent};
 ghost use Rattle.mvrows.specs.Versions.{IsInOrder, shown_rows};
 ghost use Rattle.mvrows.specs.Installing.{put_version, opened_row, first_version};
 ghost use Rattle.mvrows.specs.Pruning.{pruned_key, has_version, pruned_rows};
@@ -89,6 +90,28 @@ fn first_shown<A: Allocator>(chains: &[Chain<A>], snapshot: u64) -> Option<&Row<
         }
     }
     None
+}
+
+// Appends the rows that a snapshot shows, up to so many in all.
+fn push_shown<'c, A: Allocator>(
+    chains: &'c [Chain<A>],
+    snapshot: u64,
+    most: usize,
+    rows: &mut Vec<&'c Row<A>, A>,
+) -> Result<(), Refusal>
+    requires { length rows.old.items ≤ most }
+    ensures ok { OnOk result (lent rows.new.items ≡ take most (lent rows.old.items ++ shown_rows snapshot chains.now)) }
+    ensures memory { IfErr result (λ e. e ≡ out_of_memory) }
+{
+    for chain in chains {
+        if rows.len() == most {
+            return Ok(());
+        }
+        if let Some(row) = chain.row_at(snapshot) {
+            rows.push(row)?;
+        }
+    }
+    Ok(())
 }
 
 // Prunes the versions of each key.
@@ -205,6 +228,23 @@ impl<A: Allocator> Page<A> {
         let from = start(chains, bound);
         let (_, within) = chains.split_at(from);
         first_shown(within, snapshot)
+    }
+
+    /// Appends the rows within a bound that a snapshot shows, up to so many in all.
+    pub fn push_rows<'p>(
+        &'p self,
+        snapshot: u64,
+        bound: Bound<&Key<A>>,
+        most: usize,
+        rows: &mut Vec<&'p Row<A>, A>,
+    ) -> Result<(), Refusal>
+        requires { length rows.old.items ≤ most }
+        ensures ok { OnOk result (lent rows.new.items ≡ take most (lent rows.old.items ++ rows_within (shown_rows snapshot self.now) bound.entry)) }
+        ensures memory { IfErr result (λ e. e ≡ out_of_memory) }
+    {
+        let chains = self.chains.as_slice();
+        let (_, within) = chains.split_at(start(chains, bound));
+        push_shown(within, snapshot, most, rows)
     }
 
     /// A key with its versions.

@@ -9,7 +9,8 @@ ghost use Rattle.value.specs.Order.{value_cmp};
 ghost use Rattle.value.specs.Refusals.{out_of_memory};
 ghost use Rattle.value.specs.declared.value.Value.{Value};
 ghost use Rattle.schema.specs.Plain.{rows_of, same};
-ghost use Rattle.schema.specs.Rows.{HasTable, IsInKeyOrder, is_within, next_row, row_of};
+ghost use Rattle.schema.specs.Rows.{HasTable, IsInKeyOrder, is_within, next_row, row_of, rows_within};
+ghost use Rattle.schema.specs.Walking.{lent};
 ghost use Rattle.mvrows.specs.Versions.{IsInOrder, shown_rows};
 ghost use Rattle.mvrows.specs.Installing.{opened_row, put_version};
 ghost use Rattle.mvrows.specs.Pruning.{pruned_rows};
@@ -93,6 +94,27 @@ fn next_in<'l, A: Allocator>(
         }
     }
     None
+}
+
+// Appends the rows within a bound that a snapshot shows of some pages, up to so many in all.
+fn push_rows_in<'l, A: Allocator>(
+    leaves: &'l [Leaf<A>],
+    snapshot: u64,
+    bound: Bound<&Key<A>>,
+    most: usize,
+    rows: &mut Vec<&'l Row<A>, A>,
+) -> Result<(), Refusal>
+    requires { length rows.old.items ≤ most }
+    ensures ok { OnOk result (lent rows.new.items ≡ take most (lent rows.old.items ++ rows_within (shown_rows snapshot (rows_in leaves.now)) bound.entry)) }
+    ensures memory { IfErr result (λ e. e ≡ out_of_memory) }
+{
+    for leaf in leaves {
+        if rows.len() == most {
+            return Ok(());
+        }
+        leaf.page().push_rows(snapshot, bound, most, rows)?;
+    }
+    Ok(())
 }
 
 // Puts a copy of each row that a snapshot shows of some pages into a table.
@@ -439,6 +461,24 @@ impl<A: Allocator> Table<A> {
         let from = start(leaves, bound);
         let (_, within) = leaves.split_at(from);
         next_in(within, snapshot, bound)
+    }
+
+    /// The first rows within a bound that a snapshot shows, so many at most.
+    pub fn next_rows(
+        &self,
+        alloc: A,
+        snapshot: u64,
+        bound: Bound<&Key<A>>,
+        most: usize,
+    ) -> Result<Vec<&Row<A>, A>, Refusal>
+        ensures rows { IfOk result (λ rows. lent rows.items ≡ take most (rows_within (shown_rows snapshot (rows_in self.now)) bound.entry)) }
+        ensures err { IfErr result (λ e. e ≡ out_of_memory) }
+    {
+        let leaves = self.leaves.as_slice();
+        let (_, within) = leaves.split_at(start(leaves, bound));
+        let mut rows = Vec::new(alloc);
+        push_rows_in(within, snapshot, bound, most, &mut rows)?;
+        Ok(rows)
     }
 
     /// A key with its versions.

@@ -1,8 +1,10 @@
 //! The tables at a snapshot.
 
-ghost use Rattle.std.specs.Prelude.{◌≡◌};
+ghost use Rattle.std.specs.Prelude.{◌≡◌, take, IfOk, IfErr};
 ghost use Rattle.std.specs.Option.{option_copied};
-ghost use Rattle.schema.specs.Rows.{HasTable, IsInKeyOrder, next_row};
+ghost use Rattle.schema.specs.Rows.{HasTable, IsInKeyOrder, next_row, rows_within};
+ghost use Rattle.schema.specs.Walking.{lent};
+ghost use Rattle.value.specs.Refusals.{out_of_memory};
 ghost use Rattle.schema.specs.Plain.{rows_of};
 ghost use Rattle.mvrows.specs.Versions.{shown, shown_rows};
 ghost use Rattle.mvrows.specs.HeldRows.{rows_in, rows_held};
@@ -13,9 +15,11 @@ use schema::catalog::TableNo;
 use schema::reader::{Bound, SnapshotReader};
 use schema::row::Row;
 use schema::tables::Tables;
+use schema::walk::RowsReader;
 use std::alloc::{Allocator, Global};
 use std::marker::Model;
 use value::key::Key;
+use value::refusal::Refusal;
 
 // Tables with versions, and the number of a snapshot.
 #[derive(Drop)]
@@ -62,6 +66,22 @@ pub(crate) fn next_row<'t, A: Allocator>(
 {
     table.in_order();
     table.next_row(snapshot, after)
+}
+
+// The first rows within a bound that a snapshot shows of a table, so many at most.
+fn next_rows<'t, A: Allocator>(
+    alloc: A,
+    table: &'t Table<A>,
+    snapshot: u64,
+    after: Bound<&Key<A>>,
+    most: usize,
+) -> Result<Vec<&'t Row<A>, A>, Refusal>
+    ensures rows { IfOk result (λ rows. lent rows.items ≡ take most (rows_within (shown_rows snapshot (rows_in table.now)) after.entry)) }
+    ensures ordered { IsInKeyOrder (shown_rows snapshot (rows_in table.now)) }
+    ensures err { IfErr result (λ e. e ≡ out_of_memory) }
+{
+    table.in_order();
+    table.next_rows(alloc, snapshot, after, most)
 }
 
 impl<A: Allocator> Versions<A> {
@@ -112,6 +132,27 @@ impl<A: Allocator> SnapshotReader<A> for View<A> {
         match &self.source {
             Source::Plain(tables) => tables.get(table, key),
             Source::Versioned(versions) => versions.table(table).get(versions.snapshot, key),
+        }
+    }
+}
+
+impl<A: Allocator> RowsReader<A> for View<A> {
+    fn next_rows(
+        &self,
+        alloc: A,
+        table: TableNo,
+        after: Bound<&Key<A>>,
+        most: usize,
+    ) -> Result<Vec<&Row<A>, A>, Refusal> {
+        match &self.source {
+            Source::Plain(tables) => tables.next_rows(alloc, table, after, most),
+            Source::Versioned(versions) => next_rows(
+                alloc,
+                versions.table(table),
+                versions.snapshot,
+                after,
+                most,
+            ),
         }
     }
 }

@@ -13,7 +13,7 @@ use mvrows::view::View;
 use scarce::Scarce;
 use schema::catalog::{Catalog, TableNo};
 use schema::changes::{Change, Changes};
-use schema::reader::SnapshotReader;
+use schema::walk::RowsReader;
 use schema::row::Row;
 use schema::tables::Tables;
 use std::alloc::{Allocator, Global};
@@ -115,7 +115,7 @@ fn copied<A: Allocator + Copy>(
 }
 
 // The dump text of a reader's tables, by two workers.
-fn dumped<T: SnapshotReader<Global> + Sync, R: Abort + Threads + Wait + Sync>(
+fn dumped<T: RowsReader<Global> + Sync, R: Abort + Threads + Wait + Sync>(
     rt: &R,
     alloc: Global,
     reader: &T,

@@ -1,4 +1,5 @@
 mod AddingLemmas
+pub mod BatchLemmas
 pub mod ChangingLemmas
 pub mod InsertingLemmas
 mod KeyedLemmas
@@ -10,4 +11,5 @@ mod PagedLemmas
 pub mod RowsInOrder
 pub mod PlainLemmas
 pub mod SoundLemmas
+mod WalkLemmas
 pub mod WellFormedLemmas

@@ -12,4 +12,5 @@ pub mod Names
 pub mod Paged
 pub mod Plain
 pub mod Rows
+pub mod Walking
 pub mod WellFormed

@@ -10,3 +10,4 @@ pub mod reader;
 pub mod row;
 pub mod table;
 pub mod tables;
+pub mod walk;

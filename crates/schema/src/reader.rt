@@ -27,7 +27,8 @@ pub enum Bound<K> {
 impl<'k, A: Allocator> Bound<&'k Key<A>> {
     /// The same, of the value of its key.
     pub(crate) fn of_values(self) -> Bound<&'k Value<A>>
-        ensures { (rows : Rows A) → next_row rows result ≡ next_row rows self.entry }
+        ensures next { (rows : Rows A) → next_row rows result ≡ next_row rows self.entry }
+        ensures within { (rows : Rows A) → rows_within rows result ≡ rows_within rows self.entry }
     {
         match self {
             Bound::Start => Bound::Start,

@@ -11,7 +11,8 @@ ghost use Rattle.value.specs.Refusals.{out_of_memory};
 ghost use Rattle.schema.specs.Paged.{joined, has_rows, AreLaidOut, is_before};
 ghost use Rattle.schema.specs.Plain.{changed};
 ghost use Rattle.schema.specs.declared.row.Row.{Row};
-ghost use Rattle.schema.specs.Rows.{IsInKeyOrder, row_of, next_row, put_row};
+ghost use Rattle.schema.specs.Rows.{IsInKeyOrder, row_of, next_row, put_row, rows_within};
+ghost use Rattle.schema.specs.Walking.{lent};
 
 mod page;
 
@@ -66,6 +67,26 @@ fn at<A: Allocator>(pages: &[Page<A>], place: usize) -> Option<&Page<A>>
     ensures { option_copied result ≡ slice_get pages.now place }
 {
     pages.get(place)
+}
+
+// Appends the rows within a bound of some pages, up to so many in all.
+fn push_rows_in<'p, A: Allocator>(
+    pages: &'p [Page<A>],
+    bound: Bound<&Value<A>>,
+    most: usize,
+    rows: &mut Vec<&'p Row<A>, A>,
+) -> Result<(), Refusal>
+    requires { length rows.old.items ≤ most }
+    ensures ok { OnOk result (lent rows.new.items ≡ take most (lent rows.old.items ++ rows_within (joined pages.now) bound.entry)) }
+    ensures memory { IfErr result (λ e. e ≡ out_of_memory) }
+{
+    for page in pages {
+        if rows.len() == most {
+            return Ok(());
+        }
+        page.push_rows(bound, most, rows)?;
+    }
+    Ok(())
 }
 
 // The place of the page that a key belongs to.
@@ -336,6 +357,25 @@ impl<A: Allocator> Table<A> {
         } else {
             one_more(self.count)
         }
+    }
+
+    /// The first rows within a bound, so many at most.
+    pub fn next_rows(
+        &self,
+        alloc: A,
+        after: Bound<&Key<A>>,
+        most: usize,
+    ) -> Result<Vec<&Row<A>, A>, Refusal>
+        ensures rows { IfOk result (λ rows. lent rows.items ≡ take most (rows_within self.now after.entry)) }
+        ensures ordered { IsInKeyOrder self.now }
+        ensures err { IfErr result (λ e. e ≡ out_of_memory) }
+    {
+        let bound = after.of_values();
+        let pages = self.pages.as_slice();
+        let (_, within) = pages.split_at(start(pages, bound));
+        let mut rows = Vec::new(alloc);
+        push_rows_in(within, bound, most, &mut rows)?;
+        Ok(rows)
     }
 
     /// Puts in a row, over any of its key.

@@ -8,7 +8,8 @@ ghost use Rattle.value.specs.Order.{value_cmp};
 ghost use Rattle.value.specs.Refusals.{out_of_memory};
 ghost use Rattle.schema.specs.Paged.{has_rows, is_before};
 ghost use Rattle.schema.specs.Plain.{changed, same};
-ghost use Rattle.schema.specs.Rows.{IsInKeyOrder, is_within, next_row, put_row};
+ghost use Rattle.schema.specs.Rows.{IsInKeyOrder, is_within, next_row, put_row, rows_within};
+ghost use Rattle.schema.specs.Walking.{lent};
 
 use crate::reader::Bound;
 use crate::row::Row;
@@ -67,6 +68,25 @@ fn at<A: Allocator>(rows: &[Row<A>], place: usize) -> Option<&Row<A>>
     ensures { option_copied result ≡ slice_get rows.now place }
 {
     rows.get(place)
+}
+
+// Appends rows, up to so many in all.
+fn push_all<'p, A: Allocator>(
+    page: &'p [Row<A>],
+    most: usize,
+    rows: &mut Vec<&'p Row<A>, A>,
+) -> Result<(), Refusal>
+    requires { length rows.old.items ≤ most }
+    ensures ok { OnOk result (lent rows.new.items ≡ take most (lent rows.old.items ++ page.now)) }
+    ensures memory { IfErr result (λ e. e ≡ out_of_memory) }
+{
+    for row in page {
+        if rows.len() == most {
+            return Ok(());
+        }
+        rows.push(row)?;
+    }
+    Ok(())
 }
 
 /// Whether this is the row of a key.
@@ -151,6 +171,22 @@ impl<A: Allocator> Page<A> {
     {
         let rows = self.rows.as_slice();
         at(rows, start(rows, bound))
+    }
+
+    /// Appends the rows within a bound, up to so many in all.
+    pub fn push_rows<'p>(
+        &'p self,
+        bound: Bound<&Value<A>>,
+        most: usize,
+        rows: &mut Vec<&'p Row<A>, A>,
+    ) -> Result<(), Refusal>
+        requires { length rows.old.items ≤ most }
+        ensures ok { OnOk result (lent rows.new.items ≡ take most (lent rows.old.items ++ rows_within self.now bound.entry)) }
+        ensures memory { IfErr result (λ e. e ≡ out_of_memory) }
+    {
+        let page = self.rows.as_slice();
+        let (_, within) = page.split_at(start(page, bound));
+        push_all(within, most, rows)
     }
 
     /// Whether there is a row.
