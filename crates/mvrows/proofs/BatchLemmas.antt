@@ -1,8 +1,8 @@
 -- Rows that a snapshot shows, read from pages one after another, up to so many.
-use Rattle.std.proofs.Common.{zero, suc, ◌≡◌, refl, sym, ap, ◌∙◌, ℕ, ◌+◌, ◌<◌, ◌≤◌, Bool, true, false, true≢false, not, ◌&&◌, List, [], ◌∷◌, ◌++◌, take, drop, length, Option, Some, None, Bor, get_or, arith, append_assoc}
+use Rattle.std.proofs.Common.{◌≡◌, refl, sym, ap, ◌∙◌, ℕ, ◌+◌, ◌<◌, ◌≤◌, Bool, true, false, true≢false, not, ◌&&◌, List, [], ◌∷◌, ◌++◌, take, drop, length, Option, Some, None, Bor, get_or, arith, append_assoc}
 use Rattle.std.specs.List.{AllByRecursion, cons_option}
 use Rattle.std.specs.Option.{option_map}
-use Rattle.std.proofs.lemmas.List.{append-nil, drop_all, length-map, map-append, take-append-drop, take_all, take_at}
+use Rattle.std.proofs.lemmas.List.{append-nil, drop_all, length-map, map-append, take-append-drop, take_all}
 use Rattle.std.proofs.lemmas.List.Concat.{flat_map-append}
 use Rattle.std.proofs.lemmas.List.Elements.{filter-append, filter_map-append}
 use Rattle.value.specs.declared.key.Key.{Key}
@@ -11,25 +11,13 @@ use Rattle.schema.specs.declared.row.Row.{Row}
 use Rattle.schema.specs.declared.reader.Bound.{Bound}
 use Rattle.schema.specs.Rows.{Rows, is_within, rows_within}
 use Rattle.schema.specs.Walking.{lent}
+use Rattle.schema.proofs.BatchLemmas.{take_taken, taken_few}
 use Rattle.mvrows.specs.Versions.{KeyVersions, VersionedRows, shown_fields, shown_row, shown_rows}
 use Rattle.mvrows.specs.HeldRows.{Held, joined, rows_in, is_before}
 use Rattle.mvrows.proofs.PageLemmas.{drop-item}
 
--- ---- the first so many
-
-take_taken : {X : Type 0} (n : ℕ) (xs ys : List X) → take n (take n xs ++ ys) ≡ take n (xs ++ ys)
-take_taken zero xs ys = refl
-take_taken (suc n) [] ys = refl
-take_taken (suc n) (x ∷ xs) ys = ap (λ rest. x ∷ rest) (take_taken n xs ys)
-
-taken_few : {X : Type 0} (n : ℕ) (xs : List X) → length (take n xs) ≤ n
-taken_few zero xs = omega arith
-taken_few (suc n) [] = omega arith
-taken_few (suc n) (x ∷ xs) = let rest = taken_few n xs in omega arith
-
 module _ {A : Type 0} where
-  pub full : (n : ℕ) (rows : List (Bor (Row A))) (more total : Rows A) → length rows ≡ n → take n (lent rows ++ more) ≡ take n total → lent rows ≡ take n total
-  full n rows more total many so_far = sym (take_at (lent rows) more n (length-map rows (λ row. row.now) ∙ many)) ∙ so_far
+  -- ---- the first so many
 
   pub ended : (n : ℕ) (rows : List (Bor (Row A))) (more total : Rows A) → more ≡ [] → length rows ≤ n → take n (lent rows ++ more) ≡ take n total → lent rows ≡ take n total
   ended n rows more total none few so_far =
@@ -126,6 +114,3 @@ module _ {A : Type 0} where
         ap (λ rows. take most (rows ++ rest)) made ∙ take_taken most (lent old ++ here) rest ∙ ap (take most) (append_assoc (lent old) here rest ∙ ap (λ rows. lent old ++ rows) (sym split)) ∙ so_far,
         omega arith,
       )
-
-  pub none_in : (n i : ℕ) (bound : Bound (Bor (Key A))) (leaves : List (Held A)) → length leaves ≤ i → rows_within (shown_rows n (rows_in (drop i leaves))) bound ≡ []
-  none_in n i bound leaves past = ap (λ ls. rows_within (shown_rows n (rows_in ls)) bound) (drop_all i leaves past)

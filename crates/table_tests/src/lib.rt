@@ -3,6 +3,8 @@
 #![tactic(auto)]
 
 #[cfg(test)]
+mod batches;
+#[cfg(test)]
 mod overlays;
 #[cfg(test)]
 mod tables;

@@ -140,7 +140,7 @@ fn adding_to_a_catalog(rt: HostRuntime) -> Result<(), Refusal> {
 }
 
 // The tables p (id) and c (id, name, p): a name mustn't be null, and c.p references p.
-fn parent_and_child(alloc: Global) -> Result<Catalog, Refusal> {
+pub(crate) fn parent_and_child(alloc: Global) -> Result<Catalog, Refusal> {
     let mut catalog = Catalog::new(alloc);
     catalog.add(alloc, table(alloc, "p", 1, Kind::Bigint, "")?)?;
     let mut columns = Vec::new(alloc);
@@ -161,7 +161,13 @@ pub(crate) fn key(number: i64) -> Key {
 }
 
 // A row of a key and fields: a text, where it isn't `-`, and a number, where it isn't 0; as many of them as are asked for.
-fn row(alloc: Global, number: i64, name: &str, parent: i64, count: usize) -> Result<Row, Refusal> {
+pub(crate) fn row(
+    alloc: Global,
+    number: i64,
+    name: &str,
+    parent: i64,
+    count: usize,
+) -> Result<Row, Refusal> {
     let name = match name {
         "-" => Value::Null,
         "7" => Value::Int(7),

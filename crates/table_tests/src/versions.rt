@@ -6,6 +6,7 @@ ghost use Rattle.mvrows.specs.Versions.{TablesAreBelow};
 
 mod pages;
 
+use crate::batches::walked;
 use mvrows::rows::Rows;
 use mvrows::view::View;
 use schema::catalog::{Catalog, TableNo};
@@ -160,7 +161,7 @@ fn commit(
     settle(alloc, versions, snapshots.as_slice(), number, all)
 }
 
-// What a snapshot shows, lent and as a view: the same.
+// What a snapshot shows, lent and as a view, a row or many at a time: the same.
 fn shown(
     rt: &impl Abort,
     alloc: Global,
@@ -174,6 +175,8 @@ fn shown(
     let view = versions.view(alloc, number)?;
     let viewed = rows(alloc, &view)?;
     assert_eq!(rt; viewed.as_slice(), shown.as_slice());
+    let walked = walked(alloc, &view, TableNo::at(0))?;
+    assert_eq!(rt; walked.as_slice(), shown.as_slice());
     Ok(shown)
 }
 
