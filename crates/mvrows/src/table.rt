@@ -24,9 +24,10 @@ use crate::leaf::Leaf;
 use crate::page::Page;
 use schema::catalog::TableNo;
 use schema::changes::Change;
-use schema::reader::{Bound, first_row, row_after};
+use schema::reader::Bound;
 use schema::row::Row;
 use schema::tables::Tables;
+use schema::walk::Walk;
 use std::alloc::{Allocator, Global};
 use std::marker::Model;
 use value::key::Key;
@@ -180,11 +181,10 @@ fn open_pages<A: Allocator + Copy>(
 {
     let mut leaves = Vec::new(alloc);
     let mut page = Page::new(alloc);
-    let mut next = first_row(tables, table);
-    while let Some(row) = next {
+    let mut walk = Walk::over(alloc, tables, table)?;
+    while let Some(row) = walk.next()? {
         page = with_room(alloc, &mut leaves, page)?;
         page.push_opened(alloc, row.copy(alloc)?)?;
-        next = row_after(tables, table, row);
     }
     push_page(&mut leaves, page)?;
     Ok(leaves)
