@@ -1,8 +1,8 @@
 -- A table cut at rising keys: the rows of its pieces, one after another, are its rows.
-use Rattle.std.proofs.Common.{◌≡◌, ℕ, zero, suc, ◌+◌, ◌-◌, ◌<◌, ◌≤◌, ◌==◌, Bool, true, false, cond, List, [], ◌∷◌, ◌++◌, length, map, filter, Option, Some, None, Bor, refl, sym, ap, subst, ◌∙◌, append_assoc, arith}
+use Rattle.std.proofs.Common.{◌≡◌, ℕ, suc, ◌+◌, ◌-◌, ◌<◌, ◌==◌, Bool, true, false, cond, List, [], ◌∷◌, ◌++◌, length, map, filter, Option, Some, None, refl, sym, ap, subst, ◌∙◌, append_assoc, arith}
 use Rattle.std.specs.List.{flat_map, AllByRecursion, slice_get}
 use Rattle.std.specs.List.Sorted.{IsStrictlySortedBy}
-use Rattle.std.specs.Ordering.{is_le, is_lt, ordering_reverse}
+use Rattle.std.specs.Ordering.{is_le, is_lt}
 use Rattle.std.specs.declared.cmp.Ordering.{Ordering}
 use Rattle.std.specs.declared.cmp.Ordering.TheVariants.{Less, Equal, Greater}
 use Rattle.std.proofs.lemmas.List.{append-nil}
@@ -16,8 +16,7 @@ use Rattle.schema.specs.Plain.{rows_of}
 use Rattle.schema.specs.Rows.{IsInKeyOrder}
 use Rattle.schema.specs.declared.row.Row.{Row}
 use Rattle.copytext.specs.Writing.{row_text}
-use Rattle.dumpplan.specs.declared.piece.Piece.{Piece}
-use Rattle.dumpplan.specs.declared.piece.Piece.TheVariants.{Head, Rows, End}
+use Rattle.dumpplan.specs.declared.piece.Piece.TheVariants.{Rows}
 use Rattle.dumpplan.specs.declared.piece.RowRange.{RowRange}
 use Rattle.dumpplan.specs.declared.piece.RowsEnd.{RowsEnd}
 use Rattle.dumpplan.specs.declared.piece.RowsEnd.TheVariants.{Before, Last}

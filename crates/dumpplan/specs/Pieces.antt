@@ -1,7 +1,7 @@
 -- How a dump is cut into pieces, and the text of each.
 -- Source: COPY's text format in the PostgreSQL manual; the cutting is this project's own.
 use Rattle.std.specs.Prelude.{ℕ, ◌+◌, ◌-◌, ◌==◌, ◌<◌, Bool, true, if◌then◌else◌, List, [], ◌∷◌, ◌++◌, length, map, filter, slice_get, Option, Some, None}
-use Rattle.std.specs.List.{flat_map, AllByRecursion}
+use Rattle.std.specs.List.{flat_map}
 use Rattle.std.specs.Ordering.{is_le, is_lt}
 use Rattle.value.specs.Order.{value_cmp}
 use Rattle.value.specs.declared.key.Key.{Key}

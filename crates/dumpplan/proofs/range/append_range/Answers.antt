@@ -1,7 +1,6 @@
 use Rattle.std.proofs.Common.{◌≡◌, ◌++◌, ℕ, List, true, false, sym, ap, subst, ◌∙◌}
 use Rattle.std.proofs.lemmas.List.{append-nil}
 use Rattle.value.specs.declared.key.Key.{Key}
-use Rattle.schema.specs.Plain.{rows_of}
 use Rattle.schema.specs.Rows.{IsInKeyOrder}
 use Rattle.schema.specs.declared.row.Row.{Row}
 use Rattle.dumpplan.specs.Pieces.{is_before, rows_before, rows_text}
@@ -10,9 +9,9 @@ use Rattle.dumpplan.proofs.range.append_range.Goals as goal
 
 pub loop-walk-init : goal.loop-walk-init
 loop-walk-init g c = (
-    ap (λ (rs : List (Row g.row.A.Denot)). c.args.text.now.items ++ rows_text (rows_before c.args.range.now.end rs)) c.in_ok-walk.ensures.rows,
-    subst (IsInKeyOrder {A = g.row.A.Denot}) (sym c.in_ok-walk.ensures.rows) (rows_from-rise c.args.range.now.from _ c.walk_from.ensures.ordered),
-  )
+  ap (λ (rs : List (Row g.row.A.Denot)). c.args.text.now.items ++ rows_text (rows_before c.args.range.now.end rs)) c.in_ok-walk.ensures.rows,
+  subst (IsInKeyOrder {A = g.row.A.Denot}) (sym c.in_ok-walk.ensures.rows) (rows_from-rise c.args.range.now.from _ c.walk_from.ensures.ordered),
+)
 
 pub returns-then-not-is_before-clause-ok : goal.returns-then-not-is_before-clause-ok
 returns-then-not-is_before-clause-ok g c =
