@@ -73,27 +73,51 @@ fn scattered(rt: &impl Abort, alloc: Global) -> Result<Tables, Refusal> {
     Ok(tables)
 }
 
+// The batches from a number on and after it are those of the even numbers.
+fn assert_batches(
+    rt: &impl Abort,
+    alloc: Global,
+    tables: &Tables,
+    number: i64,
+    most: usize,
+) -> Result<(), Refusal> {
+    let table = TableNo::at(0);
+    assert!(rt; tables.has(table));
+    let key = key(number);
+    let from = batch(alloc, tables, table, Bound::From(&key), most)?;
+    assert_eq!(rt;
+        from.as_slice(),
+        evens(alloc, number, most)?.as_slice(),
+        "{most} from {number}"
+    );
+    let after = batch(alloc, tables, table, Bound::After(&key), most)?;
+    assert_eq!(rt;
+        after.as_slice(),
+        evens(alloc, number.saturating_add(1), most)?.as_slice(),
+        "{most} after {number}"
+    );
+    Ok(())
+}
+
 #[test]
 fn a_batch_begins_at_its_bound_and_crosses_pages(rt: HostRuntime) -> Result<(), Fail> {
     let alloc = rt.alloc();
-    let table = TableNo::at(0);
     let tables = scattered(&rt, alloc)?;
     for most in [0, 1, 2, 63, 64, 65, 127, 128, 129, 256, 499, 500, 501] {
         for number in [-1, 0, 1, 2, 126, 127, 128, 254, 256, 500, 997, 998, 999] {
-            assert!(rt; tables.has(table));
-            let from = batch(alloc, &tables, table, Bound::From(&key(number)), most)?;
-            assert_eq!(rt;
-                from.as_slice(),
-                evens(alloc, number, most)?.as_slice(),
-                "{most} from {number}"
-            );
-            let after = batch(alloc, &tables, table, Bound::After(&key(number)), most)?;
-            assert_eq!(rt;
-                after.as_slice(),
-                evens(alloc, number + 1, most)?.as_slice(),
-                "{most} after {number}"
-            );
+            assert_batches(&rt, alloc, &tables, number, most)?;
         }
+    }
+    Ok(())
+}
+
+#[test]
+fn a_batch_from_the_start_ends_with_the_rows(rt: HostRuntime) -> Result<(), Fail> {
+    let alloc = rt.alloc();
+    let table = TableNo::at(0);
+    let tables = scattered(&rt, alloc)?;
+    for most in [0, 1, 129, 500, 501] {
+        assert!(rt; tables.has(table));
         let first = batch(alloc, &tables, table, Bound::Start, most)?;
         assert_eq!(rt;
             first.as_slice(),
