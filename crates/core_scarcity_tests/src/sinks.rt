@@ -4,7 +4,7 @@ ghost use Rattle.std.specs.Prelude.{◌≡◌, ◌+◌, ◌++◌, length, map};
 
 use collector::{Device, DeviceError};
 use http_server::Log;
-use program::files::{Files, ReadError};
+use program::files::{Files, OutFile, ReadError, Stored};
 use std::alloc::{AllocError, Allocator};
 
 /// What standard input has, and what any other path's file has.
@@ -17,7 +17,19 @@ pub struct Texts<'f> {
 /// A file that takes all that it is given, and keeps nothing.
 #[derive(Drop)]
 pub struct Sink {
+    path: Log<u8, ()>,
     taken: Log<u8, ()>,
+}
+
+// A log that has noted these bytes.
+fn noted(bytes: &[u8]) -> Log<u8, ()>
+    ensures { map (λ p. p.0) result.items ≡ bytes.now }
+{
+    let mut log = Log::new();
+    for byte in bytes {
+        log = log.and(byte, &());
+    }
+    log
 }
 
 impl Sink {
@@ -42,6 +54,18 @@ impl Device for Sink {
     }
 }
 
+impl OutFile for Sink {
+    ghost path = { λ f. map (λ p. p.0) f.path.items };
+}
+
+impl<'f> Stored for Texts<'f> {
+    ghost use Rattle.std.specs.Prelude.{None};
+
+    ghost held = { λ f path. None };
+
+    ghost input = { λ f. None };
+}
+
 fn bytes_of<A: Allocator>(alloc: A, text: &str) -> Result<Vec<u8, A>, ReadError> {
     match Vec::from_slice(alloc, text.as_bytes()) {
         Ok(bytes) => Ok(bytes),
@@ -60,7 +84,10 @@ impl<'f, A: Allocator> Files<A> for Texts<'f> {
         bytes_of(alloc, self.input)
     }
 
-    fn create(&self, _alloc: A, _path: &str) -> Result<Sink, AllocError> {
-        Ok(Sink { taken: Log::new() })
+    fn create(&self, _alloc: A, path: &str) -> Result<Sink, AllocError> {
+        Ok(Sink {
+            path: noted(path.as_bytes()),
+            taken: Log::new(),
+        })
     }
 }

@@ -27,3 +27,7 @@ module _ {A : Type 0} where
   -- The text is what is printed of a dump that session s asked for after the history h.
   abbrev pub TellsDump : Recorded A → ℕ → List ℕ → Type 0
   TellsDump h s text = (done : Result (Unit {0}) BackupFault) × IsDumped h s done × (dump_text s done ≡ Some text)
+
+  -- A file of this path was opened in which nothing was, and session s's backup was written to it whole.
+  abbrev pub IsDumpedTo : {Out : Type 0} → (Out → List ℕ) → (Out → List ℕ) → Recorded A → ℕ → List ℕ → Type 0
+  IsDumpedTo {Out} path_of taken h s path = (made : Out) × (path_of made ≡ path) × (taken made ≡ []) × (file : Out) × IsWhole h s (taken made) (taken file)

@@ -1,13 +1,14 @@
 -- What the lines of sessions do that run freely, each on its thread, and what is printed of them (this project's own choice).
-use Rattle.std.specs.Prelude.{◌≡◌, ◌≢◌, ◌⊎◌, ◌++◌, [], ◌∷◌, ℕ, List}
+use Rattle.std.specs.Prelude.{◌≡◌, ◌≢◌, ◌≤◌, ◌⊎◌, ◌++◌, [], ◌∷◌, ℕ, suc, true, List, length, All, Result, Ok, Err}
 use Rattle.value.specs.Refusals.{out_of_memory}
 use Rattle.statement.specs.declared.reply.Reply.{Reply}
 use Rattle.statement.specs.declared.reply.Reply.TheVariants.{Refused}
 use Rattle.history.specs.declared.event.Action.TheVariants as action
-use Rattle.history.specs.Opening.{Opening}
+use Rattle.history.specs.Opening.{Opening, Recorded}
+use Rattle.history.specs.Answer.{IsLegal}
 use Rattle.pass.specs.Knowing.{Known}
 use Rattle.sqltext.specs.Parsed.{parsed}
-use Rattle.server.specs.Calls.{HasPolled, IsCall}
+use Rattle.server.specs.Calls.{HasClosed, HasPolled, IsCall}
 use Rattle.server.specs.Requests.{spoken}
 use Rattle.backup.specs.Backed.{seen_by}
 use Rattle.script.specs.declared.command.Command.{Command}
@@ -17,11 +18,32 @@ use Rattle.script.specs.declared.script.Step.{Step}
 use Rattle.script.specs.declared.script.Step.TheVariants as step
 use Rattle.script.specs.Printing.{reply_text}
 use Rattle.program.specs.Dumps.{TellsDump}
+use Rattle.program.specs.Orders.{check_line}
+
+-- Nobody has stopped, and the text is what all have told, one after the other.
+abbrev pub AreJoined : {V F : Type 0} → (V → List ℕ) → List (Result V F) → List ℕ → Type 0
+AreJoined items [] text = text ≡ []
+AreJoined items (Ok v ∷ rs) text = (rest : List ℕ) × AreJoined items rs rest × (text ≡ items v ++ rest)
+AreJoined items (Err e ∷ rs) text = ⊥
 
 module _ {A : Type 0} where
+  -- A step is of one of sessions 1 to n, or of none.
+  abbrev pub IsAmong : ℕ → Step A → Type 0
+  IsAmong n (step.Session s k) = s ≤ n
+  IsAmong n step.Checkpoint = Unit {0}
+
+  -- what the pass of session s knows that has seen and done nothing
+  abbrev pub fresh : ℕ → Known A
+  fresh s = record { session = s; seen = []; mine = [] }
+
   -- A text was answered with r, and the pass that knew p knows q: by the call that it asks for, or memory was wanting before there was one.
   abbrev pub IsTextAnswered : Opening A → ℕ → Known A → List ℕ → Reply A → Known A → Type 0
   IsTextAnswered o most p text r q = IsCall most p (spoken (parsed o.catalog text)) r q ⊎ (r ≡ Refused out_of_memory) × (q ≡ p)
+
+  -- a command that is an event, or is refused
+  abbrev pub IsNoDump : Command A → Type 0
+  IsNoDump (command.Dump d) = ⊥
+  IsNoDump _ = Unit {0}
 
   -- A command, which is no dump, was answered with r, and the pass that knew p knows q.
   abbrev pub IsAnswered : Opening A → ℕ → Known A → Command A → Reply A → Known A → Type 0
@@ -32,8 +54,9 @@ module _ {A : Type 0} where
   IsAnswered o most p (command.Import i) r q = IsCall most p (action.Import i) r q
   IsAnswered o most p command.Commit r q = IsCall most p action.Commit r q
   IsAnswered o most p command.Rollback r q = IsCall most p action.Rollback r q
+  IsAnswered o most p command.Prune r q = IsCall most p action.Prune r q
   IsAnswered o most p (command.Sql text) r q = IsTextAnswered o most p text r q
-  IsAnswered o most p _ r q = IsCall most p action.Prune r q
+  IsAnswered o most p (command.Dump d) r q = ⊥
 
   -- The text is what is printed of that answer, under the session's number.
   abbrev pub IsReplyTold : Opening A → ℕ → Known A → Command A → List ℕ → Known A → Type 0
@@ -57,3 +80,21 @@ module _ {A : Type 0} where
   abbrev pub AreTold : Opening A → ℕ → List (Line A) → Known A → List ℕ → Known A → Type 0
   AreTold o most [] p text q = (text ≡ []) × (q ≡ p)
   AreTold o most (l ∷ ls) p text q = (middle : Known A) × (first rest : List ℕ) × IsAtLine o most l.step p first middle × AreTold o most ls middle rest q × (text ≡ first ++ rest)
+
+  -- The text is what is printed of the lines that sessions s, s + 1, .. did, one session after the other: each from nothing seen to what its pass knows.
+  abbrev pub ArePrinted : Opening A → ℕ → List (Line A) → ℕ → List (Known A) → List ℕ → Type 0
+  ArePrinted o most ls s [] text = text ≡ []
+  ArePrinted o most ls s (q ∷ qs) text = (first rest : List ℕ) × AreTold o most ls (fresh s) first q × ArePrinted o most ls (suc s) qs rest × (text ≡ first ++ rest)
+
+  -- The text is what is printed of the lines that sessions 1, 2, .. did, and that the serial order is one. Each line is of one of them. There is one legal history of this opening, with room for so many events: it begins with what each session has seen, and has of it just what it did.
+  pub record AreServed (o : Opening A) (most : ℕ) (ls : List (Line A)) (text : List ℕ) : Type 0 where
+    pub history : Recorded A
+    pub passes : List (Known A)
+    pub printed : List ℕ
+    pub opening : history.opening ≡ o
+    pub room : history.most ≡ most
+    pub legal : IsLegal history
+    pub among : All (λ l. IsAmong (length passes) l.step) ls
+    pub closed : All (λ q. HasClosed q history.records) passes
+    pub told : ArePrinted o most ls 1 passes printed
+    pub whole : text ≡ printed ++ check_line true

@@ -1,6 +1,12 @@
+pub mod Asked
 pub mod CommandLine
 pub mod Dumps
 pub mod Ends
+pub mod Files
 pub mod Freely
 pub mod Lines
 pub mod Orders
+pub mod Printed
+pub mod Restored
+pub mod Runs
+pub mod Steps

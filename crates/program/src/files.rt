@@ -1,6 +1,7 @@
 //! The files that the program reads and writes.
 
 ghost use Rattle.std.specs.Prelude.{◌≡◌, [], IfOk};
+ghost use Rattle.program.specs.Files.{IsAllOf};
 
 use collector::Device;
 use std::alloc::{AllocError, Allocator};
@@ -14,18 +15,38 @@ pub enum ReadError {
     Memory,
 }
 
-/// Where paths lead. What a file holds that is read, no contract says.
-pub trait Files<A: Allocator> {
-    type Out: Device + Send + Drop;
+/// What is told of files that are read: what the file of a path has, and what standard input has,
+/// where that is known.
+pub trait Stored {
+    ghost use Rattle.std.specs.Prelude.{ℕ, List, Option};
+
+    ghost held: { Self → List ℕ → Option (List ℕ) };
+
+    ghost input: { Self → Option (List ℕ) };
+}
+
+/// A file that is written.
+pub trait OutFile: Device {
+    ghost use Rattle.std.specs.Prelude.{ℕ, List};
+
+    ghost path: { Self → List ℕ };
+}
+
+/// Where paths lead.
+pub trait Files<A: Allocator>: Stored {
+    type Out: OutFile + Send + Drop;
 
     /// The bytes of a path's file.
-    fn read(&self, alloc: A, path: &str) -> Result<Vec<u8, A>, ReadError>;
+    fn read(&self, alloc: A, path: &str) -> Result<Vec<u8, A>, ReadError>
+        ensures { IfOk result (λ bytes. IsAllOf (Self.held self.now path.now) bytes.items) };
 
-    /// The bytes of standard input.
-    fn read_input(&self, alloc: A) -> Result<Vec<u8, A>, ReadError>;
+    /// The bytes of standard input, all of them.
+    fn read_input(&self, alloc: A) -> Result<Vec<u8, A>, ReadError>
+        ensures { IfOk result (λ bytes. IsAllOf (Self.input self.now) bytes.items) };
 
     /// A device that opens a path's file at its first write, and has taken nothing yet.
     fn create(&self, alloc: A, path: &str) -> Result<Self::Out, AllocError>
+        ensures path { IfOk result (λ file. Self.Out.path file ≡ path.now) }
         ensures empty { IfOk result (λ file. Self.Out.taken file ≡ []) }
         ensures sound { IfOk result (λ file. Self.Out.failures file ≡ 0) };
 }

@@ -1,11 +1,14 @@
 //! The files of the machine.
 
-ghost use Rattle.std.specs.Prelude.{◌≡◌, ◌≢◌, ◌≤◌, ◌<◌, ◌+◌, ◌++◌, [], length, map, IfSome};
+ghost use Rattle.std.specs.Prelude.{◌≡◌, ◌≢◌, ◌≤◌, ◌<◌, ◌+◌, ◌++◌, [], length, map, IfOk, IfSome};
+ghost use Rattle.std.specs.Option.{option_map_or};
+ghost use Rattle.std.specs.String.{string_bytes};
 
-use crate::files::{Files, ReadError};
+use crate::files::{Files, OutFile, ReadError, Stored};
+use crate::late::{LateFile, Opener};
 use collector::{Device, DeviceError};
 use http_server::Log;
-use std::alloc::{AllocError, Global};
+use std::alloc::{AllocError, Allocator, Global};
 use std::fs::{self, File};
 use std::io::{self, ErrorKind, Read, Write};
 
@@ -15,12 +18,23 @@ pub struct HostFiles<'r> {
     pub rt: &'r HostRuntime,
 }
 
-/// A file that is opened at its first write.
+/// A path, which is opened for writing where it can be.
 #[derive(Drop)]
-pub struct HostFile<'r> {
+pub struct HostPath<'r> {
     rt: &'r HostRuntime,
     path: String,
-    file: Option<File>,
+}
+
+/// A file of the machine that is written.
+#[derive(Drop)]
+pub struct HostOut<'r> {
+    late: LateFile<HostPath<'r>>,
+}
+
+/// A file of the machine, and what it was given.
+#[derive(Drop)]
+pub struct HostFile {
+    file: File,
     taken: Log<u8, ()>,
     failed: Log<(), ()>,
 }
@@ -33,7 +47,18 @@ fn error_of(error: &io::Error) -> ReadError {
     }
 }
 
-impl<'r> HostFile<'r> {
+// All that a reader has left. What comes before it fails isn't that.
+fn read_all<A: Allocator, R: Read>(alloc: A, reader: &mut R) -> Result<Vec<u8, A>, ReadError>
+    ensures { IfOk result (λ bytes. IfSome (R.remaining reader.old) (λ left. bytes.items ≡ left)) }
+{
+    let mut bytes = Vec::new(alloc);
+    if let Err(error) = reader.read_to_end(&mut bytes) {
+        return Err(error_of(&error));
+    }
+    Ok(bytes)
+}
+
+impl HostFile {
     // Notes bytes that were taken.
     fn note(&mut self, bytes: &[u8])
         ensures taken { map (λ p. p.0) self.new.taken.items ≡ map (λ p. p.0) self.old.taken.items ++ bytes.now }
@@ -50,13 +75,7 @@ impl<'r> HostFile<'r> {
         ensures taken { self.new.taken ≡ self.old.taken }
         ensures failed { self.new.failed ≡ self.old.failed }
     {
-        if self.file.is_none() {
-            self.file = File::create(self.rt, self.path.as_str()).ok();
-        }
-        let written = match &mut self.file {
-            Some(file) => write_some(file, bytes),
-            None => None,
-        };
+        let written = write_some(&mut self.file, bytes);
         some_of(bytes, written)
     }
 
@@ -91,7 +110,7 @@ fn some_of(bytes: &[u8], written: Option<usize>) -> Option<usize>
     }
 }
 
-impl<'r> Device for HostFile<'r> {
+impl Device for HostFile {
     ghost taken = { λ f. map (λ p. p.0) f.taken.items };
 
     ghost failures = { λ f. length f.failed.items };
@@ -110,8 +129,46 @@ impl<'r> Device for HostFile<'r> {
     }
 }
 
+impl<'r> Opener for HostPath<'r> {
+    type Out = HostFile;
+
+    fn open(&self) -> Option<HostFile> {
+        match File::create(self.rt, self.path.as_str()) {
+            Ok(file) => Some(HostFile {
+                file,
+                taken: Log::new(),
+                failed: Log::new(),
+            }),
+            Err(_) => None,
+        }
+    }
+}
+
+impl<'r> Device for HostOut<'r> {
+    ghost taken = { λ f. option_map_or (λ h. map (λ p. p.0) h.taken.items) f.late.file [] };
+
+    ghost failures = { λ f. option_map_or (λ h. length h.failed.items) f.late.file 0 + length f.late.failed.items };
+
+    fn write(&mut self, bytes: &[u8]) -> Result<usize, DeviceError> {
+        self.late.write(bytes)
+    }
+}
+
+impl<'r> OutFile for HostOut<'r> {
+    ghost path = { λ f. string_bytes f.late.opener.path };
+}
+
+// What the machine's files have, isn't known.
+impl<'r> Stored for HostFiles<'r> {
+    ghost use Rattle.std.specs.Prelude.{None};
+
+    ghost held = { λ f path. None };
+
+    ghost input = { λ f. None };
+}
+
 impl<'r> Files<Global> for HostFiles<'r> {
-    type Out = HostFile<'r>;
+    type Out = HostOut<'r>;
 
     fn read(&self, _alloc: Global, path: &str) -> Result<Vec<u8>, ReadError> {
         match fs::read(self.rt, path) {
@@ -121,21 +178,12 @@ impl<'r> Files<Global> for HostFiles<'r> {
     }
 
     fn read_input(&self, alloc: Global) -> Result<Vec<u8>, ReadError> {
-        let mut bytes = Vec::new(alloc);
-        match self.rt.reader().read_to_end(&mut bytes) {
-            Ok(_) => Ok(bytes),
-            Err(error) => Err(error_of(&error)),
-        }
+        read_all(alloc, &mut self.rt.reader())
     }
 
-    fn create(&self, alloc: Global, path: &str) -> Result<HostFile<'r>, AllocError> {
+    fn create(&self, alloc: Global, path: &str) -> Result<HostOut<'r>, AllocError> {
         let path = String::from_str(alloc, path)?;
-        Ok(HostFile {
-            rt: self.rt,
-            path,
-            file: None,
-            taken: Log::new(),
-            failed: Log::new(),
-        })
+        let late = LateFile::new(HostPath { rt: self.rt, path });
+        Ok(HostOut { late })
     }
 }

@@ -14,8 +14,12 @@ use session::sessions::Core;
 use std::alloc::Allocator;
 use value::refusal::{Refusal, TxnNo};
 
-// Appends a word and a number.
-fn append<A: Allocator>(word: &str, number: u64, text: &mut Vec<u8, A>) -> Result<(), Refusal>
+/// Appends a word and a number.
+pub(crate) fn append<A: Allocator>(
+    word: &str,
+    number: u64,
+    text: &mut Vec<u8, A>,
+) -> Result<(), Refusal>
     ensures { OnOk result (text.new.items ≡ text.old.items ++ (word.now ++ decimal number)) }
 {
     let mut digits = Buffer::new();

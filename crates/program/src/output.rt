@@ -1,11 +1,12 @@
 //! What the program prints.
 
-ghost use Rattle.std.specs.Prelude.{◌≡◌};
+ghost use Rattle.std.specs.Prelude.{◌≡◌, [], ◌++◌, true, false, IfErr, OnOk, OnErr};
+ghost use Rattle.program.specs.Printed.{Prints, IsFlushed};
 
 use crate::fault::Fault;
 use std::alloc::Allocator;
 use std::io::Write;
-use value::refusal::Refusal;
+use std::marker::Model;
 
 /// How many bytes are held back before they are written.
 const MOST_HELD: usize = 1 << 16;
@@ -21,21 +22,39 @@ pub(crate) enum PrintError {
 
 /// Standard output, written in large parts.
 #[derive(Drop)]
-pub(crate) struct Printer<'o, W, A: Allocator> {
+pub(crate) struct Printer<'o, W: Write, A: Allocator> {
     out: &'o mut W,
     held: Vec<u8, A>,
+    has_failed: bool,
+}
+
+impl<'o, W: Write, A: Allocator> Model for Printer<'o, W, A> {
+    ghost use Rattle.program.specs.Printed.{Printed};
+
+    ghost Value = { Printed };
+
+    ghost view = { λ p. record { stream = p.out.ghost_name; out = W.contents p.out.now; held = p.held.items; failed = p.has_failed } };
 }
 
 impl<'o, W: Write, A: Allocator> Printer<'o, W, A> {
-    pub(crate) fn new(alloc: A, out: &'o mut W) -> Printer<'o, W, A> {
+    /// Nothing is printed yet.
+    pub(crate) fn new(alloc: A, out: &'o mut W) -> Printer<'o, W, A>
+        ensures { result ≡ record { stream = out.entry.ghost_name; out = W.contents out.old; held = []; failed = false } }
+    {
         Printer {
             out,
             held: Vec::new(alloc),
+            has_failed: false,
         }
     }
 
     /// Prints, now or at the next flush.
-    pub(crate) fn print(&mut self, text: &[u8]) -> Result<(), PrintError> {
+    #[tactic(auto, using(crate::proofs::PrintLemmas::prints_none))]
+    pub(crate) fn print(&mut self, text: &[u8]) -> Result<(), PrintError>
+        ensures printed { OnOk result (Prints self.old self.new text.now) }
+        ensures stopped { OnErr result (Prints self.old self.new []) }
+        ensures device { IfErr result (λ e. e ≡ PrintError.Device → self.new.failed ≡ true) }
+    {
         if self.held.extend_from_slice(text).is_err() {
             return Err(PrintError::Memory);
         }
@@ -46,13 +65,51 @@ impl<'o, W: Write, A: Allocator> Printer<'o, W, A> {
     }
 
     /// Writes all that was held back.
-    pub(crate) fn flush(&mut self) -> Result<(), PrintError> {
+    pub(crate) fn flush(&mut self) -> Result<(), PrintError>
+        ensures printed { Prints self.old self.new [] }
+        ensures flushed { IsFlushed self.new }
+        ensures device { OnErr result (self.new.failed ≡ true) }
+        ensures error { IfErr result (λ e. e ≡ PrintError.Device) }
+    {
         let written = self.out.write_all(self.held.as_slice());
         self.held.clear();
         if written.is_err() || self.out.flush().is_err() {
+            self.has_failed = true;
             return Err(PrintError::Device);
         }
         Ok(())
+    }
+
+    /// The stream.
+    pub(crate) fn into_out(self) -> &'o mut W
+        ensures name { result.ghost_name ≡ self.entry.stream }
+        ensures out { W.contents result.now ≡ self.entry.out }
+    {
+        let Printer {
+            out,
+            held: _,
+            has_failed: _,
+        } = self;
+        out
+    }
+}
+
+/// Prints a text, and all that was held back.
+pub(crate) fn print_whole<'p, W: Write, A: Allocator>(
+    text: &[u8],
+    memory: Fault<'p>,
+    printer: &mut Printer<'_, W, A>,
+) -> Result<(), Fault<'p>>
+    ensures printed { OnOk result (Prints printer.old printer.new text.now) }
+    ensures flushed { OnOk result (IsFlushed printer.new) }
+    ensures stopped { OnErr result (Prints printer.old printer.new []) }
+{
+    let printed = printer.print(text);
+    let flushed = printer.flush();
+    match printed.and(flushed) {
+        Ok(()) => Ok(()),
+        Err(PrintError::Device) => Err(Fault::Device { path: "-" }),
+        Err(PrintError::Memory) => Err(memory),
     }
 }
 
@@ -61,26 +118,5 @@ pub(crate) fn fault_of_print(error: PrintError) -> Fault<'static> {
     match error {
         PrintError::Device => Fault::Device { path: "-" },
         PrintError::Memory => Fault::Script { line: 0 },
-    }
-}
-
-// A refusal of no session, on a line of its own.
-fn print_refusal<W: Write, A: Allocator>(
-    refusal: Refusal,
-    printer: &mut Printer<'_, W, A>,
-) -> Result<(), PrintError> {
-    printer.print(b"ERROR ")?;
-    printer.print(refusal.code.sqlstate().as_bytes())?;
-    printer.print(b"\n")
-}
-
-/// Prints a refusal of no session.
-pub(crate) fn show_refusal<'p, W: Write, A: Allocator>(
-    refusal: Refusal,
-    printer: &mut Printer<'_, W, A>,
-) -> Result<(), Fault<'p>> {
-    match print_refusal(refusal, printer) {
-        Ok(()) => Ok(()),
-        Err(error) => Err(fault_of_print(error)),
     }
 }

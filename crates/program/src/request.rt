@@ -1,7 +1,8 @@
 //! What the words of the command line ask for.
 
-ghost use Rattle.std.specs.Prelude.{◌≡◌, IfOk, false, map, codes};
-ghost use Rattle.clap.specs.Words.{FailsBy, app_of, fault_of, rule_of};
+ghost use Rattle.std.specs.Prelude.{◌≡◌, ◌⊎◌, ◌≤◌, IfOk, false, map, codes};
+ghost use Rattle.clap.specs.Words.{FailsBy, app_of, fault_of, found_of, one_of, rows_of, rule_of, subcommand_of, subcommand_rows_of};
+ghost use Rattle.program.specs.Asked as asked;
 ghost use Rattle.program.specs.CommandLine as spec;
 
 use crate::run::{Shown, Way};
@@ -145,7 +146,8 @@ fn pgserial<'w>(alloc: Global) -> Result<Command<'w>, AllocError>
 
 // What the parser makes of some words.
 fn matches_of<'w>(alloc: Global, words: &'w [&'w str]) -> Result<ArgMatches<'w>, Error>
-    ensures { FailsBy (fault_of spec.pgserial (map (λ w. w.now) words.entry.now)) result }
+    ensures command { IfOk result (λ m. subcommand_rows_of m ≡ subcommand_of spec.pgserial (map (λ w. w.now) words.entry.now)) }
+    ensures fails { FailsBy (fault_of spec.pgserial (map (λ w. w.now) words.entry.now)) result }
 {
     let program = pgserial(alloc)?;
     program.try_get_matches_from(words)
@@ -161,43 +163,93 @@ fn one_job() -> Jobs
     jobs
 }
 
-// How many workers are asked for; one where nothing is said.
-fn jobs_of(restore: &ArgMatches<'_>) -> Jobs {
-    match restore.get_one::<u32>("jobs").and_then(Jobs::new) {
+// A path that is given, or standard input's.
+fn path_of<'w>(command: &ArgMatches<'w>, id: &str) -> &'w str
+    ensures { result.now ≡ asked.path_of id.now (rows_of (found_of command.now)) }
+{
+    command.get_str(id).unwrap_or("-")
+}
+
+// So many workers, or one where there can't be so many.
+fn so_many(count: u32) -> Jobs
+    ensures { ((1 ≤ count) × (count ≤ 64) × (result ≡ count)) ⊎ (((1 ≤ count) × (count ≤ 64) → ⊥) × (result ≡ 1)) }
+{
+    match Jobs::new(count) {
         Some(jobs) => jobs,
         None => one_job(),
     }
 }
 
+// How many workers are asked for; one where nothing is said.
+fn jobs_of(restore: &ArgMatches<'_>) -> Jobs
+    ensures { asked.WritesJobs (rows_of (found_of restore.now)) result }
+{
+    match restore.get_one::<u32>("jobs") {
+        Some(jobs) => so_many(jobs),
+        None => one_job(),
+    }
+}
+
 // How many events there is to be room for; 100000 where nothing is said.
-fn most_events_of(command: &ArgMatches<'_>) -> u32 {
+fn most_events_of(command: &ArgMatches<'_>) -> u32
+    ensures { asked.WritesEvents (rows_of (found_of command.now)) result }
+{
     command.get_one::<u32>("events").unwrap_or(MOST_EVENTS)
 }
 
+// Whether sessions are to run freely.
+fn is_free(run: &ArgMatches<'_>) -> bool
+    ensures { asked.IsFlag (one_of (codes "free") (rows_of (found_of run.now))) result }
+{
+    run.get_flag("free")
+}
+
 // The lines of a command's script, one after the other, of which this is shown.
-fn in_order<'w>(command: &ArgMatches<'w>, shown: Shown) -> Request<'w> {
-    Request::Run {
-        script: command.get_str("SCRIPT").unwrap_or("-"),
-        way: Way {
-            shown,
-            most_events: most_events_of(command),
-        },
+fn in_order<'w>(command: &ArgMatches<'w>, shown: Shown) -> (&'w str, Way)
+    ensures { asked.IsInOrder (rows_of (found_of command.now)) shown result.0.now result.1 }
+{
+    let script = path_of(command, "SCRIPT");
+    let most_events = most_events_of(command);
+    (script, Way { shown, most_events })
+}
+
+// A script that is audited.
+fn audit_of<'w>(audit: &ArgMatches<'w>) -> Request<'w>
+    ensures { asked.AsksToAudit (rows_of (found_of audit.now)) result }
+{
+    let (script, way) = in_order(audit, Shown::Order);
+    Request::Run { script, way }
+}
+
+// A dump that is restored.
+fn restore_of<'w>(restore: &ArgMatches<'w>) -> Request<'w>
+    ensures { asked.AsksToRestore (rows_of (found_of restore.now)) result }
+{
+    Request::Restore {
+        dump: path_of(restore, "DUMP"),
+        jobs: jobs_of(restore),
+        out: path_of(restore, "out"),
     }
 }
 
 // A script that is run: freely, or its lines one after the other.
-fn run_of<'w>(run: &ArgMatches<'w>) -> Request<'w> {
-    if run.get_flag("free") {
+fn run_of<'w>(run: &ArgMatches<'w>) -> Request<'w>
+    ensures { asked.AsksToRun (rows_of (found_of run.now)) result }
+{
+    if is_free(run) {
         return Request::Free {
-            script: run.get_str("SCRIPT").unwrap_or("-"),
+            script: path_of(run, "SCRIPT"),
             most_events: most_events_of(run),
         };
     }
-    in_order(run, Shown::Replies)
+    let (script, way) = in_order(run, Shown::Replies);
+    Request::Run { script, way }
 }
 
 // The script on standard input, with its replies.
-fn from_input<'w>() -> Request<'w> {
+fn from_input<'w>() -> Request<'w>
+    ensures { asked.AsksForInput result }
+{
     Request::Run {
         script: "-",
         way: Way {
@@ -208,14 +260,12 @@ fn from_input<'w>() -> Request<'w> {
 }
 
 // What a command with these matches asks for.
-fn request_of<'w>(matches: &ArgMatches<'w>) -> Request<'w> {
+fn request_of<'w>(matches: &ArgMatches<'w>) -> Request<'w>
+    ensures { asked.AsksFor (subcommand_rows_of matches.now) result }
+{
     match matches.subcommand() {
-        Some(("audit", audit)) => in_order(audit, Shown::Order),
-        Some(("restore", restore)) => Request::Restore {
-            dump: restore.get_str("DUMP").unwrap_or("-"),
-            jobs: jobs_of(restore),
-            out: restore.get_str("out").unwrap_or("-"),
-        },
+        Some(("audit", audit)) => audit_of(audit),
+        Some(("restore", restore)) => restore_of(restore),
         Some((_, run)) => run_of(run),
         None => from_input(),
     }
@@ -224,7 +274,8 @@ fn request_of<'w>(matches: &ArgMatches<'w>) -> Request<'w> {
 /// What the words, behind the program's name, ask for. No word at all asks for the script on
 /// standard input. The error is a mistake in the words, `--help`, `--version`, or want of memory.
 pub(crate) fn read_words<'w>(alloc: Global, words: &'w [&'w str]) -> Result<Request<'w>, Error>
-    ensures { FailsBy (spec.faults (map (λ w. w.now) words.entry.now)) result }
+    ensures asked { IfOk result (λ r. asked.AsksFor (asked.command_of (map (λ w. w.now) words.entry.now)) r) }
+    ensures fails { FailsBy (spec.faults (map (λ w. w.now) words.entry.now)) result }
 {
     if words.is_empty() {
         return Ok(from_input());

@@ -1,6 +1,10 @@
 //! A dump read, and written again.
 
-ghost use Rattle.std.specs.Prelude.{◌≡◌, ◌⊎◌, Err, IfOk, length, true};
+ghost use Rattle.std.specs.Prelude.{◌≡◌, ◌⊎◌, [], Err, IfErr, IfOk, OnErr, OnOk, length, true};
+ghost use Rattle.dumpplan.specs.Lines.{dump_text};
+ghost use Rattle.program.specs.Files.{IsFileFault, IsWritten};
+ghost use Rattle.program.specs.Printed.{IsFlushed, Prints};
+ghost use Rattle.program.specs.Restored.{IsRestored, restored_text, rows_in};
 ghost use Rattle.schema.specs.Plain.{is_sound};
 ghost use Rattle.restore.specs.Reading.{read_dump};
 ghost use Rattle.restore.specs.Steps.{no_memory};
@@ -8,11 +12,11 @@ ghost use Rattle.program.specs.Ends.{loaded};
 
 use crate::fault::Fault;
 use crate::files::Files;
-use crate::output::{Printer, fault_of_print};
+use crate::ordering::append;
+use crate::output::{Printer, print_whole};
 use crate::run::read_path;
 use dumpplan::{Jobs, NoGate, PieceRows};
 use dumpworker::{DumpFault, dump};
-use itoa::Buffer;
 use restore::{restore, restore_one};
 use schema::catalog::{Catalog, TableNo};
 use schema::tables::Tables;
@@ -43,6 +47,7 @@ fn piece_rows() -> PieceRows
 // How many rows there are in all tables.
 fn rows_of<A: Allocator>(catalog: &Catalog<A>, tables: &Tables<A>) -> u64
     requires { length tables.now ≡ length catalog.now }
+    ensures { result ≡ rows_in tables.now }
 {
     let mut rows = 0u64;
     for table in 0..catalog.len() as u32 {
@@ -58,13 +63,11 @@ fn told<A: Allocator>(
     tables: &Tables<A>,
 ) -> Result<Vec<u8, A>, Refusal>
     requires { length tables.now ≡ length catalog.now }
+    ensures { IfOk result (λ text. text.items ≡ restored_text catalog.now tables.now) }
 {
-    let mut digits = Buffer::new();
     let mut text = Vec::new(alloc);
-    text.extend_from_slice(b"RESTORE ")?;
-    text.extend_from_slice(digits.format(catalog.len()).as_bytes())?;
-    text.extend_from_slice(b" tables ")?;
-    text.extend_from_slice(digits.format(rows_of(catalog, tables)).as_bytes())?;
+    append("RESTORE ", catalog.len() as u64, &mut text)?;
+    append(" tables ", rows_of(catalog, tables), &mut text)?;
     text.extend_from_slice(b" rows\n")?;
     Ok(text)
 }
@@ -130,6 +133,8 @@ where
     F: Files<A>,
     T: Threads + Wait + Sync,
     requires { length tables.now ≡ length catalog.now }
+    ensures written { OnOk result (IsWritten F.Out.path F.Out.taken out.entry.now (dump_text catalog.now tables.now)) }
+    ensures fault { IfErr result (λ f. (f ≡ Fault.Dump 0 Code.OutOfMemory) ⊎ IsFileFault out.entry.now f) }
 {
     let Ok(mut file) = files.create(alloc, out) else {
         return Err(NO_MEMORY);
@@ -140,6 +145,37 @@ where
         Err(DumpFault::Memory) => Err(NO_MEMORY),
         Err(DumpFault::Device) => Err(Fault::Device { path: out }),
     }
+}
+
+// Writes tables that a dump has read as to a file, and tells how many they are and how many rows they
+// have.
+fn write_and_tell<'p, A, F, W, T>(
+    rt: &T,
+    alloc: A,
+    files: &F,
+    catalog: &Catalog<A>,
+    tables: &Tables<A>,
+    jobs: Jobs,
+    out: &'p str,
+    printer: &mut Printer<'_, W, A>,
+) -> Result<(), Fault<'p>>
+where
+    A: Allocator + Copy + Send + Sync,
+    F: Files<A>,
+    W: Write,
+    T: Threads + Wait + Sync,
+    requires { is_sound catalog.now tables.now ≡ true }
+    ensures written { OnOk result (IsWritten F.Out.path F.Out.taken out.entry.now (dump_text catalog.now tables.now)) }
+    ensures printed { OnOk result (Prints printer.old printer.new (restored_text catalog.now tables.now)) }
+    ensures flushed { OnOk result (IsFlushed printer.new) }
+    ensures stopped { OnErr result (Prints printer.old printer.new []) }
+{
+    sound_tables_are_counted(catalog, tables);
+    write_again(rt, alloc, files, catalog, tables, jobs, out)?;
+    let Ok(text) = told(alloc, catalog, tables) else {
+        return Err(NO_MEMORY);
+    };
+    print_whole(text.as_slice(), NO_MEMORY, printer)
 }
 
 /// Loads a dump, writes its text to a file, and tells its tables and rows.
@@ -157,17 +193,10 @@ where
     F: Files<A>,
     W: Write,
     T: Threads + Wait + Sync,
+    ensures done { OnOk result (IsRestored A (F.held files.now) (F.input files.now) F.Out.path F.Out.taken path.entry.now out.entry.now printer.old printer.new) }
+    ensures stopped { OnErr result (Prints printer.old printer.new []) }
 {
     let bytes = read_path(alloc, files, path, NO_MEMORY)?;
     let (catalog, tables) = read_by_workers(rt, alloc, bytes.as_slice(), jobs)?;
-    sound_tables_are_counted(&catalog, &tables);
-    write_again(rt, alloc, files, &catalog, &tables, jobs, out)?;
-    let Ok(text) = told(alloc, &catalog, &tables) else {
-        return Err(NO_MEMORY);
-    };
-    let printed = printer.print(text.as_slice());
-    match printed.and(printer.flush()) {
-        Ok(()) => Ok(()),
-        Err(error) => Err(fault_of_print(error)),
-    }
+    write_and_tell(rt, alloc, files, &catalog, &tables, jobs, out, printer)
 }

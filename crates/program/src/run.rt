@@ -1,18 +1,20 @@
 //! Scripts: their reading, their lines, their audit.
 
-ghost use Rattle.std.specs.Prelude.{◌≡◌, ◌≢◌, IfOk, true};
+ghost use Rattle.std.specs.Prelude.{◌≡◌, ◌≢◌, ◌⊎◌, [], IfErr, IfOk, OnOk, OnErr, true};
 ghost use Rattle.schema.specs.Plain.{is_sound};
+ghost use Rattle.program.specs.Files.{IsAllOf, IsFileFault, read_of};
+ghost use Rattle.program.specs.Printed.{IsFlushed, Prints};
+ghost use Rattle.program.specs.Runs.{HasRun, HasStopped, IsFresh, ScriptHasRun, ScriptHasStopped};
 
 use crate::fault::{Fault, Status, end, tell};
 use crate::files::{Files, ReadError};
-use crate::ordering::order_text;
-use crate::output::{Printer, fault_of_print, show_refusal};
+use crate::output::{Printer, fault_of_print};
 use crate::restoring::read_dump;
-use crate::sessions::{checkpoint, do_command};
+use crate::steps::{do_step, order_of};
 use schema::catalog::Catalog;
 use schema::tables::Tables;
 use script::schedule::Schedule;
-use script::script::{Line, Script, Step, read_script};
+use script::script::{Line, Script, read_script};
 use session::sessions::Core;
 use std::alloc::Allocator;
 use std::io::Write;
@@ -46,6 +48,8 @@ pub(crate) fn read_path<'p, A, F>(
 where
     A: Allocator + Copy,
     F: Files<A>,
+    ensures read { IfOk result (λ bytes. IsAllOf (read_of (F.held files.now) (F.input files.now) path.now) bytes.items) }
+    ensures fault { IfErr result (λ f. (f ≡ memory.entry) ⊎ IsFileFault path.now f) }
 {
     let read = if path == "-" {
         files.read_input(alloc)
@@ -126,24 +130,11 @@ fn open_core<'p, A, F>(
 where
     A: Allocator + Copy,
     F: Files<A>,
+    ensures { IfOk result (λ core. IsFresh most_events core) }
 {
     let (catalog, tables) = open_tables(alloc, files, opens, catalog)?;
     match Core::open(alloc, catalog, tables, most_events) {
         Ok(core) => Ok(core),
-        Err(_) => Err(Fault::Script { line: 0 }),
-    }
-}
-
-// The serial order as it is printed, or nothing where replies are.
-fn order_of<'p, A>(alloc: A, shown: Shown, core: &Core<A>) -> Result<Vec<u8, A>, Fault<'p>>
-where
-    A: Allocator + Copy,
-{
-    if shown == Shown::Replies {
-        return Ok(Vec::new(alloc));
-    }
-    match order_text(alloc, core) {
-        Ok(text) => Ok(text),
         Err(_) => Err(Fault::Script { line: 0 }),
     }
 }
@@ -153,6 +144,8 @@ fn show<'p, A, W>(text: &[u8], printer: &mut Printer<'_, W, A>) -> Result<(), Fa
 where
     A: Allocator,
     W: Write,
+    ensures printed { OnOk result (Prints printer.old printer.new text.now) }
+    ensures stopped { OnErr result (Prints printer.old printer.new []) }
 {
     match printer.print(text) {
         Ok(()) => Ok(()),
@@ -160,29 +153,7 @@ where
     }
 }
 
-// A checkpoint: the serial order so far, where it is asked for and the checkpoint is done.
-fn pass_checkpoint<'p, A, W>(
-    alloc: A,
-    core: Core<A>,
-    way: Way,
-    printer: &mut Printer<'_, W, A>,
-) -> Result<Core<A>, Fault<'p>>
-where
-    A: Allocator + Copy,
-    W: Write,
-{
-    let order = order_of(alloc, way.shown, &core)?;
-    let (core, refusal) = checkpoint(alloc, core, way.most_events);
-    match (way.shown, refusal) {
-        (Shown::Replies, None) => show(b"CHECKPOINT\n", printer)?,
-        (Shown::Replies, Some(refusal)) => show_refusal(refusal, printer)?,
-        (Shown::Order, None) => show(order.as_slice(), printer)?,
-        (Shown::Order, Some(_)) => {}
-    }
-    Ok(core)
-}
-
-// Does the lines of a script, one after the other.
+// Does the lines of a script, one after the other, and prints what is shown of each.
 fn do_lines<'p, A, F, W, T>(
     rt: &T,
     alloc: A,
@@ -197,20 +168,42 @@ where
     F: Files<A>,
     W: Write,
     T: Threads + Wait + Sync,
+    ensures done { OnOk result (HasRun way core lines.entry.now printer.old printer.new) }
+    ensures stopped { OnErr result (HasStopped way core lines.entry.now printer.old printer.new) }
 {
     for line in lines {
-        match &line.step {
-            Step::Session(session, command) => {
-                let text = do_command(rt, alloc, files, &mut core, *session, command)?;
-                if way.shown == Shown::Replies {
-                    show(text.as_slice(), printer)?;
-                }
-            }
-            Step::Checkpoint => core = pass_checkpoint(alloc, core, way, printer)?,
-        }
+        let (next, text) = do_step(rt, alloc, files, core, &line.step, way)?;
+        core = next;
+        show(text.as_slice(), printer)?;
     }
     let order = order_of(alloc, way.shown, &core)?;
     show(order.as_slice(), printer)
+}
+
+// The same, and writes all that was printed, whether or not the lines were done.
+fn do_all_lines<'p, A, F, W, T>(
+    rt: &T,
+    alloc: A,
+    files: &F,
+    core: Core<A>,
+    lines: &'p [Line<A>],
+    way: Way,
+    printer: &mut Printer<'_, W, A>,
+) -> Result<(), Fault<'p>>
+where
+    A: Allocator + Copy + Send + Sync,
+    F: Files<A>,
+    W: Write,
+    T: Threads + Wait + Sync,
+    ensures done { OnOk result (HasRun way core lines.entry.now printer.old printer.new) }
+    ensures stopped { OnErr result (HasStopped way core lines.entry.now printer.old printer.new) }
+    ensures flushed { IsFlushed printer.new }
+{
+    let done = do_lines(rt, alloc, files, core, lines, way, printer);
+    match printer.flush() {
+        Ok(()) => done,
+        Err(error) => Err(fault_of_print(error)),
+    }
 }
 
 // Does the lines of a script that was read, from the tables of its dump or of its own.
@@ -229,13 +222,11 @@ where
     F: Files<A>,
     W: Write,
     T: Threads + Wait + Sync,
+    ensures done { OnOk result (ScriptHasRun way lines.entry.now printer.old printer.new) }
+    ensures stopped { OnErr result (ScriptHasStopped way lines.entry.now printer.old printer.new) }
 {
     let core = open_core(alloc, files, opens, catalog, way.most_events)?;
-    let done = do_lines(rt, alloc, files, core, lines, way, printer);
-    match printer.flush() {
-        Ok(()) => done,
-        Err(error) => Err(fault_of_print(error)),
-    }
+    do_all_lines(rt, alloc, files, core, lines, way, printer)
 }
 
 // Does a script that was read, and tells why it isn't done where it isn't.

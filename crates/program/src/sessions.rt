@@ -1,9 +1,11 @@
 //! What a script's lines do, one after the other, to a core.
 
-ghost use Rattle.std.specs.Prelude.{IfOk};
+ghost use Rattle.std.specs.Prelude.{◌≡◌, ◌⊎◌, IfErr, IfOk, OnOk};
 ghost use Rattle.history.specs.Answer.{Allowed};
-ghost use Rattle.program.specs.Dumps.{IsDumped, TellsDump};
+ghost use Rattle.program.specs.Dumps.{IsDumped, IsDumpedTo, TellsDump};
 ghost use Rattle.program.specs.Lines.{Asks, IsRun, Replies, Tells};
+ghost use Rattle.program.specs.Files.{IsFileFault};
+ghost use Rattle.program.specs.Runs.{Checkpoints, EndsBy, TellsCommand};
 ghost use Rattle.session.specs.Core.{IsStep};
 ghost use Rattle.sqltext.specs.Parsed.{parsed};
 
@@ -73,7 +75,8 @@ where
     A: Allocator + Copy + Send + Sync,
     F: Files<A>,
     T: Threads + Wait + Sync,
-    ensures { IsDumped core.now session result }
+    ensures dumped { IsDumped core.now session result }
+    ensures file { OnOk result (IsDumpedTo F.Out.path F.Out.taken core.now session request.now.path) }
 {
     let Ok(mut file) = files.create(alloc, request.path.as_str()) else {
         return Err(BackupFault::Dump(DumpFault::Memory));
@@ -150,13 +153,14 @@ where
     A: Allocator + Copy + Send + Sync,
     F: Files<A>,
     T: Threads + Wait + Sync,
-    ensures { IfOk result (λ text. TellsDump core.now session text.items) }
+    ensures told { IfOk result (λ text. TellsDump core.now session text.items) }
+    ensures fault { IfErr result (λ f. (f ≡ Fault.Script 0) ⊎ IsFileFault request.entry.now.path f) }
 {
     let done = dump_to_file(rt, alloc, files, core, session, request);
     dump_text(alloc, session, request.path.as_str(), done)
 }
 
-/// Does a session's command, and gives what is printed of it.
+/// Does a session's command, and gives what is told of it.
 pub(crate) fn do_command<'s, A, F, T>(
     rt: &T,
     alloc: A,
@@ -169,10 +173,20 @@ where
     A: Allocator + Copy + Send + Sync,
     F: Files<A>,
     T: Threads + Wait + Sync,
+    ensures told { IfOk result (λ text. TellsCommand core.old core.new session command.entry.now text.items) }
+    ensures fault { IfErr result (λ f. EndsBy command.entry.now f) }
 {
     match command {
         Command::Dump(request) => tell_dump(rt, alloc, files, core, session, request),
-        _ => match tell_event(alloc, core, session, command) {
+        Command::Begin(_)
+        | Command::Poll
+        | Command::Export
+        | Command::Import(_)
+        | Command::Commit
+        | Command::Rollback
+        | Command::Prune
+        | Command::Wait
+        | Command::Sql(_) => match tell_event(alloc, core, session, command) {
             Ok(text) => Ok(text),
             Err(_) => Err(Fault::Script { line: 0 }),
         },
@@ -185,7 +199,9 @@ pub(crate) fn checkpoint<A: Allocator + Copy>(
     alloc: A,
     core: Core<A>,
     most_events: u32,
-) -> (Core<A>, Option<Refusal>) {
+) -> (Core<A>, Option<Refusal>)
+    ensures { Checkpoints most_events core result.0 result.1 }
+{
     match core.checkpoint(alloc, most_events) {
         Ok(core) => (core, None),
         Err((core, refusal)) => (core, Some(refusal)),

@@ -23,6 +23,8 @@ mod machine;
 #[cfg(test)]
 mod memory;
 #[cfg(test)]
+mod pieces;
+#[cfg(test)]
 mod printed;
 #[cfg(test)]
 mod replies;

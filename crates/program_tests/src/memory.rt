@@ -4,7 +4,7 @@ ghost use Rattle.std.specs.Prelude.{◌≡◌, ◌+◌, ◌++◌, length, map};
 
 use collector::{Device, DeviceError};
 use http_server::Log;
-use program::files::{Files, ReadError};
+use program::files::{Files, OutFile, ReadError, Stored};
 use std::alloc::{AllocError, Global};
 use std::sync::atomic::{AtomicBool, Ordering};
 
@@ -24,6 +24,7 @@ pub struct MemoryFiles<'f> {
 pub struct MemoryFile<'f> {
     left: &'f [u8],
     is_whole: &'f AtomicBool,
+    path: String,
     taken: Log<u8, ()>,
     failed: Log<(), ()>,
 }
@@ -70,6 +71,21 @@ impl<'f> Device for MemoryFile<'f> {
     }
 }
 
+impl<'f> OutFile for MemoryFile<'f> {
+    ghost use Rattle.std.specs.String.{string_bytes};
+
+    ghost path = { λ f. string_bytes f.path };
+}
+
+// What is read is said by no contract here: tests compare it.
+impl<'f> Stored for MemoryFiles<'f> {
+    ghost use Rattle.std.specs.Prelude.{None};
+
+    ghost held = { λ f path. None };
+
+    ghost input = { λ f. None };
+}
+
 impl<'f> Files<Global> for MemoryFiles<'f> {
     type Out = MemoryFile<'f>;
 
@@ -95,7 +111,7 @@ impl<'f> Files<Global> for MemoryFiles<'f> {
         }
     }
 
-    fn create(&self, _alloc: Global, path: &str) -> Result<MemoryFile<'f>, AllocError> {
+    fn create(&self, alloc: Global, path: &str) -> Result<MemoryFile<'f>, AllocError> {
         if path == "scarce" {
             return Err(AllocError);
         }
@@ -103,6 +119,7 @@ impl<'f> Files<Global> for MemoryFiles<'f> {
         Ok(MemoryFile {
             left,
             is_whole: self.is_whole,
+            path: String::from_str(alloc, path)?,
             taken: Log::new(),
             failed: Log::new(),
         })

@@ -4,9 +4,9 @@ ghost use Rattle.std.specs.Prelude.{◌≡◌, ◌++◌, map};
 
 use collector::{Device, DeviceError};
 use http_server::Log;
-use program::files::{Files, ReadError};
+use program::files::{Files, OutFile, ReadError, Stored};
 use std::alloc::{AllocError, Global};
-use std::sync::atomic::{AtomicBool, Ordering};
+use std::sync::atomic::{AtomicBool, AtomicU64, Ordering};
 
 const NEITHER: &str = "\
 -- dump 2
@@ -64,9 +64,11 @@ COPY b (id) FROM stdin;
 -- end
 ";
 
-/// Whether the dump of no row, of one table's or of both has been taken whole.
+/// Whether the dump of no row, of one table's or of both has been taken whole, and how often something
+/// was written.
 #[derive(Drop)]
 pub struct Taken {
+    writes: AtomicU64,
     neither: AtomicBool,
     first: AtomicBool,
     second: AtomicBool,
@@ -77,11 +79,17 @@ impl Taken {
     /// Nothing has been taken.
     pub fn new() -> Taken {
         Taken {
+            writes: AtomicU64::new(0),
             neither: AtomicBool::new(false),
             first: AtomicBool::new(false),
             second: AtomicBool::new(false),
             both: AtomicBool::new(false),
         }
+    }
+
+    /// How often something was written.
+    pub fn writes(&self) -> u64 {
+        self.writes.load(Ordering::SeqCst)
     }
 
     /// How many rows the dump has that was taken; nothing where it is none of these.
@@ -130,10 +138,12 @@ impl<'f> Text<'f> {
 /// A file that takes all that it is given.
 #[derive(Drop)]
 pub struct Taker<'f> {
+    writes: &'f AtomicU64,
     neither: Text<'f>,
     first: Text<'f>,
     second: Text<'f>,
     both: Text<'f>,
+    path: String,
     taken: Log<u8, ()>,
 }
 
@@ -154,6 +164,7 @@ impl<'f> Device for Taker<'f> {
     ghost failures = { λ f. 0 };
 
     fn write(&mut self, bytes: &[u8]) -> Result<usize, DeviceError> {
+        self.writes.fetch_add(1, Ordering::SeqCst);
         self.neither.take(bytes);
         self.first.take(bytes);
         self.second.take(bytes);
@@ -170,6 +181,20 @@ pub struct TakerFiles<'f> {
     pub taken: &'f Taken,
 }
 
+impl<'f> OutFile for Taker<'f> {
+    ghost use Rattle.std.specs.String.{string_bytes};
+
+    ghost path = { λ f. string_bytes f.path };
+}
+
+impl<'f> Stored for TakerFiles<'f> {
+    ghost use Rattle.std.specs.Prelude.{None};
+
+    ghost held = { λ f path. None };
+
+    ghost input = { λ f. None };
+}
+
 impl<'f> Files<Global> for TakerFiles<'f> {
     type Out = Taker<'f>;
 
@@ -184,13 +209,15 @@ impl<'f> Files<Global> for TakerFiles<'f> {
         }
     }
 
-    fn create(&self, _alloc: Global, _path: &str) -> Result<Taker<'f>, AllocError> {
+    fn create(&self, alloc: Global, path: &str) -> Result<Taker<'f>, AllocError> {
         let taken = self.taken;
         Ok(Taker {
+            writes: &taken.writes,
             neither: Text::new(NEITHER, &taken.neither),
             first: Text::new(FIRST, &taken.first),
             second: Text::new(SECOND, &taken.second),
             both: Text::new(BOTH, &taken.both),
+            path: String::from_str(alloc, path)?,
             taken: Log::new(),
         })
     }

@@ -3,7 +3,7 @@
 ghost use Rattle.std.specs.Prelude.{◌≡◌, ◌++◌, IfOk, OnOk};
 ghost use Rattle.backup.specs.Backed.{seen_by};
 ghost use Rattle.program.specs.Dumps.{IsDumped};
-ghost use Rattle.program.specs.Freely.{AreTold, IsAnswered, IsAtLine, IsDumpTold, IsReplyTold, IsTextAnswered, IsTold};
+ghost use Rattle.program.specs.Freely.{AreTold, IsAnswered, IsAtLine, IsDumpTold, IsNoDump, IsReplyTold, IsTextAnswered, IsTold};
 
 use crate::dumping::dump_text;
 use crate::fault::Fault;
@@ -57,6 +57,7 @@ fn reply_to<'w, J, T>(
 where
     J: Naming<Global>,
     T: Wait,
+    requires { IsNoDump command.now }
     ensures { IsAnswered J.opening J.most pass.old command.now result pass.new }
 {
     match command {
@@ -68,7 +69,8 @@ where
         Command::Export => server.call(rt, alloc, pass, Request::Export),
         Command::Commit => server.call(rt, alloc, pass, Request::Commit),
         Command::Rollback => server.call(rt, alloc, pass, Request::Rollback),
-        Command::Prune | Command::Dump(_) => server.call(rt, alloc, pass, Request::Prune),
+        Command::Prune => server.call(rt, alloc, pass, Request::Prune),
+        Command::Dump(_) => unreachable!(),
     }
 }
 
@@ -83,6 +85,7 @@ fn tell_reply<'p, 'w, J, T>(
 where
     J: Naming<Global>,
     T: Wait,
+    requires { IsNoDump command.now }
     ensures { IfOk result (λ text. IsReplyTold J.opening J.most pass.old command.entry.now text.items pass.new) }
 {
     let session = pass.session();
@@ -220,8 +223,8 @@ where
     }
 }
 
-// Appends a text.
-fn append(more: &[u8], text: &mut Vec<u8>) -> Result<(), Fault<'static>>
+/// Appends a text.
+pub(crate) fn append(more: &[u8], text: &mut Vec<u8>) -> Result<(), Fault<'static>>
     ensures { OnOk result (text.new.items ≡ text.old.items ++ more.now) }
 {
     match text.extend_from_slice(more) {

@@ -1,7 +1,10 @@
 //! A session on its thread.
 
+ghost use Rattle.std.specs.Prelude.{◌≡◌, ◌∷◌, ◌++◌, [], Err, OnOk, IfOk, IfErr, IsOkAnd};
+ghost use Rattle.program.specs.Freely.{AreTold};
+
 use crate::fault::Fault;
-use crate::free::commands::tell_lines;
+use crate::free::commands::{append, tell_lines};
 use crate::free::sinks::Sinks;
 use pass::token::Pass;
 use pass::word::Naming;
@@ -30,7 +33,10 @@ impl<'p, 's, 'w, J: Naming<Global>, S: Sinks> Seat<'p, 's, 'w, J, S> {
         sinks: &'s S,
         lines: &'p [Line],
         pass: Pass<'w, J>,
-    ) -> Seat<'p, 's, 'w, J, S> {
+    ) -> Seat<'p, 's, 'w, J, S>
+        ensures pass { result.pass ≡ pass.entry }
+        ensures lines { result.lines.now ≡ lines.entry.now }
+    {
         Seat {
             server,
             sinks,
@@ -41,7 +47,9 @@ impl<'p, 's, 'w, J: Naming<Global>, S: Sinks> Seat<'p, 's, 'w, J, S> {
     }
 
     /// Does the session's lines, in their order. It stops at a fault.
-    pub(crate) fn play<T: Threads + Wait + Sync>(&mut self, rt: &T, alloc: Global) {
+    pub(crate) fn play<T: Threads + Wait + Sync>(&mut self, rt: &T, alloc: Global)
+        ensures { IfOk self.new.told (λ text. AreTold J.opening J.most self.old.lines.now self.old.pass text.items self.new.pass) }
+    {
         self.told = tell_lines(
             rt,
             alloc,
@@ -58,7 +66,11 @@ impl<'p, 's, 'w, J: Naming<Global>, S: Sinks> Seat<'p, 's, 'w, J, S> {
         self,
         passes: &mut Vec<Pass<'w, J>>,
         text: &mut Vec<u8>,
-    ) -> Result<(), Fault<'p>> {
+    ) -> Result<(), Fault<'p>>
+        ensures passes { OnOk result (passes.new.items ≡ passes.old.items ++ self.entry.pass ∷ []) }
+        ensures text { OnOk result (IsOkAnd self.entry.told (λ v. text.new.items ≡ text.old.items ++ v.items)) }
+        ensures fault { IfErr self.entry.told (λ f. result ≡ Err f) }
+    {
         let Seat {
             server: _,
             sinks: _,
@@ -67,9 +79,10 @@ impl<'p, 's, 'w, J: Naming<Global>, S: Sinks> Seat<'p, 's, 'w, J, S> {
             told,
         } = self;
         let told = told?;
-        if passes.push(pass).is_err() || text.extend_from_slice(told.as_slice()).is_err() {
-            return Err(Fault::Script { line: 0 });
+        append(told.as_slice(), text)?;
+        match passes.push(pass) {
+            Ok(()) => Ok(()),
+            Err(_) => Err(Fault::Script { line: 0 }),
         }
-        Ok(())
     }
 }

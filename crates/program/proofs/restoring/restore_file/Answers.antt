@@ -1,0 +1,20 @@
+use Rattle.std.proofs.Common.{◌≡◌, Ok, subst}
+use Rattle.restore.specs.Reading.{read_dump}
+use Rattle.restore.specs.Steps.{no_memory}
+use Rattle.program.proofs.RestoredLemmas.{on_ok, was_read}
+use Rattle.program.proofs.restoring.restore_file.Goals as goal
+
+pub returns-clause-done : goal.returns-clause-done
+returns-clause-done g c =
+    on_ok c.write_and_tell.result _ _ _ _
+    (λ written printed flushed. (
+      c.in_ok-bytes.bytes.items,
+      c.in_ok-catalog.catalog,
+      c.in_ok-catalog.tables,
+      c.in_ok-bytes.ensures.read,
+      subst (λ b. read_dump b ≡ Ok (c.in_ok-catalog.catalog, c.in_ok-catalog.tables)) c.as_slice.ensures.value (was_read _ (read_dump c.as_slice.result.now) no_memory c.in_ok-catalog.ensures.read),
+      written,
+      printed,
+      flushed,
+    ))
+    c.write_and_tell.ensures.written c.write_and_tell.ensures.printed c.write_and_tell.ensures.flushed

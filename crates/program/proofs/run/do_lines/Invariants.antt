@@ -1,0 +1,6 @@
+use Rattle.program.proofs.RunLemmas.{SoFar}
+use Rattle.program.proofs.run.do_lines.Given as goal
+
+-- the lines so far were done and printed
+abbrev pub invariant-loop-line : goal.invariant-loop-line
+invariant-loop-line g l = SoFar l.way l.initial.core l.lines l.line-index l.core l.initial.printer l.printer

@@ -1,0 +1,75 @@
+-- What a command line asks for (this project's own choice). To clap a command's rows are its arguments, with their values.
+use Rattle.std.specs.Prelude.{◌≡◌, ◌≢◌, ◌⊎◌, ◌^◌, ◌<◌, ◌≤◌, ℕ, Bool, true, false, List, [], ◌∷◌, Option, Some, None, codes, unwrap_or}
+use Rattle.std.specs.Str.Parse.{IsNumeral, digits_value, without_leading_plus}
+use Rattle.clap.specs.Words.{Row, Text, first_of, one_of, subcommand_of}
+use Rattle.program.specs.CommandLine.{pgserial}
+use Rattle.program.specs.declared.request.Request.{Request}
+use Rattle.program.specs.declared.request.Request.TheVariants as request
+use Rattle.program.specs.declared.run.Shown.{Shown}
+use Rattle.program.specs.declared.run.Shown.TheVariants.{Replies, Order}
+use Rattle.program.specs.declared.run.Way.{Way}
+
+-- the path that an argument gives; `-` where it isn't among the words
+abbrev pub path_of : Text → List Row → Text
+path_of id rows = unwrap_or (first_of id rows) (codes "-")
+
+-- the number that a text writes in decimal digits
+abbrev pub number_of : Text → ℕ
+number_of text = digits_value 10 (without_leading_plus text)
+
+-- a text writes a number that may be given
+abbrev pub IsNumber : (ℕ → Type 0) → Text → Type 0
+IsNumber may text = IsNumeral 10 (without_leading_plus text) × may (number_of text)
+
+-- n is the number that a text writes; or the usual one, where there is no text or it writes none that may be given
+abbrev pub Writes : (ℕ → Type 0) → ℕ → Option Text → ℕ → Type 0
+Writes may usual None n = n ≡ usual
+Writes may usual (Some text) n = (IsNumber may text × (n ≡ number_of text)) ⊎ ((IsNumber may text → ⊥) × (n ≡ usual))
+
+-- for how many events there is to be room, which 32 bits can say
+abbrev pub WritesEvents : List Row → ℕ → Type 0
+WritesEvents rows = Writes (λ n. n < 2 ^ 32) 100000 (one_of (codes "events") rows)
+
+-- how many workers there are to be
+abbrev pub WritesJobs : List Row → ℕ → Type 0
+WritesJobs rows = Writes (λ n. (1 ≤ n) × (n ≤ 64)) 1 (one_of (codes "jobs") rows)
+
+-- whether a flag is among the words
+abbrev pub IsFlag : Option Text → Bool → Type 0
+IsFlag None b = b ≡ false
+IsFlag (Some text) b = (text ≡ codes "true" → b ≡ true) × (text ≡ codes "false" → b ≡ false)
+
+-- The lines of a script one after the other: its path, and for how many events there is room.
+abbrev pub IsInOrder : List Row → Shown → Text → Way → Type 0
+IsInOrder rows shown path way = (path ≡ path_of (codes "SCRIPT") rows) × (way.shown ≡ shown) × WritesEvents rows way.most_events
+
+-- `restore`: where the dump is read, by how many jobs, and where it is written
+abbrev pub AsksToRestore : List Row → Request → Type 0
+AsksToRestore rows (request.Restore dump jobs out) = (dump.now ≡ path_of (codes "DUMP") rows) × WritesJobs rows jobs × (out.now ≡ path_of (codes "out") rows)
+AsksToRestore rows _ = ⊥
+
+-- `audit`: the lines one after the other, and then the serial order
+abbrev pub AsksToAudit : List Row → Request → Type 0
+AsksToAudit rows (request.Run path way) = IsInOrder rows Order path.now way
+AsksToAudit rows _ = ⊥
+
+-- `run`: each session's lines on a thread where `--free` is among the words; else the lines one after the other, with their replies
+abbrev pub AsksToRun : List Row → Request → Type 0
+AsksToRun rows (request.Run path way) = IsInOrder rows Replies path.now way × IsFlag (one_of (codes "free") rows) false
+AsksToRun rows (request.Free path most) = (path.now ≡ path_of (codes "SCRIPT") rows) × WritesEvents rows most × IsFlag (one_of (codes "free") rows) true
+AsksToRun rows _ = ⊥
+
+-- the script on standard input, with its replies
+abbrev pub AsksForInput : Request → Type 0
+AsksForInput (request.Run path way) = (path.now ≡ codes "-") × (way ≡ record { shown = Replies; most_events = 100000 })
+AsksForInput _ = ⊥
+
+-- What is asked for by a command of this name and these rows; or by no command.
+abbrev pub AsksFor : Option (Text × List Row) → Request → Type 0
+AsksFor None r = AsksForInput r
+AsksFor (Some c) r = (c.0 ≡ codes "audit" → AsksToAudit c.1 r) × (c.0 ≡ codes "restore" → AsksToRestore c.1 r) × (c.0 ≢ codes "audit" → c.0 ≢ codes "restore" → AsksToRun c.1 r)
+
+-- the command that is among some words, with its rows; no word at all is no command
+abbrev pub command_of : List Text → Option (Text × List Row)
+command_of [] = None
+command_of (word ∷ words) = subcommand_of pgserial (word ∷ words)

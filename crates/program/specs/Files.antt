@@ -1,0 +1,22 @@
+-- What is read of paths, and what is written to them (this project's own choice).
+use Rattle.std.specs.Prelude.{◌≡◌, ℕ, List, [], Option, codes, if◌then◌else◌, IfSome}
+use Rattle.std.specs.Str.{bytes_eq}
+use Rattle.program.specs.declared.fault.Fault.{Fault}
+use Rattle.program.specs.declared.fault.Fault.TheVariants as fault
+
+-- These bytes are all that was there, where it is known what was.
+abbrev pub IsAllOf : Option (List ℕ) → List ℕ → Type 0
+IsAllOf known bytes = IfSome known (λ there. bytes ≡ there)
+
+-- what is read of a path, where `-` is standard input
+abbrev pub read_of : (List ℕ → Option (List ℕ)) → Option (List ℕ) → List ℕ → Option (List ℕ)
+read_of held input path = if bytes_eq path (codes "-") then input else held path
+
+-- the failure of the file of this path
+abbrev pub IsFileFault : List ℕ → Fault → Type 0
+IsFileFault path (fault.Device failed) = failed.now ≡ path
+IsFileFault path _ = ⊥
+
+-- A file of this path was opened in which nothing was, and these bytes were written.
+abbrev pub IsWritten : {Out : Type 0} → (Out → List ℕ) → (Out → List ℕ) → List ℕ → List ℕ → Type 0
+IsWritten {Out} path_of taken path bytes = (made : Out) × (path_of made ≡ path) × (taken made ≡ []) × (file : Out) × (taken file ≡ bytes)

@@ -1,0 +1,106 @@
+-- What the lines of a script do, one after the other, and what is printed of them (this project's own choice).
+use Rattle.std.specs.Prelude.{◌≡◌, ◌⊎◌, ℕ, true, List, [], ◌++◌, Option, Some, None, Ok, Err, codes, take}
+use Rattle.value.specs.declared.refusal.Refusal.{Refusal}
+use Rattle.value.specs.Codes.{sqlstate}
+use Rattle.history.specs.Events.{world}
+use Rattle.history.specs.Opening.{Recorded}
+use Rattle.session.specs.Core.{IsCheckpoint}
+use Rattle.script.specs.declared.command.Command.{Command}
+use Rattle.script.specs.declared.command.Command.TheVariants as command
+use Rattle.script.specs.declared.script.Step.{Step}
+use Rattle.script.specs.declared.script.Step.TheVariants.{Session, Checkpoint}
+use Rattle.script.specs.declared.script.Line.{Line}
+use Rattle.program.specs.Dumps.{TellsDump}
+use Rattle.program.specs.Files.{IsFileFault}
+use Rattle.program.specs.Lines.{Tells}
+use Rattle.program.specs.Orders.{check_line, order_lines}
+use Rattle.program.specs.Printed.{IsFlushed, Printed, Prints}
+use Rattle.program.specs.Steps.{AreDone}
+use Rattle.program.specs.declared.fault.Fault.{Fault}
+use Rattle.program.specs.declared.fault.Fault.TheVariants as fault
+use Rattle.program.specs.declared.run.Shown.{Shown}
+use Rattle.program.specs.declared.run.Shown.TheVariants.{Replies, Order}
+use Rattle.program.specs.declared.run.Way.{Way}
+
+-- a reply is printed where replies are shown
+abbrev pub shown_text : Shown → List ℕ → List ℕ
+shown_text Replies text = text
+shown_text Order text = []
+
+-- the line of a checkpoint that is refused
+abbrev pub refused_text : Refusal → List ℕ
+refused_text e = codes "ERROR " ++ sqlstate e.code ++ codes "\n"
+
+-- what is told of a checkpoint: that it is done, or its refusal
+abbrev pub told_of_checkpoint : Option Refusal → List ℕ
+told_of_checkpoint None = codes "CHECKPOINT\n"
+told_of_checkpoint (Some e) = refused_text e
+
+-- What is printed of a checkpoint, where this is the serial order before it: its reply; or, where orders are shown, that order, once the checkpoint is done.
+abbrev pub checkpoint_text : Shown → List ℕ → Option Refusal → List ℕ
+checkpoint_text Replies order refusal = told_of_checkpoint refusal
+checkpoint_text Order order None = order
+checkpoint_text Order order (Some e) = []
+
+module _ {A : Type 0} where
+  -- the serial order of a history, with the check's answer, where that is shown
+  abbrev pub order_text : Shown → Recorded A → List ℕ
+  order_text Replies h = []
+  order_text Order h = order_lines (world h) ++ check_line true
+
+  -- The history h goes on, as k, from the tables that it has come to; or that is refused, and k is h.
+  abbrev pub Checkpoints : ℕ → Recorded A → Recorded A → Option Refusal → Type 0
+  Checkpoints most h k None = IsCheckpoint h most (Ok k)
+  Checkpoints most h k (Some e) = IsCheckpoint h most (Err (k, e))
+
+  -- What is told of a command of session s, by which h has become k: what came of a dump, which is no event; else the reply to its event.
+  abbrev pub TellsCommand : Recorded A → Recorded A → ℕ → Command A → List ℕ → Type 0
+  TellsCommand h k s (command.Dump request) text = (k ≡ h) × TellsDump h s text
+  TellsCommand h k s c text = Tells h k s c text
+
+  -- the same, and what is printed of it
+  abbrev pub IsAnswered : Way → Recorded A → ℕ → Command A → Recorded A → List ℕ → Type 0
+  IsAnswered way h s c k text = (told : List ℕ) × TellsCommand h k s c told × (text ≡ shown_text way.shown told)
+
+  -- a checkpoint, and what is printed of it: the order is that before it
+  abbrev pub IsPassed : Way → Recorded A → Recorded A → List ℕ → Type 0
+  IsPassed way h k text = (refusal : Option Refusal) × Checkpoints way.most_events h k refusal × (text ≡ checkpoint_text way.shown (order_text way.shown h) refusal)
+
+  -- A step was done: the history h has become k, and the text is what is printed of it.
+  abbrev pub IsDone : Way → Recorded A → Step A → Recorded A → List ℕ → Type 0
+  IsDone way h (Session s c) k text = IsAnswered way h s c k text
+  IsDone way h Checkpoint k text = IsPassed way h k text
+
+  -- Why a command ends its script: memory was refused for what is told of it, or the file of its dump has failed.
+  abbrev pub EndsBy : Command A → Fault → Type 0
+  EndsBy (command.Dump request) f = (f ≡ fault.Script 0) ⊎ IsFileFault request.path f
+  EndsBy c f = f ≡ fault.Script 0
+
+  -- the same of a step
+  abbrev pub Stops : Step A → Fault → Type 0
+  Stops (Session s c) f = EndsBy c f
+  Stops Checkpoint f = f ≡ fault.Script 0
+
+  -- the lines, done one after the other from the history h, which has become k; and their texts in that order
+  abbrev pub LinesAreDone : Way → Recorded A → List (Line A) → Recorded A → List ℕ → Type 0
+  LinesAreDone way = AreDone (λ h line k text. IsDone way h line.step k text)
+
+  -- All lines were done, and what is to be printed of them was printed, with the serial order behind it where that is shown.
+  abbrev pub HasRun : Way → Recorded A → List (Line A) → Printed → Printed → Type 0
+  HasRun way h lines p q = (k : Recorded A) × (text : List ℕ) × LinesAreDone way h lines k text × Prints p q (text ++ order_text way.shown k)
+
+  -- The first lines were done, and what is to be printed of them was printed, and nothing else.
+  abbrev pub HasStopped : Way → Recorded A → List (Line A) → Printed → Printed → Type 0
+  HasStopped way h lines p q = (n : ℕ) × (k : Recorded A) × (text : List ℕ) × LinesAreDone way h (take n lines) k text × Prints p q text
+
+  -- a history of no events yet, with room for so many
+  abbrev pub IsFresh : ℕ → Recorded A → Type 0
+  IsFresh most h = (h.records ≡ []) × (h.most ≡ most)
+
+  -- From a history of no events yet all lines were done and printed, and the stream has all that was printed, unless it has failed.
+  abbrev pub ScriptHasRun : Way → List (Line A) → Printed → Printed → Type 0
+  ScriptHasRun way lines p q = (h : Recorded A) × IsFresh way.most_events h × HasRun way h lines p q × IsFlushed q
+
+  -- The tables weren't opened, and nothing was printed; or the first lines were done, and the stream has what was printed of them, unless it has failed.
+  abbrev pub ScriptHasStopped : Way → List (Line A) → Printed → Printed → Type 0
+  ScriptHasStopped way lines p q = (q ≡ p) ⊎ ((h : Recorded A) × IsFresh way.most_events h × HasStopped way h lines p q × IsFlushed q)

@@ -1,0 +1,60 @@
+//! A file that is opened once, at its first write.
+
+ghost use Rattle.std.specs.Prelude.{◌≡◌, ◌+◌, [], length, IfSome};
+ghost use Rattle.std.specs.Option.{option_map_or};
+
+use collector::{Device, DeviceError};
+use http_server::Log;
+
+/// What opens a file in which nothing is.
+pub trait Opener {
+    type Out: Device + Drop;
+
+    /// The file, or nothing where it can't be opened.
+    fn open(&self) -> Option<Self::Out>
+        ensures empty { IfSome result (λ file. Self.Out.taken file ≡ []) }
+        ensures sound { IfSome result (λ file. Self.Out.failures file ≡ 0) };
+}
+
+/// A file that is opened at its first write, and stays open. What it has taken, its one open file
+/// has taken.
+#[derive(Drop)]
+pub struct LateFile<O: Opener> {
+    opener: O,
+    file: Option<O::Out>,
+    failed: Log<(), ()>,
+}
+
+impl<O: Opener> LateFile<O> {
+    /// It isn't opened yet.
+    pub fn new(opener: O) -> LateFile<O>
+        ensures opener { result.opener ≡ opener }
+        ensures file { result.file ≡ None }
+        ensures failed { result.failed.items ≡ [] }
+    {
+        LateFile {
+            opener,
+            file: None,
+            failed: Log::new(),
+        }
+    }
+}
+
+impl<O: Opener> Device for LateFile<O> {
+    ghost taken = { λ f. option_map_or O.Out.taken f.file [] };
+
+    ghost failures = { λ f. option_map_or O.Out.failures f.file 0 + length f.failed.items };
+
+    fn write(&mut self, bytes: &[u8]) -> Result<usize, DeviceError> {
+        if self.file.is_none() {
+            self.file = self.opener.open();
+        }
+        match &mut self.file {
+            Some(file) => file.write(bytes),
+            None => {
+                self.failed = self.failed.and(&(), &());
+                Err(DeviceError)
+            }
+        }
+    }
+}

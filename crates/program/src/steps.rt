@@ -1,0 +1,158 @@
+//! The steps of a script: what each does to a core, and what is printed of it.
+
+ghost use Rattle.std.specs.Prelude.{◌≡◌, IfOk, IfErr};
+ghost use Rattle.program.specs.Runs as spec;
+ghost use Rattle.program.specs.Runs.{IsDone, Stops};
+
+use crate::fault::Fault;
+use crate::files::Files;
+use crate::ordering::order_text;
+use crate::run::{Shown, Way};
+use crate::sessions::{checkpoint, do_command};
+use history::session_id::SessionId;
+use script::command::Command;
+use script::script::Step;
+use session::sessions::Core;
+use std::alloc::{AllocError, Allocator};
+use std::sync::Wait;
+use std::thread::Threads;
+use value::refusal::Refusal;
+
+/// The serial order as it is printed, or nothing where replies are.
+pub(crate) fn order_of<'p, A>(
+    alloc: A,
+    shown: Shown,
+    core: &Core<A>,
+) -> Result<Vec<u8, A>, Fault<'p>>
+where
+    A: Allocator + Copy,
+    ensures order { IfOk result (λ text. text.items ≡ spec.order_text shown core.now) }
+    ensures memory { IfErr result (λ f. f ≡ Fault.Script 0) }
+{
+    match shown {
+        Shown::Replies => Ok(Vec::new(alloc)),
+        Shown::Order => match order_text(alloc, core) {
+            Ok(text) => Ok(text),
+            Err(_) => Err(Fault::Script { line: 0 }),
+        },
+    }
+}
+
+// The line of a checkpoint that is refused.
+fn refused_text<A: Allocator>(alloc: A, refusal: Refusal) -> Result<Vec<u8, A>, AllocError>
+    ensures { IfOk result (λ text. text.items ≡ spec.refused_text refusal) }
+{
+    let mut text = Vec::new(alloc);
+    text.extend_from_slice(b"ERROR ")?;
+    text.extend_from_slice(refusal.code.sqlstate().as_bytes())?;
+    text.push(b'\n')?;
+    Ok(text)
+}
+
+// What is told of a checkpoint: that it is done, or its refusal.
+fn told_of_checkpoint<A: Allocator>(
+    alloc: A,
+    refusal: Option<Refusal>,
+) -> Result<Vec<u8, A>, AllocError>
+    ensures { IfOk result (λ text. text.items ≡ spec.told_of_checkpoint refusal) }
+{
+    match refusal {
+        None => Vec::from_slice(alloc, b"CHECKPOINT\n"),
+        Some(refusal) => refused_text(alloc, refusal),
+    }
+}
+
+// What is printed of a checkpoint, where this is the serial order before it.
+fn checkpoint_text<'p, A: Allocator>(
+    alloc: A,
+    shown: Shown,
+    order: Vec<u8, A>,
+    refusal: Option<Refusal>,
+) -> Result<Vec<u8, A>, Fault<'p>>
+    ensures text { IfOk result (λ text. text.items ≡ spec.checkpoint_text shown order.items refusal) }
+    ensures memory { IfErr result (λ f. f ≡ Fault.Script 0) }
+{
+    match shown {
+        Shown::Replies => match told_of_checkpoint(alloc, refusal) {
+            Ok(text) => Ok(text),
+            Err(_) => Err(Fault::Script { line: 0 }),
+        },
+        Shown::Order => match refusal {
+            None => Ok(order),
+            Some(_) => Ok(Vec::new(alloc)),
+        },
+    }
+}
+
+// A checkpoint, and what is printed of it: its reply, or the serial order so far, where that is
+// asked for and the checkpoint is done.
+fn pass_checkpoint<'p, A>(
+    alloc: A,
+    core: Core<A>,
+    way: Way,
+) -> Result<(Core<A>, Vec<u8, A>), Fault<'p>>
+where
+    A: Allocator + Copy,
+    ensures done { IfOk result (λ x. spec.IsPassed way core x.0 x.1.items) }
+    ensures memory { IfErr result (λ f. f ≡ Fault.Script 0) }
+{
+    let order = order_of(alloc, way.shown, &core)?;
+    let (core, refusal) = checkpoint(alloc, core, way.most_events);
+    let text = checkpoint_text(alloc, way.shown, order, refusal)?;
+    Ok((core, text))
+}
+
+// A reply, where replies are shown.
+fn shown_text<A: Allocator>(alloc: A, shown: Shown, text: Vec<u8, A>) -> Vec<u8, A>
+    ensures { result.items ≡ spec.shown_text shown text.items }
+{
+    match shown {
+        Shown::Replies => text,
+        Shown::Order => Vec::new(alloc),
+    }
+}
+
+// Does a session's command, and gives what is printed of it.
+fn pass_command<'p, A, F, T>(
+    rt: &T,
+    alloc: A,
+    files: &F,
+    mut core: Core<A>,
+    session: SessionId,
+    command: &'p Command<A>,
+    way: Way,
+) -> Result<(Core<A>, Vec<u8, A>), Fault<'p>>
+where
+    A: Allocator + Copy + Send + Sync,
+    F: Files<A>,
+    T: Threads + Wait + Sync,
+    ensures done { IfOk result (λ x. spec.IsAnswered way core session command.entry.now x.0 x.1.items) }
+    ensures fault { IfErr result (λ f. spec.EndsBy command.entry.now f) }
+{
+    let text = do_command(rt, alloc, files, &mut core, session, command)?;
+    Ok((core, shown_text(alloc, way.shown, text)))
+}
+
+/// Does a step, and gives what is printed of it.
+pub(crate) fn do_step<'p, A, F, T>(
+    rt: &T,
+    alloc: A,
+    files: &F,
+    core: Core<A>,
+    step: &'p Step<A>,
+    way: Way,
+) -> Result<(Core<A>, Vec<u8, A>), Fault<'p>>
+where
+    A: Allocator + Copy + Send + Sync,
+    F: Files<A>,
+    T: Threads + Wait + Sync,
+    ensures done { IfOk result (λ x. IsDone way core step.entry.now x.0 x.1.items) }
+    ensures fault { IfErr result (λ f. Stops step.entry.now f) }
+{
+    match step {
+        Step::Session(session, command) => {
+            pass_command(rt, alloc, files, core, *session, command, way)
+        }
+        Step::Checkpoint => pass_checkpoint(alloc, core, way),
+    }
+}
