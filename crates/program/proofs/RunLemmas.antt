@@ -48,6 +48,14 @@ module _ {A : Type 0} where
     prints_twice p q r so.0 (order_text way.shown k) so.2 (subst (λ t. Prints q r t) is prints),
   )
 
+  -- All lines were done, and then what was held back was written.
+  pub run_flushed : (way : Way) (h : Recorded A) (lines : List (Line A)) (p q r : Printed) → HasRun way h lines p q → Prints q r [] → HasRun way h lines p r
+  run_flushed way h lines p q r run next = (run.0, run.1, run.2, prints_no_more p q r (run.1 ++ order_text way.shown run.0) run.3 next)
+
+  -- The first lines were done, and then what was held back was written.
+  pub stopped_flushed : (way : Way) (h : Recorded A) (lines : List (Line A)) (p q r : Printed) → HasStopped way h lines p q → Prints q r [] → HasStopped way h lines p r
+  stopped_flushed way h lines p q r stop next = (stop.0, stop.1, stop.2, stop.3, prints_no_more p q r stop.2 stop.4 next)
+
   -- The stream has failed: no more than nothing is known to be printed.
   pub lost : {E : Type 0} (d : Result (Unit {0}) E) (way : Way) (h : Recorded A) (lines : List (Line A)) (p q r : Printed) → OnOk d (HasRun way h lines p q) → OnErr d (HasStopped way h lines p q) → Prints q r [] → r.failed ≡ true → HasStopped way h lines p r
   lost (Ok x) way h lines p q r run stop next failed = (0, h, [], (refl, refl), (next.0 ∙ run.3.0, λ e. failed, inl failed))

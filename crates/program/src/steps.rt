@@ -126,8 +126,8 @@ where
     A: Allocator + Copy + Send + Sync,
     F: Files<A>,
     T: Threads + Wait + Sync,
-    ensures done { IfOk result (λ x. spec.IsAnswered way core session command.entry.now x.0 x.1.items) }
-    ensures fault { IfErr result (λ f. spec.EndsBy command.entry.now f) }
+    ensures done { IfOk result (λ x. IsDone way core (Step.Session session command.entry.now) x.0 x.1.items) }
+    ensures fault { IfErr result (λ f. Stops (Step.Session session command.entry.now) f) }
 {
     let text = do_command(rt, alloc, files, &mut core, session, command)?;
     Ok((core, shown_text(alloc, way.shown, text)))

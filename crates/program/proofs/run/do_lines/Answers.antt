@@ -1,8 +1,18 @@
-use Rattle.std.proofs.Common.{◌∙◌, refl, arith}
+use Rattle.std.proofs.Common.{◌∙◌, [], refl, arith}
 use Rattle.program.proofs.PrintLemmas.{prints_none}
-use Rattle.program.proofs.StepsLemmas.{done_none}
 use Rattle.program.proofs.RunLemmas.{on_err, on_ok, on_err_more, one_more, stopped, run}
 use Rattle.program.proofs.run.do_lines.Goals as goal
+
+pub loop-line-init : goal.loop-line-init
+loop-line-init g c = ([], (refl, refl), prints_none c.args.printer.now)
+
+pub returns-in_err-next-clause-stopped : goal.returns-in_err-next-clause-stopped
+returns-in_err-next-clause-stopped g c =
+    on_err c.from_residual.result _ (stopped c.args.way c.args.core c.loop-line.core c.args.lines.now c.loop-line.line-index c.args.printer.now c.loop-line.printer c.loop-line.printer c.loop-line.invariant (prints_none c.loop-line.printer))
+
+pub returns-in_err-order-clause-stopped : goal.returns-in_err-order-clause-stopped
+returns-in_err-order-clause-stopped g c =
+    on_err c.from_residual-in_err-order.result _ (stopped c.args.way c.args.core c.loop-line.core c.args.lines.now c.loop-line.line-index c.args.printer.now c.loop-line.printer c.loop-line.printer c.loop-line.invariant (prints_none c.loop-line.printer))
 
 pub loop-line-preserved : goal.loop-line-preserved
 loop-line-preserved g c =

@@ -6,10 +6,10 @@ use Rattle.program.proofs.words.done.Goals as goal
 pub returns-in-Err-clause-usage : goal.returns-in-Err-clause-usage
 returns-in-Err-clause-usage g c told =
     let mistake = c.tell_words.ensures.usage told in
-    (kind_of c.in-Err.error, among _ c.in-Err.error c.in-Err.ensures mistake.0, mistake)
+    (kind_of c.in-Err.error, among _ c.in-Err.error c.in-Err.ensures.fails mistake.0, mistake)
 
 pub returns-in-Err-clause-mistake : goal.returns-in-Err-clause-mistake
-returns-in-Err-clause-mistake g c mistaken = elim c.in-Err.ensures [
+returns-in-Err-clause-mistake g c mistaken = elim c.in-Err.ensures.fails [
   | inl memory ↦ inr (c.tell_words.ensures.memory memory)
   | inr here ↦ inl (c.tell_words.ensures.mistake (mistaken.1 _ here))
 ]
@@ -18,4 +18,4 @@ pub returns-in-Ok-clause-usage : goal.returns-in-Ok-clause-usage
 returns-in-Ok-clause-usage g c told = absurd (c.do_request.ensures told)
 
 pub returns-in-Ok-clause-mistake : goal.returns-in-Ok-clause-mistake
-returns-in-Ok-clause-mistake g c mistaken = absurd (mistaken.0 c.in-Ok.ensures)
+returns-in-Ok-clause-mistake g c mistaken = absurd (mistaken.0 c.in-Ok.ensures.fails)
