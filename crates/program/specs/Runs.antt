@@ -5,6 +5,7 @@ use Rattle.value.specs.Codes.{sqlstate}
 use Rattle.history.specs.Events.{world}
 use Rattle.history.specs.Opening.{Recorded}
 use Rattle.session.specs.Core.{IsCheckpoint}
+use Rattle.request.specs.declared.request.Request.TheVariants as ask
 use Rattle.script.specs.declared.command.Command.{Command}
 use Rattle.script.specs.declared.command.Command.TheVariants as command
 use Rattle.script.specs.declared.script.Step.{Step}
@@ -53,10 +54,11 @@ module _ {A : Type 0} where
   Checkpoints most h k None = IsCheckpoint h most (Ok k)
   Checkpoints most h k (Some e) = IsCheckpoint h most (Err (k, e))
 
-  -- What is told of a command of session s, by which h has become k: what came of a dump, which is no event; else the reply to its event.
+  -- What is told of a command of session s, by which h has become k: what came of a dump, which is no event; else the reply to its event, of WAIT that to a POLL.
   abbrev pub TellsCommand : Recorded A → Recorded A → ℕ → Command A → List ℕ → Type 0
   TellsCommand h k s (command.Dump request) text = (k ≡ h) × TellsDump h s text
-  TellsCommand h k s c text = Tells h k s c text
+  TellsCommand h k s (command.Ask request) text = Tells h k s request text
+  TellsCommand h k s command.Wait text = Tells h k s ask.Poll text
 
   -- the same, and what is printed of it
   abbrev pub IsAnswered : Way → Recorded A → ℕ → Command A → Recorded A → List ℕ → Type 0

@@ -1,13 +1,11 @@
 //! What a script's lines do, one after the other, to a core.
 
 ghost use Rattle.std.specs.Prelude.{◌≡◌, ◌⊎◌, IfErr, IfOk, OnOk};
-ghost use Rattle.history.specs.Answer.{Allowed};
 ghost use Rattle.program.specs.Dumps.{IsDumped, IsDumpedTo, TellsDump};
-ghost use Rattle.program.specs.Lines.{Asks, IsRun, Replies, Tells};
+ghost use Rattle.program.specs.Lines.{Replies, Tells};
 ghost use Rattle.program.specs.Files.{IsFileFault};
 ghost use Rattle.program.specs.Runs.{Checkpoints, EndsBy, TellsCommand};
-ghost use Rattle.session.specs.Core.{IsStep};
-ghost use Rattle.sqltext.specs.Parsed.{parsed};
+ghost use Rattle.script.specs.Printing.{reply_text};
 
 use crate::dumping::dump_text;
 use crate::fault::Fault;
@@ -15,48 +13,44 @@ use crate::files::Files;
 use backup::{BackupFault, dump_session};
 use dumpplan::NoGate;
 use dumpworker::DumpFault;
-use history::event::{Action, Event};
+use history::event::Event;
 use history::session_id::SessionId;
-use schema::catalog::Catalog;
+use request::request::Request;
 use script::command::{Command, DumpRequest};
 use script::printing::reply_text;
 use session::sessions::Core;
-use sqltext::parse::parse_statement;
 use statement::reply::Reply;
 use std::alloc::Allocator;
 use std::sync::Wait;
 use std::thread::Threads;
-use value::refusal::{Code, Refusal};
+use value::refusal::Refusal;
 
-/// What a text asks of the core: that its statement is run, or, where it is none, that its refusal is
-/// recorded. Want of memory is told to the session alone.
-fn action_of<A: Allocator + Copy>(
+/// What is printed of a session's reply.
+pub(crate) fn printed_reply<A: Allocator>(
     alloc: A,
-    catalog: &Catalog<A>,
-    text: &str,
-) -> Result<Action<A>, Refusal>
-    ensures allowed { IfOk result (λ a. Allowed catalog.now a) }
-    ensures asked { Asks (parsed catalog.now text.now) result }
+    session: SessionId,
+    reply: &Reply<A>,
+) -> Result<Vec<u8, A>, Fault<'static>>
+    ensures text { IfOk result (λ text. text.items ≡ reply_text session reply.now) }
+    ensures fault { IfErr result (λ f. f ≡ Fault.Script 0) }
 {
-    match parse_statement(alloc, catalog, text) {
-        Ok(statement) => Ok(Action::Run(statement)),
-        Err(refusal) => match refusal.code {
-            Code::OutOfMemory => Err(refusal),
-            _ => Ok(Action::Broken(refusal)),
-        },
+    match reply_text(alloc, session, reply) {
+        Ok(text) => Ok(text),
+        Err(_) => Err(Fault::Script { line: 0 }),
     }
 }
 
-// The reply to a text.
-fn run_text<A: Allocator + Copy>(
+// The reply to what a session asks for. Where memory is wanting to parse a text, that is told to the
+/// session alone.
+fn reply_to<A: Allocator + Copy>(
     alloc: A,
     core: &mut Core<A>,
     session: SessionId,
-    text: &str,
+    request: &Request<A>,
 ) -> Reply<A>
-    ensures { IsRun core.old core.new session text.now result }
+    ensures { Replies core.old core.new session request.now result }
 {
-    match action_of(alloc, core.history().catalog(), text) {
+    match request.action(alloc, core.history().catalog()) {
         Ok(action) => core.step(alloc, Event { session, action }),
         Err(refusal) => Reply::Refused(refusal),
     }
@@ -93,51 +87,18 @@ where
     )
 }
 
-// An event of a session.
-fn step<A: Allocator + Copy>(
-    alloc: A,
-    core: &mut Core<A>,
-    session: SessionId,
-    action: Action<A>,
-) -> Reply<A>
-    requires { Allowed core.old.opening.catalog action }
-    ensures { IsStep core.old core.new session action result }
-{
-    core.step(alloc, Event { session, action })
-}
-
-// The reply to a command that is no dump.
-fn reply_to<A: Allocator + Copy>(
-    alloc: A,
-    core: &mut Core<A>,
-    session: SessionId,
-    command: &Command<A>,
-) -> Reply<A>
-    ensures { Replies core.old core.new session command.now result }
-{
-    match command {
-        Command::Sql(text) => run_text(alloc, core, session, text.as_str()),
-        Command::Begin(mode) => step(alloc, core, session, Action::Begin(*mode)),
-        Command::Import(identifier) => step(alloc, core, session, Action::Import(*identifier)),
-        Command::Poll | Command::Wait => step(alloc, core, session, Action::Poll),
-        Command::Export => step(alloc, core, session, Action::Export),
-        Command::Commit => step(alloc, core, session, Action::Commit),
-        Command::Rollback => step(alloc, core, session, Action::Rollback),
-        Command::Prune | Command::Dump(_) => step(alloc, core, session, Action::Prune),
-    }
-}
-
-// Does a session's command that is no dump, and gives what is printed of it.
+// Does what a session asks for, and gives what is printed of it.
 fn tell_event<A: Allocator + Copy>(
     alloc: A,
     core: &mut Core<A>,
     session: SessionId,
-    command: &Command<A>,
-) -> Result<Vec<u8, A>, Refusal>
-    ensures { IfOk result (λ text. Tells core.old core.new session command.now text.items) }
+    request: &Request<A>,
+) -> Result<Vec<u8, A>, Fault<'static>>
+    ensures told { IfOk result (λ text. Tells core.old core.new session request.now text.items) }
+    ensures fault { IfErr result (λ f. f ≡ Fault.Script 0) }
 {
-    let reply = reply_to(alloc, core, session, command);
-    reply_text(alloc, session, &reply)
+    let reply = reply_to(alloc, core, session, request);
+    printed_reply(alloc, session, &reply)
 }
 
 // Does a dump of a session's safe snapshot, and gives what is printed of it.
@@ -178,18 +139,8 @@ where
 {
     match command {
         Command::Dump(request) => tell_dump(rt, alloc, files, core, session, request),
-        Command::Begin(_)
-        | Command::Poll
-        | Command::Export
-        | Command::Import(_)
-        | Command::Commit
-        | Command::Rollback
-        | Command::Prune
-        | Command::Wait
-        | Command::Sql(_) => match tell_event(alloc, core, session, command) {
-            Ok(text) => Ok(text),
-            Err(_) => Err(Fault::Script { line: 0 }),
-        },
+        Command::Ask(request) => tell_event(alloc, core, session, request),
+        Command::Wait => tell_event(alloc, core, session, &Request::Poll),
     }
 }
 

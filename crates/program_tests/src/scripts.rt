@@ -1,5 +1,6 @@
 //! What the lines of a script say, and the first that is faulty.
 
+use request::request::Request;
 use script::command::Command;
 use script::schedule::Schedule;
 use script::script::{Script, Step, read_script};
@@ -111,12 +112,12 @@ fn told(script: &Script, place: usize) -> (u32, &str) {
 
 fn word(command: &Command) -> &str {
     match command {
-        Command::Begin(Mode::Deferrable) => "deferrable",
-        Command::Import(7) => "import 7",
+        Command::Ask(Request::Begin(Mode::Deferrable)) => "deferrable",
+        Command::Ask(Request::Import(7)) => "import 7",
         Command::Dump(request) if request.jobs.get() == 8 && request.rows.get() == 1000 => {
             request.path.as_str()
         }
-        Command::Sql(sql) => sql.as_str(),
+        Command::Ask(Request::Sql(sql)) => sql.as_str(),
         _ => "another",
     }
 }

@@ -2,14 +2,16 @@
 use Rattle.std.specs.Prelude.{◌≡◌, ℕ, ◌-◌, ◌^◌, ◌==◌, nat_le, nat_lt, Bool, true, false, not, ◌&&◌, ◌||◌, if◌then◌else◌, Option, Some, None, is_some, Result, Ok, Err, List, [], ◌∷◌, length, take, drop, codes, slice_index}
 use Rattle.std.specs.Char.{is_ascii_digit, is_ascii_alphanumeric}
 use Rattle.std.specs.List.{list_all, list_any, prefix_len, position_or_len, before_first, after_first}
-use Rattle.std.specs.Option.{option_map_or}
+use Rattle.std.specs.Option.{option_map, option_map_or}
 use Rattle.std.specs.Str.{bytes_eq, is_utf8}
 use Rattle.std.specs.Str.Parse.{digits_value}
 use Rattle.value.specs.declared.refusal.Mode.TheVariants.{ReadWrite, ReadOnly, Deferrable}
 use Rattle.dumpplan.specs.declared.jobs.Jobs.{Jobs}
 use Rattle.dumpplan.specs.declared.jobs.PieceRows.{PieceRows}
+use Rattle.request.specs.declared.request.Request.{Request}
+use Rattle.request.specs.declared.request.Request.TheVariants.{Begin, Sql, Poll, Export, Import, Commit, Rollback, Prune}
 use Rattle.script.specs.declared.command.Command.{Command}
-use Rattle.script.specs.declared.command.Command.TheVariants.{Begin, Poll, Export, Import, Commit, Rollback, Prune, Wait, Dump, Sql}
+use Rattle.script.specs.declared.command.Command.TheVariants.{Ask, Wait, Dump}
 use Rattle.script.specs.declared.command.DumpRequest.{DumpRequest}
 use Rattle.script.specs.declared.schedule.Schedule.{Schedule}
 use Rattle.script.specs.declared.schedule.Schedule.TheVariants.{InOrder, Free}
@@ -97,9 +99,9 @@ module _ {A : Type 0} where
   wait_of InOrder = None
   wait_of Free = Some Wait
 
-  -- a command that takes nothing
-  abbrev pub of_words : Schedule → List ℕ → Option (Command A)
-  of_words schedule text =
+  -- an event that takes nothing
+  abbrev pub request_of : List ℕ → Option (Request A)
+  request_of text =
       if bytes_eq text (codes "BEGIN") then Some (Begin ReadWrite)
       else if bytes_eq text (codes "BEGIN READ ONLY") then Some (Begin ReadOnly)
       else if bytes_eq text (codes "BEGIN READ ONLY DEFERRABLE") then Some (Begin Deferrable)
@@ -108,12 +110,15 @@ module _ {A : Type 0} where
       else if bytes_eq text (codes "COMMIT") then Some Commit
       else if bytes_eq text (codes "ROLLBACK") then Some Rollback
       else if bytes_eq text (codes "PRUNE") then Some Prune
-      else if bytes_eq text (codes "WAIT") then wait_of schedule
       else None
+
+  -- a command that takes nothing
+  abbrev pub of_words : Schedule → List ℕ → Option (Command A)
+  of_words schedule text = if bytes_eq text (codes "WAIT") then wait_of schedule else option_map (λ q. Ask q) (request_of text)
 
   -- `n`, the identifier of a snapshot
   unfoldable pub import_of : List ℕ → Option (Command A)
-  import_of text = number_of text >>= λ n. Some (Import n)
+  import_of text = number_of text >>= λ n. Some (Ask (Import n))
 
   -- `jobs rows path`
   unfoldable pub dump_of : List ℕ → Option (Command A)
@@ -129,7 +134,7 @@ module _ {A : Type 0} where
 
   -- any other text is a statement's
   unfoldable pub sql_of : List ℕ → Option (Command A)
-  sql_of text = text_of text >>= λ sql. Some (Sql sql)
+  sql_of text = text_of text >>= λ sql. Some (Ask (Sql sql))
 
   -- a command with something behind its first word
   abbrev pub argued : List ℕ → Option (Command A)

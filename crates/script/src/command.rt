@@ -9,6 +9,7 @@ use crate::error::LineError;
 use crate::schedule::Schedule;
 use crate::words::{begins_command, cut, number};
 use dumpplan::{Jobs, PieceRows};
+use request::request::Request;
 use std::alloc::{Allocator, Global};
 use std::str;
 use value::refusal::Mode;
@@ -27,24 +28,12 @@ pub struct DumpRequest<A: Allocator = Global> {
 #[derive(Drop)]
 #[derive_where(Debug)]
 pub enum Command<A: Allocator = Global> {
-    /// A transaction of this mode.
-    Begin(Mode),
-    /// Whether the snapshot is safe yet.
-    Poll,
-    /// An identifier for the snapshot.
-    Export,
-    /// The snapshot of an identifier.
-    Import(u64),
-    Commit,
-    Rollback,
-    /// That versions which nobody sees are dropped.
-    Prune,
+    /// An event.
+    Ask(Request<A>),
     /// That the session goes on once its snapshot is safe.
     Wait,
     /// A dump of the safe snapshot.
     Dump(DumpRequest<A>),
-    /// The text of a statement.
-    Sql(Text<A>),
 }
 
 // To wait, where other sessions go on meanwhile.
@@ -57,30 +46,41 @@ fn wait_of<A: Allocator>(schedule: Schedule) -> Option<Command<A>>
     }
 }
 
+// An event that these words ask for.
+fn request_of<A: Allocator>(text: &[u8]) -> Option<Request<A>>
+    ensures { result ≡ spec.request_of text.now }
+{
+    if text == b"BEGIN".as_slice() {
+        Some(Request::Begin(Mode::ReadWrite))
+    } else if text == b"BEGIN READ ONLY".as_slice() {
+        Some(Request::Begin(Mode::ReadOnly))
+    } else if text == b"BEGIN READ ONLY DEFERRABLE".as_slice() {
+        Some(Request::Begin(Mode::Deferrable))
+    } else if text == b"POLL".as_slice() {
+        Some(Request::Poll)
+    } else if text == b"EXPORT".as_slice() {
+        Some(Request::Export)
+    } else if text == b"COMMIT".as_slice() {
+        Some(Request::Commit)
+    } else if text == b"ROLLBACK".as_slice() {
+        Some(Request::Rollback)
+    } else if text == b"PRUNE".as_slice() {
+        Some(Request::Prune)
+    } else {
+        None
+    }
+}
+
 // A command that takes nothing.
 fn of_words<A: Allocator>(schedule: Schedule, text: &[u8]) -> Option<Command<A>>
     ensures { result ≡ spec.of_words schedule text.now }
 {
-    if text == b"BEGIN".as_slice() {
-        Some(Command::Begin(Mode::ReadWrite))
-    } else if text == b"BEGIN READ ONLY".as_slice() {
-        Some(Command::Begin(Mode::ReadOnly))
-    } else if text == b"BEGIN READ ONLY DEFERRABLE".as_slice() {
-        Some(Command::Begin(Mode::Deferrable))
-    } else if text == b"POLL".as_slice() {
-        Some(Command::Poll)
-    } else if text == b"EXPORT".as_slice() {
-        Some(Command::Export)
-    } else if text == b"COMMIT".as_slice() {
-        Some(Command::Commit)
-    } else if text == b"ROLLBACK".as_slice() {
-        Some(Command::Rollback)
-    } else if text == b"PRUNE".as_slice() {
-        Some(Command::Prune)
-    } else if text == b"WAIT".as_slice() {
-        wait_of(schedule)
-    } else {
-        None
+    if text == b"WAIT".as_slice() {
+        return wait_of(schedule);
+    }
+    match request_of(text) {
+        Some(request) => Some(Command::Ask(request)),
+        None => None,
     }
 }
 
@@ -90,7 +90,7 @@ fn import_of<A: Allocator>(text: &[u8]) -> Result<Command<A>, LineError>
     ensures { Gives (λ c. c) result (spec.import_of text.now) }
 {
     match number(text) {
-        Some(identifier) => Ok(Command::Import(identifier)),
+        Some(identifier) => Ok(Command::Ask(Request::Import(identifier))),
         None => Err(LineError::Faulty),
     }
 }
@@ -201,7 +201,7 @@ fn sql_of<A: Allocator>(alloc: A, text: &[u8]) -> Result<Command<A>, LineError>
     ensures { Gives (λ c. c) result (spec.sql_of text.now) }
 {
     let sql = text_of(alloc, text)?;
-    Ok(Command::Sql(sql))
+    Ok(Command::Ask(Request::Sql(sql)))
 }
 
 /// The command of a session's line, without its `;`.

@@ -1,4 +1,3 @@
 pub mod Calls
 pub mod Doings
 pub mod Holds
-pub mod Requests

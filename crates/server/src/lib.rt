@@ -6,5 +6,4 @@ mod doing;
 mod hold;
 mod locked;
 mod reading;
-pub mod request;
 pub mod shared;

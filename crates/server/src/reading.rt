@@ -7,16 +7,16 @@ ghost use Rattle.schema.specs.Plain.{is_sound};
 ghost use Rattle.statement.specs.Evaluation.{outcome, writes};
 ghost use Rattle.statement.specs.Fits.{Fits};
 ghost use Rattle.history.specs.Answer.{Allowed, Legal, of_session, reader_answer};
+ghost use Rattle.request.specs.Requests.{asked};
 ghost use Rattle.server.specs.Calls.{IsCall};
-ghost use Rattle.server.specs.Requests.{asked};
 
 use crate::hold::FirstHold;
-use crate::request::Request;
 use crate::shared::Server;
 use dumpplan::Gate;
 use history::event::Action;
 use pass::token::Pass;
 use pass::word::Naming;
+use request::request::Request;
 use schema::catalog::Catalog;
 use serial::laws::{readers_are_sound, readers_stay};
 use session::reader::SessionReader;
@@ -71,7 +71,7 @@ impl<'w, J: Naming<A>, A: Allocator> Server<'w, J, A> {
         rt: &R,
         alloc: A,
         pass: &mut Pass<'w, J, A>,
-        request: Request<A>,
+        request: &Request<A>,
         gate: &G,
     ) -> Reply<A>
     where
@@ -79,9 +79,9 @@ impl<'w, J: Naming<A>, A: Allocator> Server<'w, J, A> {
         ensures legal { Legal J.opening pass.new.seen }
         ensures begins { IsPrefix pass.old.seen pass.new.seen }
         ensures mine { pass.new.mine ≡ of_session pass.new.session pass.new.seen }
-        ensures call { IsCall J.most pass.old (asked J.opening.catalog request) result pass.new }
+        ensures call { IsCall J.most pass.old (asked J.opening.catalog request.now) result pass.new }
     {
-        match request.into_action(alloc, &self.catalog) {
+        match request.action(alloc, &self.catalog) {
             Ok(action) => self.act_gated(rt, alloc, pass, action, gate),
             Err(refusal) => {
                 // The call tells what every pass keeps true.

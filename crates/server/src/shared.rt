@@ -6,17 +6,17 @@ ghost use Rattle.value.specs.Refusals.{AnswersOrNoMemory, out_of_memory};
 ghost use Rattle.schema.specs.Plain.{is_sound};
 ghost use Rattle.history.specs.Opening.{opening_refusal, zero_base};
 ghost use Rattle.history.specs.Answer.{Allowed, IsLegal, Legal, of_session, view_answer};
-ghost use Rattle.server.specs.Requests.{asked};
+ghost use Rattle.request.specs.Requests.{asked};
 ghost use Rattle.server.specs.Calls.{AreFresh, HasClosed, HasPolled, IsCall, is_no_count, may_end};
 
 use crate::locked::Locked;
-use crate::request::Request;
 use dumpplan::NoGate;
 use history::event::Action;
 use mvrows::view::View;
 use pass::keeper::Keeper;
 use pass::token::Pass;
 use pass::word::{FirstSeat, HistoryWord, Naming};
+use request::request::Request;
 use schema::catalog::Catalog;
 use schema::tables::Tables;
 use session::sessions::Core;
@@ -186,14 +186,14 @@ impl<'w, J: Naming<A>, A: Allocator> Server<'w, J, A> {
         rt: &R,
         alloc: A,
         pass: &mut Pass<'w, J, A>,
-        request: Request<A>,
+        request: &Request<A>,
     ) -> Reply<A>
     where
         A: Copy,
         ensures legal { Legal J.opening pass.new.seen }
         ensures begins { IsPrefix pass.old.seen pass.new.seen }
         ensures mine { pass.new.mine ≡ of_session pass.new.session pass.new.seen }
-        ensures call { IsCall J.most pass.old (asked J.opening.catalog request) result pass.new }
+        ensures call { IsCall J.most pass.old (asked J.opening.catalog request.now) result pass.new }
     {
         self.call_gated(rt, alloc, pass, request, &NoGate)
     }

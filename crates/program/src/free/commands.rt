@@ -3,97 +3,61 @@
 ghost use Rattle.std.specs.Prelude.{◌≡◌, ◌++◌, IfOk, OnOk};
 ghost use Rattle.backup.specs.Backed.{seen_by};
 ghost use Rattle.program.specs.Dumps.{IsDumped};
-ghost use Rattle.program.specs.Freely.{AreTold, IsAnswered, IsAtLine, IsDumpTold, IsNoDump, IsReplyTold, IsTextAnswered, IsTold};
+ghost use Rattle.program.specs.Freely.{AreTold, IsAtLine, IsCallTold, IsDumpTold, IsTold, IsWaitTold};
 
 use crate::dumping::dump_text;
 use crate::fault::Fault;
 use crate::free::sinks::Sinks;
+use crate::sessions::printed_reply;
 use backup::{BackupFault, dump_safe};
 use dumpplan::NoGate;
 use dumpworker::DumpFault;
 use history::session_id::SessionId;
 use pass::token::Pass;
 use pass::word::Naming;
+use request::request::Request;
 use script::command::{Command, DumpRequest};
-use script::printing::reply_text;
 use script::script::{Line, Step};
-use server::request::Request;
 use server::shared::Server;
-use statement::reply::Reply;
 use std::alloc::Global;
 use std::sync::Wait;
 use std::thread::Threads;
-use value::refusal::{Code, Refusal};
 
 const NO_MEMORY: Fault<'static> = Fault::Script { line: 0 };
 
-// The reply to a text.
-fn say<'w, J, T>(
+// Does what a session asks for, and gives what is printed of it.
+fn tell_call<'w, J, T>(
     rt: &T,
     alloc: Global,
     server: &Server<'w, J>,
     pass: &mut Pass<'w, J>,
-    text: &str,
-) -> Reply
+    request: &Request,
+) -> Result<Vec<u8>, Fault<'static>>
 where
     J: Naming<Global>,
     T: Wait,
-    ensures { IsTextAnswered J.opening J.most pass.old text.now result pass.new }
-{
-    match String::from_str(alloc, text) {
-        Ok(text) => server.call(rt, alloc, pass, Request::Sql(text)),
-        Err(_) => Reply::Refused(Refusal::of_code(Code::OutOfMemory)),
-    }
-}
-
-// The reply to a command that is no dump.
-fn reply_to<'w, J, T>(
-    rt: &T,
-    alloc: Global,
-    server: &Server<'w, J>,
-    pass: &mut Pass<'w, J>,
-    command: &Command,
-) -> Reply
-where
-    J: Naming<Global>,
-    T: Wait,
-    requires { IsNoDump command.now }
-    ensures { IsAnswered J.opening J.most pass.old command.now result pass.new }
-{
-    match command {
-        Command::Sql(text) => say(rt, alloc, server, pass, text.as_str()),
-        Command::Begin(mode) => server.call(rt, alloc, pass, Request::Begin(*mode)),
-        Command::Import(identifier) => server.call(rt, alloc, pass, Request::Import(*identifier)),
-        Command::Poll => server.call(rt, alloc, pass, Request::Poll),
-        Command::Wait => server.wait_safe(rt, alloc, pass),
-        Command::Export => server.call(rt, alloc, pass, Request::Export),
-        Command::Commit => server.call(rt, alloc, pass, Request::Commit),
-        Command::Rollback => server.call(rt, alloc, pass, Request::Rollback),
-        Command::Prune => server.call(rt, alloc, pass, Request::Prune),
-        Command::Dump(_) => unreachable!(),
-    }
-}
-
-// Does a command that is no dump, and gives what is printed of it.
-fn tell_reply<'p, 'w, J, T>(
-    rt: &T,
-    alloc: Global,
-    server: &Server<'w, J>,
-    pass: &mut Pass<'w, J>,
-    command: &'p Command,
-) -> Result<Vec<u8>, Fault<'p>>
-where
-    J: Naming<Global>,
-    T: Wait,
-    requires { IsNoDump command.now }
-    ensures { IfOk result (λ text. IsReplyTold J.opening J.most pass.old command.entry.now text.items pass.new) }
+    ensures { IfOk result (λ text. IsCallTold J.opening J.most pass.old request.now text.items pass.new) }
 {
     let session = pass.session();
-    let reply = reply_to(rt, alloc, server, pass, command);
-    match reply_text(alloc, session, &reply) {
-        Ok(text) => Ok(text),
-        Err(_) => Err(NO_MEMORY),
-    }
+    let reply = server.call(rt, alloc, pass, request);
+    printed_reply(alloc, session, &reply)
+}
+
+// Waits until a session's snapshot is safe, and gives what is printed of that.
+fn tell_wait<'w, J, T>(
+    rt: &T,
+    alloc: Global,
+    server: &Server<'w, J>,
+    pass: &mut Pass<'w, J>,
+) -> Result<Vec<u8>, Fault<'static>>
+where
+    J: Naming<Global>,
+    T: Wait,
+    ensures { IfOk result (λ text. IsWaitTold J.most pass.old text.items pass.new) }
+{
+    let session = pass.session();
+    let reply = server.wait_safe(rt, alloc, pass);
+    printed_reply(alloc, session, &reply)
 }
 
 // Writes a dump of the safe snapshot of a pass's session to a file.
@@ -165,15 +129,8 @@ where
 {
     match command {
         Command::Dump(request) => tell_dump(rt, alloc, server, sinks, pass, request),
-        Command::Sql(_)
-        | Command::Begin(_)
-        | Command::Import(_)
-        | Command::Poll
-        | Command::Wait
-        | Command::Export
-        | Command::Commit
-        | Command::Rollback
-        | Command::Prune => tell_reply(rt, alloc, server, pass, command),
+        Command::Ask(request) => tell_call(rt, alloc, server, pass, request),
+        Command::Wait => tell_wait(rt, alloc, server, pass),
     }
 }
 

@@ -2,16 +2,16 @@ use Rattle.std.proofs.Common.{◌≡◌, ◌∙◌, true, refl, ap, subst, inl, 
 use Rattle.statement.specs.declared.reply.Reply.TheVariants.{Refused}
 use Rattle.schema.specs.Definition.{Catalog}
 use Rattle.history.specs.declared.event.Action.{Action}
-use Rattle.plain.specs.Courses.{takes_memory}
-use Rattle.server.specs.Requests.{asked}
+use Rattle.request.specs.Requests.{asked}
 use Rattle.server.specs.Calls.{IsCall}
+use Rattle.server.proofs.Asked.{texts_take}
 use Rattle.server.proofs.shared.Server.call_gated.Goals as goal
 
 pub returns-in-Ok-clause-call : goal.returns-in-Ok-clause-call
 returns-in-Ok-clause-call g c =
-    subst (λ (a : Action _). IsCall g.J.Naming.most c.args.pass.now a c.act_gated.result c.act_gated.new.pass) (c.in-Ok.ensures.asked ∙ ap (λ (d : Catalog). asked d c.args.request) c.args.self.now.catalog_is) c.act_gated.ensures.call
+    subst (λ (a : Action _). IsCall g.J.Naming.most c.args.pass.now a c.act_gated.result c.act_gated.new.pass) (c.in-Ok.ensures.asked ∙ ap (λ (d : Catalog). asked d c.args.request.now) c.args.self.now.catalog_is) c.act_gated.ensures.call
 
 pub returns-in-Err-clause-call : goal.returns-in-Err-clause-call
 returns-in-Err-clause-call g c =
-    let taken = subst (λ (d : Catalog). takes_memory (asked d c.args.request) ≡ true) c.args.self.now.catalog_is c.in-Err.ensures.taken in
+    let taken = texts_take g.J.Naming.opening.catalog c.args.request.now c.in-Err.ensures.text in
     (refl, inr (record { reason = inl (taken, ap Refused c.in-Err.ensures.memory); mine = refl }))

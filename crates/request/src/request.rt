@@ -1,25 +1,26 @@
-//! What sessions ask for.
+//! What a session asks for.
 
 ghost use Rattle.std.specs.Prelude.{◌≡◌, ◌≢◌, true, IfOk, IfErr, OnErr};
 ghost use Rattle.value.specs.Refusals.{out_of_memory};
 ghost use Rattle.history.specs.Answer.{Allowed};
-ghost use Rattle.plain.specs.Courses.{takes_memory};
 ghost use Rattle.sqltext.specs.Parsed.{parsed};
-ghost use Rattle.server.specs.Requests.{asked, spoken};
+ghost use Rattle.request.specs.Requests.{asked, is_text, spoken};
 
 use history::event::Action;
 use schema::catalog::Catalog;
 use sqltext::parse::parse_statement;
 use std::alloc::{Allocator, Global};
 use value::refusal::{Code, Mode, Refusal};
+use value::text::Text;
 
-/// What a session asks of the server.
+/// What a session asks for: an event, but that a statement is still its text.
 #[derive(Drop)]
+#[derive_where(Debug)]
 pub enum Request<A: Allocator = Global> {
     /// BEGIN, in one of the modes.
     Begin(Mode),
     /// A text, which may be a statement.
-    Sql(String<A>),
+    Sql(Text<A>),
     /// Whether a deferrable transaction's snapshot is safe yet.
     Poll,
     /// An identifier of the transaction's snapshot.
@@ -33,7 +34,6 @@ pub enum Request<A: Allocator = Global> {
 }
 
 // What a text asks for. Want of memory is no refusal of the text.
-#[tactic(auto, using(crate::proofs::Asked::spoken_takes))]
 fn action_of_text<A: Allocator + Copy>(
     alloc: A,
     catalog: &Catalog<A>,
@@ -62,21 +62,21 @@ fn action_of_refusal<A: Allocator>(refusal: Refusal) -> Result<Action<A>, Refusa
 }
 
 impl<A: Allocator> Request<A> {
-    /// The action that it asks for; a text is parsed. Want of memory to parse it is the one refusal.
-    pub fn into_action(self, alloc: A, catalog: &Catalog<A>) -> Result<Action<A>, Refusal>
+    /// The action that it asks for; a text is parsed. Want of memory to parse one is the only refusal.
+    pub fn action(&self, alloc: A, catalog: &Catalog<A>) -> Result<Action<A>, Refusal>
     where
         A: Copy,
-        ensures asked { IfOk result (λ action. action ≡ asked catalog.now self) }
+        ensures asked { IfOk result (λ action. action ≡ asked catalog.now self.now) }
         ensures allowed { IfOk result (λ action. Allowed catalog.now action) }
         ensures memory { IfErr result (λ e. e ≡ out_of_memory) }
-        ensures taken { OnErr result (takes_memory (asked catalog.now self) ≡ true) }
+        ensures text { OnErr result (is_text self.now ≡ true) }
     {
         match self {
-            Request::Begin(mode) => Ok(Action::Begin(mode)),
+            Request::Begin(mode) => Ok(Action::Begin(*mode)),
             Request::Sql(text) => action_of_text(alloc, catalog, text.as_str()),
             Request::Poll => Ok(Action::Poll),
             Request::Export => Ok(Action::Export),
-            Request::Import(identifier) => Ok(Action::Import(identifier)),
+            Request::Import(identifier) => Ok(Action::Import(*identifier)),
             Request::Commit => Ok(Action::Commit),
             Request::Rollback => Ok(Action::Rollback),
             Request::Prune => Ok(Action::Prune),
