@@ -4,7 +4,7 @@ use mathlib.Core.Bool.{false≢true}
 use Rattle.std.specs.Result.{is_ok, result_ok}
 use Rattle.value.specs.declared.refusal.Code.{Code}
 use Rattle.value.specs.declared.refusal.Refusal.{Refusal}
-use Rattle.value.specs.Refusals.{AnswersOrNoMemory, out_of_memory, pointing_nowhere}
+use Rattle.value.specs.Refusals.{AnswersOrNoMemory, pointing_nowhere}
 use Rattle.schema.specs.Definition.{Catalog}
 use Rattle.script.specs.declared.error.LineError.{LineError}
 use Rattle.script.specs.declared.error.LineError.TheVariants.{Memory, Faulty}

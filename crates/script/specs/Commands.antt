@@ -1,18 +1,15 @@
 -- What a session's line of a script asks for (this project's own format).
-use Rattle.std.specs.Prelude.{◌≡◌, ℕ, ◌-◌, ◌^◌, ◌==◌, nat_le, nat_lt, Bool, true, false, not, ◌&&◌, ◌||◌, if◌then◌else◌, Option, Some, None, is_some, Result, Ok, Err, List, [], ◌∷◌, length, take, drop, codes, slice_index}
+use Rattle.std.specs.Prelude.{◌≡◌, ℕ, ◌-◌, ◌^◌, ◌==◌, nat_le, nat_lt, Bool, ◌&&◌, ◌||◌, if◌then◌else◌, Option, Some, None, is_some, Result, Ok, Err, List, [], ◌∷◌, length, take, codes, slice_index}
 use Rattle.std.specs.Char.{is_ascii_digit, is_ascii_alphanumeric}
 use Rattle.std.specs.List.{list_all, list_any, prefix_len, position_or_len, before_first, after_first}
-use Rattle.std.specs.Option.{option_map, option_map_or}
+use Rattle.std.specs.Option.{option_map}
 use Rattle.std.specs.Str.{bytes_eq, is_utf8}
 use Rattle.std.specs.Str.Parse.{digits_value}
 use Rattle.value.specs.declared.refusal.Mode.TheVariants.{ReadWrite, ReadOnly, Deferrable}
-use Rattle.dumpplan.specs.declared.jobs.Jobs.{Jobs}
-use Rattle.dumpplan.specs.declared.jobs.PieceRows.{PieceRows}
 use Rattle.request.specs.declared.request.Request.{Request}
 use Rattle.request.specs.declared.request.Request.TheVariants.{Begin, Sql, Poll, Export, Import, Commit, Rollback, Prune}
 use Rattle.script.specs.declared.command.Command.{Command}
 use Rattle.script.specs.declared.command.Command.TheVariants.{Ask, Wait, Dump}
-use Rattle.script.specs.declared.command.DumpRequest.{DumpRequest}
 use Rattle.script.specs.declared.schedule.Schedule.{Schedule}
 use Rattle.script.specs.declared.schedule.Schedule.TheVariants.{InOrder, Free}
 use Rattle.script.specs.declared.error.LineError.{LineError}

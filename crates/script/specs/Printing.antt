@@ -1,5 +1,5 @@
 -- How replies are printed (PostgreSQL manual, "Command tags" of the message CommandComplete, for BEGIN to SELECT; the other words, the numbers of sessions and the rows are this project's own).
-use Rattle.std.specs.Prelude.{ℕ, List, [], ◌∷◌, ◌++◌, codes, length}
+use Rattle.std.specs.Prelude.{ℕ, List, [], ◌++◌, codes, length}
 use Rattle.std.specs.Fmt.{decimal}
 use Rattle.std.specs.List.{flat_map}
 use Rattle.value.specs.Codes.{refusal_text}

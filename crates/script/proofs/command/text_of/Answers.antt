@@ -1,4 +1,4 @@
-use Rattle.std.proofs.Common.{◌≡◌, List, ℕ, Some, None, ap, refl, sym, ◌∙◌}
+use Rattle.std.proofs.Common.{List, ℕ, Some, ap, sym, ◌∙◌}
 use Rattle.script.proofs.TextLemmas.{text_of-utf8, text_of-other}
 use Rattle.script.proofs.command.text_of.Goals as goal
 
