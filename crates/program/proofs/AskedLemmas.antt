@@ -4,7 +4,7 @@ use Rattle.std.specs.Str.Parse.{ParsesUnsigned}
 use Rattle.clap.specs.Words.{ReadsOne, Row, Text, subcommand_of}
 use Rattle.program.specs.CommandLine.{pgserial}
 use Rattle.program.specs.Asked.{AsksFor, IsFlag, IsNumber, Writes, command_of, number_of}
-use Rattle.program.specs.declared.request.Request.{Request}
+use Rattle.program.specs.declared.task.Task.{Task}
 
 -- what a number of 32 bits is read as
 abbrev pub IsRead : Option ℕ → Text → Type 0
@@ -42,6 +42,6 @@ flag None b none set unset = none refl
 flag (Some t) b none set unset = (λ e. set (ap (λ x. Some x) e), λ e. unset (ap (λ x. Some x) e))
 
 -- some words name a command
-pub of_words : (words : List (Bor Text)) (o : Option (Text × List Row)) (r : Request) → (length words == 0) ≡ false → o ≡ subcommand_of pgserial (map (λ w. w.now) words) → AsksFor o r → AsksFor (command_of (map (λ w. w.now) words)) r
+pub of_words : (words : List (Bor Text)) (o : Option (Text × List Row)) (r : Task) → (length words == 0) ≡ false → o ≡ subcommand_of pgserial (map (λ w. w.now) words) → AsksFor o r → AsksFor (command_of (map (λ w. w.now) words)) r
 of_words [] o r some is asks = absurd (true≢false some)
 of_words (w ∷ ws) o r some is asks = subst (λ x. AsksFor x r) is asks

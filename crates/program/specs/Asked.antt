@@ -3,8 +3,8 @@ use Rattle.std.specs.Prelude.{◌≡◌, ◌≢◌, ◌⊎◌, ◌^◌, ◌<◌,
 use Rattle.std.specs.Str.Parse.{IsNumeral, digits_value, without_leading_plus}
 use Rattle.clap.specs.Words.{Row, Text, first_of, one_of, subcommand_of}
 use Rattle.program.specs.CommandLine.{pgserial}
-use Rattle.program.specs.declared.request.Request.{Request}
-use Rattle.program.specs.declared.request.Request.TheVariants as request
+use Rattle.program.specs.declared.task.Task.{Task}
+use Rattle.program.specs.declared.task.Task.TheVariants as task
 use Rattle.program.specs.declared.run.Shown.{Shown}
 use Rattle.program.specs.declared.run.Shown.TheVariants.{Replies, Order}
 use Rattle.program.specs.declared.run.Way.{Way}
@@ -44,28 +44,28 @@ abbrev pub IsInOrder : List Row → Shown → Text → Way → Type 0
 IsInOrder rows shown path way = (path ≡ path_of (codes "SCRIPT") rows) × (way.shown ≡ shown) × WritesEvents rows way.most_events
 
 -- `restore`: where the dump is read, by how many jobs, and where it is written
-abbrev pub AsksToRestore : List Row → Request → Type 0
-AsksToRestore rows (request.Restore dump jobs out) = (dump.now ≡ path_of (codes "DUMP") rows) × WritesJobs rows jobs × (out.now ≡ path_of (codes "out") rows)
+abbrev pub AsksToRestore : List Row → Task → Type 0
+AsksToRestore rows (task.Restore dump jobs out) = (dump.now ≡ path_of (codes "DUMP") rows) × WritesJobs rows jobs × (out.now ≡ path_of (codes "out") rows)
 AsksToRestore rows _ = ⊥
 
 -- `audit`: the lines one after the other, and then the serial order
-abbrev pub AsksToAudit : List Row → Request → Type 0
-AsksToAudit rows (request.Run path way) = IsInOrder rows Order path.now way
+abbrev pub AsksToAudit : List Row → Task → Type 0
+AsksToAudit rows (task.Run path way) = IsInOrder rows Order path.now way
 AsksToAudit rows _ = ⊥
 
 -- `run`: each session's lines on a thread where `--free` is among the words; else the lines one after the other, with their replies
-abbrev pub AsksToRun : List Row → Request → Type 0
-AsksToRun rows (request.Run path way) = IsInOrder rows Replies path.now way × IsFlag (one_of (codes "free") rows) false
-AsksToRun rows (request.Free path most) = (path.now ≡ path_of (codes "SCRIPT") rows) × WritesEvents rows most × IsFlag (one_of (codes "free") rows) true
+abbrev pub AsksToRun : List Row → Task → Type 0
+AsksToRun rows (task.Run path way) = IsInOrder rows Replies path.now way × IsFlag (one_of (codes "free") rows) false
+AsksToRun rows (task.Free path most) = (path.now ≡ path_of (codes "SCRIPT") rows) × WritesEvents rows most × IsFlag (one_of (codes "free") rows) true
 AsksToRun rows _ = ⊥
 
 -- the script on standard input, with its replies
-abbrev pub AsksForInput : Request → Type 0
-AsksForInput (request.Run path way) = (path.now ≡ codes "-") × (way ≡ record { shown = Replies; most_events = 100000 })
+abbrev pub AsksForInput : Task → Type 0
+AsksForInput (task.Run path way) = (path.now ≡ codes "-") × (way ≡ record { shown = Replies; most_events = 100000 })
 AsksForInput _ = ⊥
 
 -- What is asked for by a command of this name and these rows; or by no command.
-abbrev pub AsksFor : Option (Text × List Row) → Request → Type 0
+abbrev pub AsksFor : Option (Text × List Row) → Task → Type 0
 AsksFor None r = AsksForInput r
 AsksFor (Some c) r = (c.0 ≡ codes "audit" → AsksToAudit c.1 r) × (c.0 ≡ codes "restore" → AsksToRestore c.1 r) × (c.0 ≢ codes "audit" → c.0 ≢ codes "restore" → AsksToRun c.1 r)
 

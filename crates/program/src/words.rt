@@ -8,9 +8,9 @@ use crate::fault::{Fault, Status, end, tell};
 use crate::files::Files;
 use crate::free::run_free;
 use crate::output::Printer;
-use crate::request::{Request, read_words};
 use crate::restoring::restore_file;
 use crate::run::run_file;
+use crate::task::{Task, read_words};
 use clap::Error;
 use clap::error::ErrorKind;
 use std::alloc::{Allocator, Global};
@@ -19,11 +19,11 @@ use std::sync::Wait;
 use std::thread::Threads;
 
 // Does what the words ask for.
-fn do_request<A, F, W, E, T>(
+fn do_task<A, F, W, E, T>(
     rt: &T,
     words_memory: Global,
     alloc: A,
-    request: Request<'_>,
+    task: Task<'_>,
     files: &F,
     out: &mut W,
     err: &mut E,
@@ -37,11 +37,9 @@ where
     ensures { result ≢ Status.Usage }
 {
     let mut printer = Printer::new(alloc, out);
-    match request {
-        Request::Run { script, way } => {
-            run_file(rt, alloc, files, script, way, &mut printer, err)
-        }
-        Request::Free {
+    match task {
+        Task::Run { script, way } => { run_file(rt, alloc, files, script, way, &mut printer, err) }
+        Task::Free {
             script,
             most_events,
         } => {
@@ -55,7 +53,7 @@ where
                 err,
             )
         }
-        Request::Restore { dump, jobs, out } => {
+        Task::Restore { dump, jobs, out } => {
             let done = restore_file(rt, alloc, files, dump, jobs, out, &mut printer);
             end(done, err)
         }
@@ -109,7 +107,7 @@ where
 {
     match read_words(words_memory, words) {
         Err(error) => tell_words(&error, out, err),
-        Ok(request) => do_request(rt, words_memory, alloc, request, files, out, err),
+        Ok(task) => do_task(rt, words_memory, alloc, task, files, out, err),
     }
 }
 

@@ -15,7 +15,7 @@ returns-in-Err-clause-mistake g c mistaken = elim c.in-Err.ensures.fails [
 ]
 
 pub returns-in-Ok-clause-usage : goal.returns-in-Ok-clause-usage
-returns-in-Ok-clause-usage g c told = absurd (c.do_request.ensures told)
+returns-in-Ok-clause-usage g c told = absurd (c.do_task.ensures told)
 
 pub returns-in-Ok-clause-mistake : goal.returns-in-Ok-clause-mistake
 returns-in-Ok-clause-mistake g c mistaken = absurd (mistaken.0 c.in-Ok.ensures.fails)

@@ -3,7 +3,7 @@ use Rattle.std.proofs.lemmas.Result.{IfOk-weaker}
 use Rattle.clap.specs.Words.{App, FailsBy, app_of, fault_of, is_simple, is_simple_and_free, subcommand_of}
 use Rattle.clap.proofs.OnLiterals.{clap_on_literals}
 use Rattle.program.specs.CommandLine.{pgserial}
-use Rattle.program.proofs.request.matches_of.Goals as goal
+use Rattle.program.proofs.task.matches_of.Goals as goal
 
 is_free : is_simple_and_free pgserial ≡ true
 unfolding clap_on_literals

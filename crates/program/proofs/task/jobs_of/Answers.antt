@@ -4,7 +4,7 @@ use Rattle.clap.specs.Words.{found_of, one_text}
 use Rattle.clap.proofs.WalkLemmas.{one_text-rows}
 use Rattle.program.specs.Asked.{Writes}
 use Rattle.program.proofs.AskedLemmas.{MayWork, chosen, is_read, not_chosen}
-use Rattle.program.proofs.request.jobs_of.Goals as goal
+use Rattle.program.proofs.task.jobs_of.Goals as goal
 
 pub returns-in-Some : goal.returns-in-Some
 returns-in-Some c =

@@ -1,6 +1,6 @@
 use Rattle.std.proofs.Common.{rules}
 use Rattle.program.proofs.AskedLemmas.{of_words}
-use Rattle.program.proofs.request.read_words.Goals as goal
+use Rattle.program.proofs.task.read_words.Goals as goal
 
 pub returns-clause-asked : goal.returns-clause-asked
 returns-clause-asked c = of_words c.args.words.now _ c.request_of.result (search rules) c.in_ok-matches.ensures.command c.request_of.ensures

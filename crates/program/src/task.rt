@@ -19,7 +19,7 @@ const VERSION: &str = "0.1.0";
 
 /// What the command line asks for.
 #[derive(Drop)]
-pub(crate) enum Request<'w> {
+pub(crate) enum Task<'w> {
     /// The session lines of a script, one after the other.
     Run {
         script: &'w str,
@@ -214,18 +214,18 @@ fn in_order<'w>(command: &ArgMatches<'w>, shown: Shown) -> (&'w str, Way)
 }
 
 // A script that is audited.
-fn audit_of<'w>(audit: &ArgMatches<'w>) -> Request<'w>
+fn audit_of<'w>(audit: &ArgMatches<'w>) -> Task<'w>
     ensures { asked.AsksToAudit (rows_of (found_of audit.now)) result }
 {
     let (script, way) = in_order(audit, Shown::Order);
-    Request::Run { script, way }
+    Task::Run { script, way }
 }
 
 // A dump that is restored.
-fn restore_of<'w>(restore: &ArgMatches<'w>) -> Request<'w>
+fn restore_of<'w>(restore: &ArgMatches<'w>) -> Task<'w>
     ensures { asked.AsksToRestore (rows_of (found_of restore.now)) result }
 {
-    Request::Restore {
+    Task::Restore {
         dump: path_of(restore, "DUMP"),
         jobs: jobs_of(restore),
         out: path_of(restore, "out"),
@@ -233,24 +233,24 @@ fn restore_of<'w>(restore: &ArgMatches<'w>) -> Request<'w>
 }
 
 // A script that is run: freely, or its lines one after the other.
-fn run_of<'w>(run: &ArgMatches<'w>) -> Request<'w>
+fn run_of<'w>(run: &ArgMatches<'w>) -> Task<'w>
     ensures { asked.AsksToRun (rows_of (found_of run.now)) result }
 {
     if is_free(run) {
-        return Request::Free {
+        return Task::Free {
             script: path_of(run, "SCRIPT"),
             most_events: most_events_of(run),
         };
     }
     let (script, way) = in_order(run, Shown::Replies);
-    Request::Run { script, way }
+    Task::Run { script, way }
 }
 
 // The script on standard input, with its replies.
-fn from_input<'w>() -> Request<'w>
+fn from_input<'w>() -> Task<'w>
     ensures { asked.AsksForInput result }
 {
-    Request::Run {
+    Task::Run {
         script: "-",
         way: Way {
             shown: Shown::Replies,
@@ -260,7 +260,7 @@ fn from_input<'w>() -> Request<'w>
 }
 
 // What a command with these matches asks for.
-fn request_of<'w>(matches: &ArgMatches<'w>) -> Request<'w>
+fn task_of<'w>(matches: &ArgMatches<'w>) -> Task<'w>
     ensures { asked.AsksFor (subcommand_rows_of matches.now) result }
 {
     match matches.subcommand() {
@@ -273,7 +273,7 @@ fn request_of<'w>(matches: &ArgMatches<'w>) -> Request<'w>
 
 /// What the words, behind the program's name, ask for. No word at all asks for the script on
 /// standard input. The error is a mistake in the words, `--help`, `--version`, or want of memory.
-pub(crate) fn read_words<'w>(alloc: Global, words: &'w [&'w str]) -> Result<Request<'w>, Error>
+pub(crate) fn read_words<'w>(alloc: Global, words: &'w [&'w str]) -> Result<Task<'w>, Error>
     ensures asked { IfOk result (λ r. asked.AsksFor (asked.command_of (map (λ w. w.now) words.entry.now)) r) }
     ensures fails { FailsBy (spec.faults (map (λ w. w.now) words.entry.now)) result }
 {
@@ -281,5 +281,5 @@ pub(crate) fn read_words<'w>(alloc: Global, words: &'w [&'w str]) -> Result<Requ
         return Ok(from_input());
     }
     let matches = matches_of(alloc, words)?;
-    Ok(request_of(&matches))
+    Ok(task_of(&matches))
 }

@@ -4,7 +4,7 @@ use Rattle.clap.specs.Words.{found_of, one_text}
 use Rattle.clap.proofs.WalkLemmas.{one_text-rows}
 use Rattle.program.specs.Asked.{Writes}
 use Rattle.program.proofs.AskedLemmas.{is_read, writes}
-use Rattle.program.proofs.request.most_events_of.Goals as goal
+use Rattle.program.proofs.task.most_events_of.Goals as goal
 
 pub returns : goal.returns
 returns c =

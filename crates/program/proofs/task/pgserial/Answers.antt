@@ -1,7 +1,7 @@
 use Rattle.std.proofs.Common.{◌≡◌, ◌∙◌, ap, ap₂, refl, codes, true}
 use Rattle.clap.specs.Words.{App, app_of, new_app, with_rule, with_subcommand}
 use Rattle.program.specs.CommandLine.{of_script, run, restore, alone}
-use Rattle.program.proofs.request.pgserial.Goals as goal
+use Rattle.program.proofs.task.pgserial.Goals as goal
 
 -- each command with its arguments, and then the program with its commands
 pub returns : goal.returns
