@@ -11,6 +11,7 @@ pub mod LiteralLemmas
 pub mod PieceLemmas
 pub mod PlaceLemmas
 pub mod ReadingLemmas
+pub mod RoundLemmas
 pub mod RowLemmas
 pub mod RowLines
 pub mod RowsAgain

@@ -4,5 +4,6 @@ pub mod Layout
 pub mod Lines
 pub mod Progress
 pub mod Reading
+pub mod Rounds
 pub mod Rows
 pub mod Steps

@@ -45,6 +45,10 @@ IsEnd number text (Err e) = IsBehind number text e
 abbrev pub is_row_line : List ℕ → Bool
 is_row_line line = not (bytes_eq line end_of_rows)
 
+-- the next line, if there is one, is the line behind the rows
+abbrev pub HasNoRowLine : List ℕ → Type 0
+HasNoRowLine text = (line rest : List ℕ) → parted 10 text ≡ Some (line, rest) → bytes_eq line end_of_rows ≡ true
+
 -- a line and those behind it up to the lines that are left, all of them of rows
 pub record AreRowLines (first : Line) (rows : List (Bor (List ℕ))) (left : Lines) : Type 0 where
   pub lines : first.bytes.now ∷ lines_of first.rest.text.now ≡ map (λ line. line.now) rows ++ lines_of left.text.now

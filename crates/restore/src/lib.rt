@@ -8,6 +8,7 @@ mod law;
 mod lines;
 mod pieces;
 mod reading;
+mod rounds;
 mod rows;
 mod sound;
 mod text;

@@ -1,10 +1,10 @@
 //! The lines of a dump.
 
-ghost use Rattle.std.specs.Prelude.{◌≡◌, ◌+◌, ◌<◌, ◌≤◌, length, Some, false, vec_len, IfOk, IfErr, IfSome};
+ghost use Rattle.std.specs.Prelude.{◌≡◌, ◌+◌, ◌<◌, ◌≤◌, length, Some, false, vec_len, IfOk, IfErr, IfSome, IfNone};
 ghost use Rattle.std.specs.Str.{bytes_eq};
 ghost use Rattle.dumpplan.specs.Lines.{end_of_rows};
 ghost use Rattle.restore.specs.CreateLine.{parted};
-ghost use Rattle.restore.specs.Lines.{IsNextLine, IsEnd, AreRowLines};
+ghost use Rattle.restore.specs.Lines.{IsNextLine, IsEnd, HasNoRowLine, AreRowLines};
 ghost use Rattle.restore.specs.declared.error.ReadError.TheVariants as error;
 
 use crate::error::{LineError, ReadError};
@@ -41,12 +41,13 @@ pub fn next_line(lines: Lines<'_>) -> Result<(&[u8], Lines<'_>), ReadError>
     }
 }
 
-// The next line, where it is a row's, and the lines after it.
-fn next_row_line(left: Lines<'_>) -> Result<Option<(&[u8], Lines<'_>)>, ReadError>
+/// The next line, where it is a row's, and the lines after it.
+pub fn next_row_line(left: Lines<'_>) -> Result<Option<(&[u8], Lines<'_>)>, ReadError>
     ensures line { IfOk result (λ found. IfSome found (λ x. parted 10 left.entry.text.now ≡ Some (x.0.now, x.1.text.now))) }
     ensures number { IfOk result (λ found. IfSome found (λ x. x.1.number ≡ left.entry.number + 1)) }
     ensures row { IfOk result (λ found. IfSome found (λ x. bytes_eq x.0.now end_of_rows ≡ false)) }
     ensures shorter { IfOk result (λ found. IfSome found (λ x. length x.1.text.now < length left.entry.text.now)) }
+    ensures none { IfOk result (λ found. IfNone found (HasNoRowLine left.entry.text.now)) }
     ensures memory { IfErr result (λ e. e ≡ error.Memory) }
 {
     let Some((line, text)) = parted(b'\n', left.text) else {

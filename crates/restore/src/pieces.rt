@@ -10,19 +10,18 @@ ghost use Rattle.schema.specs.Plain.{is_null, cells, is_sound, rows_of};
 ghost use Rattle.schema.specs.Rows.{put_row};
 ghost use Rattle.restore.specs.Lines.{is_row_line};
 ghost use Rattle.restore.specs.Reading.{Within, kinds_of, with_row, read_lines};
-ghost use Rattle.restore.specs.Rows.{row_of_line, is_free, is_behind, rise_from, rise, follows, AreRead, IsNext, IsPiece, ArePieces};
+ghost use Rattle.restore.specs.Rows.{row_of_line, is_free, is_behind, rise_from, rise, follows, AreRead, IsNext, ArePieces};
 ghost use Rattle.restore.specs.Steps.{Gives, Reads};
 ghost use Rattle.restore.specs.declared.error.ReadError.TheVariants as error;
 
 use crate::error::{LineError, ReadError};
-use crate::rows::{ReadPiece, ReadRow, insert_rows, read_each};
+use crate::rows::{ReadPiece, ReadRow, insert_rows};
 use schema::catalog::{Catalog, Column, TableNo};
 use schema::reader::{Bound, SnapshotReader};
 use schema::row::Row;
 use schema::tables::Tables;
 use std::alloc::{AllocError, Allocator};
 use value::key::Key;
-use value::kind::Kind;
 use value::value::Value;
 
 // Whether a column references a table.
@@ -101,18 +100,13 @@ fn rise<A: Allocator>(columns: &[Column<A>], rows: &[ReadRow<A>]) -> bool
     }
 }
 
-/// The piece of some lines of rows of a table with these columns, of these kinds.
-pub fn read_piece<A: Allocator + Copy>(
-    alloc: A,
-    columns: &[Column<A>],
-    kinds: &[Kind],
-    lines: &[&[u8]],
-) -> Result<ReadPiece<A>, AllocError>
-    ensures { IfOk result (λ piece. IsPiece columns.now kinds.now piece (map (λ line. line.now) lines.now)) }
+/// The piece of some lines whose rows, of a table with these columns, are these.
+pub fn piece_of<A: Allocator>(columns: &[Column<A>], rows: Vec<ReadRow<A>, A>) -> ReadPiece<A>
+    ensures rows { result.rows ≡ rows }
+    ensures rise { result.rise ≡ rise columns.now rows.items }
 {
-    let rows = read_each(alloc, kinds, lines)?;
     let rise = rise(columns, rows.as_slice());
-    Ok(ReadPiece { rows, rise })
+    ReadPiece { rows, rise }
 }
 
 // Whether all rows of a table come before a key.

@@ -6,7 +6,7 @@ ghost use Rattle.schema.specs.Inserting.{empty_tables};
 ghost use Rattle.dumpplan.specs.Lines.{copy_line, rows_line};
 ghost use Rattle.restore.specs.Progress.{read_in_steps};
 ghost use Rattle.restore.specs.Reading.{Progress, Start, Created, Before, Within, Behind, Whole, version, ended, lines_of, read_lines, read_dump};
-ghost use Rattle.restore.specs.Lines.{IsWantedLine};
+ghost use Rattle.restore.specs.Lines.{IsWantedLine, HasNoRowLine};
 ghost use Rattle.restore.specs.Steps.{Gives, Reads, no_memory};
 ghost use Rattle.restore.specs.declared.error.ReadError.TheVariants as error;
 
@@ -124,6 +124,21 @@ fn read_rows<'d, A: Allocator + Copy>(
         }
         lines = rest;
     }
+}
+
+/// The line behind the rows of a table, where no row's line is next.
+pub fn read_end_of_rows<'d, A: Allocator>(
+    lines: Lines<'d>,
+    catalog: &Catalog<A>,
+    tables: &Tables<A>,
+    table: TableNo,
+) -> Result<Lines<'d>, ReadError>
+    requires { HasNoRowLine lines.text.now }
+    ensures { (counted : Bool) → Reads (λ l. read_lines l.number (ended counted catalog.now tables.now table) (lines_of l.text.now)) result (read_lines lines.entry.number (Within counted catalog.now tables.now table) (lines_of lines.entry.text.now)) }
+{
+    // The contract alone speaks of these.
+    let (_catalog, _tables, _table) = (catalog, tables, table);
+    read_line(lines, b"\\.")
 }
 
 /// Where the version counts the rows of a table: their number.

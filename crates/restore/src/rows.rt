@@ -37,7 +37,7 @@ pub fn kinds_of<A: Allocator>(alloc: A, columns: &[Column<A>]) -> Result<Vec<Kin
 /// The row of a line, or why it isn't taken.
 pub type ReadRow<A> = Result<Row<A>, LineError>;
 
-/// The rows of a piece's lines.
+/// The rows of a piece's lines: of those that a thread reads one after another.
 #[derive(Drop)]
 pub struct ReadPiece<A: Allocator> {
     pub rows: Vec<ReadRow<A>, A>,

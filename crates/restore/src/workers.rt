@@ -1,41 +1,55 @@
 //! Lines of rows read by several threads.
 
-ghost use Rattle.std.specs.Prelude.{◌≡◌, ◌⊎◌, ◌+◌, ◌<◌, ◌≤◌, ◌^◌, ◌∷◌, Bool, true, false, map, length, IfOk, IfErr};
+ghost use Rattle.std.specs.Prelude.{◌≡◌, ◌⊎◌, ◌+◌, ◌<◌, ◌≤◌, ◌∷◌, Bool, true, false, map, length, IfOk};
+ghost use denote.Param.Send.{IsSend, IsSync, Frees};
 ghost use Rattle.std.specs.Str.{bytes_eq};
 ghost use Rattle.schema.specs.Definition.{columns_of};
 ghost use Rattle.schema.specs.Plain.{is_sound};
 ghost use Rattle.dumpplan.specs.Lines.{end_of_rows};
 ghost use Rattle.restore.specs.Progress.{read_in_steps};
 ghost use Rattle.restore.specs.Reading.{Before, Within, ended, kinds_of, lines_of, read_lines, read_dump};
-ghost use Rattle.restore.specs.Rows.{IsPiece, ArePieces};
+ghost use Rattle.restore.specs.Rounds.{Told, RisesKnown, AreWaiting, AreTaken, IsBegun};
+ghost use Rattle.restore.specs.Rows.{ArePieces};
 ghost use Rattle.restore.specs.Steps.{Reads, no_memory};
-ghost use Rattle.restore.specs.declared.error.ReadError.TheVariants as error;
 
 use crate::error::{ReadError, RestoreFault};
-use crate::lines::{Line, Lines, next_line, row_lines};
-use crate::pieces::{read_piece, take_pieces};
-use crate::reading::{empty_tables, read_copy_line, read_count, read_end, read_head};
-use crate::rows::{ReadPiece, kinds_of};
+use crate::lines::{Line, Lines, next_row_line, row_lines};
+use crate::reading::{
+    empty_tables, read_copy_line, read_count, read_end, read_end_of_rows, read_head,
+};
+use crate::rounds::{ReadPieces, Round, STRETCH_LINES, columns_of, read_round, take_round};
+use crate::rows::kinds_of;
 use dumpplan::{Gate, Jobs};
-use schema::catalog::{Catalog, Column, TableNo};
+use schema::catalog::{Catalog, TableNo};
 use schema::tables::Tables;
 use std::alloc::{AllocError, Allocator};
 use std::thread;
 use std::thread::Threads;
 use value::kind::Kind;
 
-/// How many lines of rows a piece has at most.
-pub const PIECE_LINES: usize = 1000;
+/// How many stretches of lines a piece has at most.
+const MOST_STRETCHES: usize = 16;
 
-/// Threads that each read a piece of a table's lines, the pieces being asked about at a gate.
+/// Threads that read a table's lines in rounds, a piece each, while the rows of the round before are taken. The gate is asked
+/// about each stretch of a piece.
 #[derive(Drop)]
 pub struct Workers<'w, R, G, A: Allocator> {
     rt: &'w R,
     alloc: A,
     jobs: Jobs,
     gate: &'w G,
-    /// How many pieces were read before.
-    pieces: u64,
+    /// How many stretches were read before.
+    stretches: u64,
+    /// How many stretches a piece of the next round has at most. The first round has one for each thread.
+    share: usize,
+}
+
+// How many lines a piece has where a round has so many.
+fn piece_lines(lines: usize, jobs: Jobs) -> usize
+    ensures { 0 < result }
+{
+    let stretches = lines.div_ceil(STRETCH_LINES).div_ceil(jobs.get() as usize);
+    stretches.saturating_mul(STRETCH_LINES).max(STRETCH_LINES)
 }
 
 impl<'w, R: Threads + Sync, G: Gate, A: Allocator + Copy + Send + Sync> Workers<'w, R, G, A> {
@@ -46,60 +60,160 @@ impl<'w, R: Threads + Sync, G: Gate, A: Allocator + Copy + Send + Sync> Workers<
             alloc,
             jobs,
             gate,
-            pieces: 0,
+            stretches: 0,
+            share: 1,
         }
     }
 
-    // The pieces of some lines of rows, each read in a thread of its own.
-    fn read_pieces(
-        &mut self,
-        columns: &[Column<A>],
-        kinds: &[Kind],
-        lines: &[&[u8]],
-    ) -> Result<Vec<Result<ReadPiece<A>, AllocError>, A>, ReadError>
-        ensures ok { IfOk result (λ pieces. ArePieces 1000 columns.now kinds.now pieces.items (map (λ line. line.now) lines.now)) }
-        ensures memory { IfErr result (λ e. e ≡ error.Memory) }
-    {
-        let (alloc, gate, before) = (self.alloc, self.gate, self.pieces);
-        let pieces = thread::map_chunks(
-            self.rt,
-            alloc,
-            lines,
-            PIECE_LINES,
-            &|start, lines| -> Result<ReadPiece<A>, AllocError>
-                ensures { IfOk result (λ piece. IsPiece columns.entry.now kinds.entry.now piece (map (λ line. line.now) lines.entry.now)) }
-            { read_at_gate(alloc, columns, kinds, lines, gate, number_of(before, start)) },
-        )?;
-        self.pieces = self.pieces.saturating_add(pieces.len() as u64);
-        Ok(pieces)
+    // How many lines the next round has at most.
+    fn most_lines(&self) -> usize {
+        (self.jobs.get() as usize)
+            .saturating_mul(self.share)
+            .saturating_mul(STRETCH_LINES)
     }
 
-    // Inserts the row of a line, and those of lines behind it, into a table whose columns have the kinds. What is left are the
-    // lines after them.
-    fn read_some<'d>(
+    // Counts a round of so many lines. The next has pieces of twice as many.
+    fn count_round(&mut self, lines: usize) {
+        let stretches = lines.div_ceil(STRETCH_LINES) as u64;
+        self.stretches = self.stretches.saturating_add(stretches);
+        self.share = self.share.saturating_mul(2).min(MOST_STRETCHES);
+    }
+
+    // What a round's lines read as, in pieces of so many lines, and the tables with the rows of the round before, which this
+    // thread takes while others read.
+    fn read_beside(
+        &self,
+        catalog: &Catalog<A>,
+        table: TableNo,
+        kinds: &[Kind],
+        lines: &[&[u8]],
+        size: usize,
+        tables: Tables<A>,
+        round: Round<A>,
+    ) -> (
+        Result<ReadPieces<A>, AllocError>,
+        Result<Tables<A>, ReadError>,
+    )
+        requires size { 0 < size }
+        requires has { table < length catalog.now }
+        requires same_tables { length tables ≡ length catalog.now }
+        requires rise { RisesKnown catalog.now table round.pieces.items }
+        ensures read { IfOk result.0 (λ pieces. ArePieces size (columns_of catalog.now table) kinds.now pieces.items (map (λ line. line.now) lines.now)) }
+        ensures taken { AreTaken catalog.now table tables round.number round.pieces.items result.1 }
+        ensures same_tables { IfOk result.1 (λ X. length X ≡ length catalog.now) }
+    {
+        let (rt, alloc, gate, before) = (self.rt, self.alloc, self.gate, self.stretches);
+        let columns = columns_of(catalog, table);
+        thread::join(
+            rt,
+            || -> Result<ReadPieces<A>, AllocError>
+                requires bounds { IsSend A.row × IsSync A.row × Frees A.Allocator A.dealloc_token × IsSync R.row × IsSync G.row }
+                requires size { 0 < size }
+                ensures { IfOk result (λ pieces. ArePieces size columns.entry.now kinds.entry.now pieces.items (map (λ line. line.now) lines.entry.now)) }
+            { read_round(rt, alloc, columns, kinds, lines, size, gate, before) },
+            move || -> Result<Tables<A>, ReadError>
+                requires { (table < length catalog.now) × (length tables ≡ length catalog.now) × RisesKnown catalog.now table round.pieces.items }
+                ensures { AreTaken catalog.entry.now table tables round.number round.pieces.items result × IfOk result (λ X. length X ≡ length catalog.entry.now) }
+            { take_round(alloc, catalog, table, tables, round) },
+        )
+    }
+
+    // The same by this thread alone.
+    fn read_behind(
+        &self,
+        catalog: &Catalog<A>,
+        table: TableNo,
+        kinds: &[Kind],
+        lines: &[&[u8]],
+        size: usize,
+        tables: Tables<A>,
+        round: Round<A>,
+    ) -> (
+        Result<ReadPieces<A>, AllocError>,
+        Result<Tables<A>, ReadError>,
+    )
+        requires size { 0 < size }
+        requires has { table < length catalog.now }
+        requires same_tables { length tables ≡ length catalog.now }
+        requires rise { RisesKnown catalog.now table round.pieces.items }
+        ensures read { IfOk result.0 (λ pieces. ArePieces size (columns_of catalog.now table) kinds.now pieces.items (map (λ line. line.now) lines.now)) }
+        ensures taken { AreTaken catalog.now table tables round.number round.pieces.items result.1 }
+        ensures same_tables { IfOk result.1 (λ X. length X ≡ length catalog.now) }
+    {
+        let (rt, alloc, gate, before) = (self.rt, self.alloc, self.gate, self.stretches);
+        let columns = columns_of(catalog, table);
+        let taken = take_round(alloc, catalog, table, tables, round);
+        let read = read_round(rt, alloc, columns, kinds, lines, size, gate, before);
+        (read, taken)
+    }
+
+    // The same, by as many threads as there are jobs.
+    fn read_and_take(
+        &self,
+        catalog: &Catalog<A>,
+        table: TableNo,
+        kinds: &[Kind],
+        lines: &[&[u8]],
+        size: usize,
+        tables: Tables<A>,
+        round: Round<A>,
+    ) -> (
+        Result<ReadPieces<A>, AllocError>,
+        Result<Tables<A>, ReadError>,
+    )
+        requires size { 0 < size }
+        requires has { table < length catalog.now }
+        requires same_tables { length tables ≡ length catalog.now }
+        requires rise { RisesKnown catalog.now table round.pieces.items }
+        ensures read { IfOk result.0 (λ pieces. ArePieces size (columns_of catalog.now table) kinds.now pieces.items (map (λ line. line.now) lines.now)) }
+        ensures taken { AreTaken catalog.now table tables round.number round.pieces.items result.1 }
+        ensures same_tables { IfOk result.1 (λ X. length X ≡ length catalog.now) }
+    {
+        if self.jobs.get() == 1 {
+            self.read_behind(catalog, table, kinds, lines, size, tables, round)
+        } else {
+            self.read_beside(catalog, table, kinds, lines, size, tables, round)
+        }
+    }
+
+    // The next round of a row's line and those behind it, which is read while the rows of the round before are taken; the lines
+    // that are left, and the tables.
+    fn next_round<'d>(
         &mut self,
         line: Line<'d>,
         catalog: &Catalog<A>,
-        tables: &mut Tables<A>,
         table: TableNo,
         kinds: &[Kind],
-    ) -> Result<Lines<'d>, ReadError>
+        tables: Tables<A>,
+        round: Round<A>,
+    ) -> Result<(Lines<'d>, Tables<A>, Round<A>), ReadError>
         requires has { table < length catalog.now }
-        requires same_tables { length tables.old ≡ length catalog.now }
+        requires same_tables { length tables ≡ length catalog.now }
         requires kinds { kinds.now ≡ kinds_of catalog.now table }
         requires number { line.rest.number ≡ line.number + 1 }
         requires row { bytes_eq line.bytes.now end_of_rows ≡ false }
-        ensures rows { (counted : Bool) → Reads (λ l. read_lines l.number (Within counted catalog.now tables.new table) (lines_of l.text.now)) result (read_lines line.entry.number (Within counted catalog.now tables.old table) (line.entry.bytes.now ∷ lines_of line.entry.rest.text.now)) }
-        ensures shorter { IfOk result (λ l. length l.text.now ≤ length line.entry.rest.text.now) }
-        ensures same_tables { length tables.new ≡ length catalog.now }
-        ensures sound { is_sound catalog.now tables.old ≡ true → is_sound catalog.now tables.new ≡ true }
+        requires rise { RisesKnown catalog.now table round.pieces.items }
+        ensures begun { (X : Tables A) (told : Told A) → AreWaiting catalog.now table X told tables round.number round.pieces.items line.entry.number (line.entry.bytes.now ∷ lines_of line.entry.rest.text.now) → IsBegun catalog.now table X told result }
+        ensures same_tables { IfOk result (λ x. length x.1 ≡ length catalog.now) }
+        ensures rise { IfOk result (λ x. RisesKnown catalog.now table x.2.pieces.items) }
+        ensures shorter { IfOk result (λ x. length x.0.text.now ≤ length line.entry.rest.text.now) }
     {
-        let most = self.jobs.get() as usize * PIECE_LINES;
-        let (lines, left) = row_lines(self.alloc, line, most)?;
-        let columns = columns_of(catalog, table);
-        let pieces = self.read_pieces(columns, kinds, lines.as_slice())?;
-        take_pieces(self.alloc, catalog, tables, table, line.number, pieces)?;
-        Ok(left)
+        let (lines, left) = row_lines(self.alloc, line, self.most_lines())?;
+        let size = piece_lines(lines.len(), self.jobs);
+        let (read, taken) = self.read_and_take(
+            catalog,
+            table,
+            kinds,
+            lines.as_slice(),
+            size,
+            tables,
+            round,
+        );
+        let tables = taken?;
+        let pieces = read?;
+        self.count_round(lines.len());
+        let number = line.number;
+        Ok((left, tables, Round { number, pieces }))
     }
 
     // The rows of a table, and the line behind them.
@@ -108,27 +222,39 @@ impl<'w, R: Threads + Sync, G: Gate, A: Allocator + Copy + Send + Sync> Workers<
         mut lines: Lines<'d>,
         catalog: &Catalog<A>,
         table: TableNo,
-        tables: &mut Tables<A>,
-    ) -> Result<Lines<'d>, ReadError>
+        mut tables: Tables<A>,
+    ) -> Result<(Lines<'d>, Tables<A>), ReadError>
         requires has { table < length catalog.now }
-        requires same_tables { length tables.old ≡ length catalog.now }
-        ensures rows { (counted : Bool) → Reads (λ l. read_lines l.number (ended counted catalog.now tables.new table) (lines_of l.text.now)) result (read_lines lines.entry.number (Within counted catalog.now tables.old table) (lines_of lines.entry.text.now)) }
-        ensures same_tables { length tables.new ≡ length catalog.now }
-        ensures sound { is_sound catalog.now tables.old ≡ true → is_sound catalog.now tables.new ≡ true }
+        requires same_tables { length tables ≡ length catalog.now }
+        ensures rows { (counted : Bool) → Reads (λ x. read_lines x.0.number (ended counted catalog.now x.1 table) (lines_of x.0.text.now)) result (read_lines lines.entry.number (Within counted catalog.now tables table) (lines_of lines.entry.text.now)) }
+        ensures same_tables { IfOk result (λ x. length x.1 ≡ length catalog.now) }
+        ensures sound { IfOk result (λ x. is_sound catalog.now tables ≡ true → is_sound catalog.now x.1 ≡ true) }
     {
         let kinds = kinds_of(self.alloc, catalog.table(table).columns())?;
+        let mut round = Round::new(self.alloc, lines.number);
         loop {
-            let (bytes, rest) = next_line(lines)?;
-            if bytes == b"\\.".as_slice() {
-                return Ok(rest);
-            }
+            let Some((bytes, rest)) = next_row_line(lines)? else {
+                let tables = take_round(self.alloc, catalog, table, tables, round)?;
+                let rest = read_end_of_rows(lines, catalog, &tables, table)?;
+                return Ok((rest, tables));
+            };
             let number = lines.number;
             let line = Line {
                 number,
                 bytes,
                 rest,
             };
-            lines = self.read_some(line, catalog, tables, table, kinds.as_slice())?;
+            let (left, taken, next) = self.next_round(
+                line,
+                catalog,
+                table,
+                kinds.as_slice(),
+                tables,
+                round,
+            )?;
+            lines = left;
+            tables = taken;
+            round = next;
         }
     }
 
@@ -139,17 +265,18 @@ impl<'w, R: Threads + Sync, G: Gate, A: Allocator + Copy + Send + Sync> Workers<
         counted: bool,
         catalog: &Catalog<A>,
         table: TableNo,
-        tables: &mut Tables<A>,
-    ) -> Result<Lines<'d>, ReadError>
+        tables: Tables<A>,
+    ) -> Result<(Lines<'d>, Tables<A>), ReadError>
         requires has { table < length catalog.now }
-        requires same_tables { length tables.old ≡ length catalog.now }
-        ensures rows { Reads (λ l. read_lines l.number (Before counted catalog.now tables.new (table + 1)) (lines_of l.text.now)) result (read_lines lines.entry.number (Before counted catalog.now tables.old table) (lines_of lines.entry.text.now)) }
-        ensures same_tables { length tables.new ≡ length catalog.now }
-        ensures sound { is_sound catalog.now tables.old ≡ true → is_sound catalog.now tables.new ≡ true }
+        requires same_tables { length tables ≡ length catalog.now }
+        ensures rows { Reads (λ x. read_lines x.0.number (Before counted catalog.now x.1 (table + 1)) (lines_of x.0.text.now)) result (read_lines lines.entry.number (Before counted catalog.now tables table) (lines_of lines.entry.text.now)) }
+        ensures same_tables { IfOk result (λ x. length x.1 ≡ length catalog.now) }
+        ensures sound { IfOk result (λ x. is_sound catalog.now tables ≡ true → is_sound catalog.now x.1 ≡ true) }
     {
         let rows = read_copy_line(self.alloc, lines, catalog, table)?;
-        let count = self.read_rows(rows, catalog, table, tables)?;
-        read_count(self.alloc, count, counted, catalog, table, tables)
+        let (count, tables) = self.read_rows(rows, catalog, table, tables)?;
+        let rest = read_count(self.alloc, count, counted, catalog, table, &tables)?;
+        Ok((rest, tables))
     }
 
     // The tables, in the order of their creation.
@@ -158,16 +285,24 @@ impl<'w, R: Threads + Sync, G: Gate, A: Allocator + Copy + Send + Sync> Workers<
         mut lines: Lines<'d>,
         counted: bool,
         catalog: &Catalog<A>,
-        tables: &mut Tables<A>,
-    ) -> Result<Lines<'d>, ReadError>
-        requires { length tables.old ≡ length catalog.now }
-        ensures rows { Reads (λ l. read_lines l.number (Before counted catalog.now tables.new (length catalog.now)) (lines_of l.text.now)) result (read_lines lines.entry.number (Before counted catalog.now tables.old 0) (lines_of lines.entry.text.now)) }
-        ensures sound { is_sound catalog.now tables.old ≡ true → is_sound catalog.now tables.new ≡ true }
+        mut tables: Tables<A>,
+    ) -> Result<(Lines<'d>, Tables<A>), ReadError>
+        requires { length tables ≡ length catalog.now }
+        ensures rows { Reads (λ x. read_lines x.0.number (Before counted catalog.now x.1 (length catalog.now)) (lines_of x.0.text.now)) result (read_lines lines.entry.number (Before counted catalog.now tables 0) (lines_of lines.entry.text.now)) }
+        ensures sound { IfOk result (λ x. is_sound catalog.now tables ≡ true → is_sound catalog.now x.1 ≡ true) }
     {
         for place in 0..catalog.len() as u32 {
-            lines = self.read_table(lines, counted, catalog, TableNo::at(place), tables)?;
+            let (left, taken) = self.read_table(
+                lines,
+                counted,
+                catalog,
+                TableNo::at(place),
+                tables,
+            )?;
+            lines = left;
+            tables = taken;
         }
-        Ok(lines)
+        Ok((lines, tables))
     }
 
     // The catalog and tables of a dump.
@@ -180,47 +315,16 @@ impl<'w, R: Threads + Sync, G: Gate, A: Allocator + Copy + Send + Sync> Workers<
             text: dump,
         };
         let (counted, catalog, lines) = read_head(self.alloc, lines)?;
-        let mut tables = empty_tables(self.alloc, &catalog)?;
-        let lines = self.read_tables(lines, counted, &catalog, &mut tables)?;
+        let tables = empty_tables(self.alloc, &catalog)?;
+        let (lines, tables) = self.read_tables(lines, counted, &catalog, tables)?;
         read_end(lines, &catalog, &tables)?;
         Ok((catalog, tables))
     }
 }
 
-// The columns of a table.
-fn columns_of<A: Allocator>(catalog: &Catalog<A>, table: TableNo) -> &[Column<A>]
-    requires { table < length catalog.now }
-    ensures { result.now ≡ columns_of catalog.now table }
-{
-    catalog.table(table).columns()
-}
-
-// The number of the piece that begins at a place, where so many pieces were before.
-fn number_of(before: u64, start: usize) -> u64 {
-    before
-        .saturating_add(start as u64 / PIECE_LINES as u64)
-        .saturating_add(1)
-}
-
-// The piece of some lines, for which the gate is asked.
-fn read_at_gate<A: Allocator + Copy, G: Gate>(
-    alloc: A,
-    columns: &[Column<A>],
-    kinds: &[Kind],
-    lines: &[&[u8]],
-    gate: &G,
-    number: u64,
-) -> Result<ReadPiece<A>, AllocError>
-    ensures { IfOk result (λ piece. IsPiece columns.now kinds.now piece (map (λ line. line.now) lines.now)) }
-{
-    gate.before(number);
-    let piece = read_piece(alloc, columns, kinds, lines);
-    gate.after(number);
-    piece
-}
-
-/// Reads a dump as `restore_one` does. Up to `jobs` threads read the lines of a table's rows, in pieces of 1000 lines that
-/// are numbered from 1 in the order of the dump. The gate is asked round each piece.
+/// Reads a dump as `restore_one` does. The lines of a table's rows are read in rounds, by up to `jobs` threads side by side,
+/// while the calling thread takes the rows of the round before. The gate is asked round each 1000 lines, which are numbered
+/// from 1 in the order of the dump.
 pub fn restore<R: Threads + Sync, G: Gate, A: Allocator + Copy + Send + Sync>(
     rt: &R,
     alloc: A,

@@ -7,4 +7,4 @@ use Rattle.restore.proofs.workers.Workers.read_dump.Goals as goal
 
 pub returns-clause-sound : goal.returns-clause-sound
 returns-clause-sound g c =
-    c.read_tables.ensures.sound (subst (λ (X : Tables g.row.A.Denot). is_sound c.in_ok-counted.catalog X ≡ true) (done_same {E = RestoreFault} _ _ c.in_ok-tables.ensures) (empty_is_sound g.row.A.Denot c.in_ok-counted.catalog))
+    c.in_ok-lines.ensures.sound (subst (λ (X : Tables g.row.A.Denot). is_sound c.in_ok-counted.catalog X ≡ true) (done_same {E = RestoreFault} _ _ c.in_ok-tables.ensures) (empty_is_sound g.row.A.Denot c.in_ok-counted.catalog))

@@ -1,42 +1,67 @@
-use Rattle.std.proofs.Common.{◌≡◌, true, refl, ap, sym, ◌∙◌}
-use Rattle.std.specs.Str.{bytes_eq}
+use Rattle.std.proofs.Common.{refl, sym, subst, ◌∙◌}
 use Rattle.std.proofs.lemmas.Result.{err_from_is_err_and}
-use Rattle.dumpplan.specs.Lines.{end_of_rows}
-use Rattle.restore.specs.Reading.{Within, ended, read_lines}
-use Rattle.restore.proofs.ReadingLemmas.{stops_at, no_next, stepped, rows_end}
-use Rattle.restore.proofs.TextLemmas.{split-parted}
+use Rattle.restore.specs.Reading.{Within, lines_of, read_lines}
+use Rattle.restore.specs.Rounds.{Told, RisesKnown}
+use Rattle.restore.proofs.ReadingLemmas.{split_some, stops_at}
+use Rattle.restore.proofs.RoundLemmas.{waiting-first, waiting-line}
 use Rattle.restore.proofs.workers.Workers.read_rows.Goals as goal
 
-pub returns-in_err-bytes-clause-rows : goal.returns-in_err-bytes-clause-rows
-returns-in_err-bytes-clause-rows g c = λ counted.
-    let p = err_from_is_err_and c.from_residual-in_err-bytes.result c.from_residual-in_err-bytes.ensures.1 in
-    rw (p.1, p.2) (stops_at c.in_err-bytes.field-0.0 _ _
-    (no_next {A = g.row.A.Denot} c.in_err-bytes.field-0.0 c.loop-kinds.lines.number (Within counted c.args.catalog.now c.loop-kinds.tables c.args.table) c.loop-kinds.lines.text.now refl c.in_err-bytes.ensures.line)
-    (c.loop-kinds.invariant.rows counted))
-
-pub returns-then-eq-clause-rows : goal.returns-then-eq-clause-rows
-returns-then-eq-clause-rows g c = λ counted.
-    let is : bytes_eq c.in_ok-bytes.bytes.now end_of_rows ≡ true = ap (bytes_eq c.in_ok-bytes.bytes.now) (sym c.as_slice.ensures) ∙ sym c.eq.ensures ∙ c.if-eq.true in
-    sym (c.loop-kinds.invariant.rows counted)
-    ∙ stepped c.in_ok-bytes.rest c.loop-kinds.lines.number (Within counted c.args.catalog.now c.loop-kinds.tables c.args.table) (ended counted c.args.catalog.now c.loop-kinds.tables c.args.table)
-    c.loop-kinds.lines.text.now c.in_ok-bytes.bytes.now c.in_ok-bytes.ensures.line.0 c.in_ok-bytes.ensures.line.1 (rows_end counted c.args.catalog.now c.loop-kinds.tables c.args.table c.in_ok-bytes.bytes.now is)
-
-pub read_some-requires-clause-row : goal.read_some-requires-clause-row
-read_some-requires-clause-row g c = λ κs lives. sym (ap (bytes_eq c.in_ok-bytes.bytes.now) c.as_slice.ensures) ∙ sym c.eq.ensures ∙ c.if-eq.false
-
-pub loop-kinds-preserved : goal.loop-kinds-preserved
-loop-kinds-preserved g c =
-    let at = split-parted 10 c.loop-kinds.lines.text.now c.in_ok-bytes.bytes.now c.in_ok-bytes.rest.text.now c.in_ok-bytes.ensures.line.0 in
+pub loop-round-init : goal.loop-round-init
+loop-round-init g c =
+    let told : Told g.row.A.Denot = λ counted. read_lines c.args.lines.number (Within counted c.args.catalog.now c.args.tables c.args.table) (lines_of c.args.lines.text.now) in
     record {
-      rows = λ counted.
-          sym (c.in_ok-lines.ensures.rows counted) ∙ ap (read_lines c.loop-kinds.lines.number (Within counted c.args.catalog.now c.loop-kinds.tables c.args.table)) (sym at) ∙ c.loop-kinds.invariant.rows counted;
-      same_tables = c.read_some.ensures.same_tables;
-      sound = λ h. c.read_some.ensures.sound (c.loop-kinds.invariant.sound h);
+      rows = waiting-first c.args.catalog.now c.args.table c.args.tables told c.new-round.result.number c.args.lines.number c.new-round.result.pieces.items (lines_of c.args.lines.text.now) c.new-round.ensures.number c.new-round.ensures.pieces (λ counted. refl);
+      same_tables = c.requires.same_tables;
+      rise = subst (RisesKnown c.args.catalog.now c.args.table) (sym c.new-round.ensures.pieces) tt;
     }
 
-pub returns-in_err-lines-clause-rows : goal.returns-in_err-lines-clause-rows
-returns-in_err-lines-clause-rows g c = λ counted.
-    let p = err_from_is_err_and c.from_residual-in_err-lines.result c.from_residual-in_err-lines.ensures.1 in
-    let at = split-parted 10 c.loop-kinds.lines.text.now c.in_ok-bytes.bytes.now c.in_ok-bytes.rest.text.now c.in_ok-bytes.ensures.line.0 in
-    rw (p.1, p.2) (stops_at c.in_err-lines.field-0.0 _ _ (c.in_err-lines.ensures.rows counted)
-    (ap (read_lines c.loop-kinds.lines.number (Within counted c.args.catalog.now c.loop-kinds.tables c.args.table)) (sym at) ∙ c.loop-kinds.invariant.rows counted))
+pub returns-in_err-tables-clause-rows : goal.returns-in_err-tables-clause-rows
+returns-in_err-tables-clause-rows g c = λ counted.
+    let told : Told g.row.A.Denot = λ counted. read_lines c.args.lines.number (Within counted c.args.catalog.now c.args.tables c.args.table) (lines_of c.args.lines.text.now) in
+    let left = c.loop-round.lines in
+    let taken = c.in_err-tables.ensures.taken c.args.tables told left.number (lines_of left.text.now) (split_some left.text.now) c.loop-round.invariant.rows in
+    let p = err_from_is_err_and c.from_residual-in_err-tables.result c.from_residual-in_err-tables.ensures.1 in
+    rw (p.1, p.2) (taken counted)
+
+pub returns-in_err-rest-clause-rows : goal.returns-in_err-rest-clause-rows
+returns-in_err-rest-clause-rows g c = λ counted.
+    let told : Told g.row.A.Denot = λ counted. read_lines c.args.lines.number (Within counted c.args.catalog.now c.args.tables c.args.table) (lines_of c.args.lines.text.now) in
+    let left = c.loop-round.lines in
+    let taken = c.in_ok-tables.ensures.taken c.args.tables told left.number (lines_of left.text.now) (split_some left.text.now) c.loop-round.invariant.rows in
+    let p = err_from_is_err_and c.from_residual-in_err-rest.result c.from_residual-in_err-rest.ensures.1 in
+    rw (p.1, p.2) (stops_at c.in_err-rest.field-0.0 _ _ (c.in_err-rest.ensures counted) (taken.0 counted))
+
+pub returns-in_default-clause-rows : goal.returns-in_default-clause-rows
+returns-in_default-clause-rows g c = λ counted.
+    let told : Told g.row.A.Denot = λ counted. read_lines c.args.lines.number (Within counted c.args.catalog.now c.args.tables c.args.table) (lines_of c.args.lines.text.now) in
+    let left = c.loop-round.lines in
+    let taken = c.in_ok-tables.ensures.taken c.args.tables told left.number (lines_of left.text.now) (split_some left.text.now) c.loop-round.invariant.rows in
+    sym (taken.0 counted) ∙ c.in_ok-rest.ensures counted
+
+pub returns-in_default-clause-sound : goal.returns-in_default-clause-sound
+returns-in_default-clause-sound g c = λ h.
+    let told : Told g.row.A.Denot = λ counted. read_lines c.args.lines.number (Within counted c.args.catalog.now c.args.tables c.args.table) (lines_of c.args.lines.text.now) in
+    let left = c.loop-round.lines in
+    let taken = c.in_ok-tables.ensures.taken c.args.tables told left.number (lines_of left.text.now) (split_some left.text.now) c.loop-round.invariant.rows in
+    taken.1 h
+
+pub returns-in_err-left-clause-rows : goal.returns-in_err-left-clause-rows
+returns-in_err-left-clause-rows g c = λ counted.
+    let told : Told g.row.A.Denot = λ counted. read_lines c.args.lines.number (Within counted c.args.catalog.now c.args.tables c.args.table) (lines_of c.args.lines.text.now) in
+    let left = c.loop-round.lines in
+    let at = rw c.in-Some.is at c.in_ok-bytes.ensures.line in
+    let waits = waiting-line c.args.catalog.now c.args.table c.args.tables told c.loop-round.tables c.loop-round.round.number c.loop-round.round.pieces.items left.number left.text.now c.in-Some.bytes.now c.in-Some.rest.text.now at c.loop-round.invariant.rows in
+    let p = err_from_is_err_and c.from_residual-in_err-left.result c.from_residual-in_err-left.ensures.1 in
+    rw (p.1, p.2) (c.in_err-left.ensures.begun c.args.tables told waits counted)
+
+pub loop-round-preserved : goal.loop-round-preserved
+loop-round-preserved g c =
+    let told : Told g.row.A.Denot = λ counted. read_lines c.args.lines.number (Within counted c.args.catalog.now c.args.tables c.args.table) (lines_of c.args.lines.text.now) in
+    let left = c.loop-round.lines in
+    let at = rw c.in-Some.is at c.in_ok-bytes.ensures.line in
+    let waits = waiting-line c.args.catalog.now c.args.table c.args.tables told c.loop-round.tables c.loop-round.round.number c.loop-round.round.pieces.items left.number left.text.now c.in-Some.bytes.now c.in-Some.rest.text.now at c.loop-round.invariant.rows in
+    record {
+      rows = c.in_ok-left.ensures.begun c.args.tables told waits;
+      same_tables = c.in_ok-left.ensures.same_tables;
+      rise = c.in_ok-left.ensures.rise;
+    }

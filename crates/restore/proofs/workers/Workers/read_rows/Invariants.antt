@@ -1,15 +1,15 @@
-use Rattle.std.proofs.Common.{◌≡◌, Bool, true, length}
-use Rattle.schema.specs.Plain.{is_sound}
+use Rattle.std.proofs.Common.{◌≡◌, length}
 use Rattle.restore.specs.Reading.{Within, lines_of, read_lines}
+use Rattle.restore.specs.Rounds.{RisesKnown, AreWaiting}
 use Rattle.restore.proofs.workers.Workers.read_rows.Given as goal
 
--- the rows so far, and the lines that are left
-abbrev pub invariant-loop-kinds : goal.invariant-loop-kinds
-invariant-loop-kinds g l = record {
-  rows : (counted : Bool) → read_lines l.lines.number (Within counted l.catalog l.tables l.table) (lines_of l.lines.text.now) ≡ read_lines l.fn.lines.number (Within counted l.catalog l.fn.tables l.table) (lines_of l.fn.lines.text.now);
+-- the rows so far, those that wait, and the lines that are left
+abbrev pub invariant-loop-round : goal.invariant-loop-round
+invariant-loop-round g l = record {
+  rows : AreWaiting l.catalog l.table l.fn.tables (λ counted. read_lines l.fn.lines.number (Within counted l.catalog l.fn.tables l.table) (lines_of l.fn.lines.text.now)) l.tables l.round.number l.round.pieces.items l.lines.number (lines_of l.lines.text.now);
   same_tables : length l.tables ≡ length l.catalog;
-  sound : is_sound l.catalog l.fn.tables ≡ true → is_sound l.catalog l.tables ≡ true;
+  rise : RisesKnown l.catalog l.table l.round.pieces.items;
 }
 
-abbrev pub decreases-loop-kinds : goal.decreases-loop-kinds
-decreases-loop-kinds g l = length l.lines.text.now
+abbrev pub decreases-loop-round : goal.decreases-loop-round
+decreases-loop-round g l = length l.lines.text.now

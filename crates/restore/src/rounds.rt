@@ -1,0 +1,188 @@
+//! Lines of rows read by several threads, while the rows of lines before them are taken.
+
+ghost use Rattle.std.specs.Prelude.{◌≡◌, ◌<◌, ◌≤◌, ◌-◌, [], map, take, drop, length, IfOk};
+ghost use Rattle.schema.specs.Definition.{columns_of};
+ghost use Rattle.restore.specs.Rounds.{RisesKnown, AreTaken};
+ghost use Rattle.restore.specs.Rows.{AreRead, IsPiece, ArePieces};
+
+use crate::error::ReadError;
+use crate::pieces::{piece_of, take_pieces};
+use crate::rows::{ReadPiece, ReadRow, read_each};
+use dumpplan::Gate;
+use schema::catalog::{Catalog, Column, TableNo};
+use schema::tables::Tables;
+use std::alloc::{AllocError, Allocator};
+use std::thread;
+use std::thread::Threads;
+use value::kind::Kind;
+
+/// How many lines a thread reads before it asks the gate again.
+pub const STRETCH_LINES: usize = 1000;
+
+/// What each piece of a round reads as.
+pub type ReadPieces<A> = Vec<Result<ReadPiece<A>, AllocError>, A>;
+
+/// Pieces that are read and not yet taken, and the number of their first line.
+#[derive(Drop)]
+pub struct Round<A: Allocator> {
+    pub number: u64,
+    pub pieces: ReadPieces<A>,
+}
+
+impl<A: Allocator> Round<A> {
+    /// A round of no lines.
+    pub fn new(alloc: A, number: u64) -> Round<A>
+        ensures number { result.number ≡ number }
+        ensures pieces { result.pieces.items ≡ [] }
+    {
+        Round {
+            number,
+            pieces: Vec::new(alloc),
+        }
+    }
+}
+
+// The rows of a stretch of lines, for which the gate is asked.
+fn read_stretch<A: Allocator + Copy, G: Gate>(
+    alloc: A,
+    kinds: &[Kind],
+    lines: &[&[u8]],
+    gate: &G,
+    number: u64,
+) -> Result<Vec<ReadRow<A>, A>, AllocError>
+    ensures { IfOk result (λ rows. AreRead kinds.now rows.items (map (λ line. line.now) lines.now)) }
+{
+    gate.before(number);
+    let rows = read_each(alloc, kinds, lines);
+    gate.after(number);
+    rows
+}
+
+// The place behind the stretch that begins at a place.
+fn end_of_stretch(start: usize, count: usize) -> usize
+    requires { start < count }
+    ensures after { start < result }
+    ensures within { result ≤ count }
+{
+    if count - start < STRETCH_LINES {
+        count
+    } else {
+        start + STRETCH_LINES
+    }
+}
+
+// The lines from one place up to another.
+fn lines_between<'l, 'd>(lines: &'l [&'d [u8]], start: usize, end: usize) -> &'l [&'d [u8]]
+    requires order { start ≤ end }
+    requires range { end ≤ length lines.now }
+    ensures { result.now ≡ take (end - start) (drop start lines.now) }
+{
+    &lines[start..end]
+}
+
+// How many stretches come before the line at a place of a round, where so many came before the round.
+fn stretches_before(before: u64, start: usize) -> u64 {
+    before.saturating_add(start as u64 / STRETCH_LINES as u64)
+}
+
+// The rows of a piece's lines, read stretch by stretch, where so many stretches come before.
+fn read_rows<A: Allocator + Copy, G: Gate>(
+    alloc: A,
+    kinds: &[Kind],
+    lines: &[&[u8]],
+    gate: &G,
+    before: u64,
+) -> Result<Vec<ReadRow<A>, A>, AllocError>
+    ensures { IfOk result (λ rows. AreRead kinds.now rows.items (map (λ line. line.now) lines.now)) }
+{
+    let mut rows = Vec::with_capacity(alloc, lines.len())?;
+    let mut start = 0;
+    while start < lines.len() {
+        let end = end_of_stretch(start, lines.len());
+        let number = stretches_before(before, start).saturating_add(1);
+        let stretch = lines_between(lines, start, end);
+        let mut read = read_stretch(alloc, kinds, stretch, gate, number)?;
+        rows.append(&mut read)?;
+        start = end;
+    }
+    Ok(rows)
+}
+
+// The piece of some lines, where so many stretches come before.
+fn read_piece<A: Allocator + Copy, G: Gate>(
+    alloc: A,
+    columns: &[Column<A>],
+    kinds: &[Kind],
+    lines: &[&[u8]],
+    gate: &G,
+    before: u64,
+) -> Result<ReadPiece<A>, AllocError>
+    ensures { IfOk result (λ piece. IsPiece columns.now kinds.now piece (map (λ line. line.now) lines.now)) }
+{
+    let rows = read_rows(alloc, kinds, lines, gate, before)?;
+    Ok(piece_of(columns, rows))
+}
+
+/// The pieces of a round's lines, of so many lines each, each read in a thread of its own.
+pub fn read_round<R: Threads + Sync, G: Gate, A: Allocator + Copy + Send + Sync>(
+    rt: &R,
+    alloc: A,
+    columns: &[Column<A>],
+    kinds: &[Kind],
+    lines: &[&[u8]],
+    piece_lines: usize,
+    gate: &G,
+    before: u64,
+) -> Result<ReadPieces<A>, AllocError>
+    requires { 0 < piece_lines }
+    ensures { IfOk result (λ pieces. ArePieces piece_lines columns.now kinds.now pieces.items (map (λ line. line.now) lines.now)) }
+{
+    let pieces = thread::map_chunks(
+        rt,
+        alloc,
+        lines,
+        piece_lines,
+        &|start, lines| -> Result<ReadPiece<A>, AllocError>
+            ensures { IfOk result (λ piece. IsPiece columns.entry.now kinds.entry.now piece (map (λ line. line.now) lines.entry.now)) }
+        {
+            read_piece(
+                alloc,
+                columns,
+                kinds,
+                lines,
+                gate,
+                stretches_before(before, start),
+            )
+        },
+    )?;
+    Ok(pieces)
+}
+
+/// The tables with the rows of a round, up to the first that isn't taken.
+pub fn take_round<A: Allocator + Copy>(
+    alloc: A,
+    catalog: &Catalog<A>,
+    table: TableNo,
+    mut tables: Tables<A>,
+    round: Round<A>,
+) -> Result<Tables<A>, ReadError>
+    requires has { table < length catalog.now }
+    requires same_tables { length tables ≡ length catalog.now }
+    requires rise { RisesKnown catalog.now table round.pieces.items }
+    ensures taken { AreTaken catalog.now table tables round.number round.pieces.items result }
+    ensures same_tables { IfOk result (λ X. length X ≡ length catalog.now) }
+{
+    let Round { number, pieces } = round;
+    match take_pieces(alloc, catalog, &mut tables, table, number, pieces) {
+        Ok(()) => Ok(tables),
+        Err(error) => Err(error),
+    }
+}
+
+/// The columns of a table.
+pub fn columns_of<A: Allocator>(catalog: &Catalog<A>, table: TableNo) -> &[Column<A>]
+    requires { table < length catalog.now }
+    ensures { result.now ≡ columns_of catalog.now table }
+{
+    catalog.table(table).columns()
+}
