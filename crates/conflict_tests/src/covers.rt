@@ -1,7 +1,7 @@
 //! What readings cover: few keys, ranges and references as they were read, many as more.
 
-use plain::cover::{covers, covers_value};
 use schema::catalog::TableNo;
+use siread::held::Held;
 use statement::reading::{End, Extent, Reading};
 use std::alloc::Global;
 use std::test::Fail;
@@ -20,8 +20,9 @@ fn reading(extent: Extent) -> Reading {
     }
 }
 
-// So many odd keys from 1, ranges of ten keys from each hundred, and references in column 1, each read twice.
-fn read(alloc: Global, keys: u8, ranges: u8, references: u8) -> Result<Vec<Reading>, Refusal> {
+// What is kept of so many odd keys from 1, ranges of ten keys from each hundred, and references in
+// column 1, each read twice.
+fn read(alloc: Global, keys: u8, ranges: u8, references: u8) -> Result<Held, Refusal> {
     let mut readings = Vec::new(alloc);
     for number in 0..keys {
         let odd = 2 * i64::from(number) + 1;
@@ -41,7 +42,9 @@ fn read(alloc: Global, keys: u8, ranges: u8, references: u8) -> Result<Vec<Readi
         readings.push(reading(Extent::Referencing(1, key(parent)?)))?;
         readings.push(reading(Extent::Referencing(1, key(parent)?)))?;
     }
-    Ok(readings)
+    let mut held = Held::new(alloc);
+    held.read(alloc, readings.as_slice())?;
+    Ok(held)
 }
 
 #[test]
@@ -61,14 +64,14 @@ fn few_are_covered_as_they_were_read_and_many_as_more(rt: HostRuntime) -> Result
         (0, 0, 8, 1, false),
         (0, 0, 9, 1, true),
     ] {
-        let readings = read(rt.alloc(), keys, ranges, references)?;
+        let held = read(rt.alloc(), keys, ranges, references)?;
         assert_eq!(rt;
-            covers(readings.as_slice(), TableNo::at(0), &key(probe)?),
+            held.covers(TableNo::at(0), &key(probe)?),
             want,
             "{keys} {ranges} {references} {probe}"
         );
         assert_eq!(rt;
-            covers(readings.as_slice(), TableNo::at(1), &key(probe)?),
+            held.covers(TableNo::at(1), &key(probe)?),
             false
         );
     }
@@ -83,9 +86,9 @@ fn references_are_covered_in_their_column(rt: HostRuntime) -> Result<(), Fail> {
         (8, 2, 7, false),
         (9, 2, 100, true),
     ] {
-        let readings = read(rt.alloc(), 0, 0, references)?;
+        let held = read(rt.alloc(), 0, 0, references)?;
         assert_eq!(rt;
-            covers_value(readings.as_slice(), TableNo::at(0), column, &key(probe)?),
+            held.covers_value(TableNo::at(0), column, &key(probe)?),
             want,
             "{references} {column} {probe}"
         );

@@ -1,6 +1,6 @@
 pub mod CauseLemmas
-pub mod ExtentLemmas
 mod AroundLemmas
+pub mod ReadLemmas
 mod ForgettingLemmas
 pub mod StretchLemmas
 pub mod WalkLemmas

@@ -3,7 +3,8 @@ use Rattle.std.proofs.Common.{◌≡◌, refl, sym, ap, subst, ◌∙◌, ℕ, z
 use Rattle.std.specs.List.{AllByRecursion, filter, find, list_any}
 use Rattle.std.specs.Option.{option_map, option_or}
 use Rattle.std.proofs.lemmas.Bool.Decides.{nat_tests}
-use Rattle.std.proofs.lemmas.List.{drop-append-le, drop-drop, drop-map, get_or-drop, length-append, length-drop, length-map, length-take, take-append-drop, take-append-le, take-map}
+use Rattle.std.proofs.lemmas.List.{drop-append-le, drop-drop, drop-map, get_or-drop, length-append, length-drop, length-map, length-take, map-append, take-append-drop, take-append-le, take-map}
+use Rattle.std.proofs.Math.Seq.{take-append_seam}
 use Rattle.std.proofs.lemmas.List.Elements.{filter-append}
 use Rattle.std.proofs.lemmas.List.Folds.{find-append, list_any-append}
 use Rattle.std.proofs.lemmas.List.Sums.{fold-append}
@@ -37,6 +38,11 @@ not_equal a b h = grind (arith, nat_tests)
 pub empty_is : {X : Type 0} (xs : List X) → eqb (length xs) 0 ≡ true → xs ≡ []
 empty_is [] e = refl
 empty_is (x ∷ xs) e = absurd (let p = Rattle.std.proofs.lemmas.Bool.eqb-true (length (x ∷ xs)) 0 e in omega arith)
+
+-- a list that is written back element for element is all of the new one
+pub written-back : {X : Type 0} (f : X → X) (old new : List X) (n : ℕ) → n ≡ length old → new ≡ map f old → take n (new ++ drop (length new) old) ≡ map f old
+written-back f old new n counted e =
+    ap (λ k. take k (new ++ drop (length new) old)) (counted ∙ sym (length-map old f) ∙ ap length (sym e)) ∙ take-append_seam new (drop (length new) old) ∙ e
 
 -- ---- of each element
 
@@ -383,8 +389,31 @@ module _ {A : Type 0} where
         past = subst (AllByRecursion (IsPast s.newest (s.until + 1))) (sym (between-turned g ts at s.from s.to h.order e)) h.past;
       }
 
+  past-stays : (n p place : ℕ) (causes : List Cause) (u : Txn A) → IsPast n p u → doomed_by place causes u ≡ u
+  past-stays n p place causes u h = ap (λ b. doomed_with place (cond b (find (λ c. eqb c.b.0 u.number) causes) None) u) (past-not_open n p u h)
+
   past-doomed : (n p place : ℕ) (causes : List Cause) (u : Txn A) → IsPast n p u → IsPast n p (doomed_by place causes u)
-  past-doomed n p place causes u h = subst (IsPast n p) (sym (ap (λ b. doomed_with place (cond b (find (λ c. eqb c.b.0 u.number) causes) None) u) (past-not_open n p u h))) h
+  past-doomed n p place causes u h = subst (IsPast n p) (sym (past-stays n p place causes u h)) h
+
+  -- those around a stretch are doomed, what is in it stays
+  pub doomed-around : (s : Stretch) (place : ℕ) (causes : List Cause) (ts front rest middle back front-after back-after : List (Txn A)) → HoldsStretch s ts
+      → front ≡ take s.from ts → rest ≡ drop s.from ts → middle ≡ take (s.to - s.from) rest → back ≡ drop (s.to - s.from) rest
+      → front-after ≡ map (doomed_by place causes) front → back-after ≡ map (doomed_by place causes) back
+      → front-after ++ (middle ++ back-after) ≡ map (doomed_by place causes) ts
+  doomed-around s place causes ts front rest middle back front-after back-after h front-is rest-is middle-is back-is front-doomed back-doomed =
+      ap (λ us. us ++ (middle ++ back-after)) (front-doomed ∙ ap (map (doomed_by place causes)) front-is)
+      ∙ ap (λ us. map (doomed_by place causes) (take s.from ts) ++ (us ++ back-after)) (middle-is ∙ ap (take (s.to - s.from)) rest-is ∙ sym (stay (between s.from s.to ts) h.past))
+      ∙ ap (λ us. map (doomed_by place causes) (take s.from ts) ++ (map (doomed_by place causes) (between s.from s.to ts) ++ us)) (back-doomed ∙ ap (map (doomed_by place causes)) (back-is ∙ ap (drop (s.to - s.from)) rest-is ∙ drop-drop (s.to - s.from) s.from ts ∙ ap (λ n. drop n ts) together))
+      ∙ ap (λ us. map (doomed_by place causes) (take s.from ts) ++ us) (sym (map-append (doomed_by place causes) (between s.from s.to ts) (drop s.to ts)))
+      ∙ sym (map-append (doomed_by place causes) (take s.from ts) (between s.from s.to ts ++ drop s.to ts))
+      ∙ ap (map (doomed_by place causes)) (sym (three-parts ts s.from s.to h.order))
+    where
+      together : s.from + (s.to - s.from) ≡ s.to
+      together = let o = h.order in omega arith
+
+      stay : (xs : List (Txn A)) → AllByRecursion (IsPast s.newest (s.until + 1)) xs → map (doomed_by place causes) xs ≡ xs
+      stay [] a = refl
+      stay (x ∷ xs) a = ap (λ y. y ∷ map (doomed_by place causes) xs) (past-stays s.newest (s.until + 1) place causes x a.0) ∙ ap (λ ys. x ∷ ys) (stay xs a.1)
 
   -- open ones are doomed
   pub held-doomed : (s : Stretch) (place : ℕ) (causes : List Cause) (ts : List (Txn A)) → HoldsStretch s ts → HoldsStretch s (map (doomed_by place causes) ts)

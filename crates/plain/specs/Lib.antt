@@ -1,7 +1,6 @@
 pub mod Answers
 pub mod Courses
 pub mod Earliest
-pub mod Extents
 pub mod Forgetting
 pub mod Keys
 pub mod Ledger

@@ -32,7 +32,9 @@ pub(crate) fn append_reserved<T: Drop, A: Allocator>(list: &mut Vec<T, A>, more:
 
 impl<A: Allocator> Transaction<A> {
     /// A statement has been answered without a refusal.
-    pub(crate) fn add(&mut self, added: Added<A>) -> Result<(), Refusal>
+    pub(crate) fn add(&mut self, alloc: A, added: Added<A>) -> Result<(), Refusal>
+    where
+        A: Copy,
         ensures ok { OnOk result (self.new ≡ adds added.reads.items added.changes.items added.marks.items self.old) }
         ensures err { OnErr result (self.new ≡ self.old) }
         ensures memory { IfErr result (λ e. e ≡ out_of_memory) }
@@ -42,10 +44,9 @@ impl<A: Allocator> Transaction<A> {
             changes,
             marks,
         } = added;
-        self.reads.reserve(reads.len())?;
         self.marks.reserve(marks.len())?;
-        self.changes.append(changes)?;
-        append_reserved(&mut self.reads, reads);
+        self.reads
+            .append_with(alloc, reads, &mut self.changes, changes)?;
         append_reserved(&mut self.marks, marks);
         self.asked = true;
         Ok(())
@@ -53,7 +54,8 @@ impl<A: Allocator> Transaction<A> {
 }
 
 // Adds it to the transaction at a place.
-fn add_at<A: Allocator>(
+fn add_at<A: Allocator + Copy>(
+    alloc: A,
     transactions: &mut Vec<Transaction<A>, A>,
     at: usize,
     added: Added<A>,
@@ -63,19 +65,21 @@ fn add_at<A: Allocator>(
     ensures err { OnErr result (transactions.new.items ≡ transactions.old.items) }
     ensures memory { IfErr result (λ e. e ≡ out_of_memory) }
 {
-    transactions[at].add(added)
+    transactions[at].add(alloc, added)
 }
 
 impl<A: Allocator> World<A> {
     /// An event that adds to the transaction at a place what its statement has done.
-    pub(crate) fn add(&mut self, at: usize, added: Added<A>) -> Result<(), Refusal>
+    pub(crate) fn add(&mut self, alloc: A, at: usize, added: Added<A>) -> Result<(), Refusal>
+    where
+        A: Copy,
         requires within { at < length self.old.txns }
         requires room { self.old.place + 1 < 2 ^ 64 }
         ensures ok { OnOk result (self.new ≡ record self.old { txns = turned_at at (adds added.reads.items added.changes.items added.marks.items) self.old.txns; place = self.old.place + 1 }) }
         ensures err { OnErr result (self.new ≡ self.old) }
         ensures memory { IfErr result (λ e. e ≡ out_of_memory) }
     {
-        add_at(&mut self.transactions, at, added)?;
+        add_at(alloc, &mut self.transactions, at, added)?;
         self.past = self.past.without(at);
         self.place += 1;
         Ok(())

@@ -63,15 +63,31 @@ fn doom<A: Allocator>(transaction: &mut Transaction<A>, causes: &[Cause], place:
 }
 
 // The open transactions in the middle of these causes are over at a place.
-fn doom_all<A: Allocator>(transactions: &mut Vec<Transaction<A>, A>, causes: &[Cause], place: u64)
+fn doom_all<A: Allocator>(transactions: &mut [Transaction<A>], causes: &[Cause], place: u64)
+    ensures { transactions.new ≡ map (doomed_by place causes.now) transactions.old }
+{
+    for transaction in transactions.iter_mut() {
+        doom(transaction, causes, place);
+    }
+}
+
+// They are so among the transactions around a stretch, of which none is open.
+fn doom_around<A: Allocator>(
+    transactions: &mut Vec<Transaction<A>, A>,
+    past: Stretch,
+    causes: &[Cause],
+    place: u64,
+)
+    requires { HoldsStretch past transactions.old.items }
     ensures { transactions.new.items ≡ map (doomed_by place causes.now) transactions.old.items }
 {
     if causes.is_empty() {
         return;
     }
-    for transaction in transactions.iter_mut() {
-        doom(transaction, causes, place);
-    }
+    let (front, rest) = transactions.split_at_mut(past.from);
+    let (_, back) = rest.split_at_mut(past.to - past.from);
+    doom_all(front, causes, place);
+    doom_all(back, causes, place);
 }
 
 // Whether the transaction at a place has an edge to another.
@@ -257,7 +273,7 @@ impl<A: Allocator> World<A> {
         self.place += 1;
         self.past = self.past.without(at);
         turn(&mut self.transactions, at, committed);
-        doom_all(&mut self.transactions, causes, self.place);
+        doom_around(&mut self.transactions, self.past, causes, self.place);
     }
 
     // The least snapshot that may still be read after the transaction at a place has committed.

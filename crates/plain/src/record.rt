@@ -99,7 +99,7 @@ impl<A: Allocator> World<A> {
         match self.ran_before(alloc, catalog, rows, transaction, statement, reply)? {
             Ran::Refused(refusal) => Ok(self.refuse(at, refusal)),
             Ran::Done(reply, recorded, added) => {
-                self.add(at, added)?;
+                self.add(alloc, at, added)?;
                 Ok(Answered { reply, recorded })
             }
         }

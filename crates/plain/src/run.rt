@@ -310,7 +310,7 @@ impl<A: Allocator> World<A> {
         match self.ran(alloc, catalog, rows, at, statement)? {
             Ran::Refused(refusal) => Ok(self.refuse(at, refusal)),
             Ran::Done(reply, recorded, added) => {
-                self.add(at, added)?;
+                self.add(alloc, at, added)?;
                 Ok(Answered { reply, recorded })
             }
         }

@@ -6,13 +6,12 @@ ghost use Rattle.statement.specs.Cover.{covers, covers_value};
 ghost use Rattle.history.specs.Transactions as spec;
 ghost use Rattle.plain.specs.Standings.{begun_at, standing_of};
 
-use crate::cover;
 use crate::own::OwnChanges;
 use crate::party::{Facts, Party};
+use crate::reads::OwnReads;
 use history::session_id::SessionId;
 use schema::changes::Change;
 use statement::outcome::Mark;
-use statement::reading::Reading;
 use std::alloc::{Allocator, Global};
 use std::marker::Model;
 use value::refusal::{Cause, Mode};
@@ -89,7 +88,7 @@ pub struct Transaction<A: Allocator = Global> {
     /// A statement or an EXPORT was answered without a refusal.
     pub(crate) asked: bool,
     /// What its statements read.
-    pub(crate) reads: Vec<Reading<A>, A>,
+    pub(crate) reads: OwnReads<A>,
     /// What its statements wrote, in their order.
     pub(crate) changes: OwnChanges<A>,
     /// The references of the rows that they wrote, before and after.
@@ -103,7 +102,7 @@ impl<A: Allocator> Model for Transaction<A> {
 
     ghost Value = { Txn A };
 
-    ghost view = { λ t. record { session = t.session; number = t.number; mode = t.mode; begin = t.begin; standing = standing_of t.standing; end = t.end; commit = t.commit; snapshot = t.snapshot; taken = t.taken; imported = t.imported; known = t.known; asked = t.asked; statements = []; own = []; reads = t.reads.items; changes = t.changes; marks = t.marks.items } };
+    ghost view = { λ t. record { session = t.session; number = t.number; mode = t.mode; begin = t.begin; standing = standing_of t.standing; end = t.end; commit = t.commit; snapshot = t.snapshot; taken = t.taken; imported = t.imported; known = t.known; asked = t.asked; statements = []; own = []; reads = t.reads; changes = t.changes; marks = t.marks.items } };
 }
 
 impl<A: Allocator> Transaction<A> {
@@ -134,7 +133,7 @@ impl<A: Allocator> Transaction<A> {
             imported: false,
             known: false,
             asked: false,
-            reads: Vec::new(alloc),
+            reads: OwnReads::new(alloc),
             changes: OwnChanges::new(alloc),
             marks: Vec::new(alloc),
         }
@@ -156,24 +155,24 @@ impl<A: Allocator> Transaction<A> {
 }
 
 // Whether readings cover the key of a change.
-fn cover_key_of<A: Allocator>(readings: &[Reading<A>], change: &Change<A>) -> bool
+fn cover_key_of<A: Allocator>(readings: &OwnReads<A>, change: &Change<A>) -> bool
     ensures { result ≡ covers readings.now change.now.table change.now.key }
 {
-    cover::covers(readings, change.table(), change.key())
+    readings.covers(change.table(), change.key())
 }
 
 // Whether readings cover a key that was written.
-fn cover_a_change<A: Allocator>(readings: &[Reading<A>], changes: &[Change<A>]) -> bool
+fn cover_a_change<A: Allocator>(readings: &OwnReads<A>, changes: &[Change<A>]) -> bool
     ensures { result ≡ list_any (λ x. covers readings.now x.table x.key) changes.now }
 {
     changes.iter().any(|change| cover_key_of(readings, change))
 }
 
 // Whether readings cover a reference of a row that was written.
-fn cover_a_mark<A: Allocator>(readings: &[Reading<A>], marks: &[Mark<A>]) -> bool
+fn cover_a_mark<A: Allocator>(readings: &OwnReads<A>, marks: &[Mark<A>]) -> bool
     ensures { result ≡ list_any (λ m. covers_value readings.now m.table m.column m.key) marks.now }
 {
-    marks.iter().any(|mark| cover::covers_value(readings, mark.table, mark.column, &mark.key))
+    marks.iter().any(|mark| readings.covers_value(mark.table, mark.column, &mark.key))
 }
 
 impl<A: Allocator> Party for Transaction<A> {
@@ -194,8 +193,7 @@ impl<A: Allocator> Party for Transaction<A> {
     }
 
     fn reads_from(&self, other: &Transaction<A>) -> bool {
-        let readings = self.reads.as_slice();
-        cover_a_change(readings, other.changes.as_slice())
-            || cover_a_mark(readings, other.marks.as_slice())
+        cover_a_change(&self.reads, other.changes.as_slice())
+            || cover_a_mark(&self.reads, other.marks.as_slice())
     }
 }

@@ -5,13 +5,15 @@ ghost use Rattle.value.specs.Refusals.{out_of_memory};
 ghost use Rattle.siread.specs.Adding.{Keeps, Settles};
 ghost use Rattle.siread.specs.Extents.{IsEachOnce};
 ghost use Rattle.siread.specs.Reads.{CoverAlike, all_of};
+ghost use Rattle.statement.specs.Cover.{covers, covers_value};
 
 use crate::copies::copy_reading;
-use crate::cover::{adds_nothing, inner_key};
+use crate::cover::{self, adds_nothing, inner_key};
 use schema::catalog::TableNo;
 use statement::reading::Reading;
 use std::alloc::{Allocator, Global};
 use std::marker::Model;
+use value::key::Key;
 use value::refusal::Refusal;
 
 /// What is kept of one transaction's reads.
@@ -144,6 +146,21 @@ impl<A: Allocator> Held<A> {
         ensures once { IsEachOnce (all_of self.now) }
     {
         self.kept.as_slice()
+    }
+
+    /// Whether the reads cover a key of a table, one that has a row or not. It takes no memory.
+    pub fn covers(&self, table: TableNo, key: &Key<A>) -> bool
+        ensures { result ≡ covers (all_of self.now) table key.now }
+    {
+        cover::covers(self.readings(), table, key)
+    }
+
+    /// Whether the reads cover the rows of a table that have a key in a column, counted from 0. It
+    /// takes no memory.
+    pub fn covers_value(&self, table: TableNo, column: u32, key: &Key<A>) -> bool
+        ensures { result ≡ covers_value (all_of self.now) table column key.now }
+    {
+        cover::covers_value(self.readings(), table, column, key)
     }
 
     /// One more read.

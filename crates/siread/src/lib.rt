@@ -5,7 +5,7 @@
 mod copies;
 mod cover;
 mod extent;
-mod held;
+pub mod held;
 pub mod laws;
 pub mod locks;
 mod tally;

@@ -5,7 +5,6 @@ ghost use Rattle.value.specs.Refusals.{out_of_memory};
 ghost use Rattle.statement.specs.Cover.{covers, covers_value};
 ghost use Rattle.siread.specs.Reads.{CoverAlike, OthersKeep, before_of, held_by, reads_of};
 
-use crate::cover;
 use crate::held::Held;
 use schema::catalog::TableNo;
 use statement::reading::Footprint;
@@ -92,7 +91,7 @@ impl<A: Allocator> Locks<A> {
         ensures { result ≡ covers (reads_of txn.0 self.now) table key.now }
     {
         match self.held.get(&txn.0) {
-            Some(held) => cover::covers(held.readings(), table, key),
+            Some(held) => held.covers(table, key),
             None => false,
         }
     }
@@ -103,7 +102,7 @@ impl<A: Allocator> Locks<A> {
         ensures { result ≡ covers_value (reads_of txn.0 self.now) table column key.now }
     {
         match self.held.get(&txn.0) {
-            Some(held) => cover::covers_value(held.readings(), table, column, key),
+            Some(held) => held.covers_value(table, column, key),
             None => false,
         }
     }

@@ -4,4 +4,4 @@ use Rattle.plain.proofs.commit.doom_all.Given as goal
 
 -- those so far are doomed, the rest are as they were
 abbrev pub invariant-loop-transaction : goal.invariant-loop-transaction
-invariant-loop-transaction g l = l.transaction-items ≡ map (doomed_by l.place l.causes) (take l.transaction-index l.initial.transaction-items) ++ drop l.transaction-index l.initial.transaction-items
+invariant-loop-transaction g l = l.transactions ≡ map (doomed_by l.place l.causes) (take l.transaction-index l.initial.transactions) ++ drop l.transaction-index l.initial.transactions

@@ -1,8 +1,9 @@
-use Rattle.std.proofs.Common.{ap, refl, sym, ◌∙◌, ◌≡◌, true, false, get_or}
+use Rattle.std.proofs.Common.{ap, refl, sym, subst, Some, ◌∙◌, ◌≡◌, true, false, get_or}
 use Rattle.history.specs.Transactions.{Txn, is_open}
 use Rattle.history.specs.declared.event.Action.TheVariants.{Run}
 use Rattle.plain.specs.Answers.{both}
-use Rattle.plain.specs.Ledger.{Ledger, txn_at, world_on}
+use Rattle.plain.specs.Ledger.{Ledger, ready, txn_at, world_on}
+use Rattle.plain.specs.Runs.{IsFoundFor}
 use Rattle.plain.specs.Versions.{versions_at}
 use Rattle.plain.proofs.LedgerLemmas.{txn_at-is}
 use Rattle.plain.proofs.CommitLemmas.{if_ok_map, on_ok_map}
@@ -42,3 +43,10 @@ returns-in-Run-clause-world g c = rw c.in-Run.is c.record_open.ensures.world
 
 pub returns-in_default : goal.returns-in_default
 returns-in_default g c = absurd (runs c.args.action.now c.requires.reads c.in_default.not-Run)
+
+pub record_open-requires-clause-found : goal.record_open-requires-clause-found
+record_open-requires-clause-found g c =
+    let now : Ledger _ = c.args.self.now in
+    let found : txn_at now.txns c.args.at ≡ c.index.result.now = txn_at-is now.txns c.args.at c.index.result.now c.requires.within (c.index.ensures ∙ ap (λ (l : Ledger _). get_or l.txns c.args.at c.index.result.now) c.self.view_is) in
+    let open' : is_open (txn_at now.txns c.args.at).standing ≡ true = ap (λ (t : Txn _). is_open t.standing) found ∙ sym c.is_active.ensures ∙ c.if-is_active.true in
+    subst (λ a. IsFoundFor c.args.catalog.now (Some (ready (versions_at c.args.rows.now) a (txn_at now.txns c.args.at))) a c.args.reply) c.in-Run.is c.requires.found open'

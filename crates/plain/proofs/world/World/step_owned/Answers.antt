@@ -64,3 +64,10 @@ returns-in-Export-clause-rows g c = rw c.in-Export.is (on_if_map _ _ c.export.re
 
 pub returns-in-Run-clause-world : goal.returns-in-Run-clause-world
 returns-in-Run-clause-world g c = rw c.in-Run.is c.run.ensures.world
+
+pub commit-requires-clause-committer : goal.commit-requires-clause-committer
+commit-requires-clause-committer g c = λ c' X.
+    let now : Ledger _ = c.args.self.now in
+    let found : txn_at now.txns c.args.at ≡ c.index.result.now = txn_at-is now.txns c.args.at c.index.result.now c.requires.within (c.index.ensures ∙ ap (λ (l : Ledger _). get_or l.txns c.args.at c.index.result.now) c.self.view_is) in
+    let open' : is_open (txn_at now.txns c.args.at).standing ≡ true = ap (λ (t : Txn _). is_open t.standing) found ∙ sym c.is_active.ensures ∙ c.if-is_active.true in
+    c.requires.committer open'

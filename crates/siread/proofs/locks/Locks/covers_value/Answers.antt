@@ -8,4 +8,4 @@ pub returns-in-Some : goal.returns-in-Some
 returns-in-Some g c =
     c.covers_value.ensures
     ∙ ap (λ rs. covers_value rs c.args.table c.args.column c.args.key.now)
-    (c.readings.ensures.all ∙ ap (λ o. option_map_or all_of o []) (c.in-Some.ensures.value ∙ ap (held_by c.args.txn.0) c.self.view_is))
+    (ap (λ o. option_map_or all_of o []) (c.in-Some.ensures.value ∙ ap (held_by c.args.txn.0) c.self.view_is))
