@@ -10,7 +10,7 @@ use crate::world::World;
 use schema::changes::Change;
 use statement::outcome::Mark;
 use statement::reading::Reading;
-use std::alloc::{Allocator, Global};
+use std::alloc::{AllocError, Allocator, Global};
 use value::refusal::Refusal;
 
 /// What a statement has read, changed and marked.
@@ -19,6 +19,22 @@ pub struct Added<A: Allocator = Global> {
     pub reads: Vec<Reading<A>, A>,
     pub changes: Vec<Change<A>, A>,
     pub marks: Vec<Mark<A>, A>,
+}
+
+/// Makes room at the end for so many more: in an empty list for just these, since most transactions
+/// have few statements.
+pub(crate) fn reserve<T: Drop, A: Allocator>(
+    list: &mut Vec<T, A>,
+    more: usize,
+) -> Result<(), AllocError>
+    ensures items { list.new.items ≡ list.old.items }
+    ensures ok { OnOk result (vec_len list.new + more ≤ vec_capacity list.new) }
+{
+    if list.is_empty() {
+        list.reserve_exact(more)
+    } else {
+        list.reserve(more)
+    }
 }
 
 /// Moves elements to the end, where there is room for them.
@@ -44,7 +60,7 @@ impl<A: Allocator> Transaction<A> {
             changes,
             marks,
         } = added;
-        self.marks.reserve(marks.len())?;
+        reserve(&mut self.marks, marks.len())?;
         self.reads
             .append_with(alloc, reads, &mut self.changes, changes)?;
         append_reserved(&mut self.marks, marks);

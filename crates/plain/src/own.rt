@@ -9,7 +9,7 @@ ghost use Rattle.statement.specs.Fits.{Fits};
 ghost use Rattle.statement.specs.Walk.{are_of};
 ghost use Rattle.plain.specs.Merged.{AreInKeyOrder, AreMerged};
 
-use crate::added::append_reserved;
+use crate::added::{append_reserved, reserve};
 use schema::catalog::Catalog;
 use schema::changes::{Change, Changes};
 use schema::reader::SnapshotReader;
@@ -132,7 +132,7 @@ impl<A: Allocator> OwnChanges<A> {
         ensures err { OnErr result (self.new ≡ self.old) }
         ensures memory { IfErr result (λ e. e ≡ out_of_memory) }
     {
-        self.list.reserve(changes.len())?;
+        reserve(&mut self.list, changes.len())?;
         append_reserved(&mut self.list, changes);
         Ok(())
     }

@@ -4,7 +4,7 @@ ghost use Rattle.std.specs.Prelude.{◌≡◌, ◌++◌, [], OnOk, OnErr, IfErr}
 ghost use Rattle.value.specs.Refusals.{out_of_memory};
 ghost use Rattle.statement.specs.Cover.{covers, covers_value};
 
-use crate::added::append_reserved;
+use crate::added::{append_reserved, reserve};
 use crate::own::OwnChanges;
 use schema::catalog::TableNo;
 use schema::changes::Change;
@@ -81,7 +81,7 @@ impl<A: Allocator> OwnReads<A> {
         ensures written_err { OnErr result (written.new ≡ written.old) }
         ensures memory { IfErr result (λ e. e ≡ out_of_memory) }
     {
-        self.list.reserve(reads.len())?;
+        reserve(&mut self.list, reads.len())?;
         self.locks.read(alloc, reads.as_slice())?;
         if let Err(refusal) = written.append(changes) {
             self.locks.undo();

@@ -48,7 +48,10 @@ fn add<A: Allocator + Copy>(
     ensures memory { IfErr result (λ e. e ≡ out_of_memory) }
 {
     if !adds_nothing(kept.as_slice(), reading) {
-        kept.push(copy_reading(alloc, reading)?)?;
+        let copy = copy_reading(alloc, reading)?;
+        // Most transactions keep one or two.
+        kept.reserve_exact(1)?;
+        kept.push_reserved(copy);
     }
     Ok(())
 }

@@ -8,7 +8,7 @@ returns-in_err-read-clause-err g c = on_err_so _ c.from_residual-in_err-read.res
 
 pub invariant_of-self-in-Err : goal.invariant_of-self-in-Err
 invariant_of-self-in-Err g c =
-    locks-undone c.self.inside.locks c.read.new.self c.undo.new.self c.reserve.new.self.items
+    locks-undone c.self.inside.locks c.read.new.self c.undo.new.self c.reserve.new.list.items
     (subst (CoverAlike (all_of c.self.inside.locks)) (sym c.reserve.ensures.items) c.self.invariant) c.in_ok-read.ensures.before c.undo.ensures
 
 pub invariant_of-self-2 : goal.invariant_of-self-2
