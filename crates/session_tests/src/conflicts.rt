@@ -1,7 +1,7 @@
 //! Which commits are refused, and for which structure; and the keys of those that aren't.
 
 use crate::fixture::script;
-use std::test::Fail;
+use value::refusal::Refusal;
 
 const WRITE_SKEW: &str = "
 CREATE TABLE t (id bigint PRIMARY KEY, v bigint);
@@ -21,11 +21,6 @@ CREATE TABLE t (id bigint PRIMARY KEY, v bigint);
 1 SELECT * FROM t: SELECT 2 1|0 2|20
 KEYS: 1 key 1 1 1, 2 key 2 1 2";
 
-#[test]
-fn write_skew(rt: HostRuntime) -> Result<(), Fail> {
-    script(&rt, rt.alloc(), WRITE_SKEW)
-}
-
 const ONE_CONFLICT: &str = "
 CREATE TABLE t (id bigint PRIMARY KEY, v bigint);
 1 BEGIN: BEGIN
@@ -41,11 +36,7 @@ CREATE TABLE t (id bigint PRIMARY KEY, v bigint);
 1 COMMIT: COMMIT
 KEYS: 1 key 1 1 1, 3 key 2 1 2, 2 key 2 0 3";
 
-#[test]
-fn one_conflict(rt: HostRuntime) -> Result<(), Fail> {
-    script(&rt, rt.alloc(), ONE_CONFLICT)
-}
-
+// A receipt after the batch was closed, of which a reader has told.
 const READER_AFTER_THE_CLOSE: &str = "
 CREATE TABLE batch (id bigint PRIMARY KEY, n bigint);
 CREATE TABLE receipt (id bigint PRIMARY KEY, n bigint);
@@ -65,11 +56,7 @@ CREATE TABLE receipt (id bigint PRIMARY KEY, n bigint);
 2 COMMIT: ERROR 40001 cause 4 2 3
 KEYS: 1 key 1 1 1, 3 key 2 1 2, 4 key 2 2 12";
 
-#[test]
-fn a_receipt_after_the_batch_was_closed(rt: HostRuntime) -> Result<(), Fail> {
-    script(&rt, rt.alloc(), READER_AFTER_THE_CLOSE)
-}
-
+// The reader begins before the batch is closed: a receipt may come after it.
 const READER_BEFORE_THE_CLOSE: &str = "
 CREATE TABLE batch (id bigint PRIMARY KEY, n bigint);
 CREATE TABLE receipt (id bigint PRIMARY KEY, n bigint);
@@ -89,11 +76,6 @@ CREATE TABLE receipt (id bigint PRIMARY KEY, n bigint);
 2 COMMIT: COMMIT
 KEYS: 1 key 1 1 1, 4 key 2 1 2, 3 key 1 2 12, 2 key 2 0 3";
 
-#[test]
-fn a_receipt_with_the_reader_before_the_close(rt: HostRuntime) -> Result<(), Fail> {
-    script(&rt, rt.alloc(), READER_BEFORE_THE_CLOSE)
-}
-
 const ABSENT_ROW: &str = "
 CREATE TABLE t (id bigint PRIMARY KEY, v bigint);
 1 BEGIN: BEGIN
@@ -107,11 +89,6 @@ CREATE TABLE t (id bigint PRIMARY KEY, v bigint);
 2 INSERT INTO t VALUES (15, 0): INSERT 0 1
 1 COMMIT: COMMIT
 2 COMMIT: ERROR 40001 cause 2 3 2";
-
-#[test]
-fn an_absent_row(rt: HostRuntime) -> Result<(), Fail> {
-    script(&rt, rt.alloc(), ABSENT_ROW)
-}
 
 // The structure's first transaction is the last to commit.
 const COMMITTER_AT_THE_FRONT: &str = "
@@ -133,11 +110,6 @@ CREATE TABLE t (id bigint PRIMARY KEY, v bigint);
 1 UPDATE t SET v = 1 WHERE id = 3: UPDATE 1
 1 COMMIT: ERROR 40001 cause 2 3 4
 KEYS: 1 key 1 1 1, 4 key 2 1 2, 3 key 2 0 3";
-
-#[test]
-fn a_committer_at_the_front(rt: HostRuntime) -> Result<(), Fail> {
-    script(&rt, rt.alloc(), COMMITTER_AT_THE_FRONT)
-}
 
 // Where a row was written by another: one that is still open, one that committed an insert, and one
 // that committed a delete, of which evaluation knows nothing and says first that the key is there.
@@ -166,11 +138,7 @@ CREATE TABLE t (id bigint PRIMARY KEY, v bigint);
 1 INSERT INTO t VALUES (1, 7): ERROR 23505 column 1
 1 COMMIT: ROLLBACK";
 
-#[test]
-fn the_first_updater_wins(rt: HostRuntime) -> Result<(), Fail> {
-    script(&rt, rt.alloc(), FIRST_UPDATER)
-}
-
+// An old snapshot shows what it showed, whatever is pruned.
 const PRUNE: &str = "
 CREATE TABLE t (id bigint PRIMARY KEY, v bigint);
 1 BEGIN: BEGIN
@@ -188,6 +156,18 @@ CREATE TABLE t (id bigint PRIMARY KEY, v bigint);
 1 SELECT v FROM t: SELECT 1 5";
 
 #[test]
-fn prune_under_an_old_snapshot(rt: HostRuntime) -> Result<(), Fail> {
-    script(&rt, rt.alloc(), PRUNE)
+fn commits_and_their_conflicts(rt: HostRuntime) -> Result<(), Refusal> {
+    for text in [
+        WRITE_SKEW,
+        ONE_CONFLICT,
+        READER_AFTER_THE_CLOSE,
+        READER_BEFORE_THE_CLOSE,
+        ABSENT_ROW,
+        COMMITTER_AT_THE_FRONT,
+        FIRST_UPDATER,
+        PRUNE,
+    ] {
+        script(&rt, rt.alloc(), text)?;
+    }
+    Ok(())
 }

@@ -1,11 +1,11 @@
 //! A core's own calls: full histories, sessions, and checkpoints.
 
-use crate::fixture::{core_of, open, play, say, script};
+use crate::fixture::{core_of, not_asked, play, say, script};
 use history::session_id::SessionId;
 use session::sessions::Core;
 use std::alloc::Global;
 use std::process::Abort;
-use std::test::Fail;
+use value::refusal::{Code, Refusal};
 
 // What a full history refuses is whatever is asked; what it holds can still be asked.
 const FULL: &str = "
@@ -25,32 +25,46 @@ CREATE TABLE t (id bigint PRIMARY KEY, v bigint);
 VIEW 1: ERROR 25P01
 KEYS: 1 key 0 2 3";
 
+const FULL_BEHIND_A_PRUNE: &str = "
+CREATE TABLE t (id bigint PRIMARY KEY, v bigint);
+1 BEGIN: BEGIN
+1 PRUNE: PRUNE
+1 ROLLBACK: ROLLBACK
+1 BEGIN: ERROR 54000";
+
+const FULL_BEHIND_A_SELECT: &str = "
+CREATE TABLE t (id bigint PRIMARY KEY, v bigint);
+1 BEGIN: BEGIN
+1 SELECT * FROM t: SELECT 0
+1 ROLLBACK: ROLLBACK
+1 BEGIN: ERROR 54000";
+
 #[test]
-fn a_full_history(rt: HostRuntime) -> Result<(), Fail> {
-    let mut core = core_of(rt.alloc(), FULL, 3)?;
-    play(&rt, rt.alloc(), &mut core, FULL)?;
-    assert_eq!(rt; core.history().records().len(), 3);
+fn a_full_history(rt: HostRuntime) -> Result<(), Refusal> {
+    for text in [FULL, FULL_BEHIND_A_PRUNE, FULL_BEHIND_A_SELECT] {
+        let mut core = core_of(rt.alloc(), text, 3)?;
+        play(&rt, rt.alloc(), &mut core, text)?;
+        assert_eq!(rt; core.history().records().len(), 3);
+    }
     Ok(())
 }
 
 #[test]
-fn no_events(rt: HostRuntime) -> Result<(), Fail> {
-    let Err(refusal) = open(rt.alloc(), FULL, 0)? else {
-        return Err("a core without events".into());
-    };
-    assert_eq!(rt; refusal.code.sqlstate(), "54000");
+fn no_events(rt: HostRuntime) -> Result<(), Refusal> {
+    let refusal = core_of(rt.alloc(), FULL, 0).err();
+    assert!(rt; refusal == Some(Refusal::of_code(Code::ProgramLimitExceeded)));
     Ok(())
 }
 
 const TABLE: &str = "CREATE TABLE t (id bigint PRIMARY KEY, v bigint);";
 
 #[test]
-fn all_sessions_at_once(rt: HostRuntime) -> Result<(), Fail> {
+fn all_sessions_at_once(rt: HostRuntime) -> Result<(), Refusal> {
     assert!(rt; SessionId::new(0).is_none() && SessionId::new(65).is_none());
     let mut core = core_of(rt.alloc(), TABLE, 300)?;
     for text in ["BEGIN", "COMMIT"] {
         for number in 1..65 {
-            let session = SessionId::new(number).ok_or("no session")?;
+            let session = SessionId::new(number).ok_or(not_asked())?;
             let got = say(rt.alloc(), &mut core, session, text)?;
             assert_eq!(rt; got.as_str(), text, "{number}");
         }
@@ -65,21 +79,21 @@ fn refused(
     alloc: Global,
     core: Core,
     max_events: u32,
-    want: &str,
-) -> Result<Core, Fail> {
+    want: Code,
+) -> Result<Core, Refusal> {
     let events = core.history().records().len();
     let Err((back, refusal)) = core.checkpoint(alloc, max_events) else {
-        return Err("a checkpoint".into());
+        return Err(not_asked());
     };
-    assert_eq!(rt; refusal.code.sqlstate(), want);
+    assert!(rt; refusal == Refusal::of_code(want));
     assert_eq!(rt; back.history().records().len(), events);
     Ok(back)
 }
 
 // It goes on from the checkpoint with an empty history.
-fn next(rt: &impl Abort, alloc: Global, core: Core, max_events: u32) -> Result<Core, Fail> {
+fn next(rt: &impl Abort, alloc: Global, core: Core, max_events: u32) -> Result<Core, Refusal> {
     let Ok(next) = core.checkpoint(alloc, max_events) else {
-        return Err("no checkpoint".into());
+        return Err(not_asked());
     };
     assert!(rt; next.history().records().is_empty() && next.keys().is_empty());
     Ok(next)
@@ -105,7 +119,7 @@ KEYS: 3 key 2 1 2, 2 key 2 0 3
 1 BEGIN: ERROR 54000";
 
 #[test]
-fn a_checkpoint_goes_on(rt: HostRuntime) -> Result<(), Fail> {
+fn a_checkpoint_goes_on(rt: HostRuntime) -> Result<(), Refusal> {
     let mut core = core_of(rt.alloc(), OPENING, 100)?;
     play(&rt, rt.alloc(), &mut core, OPENING)?;
     let mut core = next(&rt, rt.alloc(), core, 7)?;
@@ -145,14 +159,20 @@ const QUIET: &str = "
 KEYS: 2 key 1 1 1";
 
 #[test]
-fn refused_checkpoints(rt: HostRuntime) -> Result<(), Fail> {
+fn refused_checkpoints(rt: HostRuntime) -> Result<(), Refusal> {
     let mut core = core_of(rt.alloc(), OPEN, 100)?;
     for script in [OPEN, FAILED, DOOMED] {
         play(&rt, rt.alloc(), &mut core, script)?;
-        core = refused(&rt, rt.alloc(), core, 10, "55000")?;
+        core = refused(
+            &rt,
+            rt.alloc(),
+            core,
+            10,
+            Code::ObjectNotInPrerequisiteState,
+        )?;
     }
     play(&rt, rt.alloc(), &mut core, QUIET)?;
-    core = refused(&rt, rt.alloc(), core, 0, "54000")?;
+    core = refused(&rt, rt.alloc(), core, 0, Code::ProgramLimitExceeded)?;
     play(
         &rt,
         rt.alloc(),
@@ -163,6 +183,7 @@ fn refused_checkpoints(rt: HostRuntime) -> Result<(), Fail> {
     Ok(())
 }
 
+// A SELECT sees its transaction's snapshot and own changes, also where it is evaluated outside.
 const READS: &str = "
 CREATE TABLE t (id bigint PRIMARY KEY, v bigint);
 READ 1 SELECT * FROM t: ERROR 25P01
@@ -182,12 +203,7 @@ READ 3 SELECT * FROM t: ERROR 55000
 READ 3 SELECT * FROM t: SELECT 1 1|10
 3 COMMIT: COMMIT";
 
-// A SELECT sees its transaction's snapshot and own changes, also where it is evaluated outside.
-#[test]
-fn selects_in_two_halves(rt: HostRuntime) -> Result<(), Fail> {
-    script(&rt, rt.alloc(), READS)
-}
-
+// What was read outside is covered as what was read by a step.
 const READ_SKEW: &str = "
 CREATE TABLE t (id bigint PRIMARY KEY, v bigint);
 1 BEGIN: BEGIN
@@ -204,8 +220,10 @@ READ 2 SELECT * FROM t: SELECT 2 1|10 2|20
 READ 2 SELECT * FROM t: ERROR 40001 cause 2 3 2
 2 COMMIT: ERROR 40001 cause 2 3 2";
 
-// What was read outside is covered as what was read by a step.
 #[test]
-fn selects_in_two_halves_are_read(rt: HostRuntime) -> Result<(), Fail> {
-    script(&rt, rt.alloc(), READ_SKEW)
+fn selects_in_two_halves(rt: HostRuntime) -> Result<(), Refusal> {
+    for text in [READS, READ_SKEW] {
+        script(&rt, rt.alloc(), text)?;
+    }
+    Ok(())
 }

@@ -20,12 +20,16 @@ use statement::reply::Reply;
 use statement::statement::Statement;
 use std::alloc::Global;
 use std::process::Abort;
-use std::test::Fail;
 use value::refusal::{Code, Mode, Refusal};
 use value::value::Value;
 
+/// The refusal of a script that isn't one. No tried call answers it.
+pub fn not_asked() -> Refusal {
+    Refusal::of_code(Code::SyntaxError)
+}
+
 // The tables of a script's lines that begin with CREATE.
-fn catalog_of(alloc: Global, script: &str) -> Result<Catalog, Fail> {
+fn catalog_of(alloc: Global, script: &str) -> Result<Catalog, Refusal> {
     let mut catalog = Catalog::new(alloc);
     for line in script.lines() {
         if line.starts_with("CREATE") {
@@ -35,31 +39,25 @@ fn catalog_of(alloc: Global, script: &str) -> Result<Catalog, Fail> {
     Ok(catalog)
 }
 
-/// What opens on the tables that a script creates, with room for so many events.
-pub fn open(alloc: Global, script: &str, max_events: u32) -> Result<Result<Core, Refusal>, Fail> {
+/// A core on the tables that a script creates, with room for so many events.
+pub fn core_of(alloc: Global, script: &str, max_events: u32) -> Result<Core, Refusal> {
     let catalog = catalog_of(alloc, script)?;
     let tables = Tables::new(alloc, &catalog)?;
     if !tables.sound(&catalog) {
-        return Err("the tables aren't sound".into());
+        return Err(not_asked());
     }
-    Ok(Core::open(alloc, catalog, tables, max_events))
-}
-
-/// A core on the tables that a script creates, with room for so many events.
-pub fn core_of(alloc: Global, script: &str, max_events: u32) -> Result<Core, Fail> {
-    let core = open(alloc, script, max_events)??;
-    Ok(core)
+    Core::open(alloc, catalog, tables, max_events)
 }
 
 // A text that no command is: a statement, or a refused text.
-fn statement_of(alloc: Global, catalog: &Catalog, text: &str) -> Result<Action, Fail>
+fn statement_of(alloc: Global, catalog: &Catalog, text: &str) -> Result<Action, Refusal>
     ensures { IfOk result (Allowed catalog.now) }
 {
     match parse_statement(alloc, catalog, text) {
         Ok(statement) => Ok(Action::Run(statement)),
         Err(refusal) => {
             if refusal.code == Code::OutOfMemory {
-                return Err("no memory".into());
+                return Err(refusal);
             }
             Ok(Action::Broken(refusal))
         }
@@ -99,14 +97,14 @@ fn brief_of(text: &str) -> Option<Action>
 }
 
 // What a text asks for.
-fn action_of(alloc: Global, catalog: &Catalog, text: &str) -> Result<Action, Fail>
+fn action_of(alloc: Global, catalog: &Catalog, text: &str) -> Result<Action, Refusal>
     ensures { IfOk result (Allowed catalog.now) }
 {
     if let Some(mode) = mode_of(text) {
         return Ok(Action::Begin(mode));
     }
     if let Some(identifier) = text.strip_prefix("IMPORT ") {
-        return Ok(Action::Import(identifier.parse::<u64>()?));
+        return Ok(Action::Import(identifier.parse::<u64>().ok().ok_or(not_asked())?));
     }
     match brief_of(text) {
         Some(action) => Ok(action),
@@ -115,7 +113,7 @@ fn action_of(alloc: Global, catalog: &Catalog, text: &str) -> Result<Action, Fai
 }
 
 // Values, with a bar between each two.
-fn push_values(alloc: Global, printed: &mut String, values: &[Value]) -> Result<(), Fail> {
+fn push_values(alloc: Global, printed: &mut String, values: &[Value]) -> Result<(), Refusal> {
     let mut is_first = true;
     for value in values {
         if !is_first {
@@ -132,7 +130,7 @@ fn push_values(alloc: Global, printed: &mut String, values: &[Value]) -> Result<
 }
 
 // The reply to a statement, as it is printed: of rows their number, and then each after a space.
-fn statement_printed(alloc: Global, reply: &Reply) -> Result<String, Fail> {
+fn statement_printed(alloc: Global, reply: &Reply) -> Result<String, Refusal> {
     match reply {
         Reply::Inserted => Ok(format!(in alloc; "INSERT 0 1")?),
         Reply::Updated(rows) => Ok(format!(in alloc; "UPDATE {rows}")?),
@@ -146,12 +144,12 @@ fn statement_printed(alloc: Global, reply: &Reply) -> Result<String, Fail> {
             }
             Ok(printed)
         }
-        _ => Err("no reply of a statement".into()),
+        _ => Err(not_asked()),
     }
 }
 
 // A reply, as it is printed.
-fn printed(alloc: Global, reply: &Reply) -> Result<String, Fail> {
+fn printed(alloc: Global, reply: &Reply) -> Result<String, Refusal> {
     match reply {
         Reply::Begun => Ok(format!(in alloc; "BEGIN")?),
         Reply::Committed => Ok(format!(in alloc; "COMMIT")?),
@@ -166,18 +164,18 @@ fn printed(alloc: Global, reply: &Reply) -> Result<String, Fail> {
 }
 
 // The number of a session.
-fn session_of(text: &str) -> Result<SessionId, Fail> {
-    let number = text.parse::<u32>()?;
-    Ok(SessionId::new(number).ok_or("no session")?)
+fn session_of(text: &str) -> Result<SessionId, Refusal> {
+    let number = text.parse::<u32>().ok().ok_or(not_asked())?;
+    SessionId::new(number).ok_or(not_asked())
 }
 
 // A refusal, as it is printed.
-fn refusal_printed(alloc: Global, refusal: Refusal) -> Result<String, Fail> {
+fn refusal_printed(alloc: Global, refusal: Refusal) -> Result<String, Refusal> {
     Ok(format!(in alloc; "ERROR {refusal}")?)
 }
 
 // The committed transactions with their keys, in the order of their commits.
-fn keys_printed(alloc: Global, core: &Core) -> Result<String, Fail> {
+fn keys_printed(alloc: Global, core: &Core) -> Result<String, Refusal> {
     if core.keys().is_empty() {
         return Ok(format!(in alloc; "none")?);
     }
@@ -193,7 +191,7 @@ fn keys_printed(alloc: Global, core: &Core) -> Result<String, Fail> {
 }
 
 // Whether a session's snapshot may be viewed.
-fn view_printed(alloc: Global, core: &Core, session: &str) -> Result<String, Fail> {
+fn view_printed(alloc: Global, core: &Core, session: &str) -> Result<String, Refusal> {
     match core.view(alloc, session_of(session)?) {
         Ok(_) => Ok(format!(in alloc; "VIEW")?),
         Err(refusal) => refusal_printed(alloc, refusal),
@@ -201,7 +199,12 @@ fn view_printed(alloc: Global, core: &Core, session: &str) -> Result<String, Fai
 }
 
 /// The reply to a session's text, as it is printed.
-pub fn say(alloc: Global, core: &mut Core, session: SessionId, text: &str) -> Result<String, Fail> {
+pub fn say(
+    alloc: Global,
+    core: &mut Core,
+    session: SessionId,
+    text: &str,
+) -> Result<String, Refusal> {
     let action = action_of(alloc, core.history().catalog(), text)?;
     let reply = core.step(alloc, Event { session, action });
     printed(alloc, &reply)
@@ -209,10 +212,10 @@ pub fn say(alloc: Global, core: &mut Core, session: SessionId, text: &str) -> Re
 
 // A SELECT, evaluated on what the core's reader gives, and recorded with what it answers there; or
 // why there is no reader.
-fn read(alloc: Global, core: &mut Core, session: SessionId, text: &str) -> Result<String, Fail> {
+fn read(alloc: Global, core: &mut Core, session: SessionId, text: &str) -> Result<String, Refusal> {
     let statement = parse_statement(alloc, core.history().catalog(), text)?;
     if statement.writes() {
-        return Err("no SELECT".into());
+        return Err(not_asked());
     }
     match core.reader(alloc, session) {
         Ok(reader) => {
@@ -231,7 +234,7 @@ fn found_on(
     session: SessionId,
     statement: &Statement,
     reader: &SessionReader,
-) -> Result<Reply, Fail>
+) -> Result<Reply, Refusal>
     requires fits { Fits core.now.opening.catalog statement.now }
     requires read { reader_answer core.now.opening core.now.records session ≡ Ok reader.now }
     ensures { IfOk result (IsFoundReply core.now.opening core.now.records session statement.now) }
@@ -245,34 +248,35 @@ fn found_on(
 
 // What is answered to what stands before the colon of a line: to a session's number and its text,
 // to VIEW and a session's number, to READ, a session's number and its SELECT, or to KEYS.
-fn answer(alloc: Global, core: &mut Core, asked: &str) -> Result<String, Fail> {
+fn answer(alloc: Global, core: &mut Core, asked: &str) -> Result<String, Refusal> {
     if asked == "KEYS" {
         return keys_printed(alloc, core);
     }
-    let (who, text) = asked.split_once(' ').ok_or("no text")?;
+    let (who, text) = asked.split_once(' ').ok_or(not_asked())?;
     if who == "VIEW" {
         return view_printed(alloc, core, text);
     }
     if who == "READ" {
-        let (who, text) = text.split_once(' ').ok_or("no text")?;
+        let (who, text) = text.split_once(' ').ok_or(not_asked())?;
         return read(alloc, core, session_of(who)?, text);
     }
     say(alloc, core, session_of(who)?, text)
 }
 
-/// Each line of a script that isn't a table's has, after what is asked and a colon, the answer.
-pub fn play(rt: &impl Abort, alloc: Global, core: &mut Core, script: &str) -> Result<(), Fail> {
+/// Each line of a script that isn't blank nor a table's has, after what is asked and a colon, the answer.
+pub fn play(rt: &impl Abort, alloc: Global, core: &mut Core, script: &str) -> Result<(), Refusal> {
     for line in script.lines() {
-        if let Some((asked, want)) = line.split_once(": ") {
+        if !line.is_empty() && !line.starts_with("CREATE TABLE ") {
+            let (asked, want) = line.split_once(": ").ok_or(not_asked())?;
             let got = answer(alloc, core, asked)?;
-            assert_eq!(rt; got.as_str(), want, "{line}");
+            assert_eq!(rt; got.as_str(), want, "{line} of{script}");
         }
     }
     Ok(())
 }
 
 /// A script on a core on its own tables.
-pub fn script(rt: &impl Abort, alloc: Global, script: &str) -> Result<(), Fail> {
+pub fn script(rt: &impl Abort, alloc: Global, script: &str) -> Result<(), Refusal> {
     let mut core = core_of(alloc, script, 100)?;
     play(rt, alloc, &mut core, script)
 }

@@ -1,5 +1,6 @@
 //! Tests of sessions and of a history in reserved room.
 
+use crate::fixture::not_asked;
 use history::base::Base;
 use history::event::{Action, Record};
 use history::list::History;
@@ -7,11 +8,10 @@ use history::session_id::SessionId;
 use schema::catalog::Catalog;
 use schema::tables::Tables;
 use statement::reply::Reply;
-use std::test::Fail;
 use value::refusal::{Code, Refusal};
 
 #[test]
-fn sessions(rt: HostRuntime) -> Result<(), Fail> {
+fn sessions(rt: HostRuntime) -> Result<(), Refusal> {
     for (number, there) in [(0, false), (1, true), (64, true), (65, false)] {
         let session = SessionId::new(number);
         assert_eq!(rt; session.is_some(), there, "{number}");
@@ -30,19 +30,16 @@ fn history(rt: &HostRuntime, most: u32) -> Result<History, Refusal> {
 }
 
 #[test]
-fn no_room_is_refused(rt: HostRuntime) -> Result<(), Fail> {
-    let Err(refusal) = history(&rt, 0) else {
-        return Err(Fail::from("a history of no events"));
-    };
-    assert_eq!(rt; refusal, Refusal::of_code(Code::ProgramLimitExceeded));
+fn no_room_is_refused(rt: HostRuntime) -> Result<(), Refusal> {
+    let refusal = history(&rt, 0).err();
+    assert!(rt; refusal == Some(Refusal::of_code(Code::ProgramLimitExceeded)));
     Ok(())
 }
 
 #[test]
-fn events_in_reserved_room(rt: HostRuntime) -> Result<(), Fail> {
-    let (Ok(mut history), Some(session)) = (history(&rt, 1), SessionId::new(7)) else {
-        return Err(Fail::from("no memory"));
-    };
+fn events_in_reserved_room(rt: HostRuntime) -> Result<(), Refusal> {
+    let mut history = history(&rt, 1)?;
+    let session = SessionId::new(7).ok_or(not_asked())?;
     assert!(rt; history.last().is_none());
     if !history.is_full() {
         history.push(Record {

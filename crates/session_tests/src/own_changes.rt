@@ -1,7 +1,7 @@
 //! What a transaction sees of its own changes, and others of its commit.
 
 use crate::fixture::script;
-use std::test::Fail;
+use value::refusal::Refusal;
 
 // Keys are written again and again, taken away and put back, in two tables.
 const OWN: &str = "
@@ -34,6 +34,8 @@ CREATE TABLE u (id bigint PRIMARY KEY, v bigint);
 2 SELECT * FROM u: SELECT 1 1|5";
 
 #[test]
-fn own_changes_are_seen_at_once_and_others_after_the_commit(rt: HostRuntime) -> Result<(), Fail> {
+fn own_changes_are_seen_at_once_and_others_after_the_commit(
+    rt: HostRuntime,
+) -> Result<(), Refusal> {
     script(&rt, rt.alloc(), OWN)
 }

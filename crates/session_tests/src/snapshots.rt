@@ -1,8 +1,9 @@
 //! Deferrable transactions, and exported snapshots.
 
 use crate::fixture::script;
-use std::test::Fail;
+use value::refusal::Refusal;
 
+// A deferrable transaction waits.
 const WAITS: &str = "
 CREATE TABLE batch (id bigint PRIMARY KEY, n bigint);
 CREATE TABLE receipt (id bigint PRIMARY KEY, n bigint);
@@ -27,21 +28,19 @@ VIEW 4: ERROR 55000
 4 SELECT * FROM receipt: SELECT 1 1|1
 VIEW 4: VIEW";
 
-#[test]
-fn a_deferrable_transaction_waits(rt: HostRuntime) -> Result<(), Fail> {
-    script(&rt, rt.alloc(), WAITS)
-}
-
-const FIRST_POLL: &str = "
+// Nothing spoils the first snapshot, nor that of a later transaction where only readers were.
+const FIRST_POLLS: &str = "
 CREATE TABLE t (id bigint PRIMARY KEY, v bigint);
 1 BEGIN READ ONLY DEFERRABLE: BEGIN
 1 POLL: SAFE 0
-VIEW 1: VIEW";
-
-#[test]
-fn nothing_spoils_the_first_snapshot(rt: HostRuntime) -> Result<(), Fail> {
-    script(&rt, rt.alloc(), FIRST_POLL)
-}
+VIEW 1: VIEW
+2 BEGIN READ ONLY: BEGIN
+2 COMMIT: COMMIT
+3 BEGIN READ ONLY DEFERRABLE: BEGIN
+3 POLL: SAFE 0
+VIEW 3: VIEW
+3 SELECT * FROM t: SELECT 0
+KEYS: 2 key 0 2 4";
 
 // An identifier is gone with its exporter's commit, rollback or failure.
 const IDENTIFIERS: &str = "
@@ -73,11 +72,6 @@ CREATE TABLE t (id bigint PRIMARY KEY, v bigint);
 3 IMPORT 5: ERROR 55000
 3 EXPORT: EXPORT 5
 3 IMPORT 5: ERROR 25001";
-
-#[test]
-fn identifiers_end_with_their_exporter(rt: HostRuntime) -> Result<(), Fail> {
-    script(&rt, rt.alloc(), IDENTIFIERS)
-}
 
 // Its exporter is refused at its commit, or doomed.
 const REFUSED_EXPORTERS: &str = "
@@ -118,11 +112,6 @@ CREATE TABLE t (id bigint PRIMARY KEY, v bigint);
 4 BEGIN READ ONLY: BEGIN
 4 IMPORT 3: ERROR 55000";
 
-#[test]
-fn identifiers_end_with_a_refused_exporter(rt: HostRuntime) -> Result<(), Fail> {
-    script(&rt, rt.alloc(), REFUSED_EXPORTERS)
-}
-
 // An importer knows what its last exporter knew.
 const LATER_IMPORTS: &str = "
 CREATE TABLE t (id bigint PRIMARY KEY, v bigint);
@@ -154,6 +143,15 @@ VIEW 3: VIEW
 VIEW 2: ERROR 25P01";
 
 #[test]
-fn an_importer_knows_what_its_last_exporter_knew(rt: HostRuntime) -> Result<(), Fail> {
-    script(&rt, rt.alloc(), LATER_IMPORTS)
+fn safe_and_exported_snapshots(rt: HostRuntime) -> Result<(), Refusal> {
+    for text in [
+        WAITS,
+        FIRST_POLLS,
+        IDENTIFIERS,
+        REFUSED_EXPORTERS,
+        LATER_IMPORTS,
+    ] {
+        script(&rt, rt.alloc(), text)?;
+    }
+    Ok(())
 }

@@ -1,8 +1,9 @@
 //! Each action of a session without a transaction, with a failed one, an open one and a doomed one.
 
 use crate::fixture::script;
-use std::test::Fail;
+use value::refusal::Refusal;
 
+// Without a transaction.
 const NONE: &str = "
 CREATE TABLE t (id bigint PRIMARY KEY, v bigint);
 1 SELECT * FROM t: ERROR 25P01
@@ -19,11 +20,7 @@ VIEW 1: ERROR 25P01
 3 BEGIN READ ONLY DEFERRABLE: BEGIN
 KEYS: none";
 
-#[test]
-fn without_a_transaction(rt: HostRuntime) -> Result<(), Fail> {
-    script(&rt, rt.alloc(), NONE)
-}
-
+// With a failed one.
 const FAILED: &str = "
 CREATE TABLE t (id bigint PRIMARY KEY, v bigint);
 1 BEGIN: BEGIN
@@ -54,11 +51,7 @@ VIEW 1: ERROR 25P02
 1 SELECT * FROM t: ERROR 25P02
 KEYS: none";
 
-#[test]
-fn with_a_failed_one(rt: HostRuntime) -> Result<(), Fail> {
-    script(&rt, rt.alloc(), FAILED)
-}
-
+// With an open one.
 const OPEN: &str = "
 CREATE TABLE t (id bigint PRIMARY KEY, v bigint);
 1 BEGIN: BEGIN
@@ -92,11 +85,6 @@ VIEW 1: ERROR 55000
 1 BEGIN: BEGIN
 1 COMMIT: COMMIT
 KEYS: 2 key 0 2 27, 4 key 1 1 1";
-
-#[test]
-fn with_an_open_one(rt: HostRuntime) -> Result<(), Fail> {
-    script(&rt, rt.alloc(), OPEN)
-}
 
 // Sessions 2 to 5 read what session 1 writes, and write what it has read: its commit dooms each.
 const DOOMED: &str = "
@@ -149,6 +137,9 @@ VIEW 2: ERROR 55000
 KEYS: 1 key 1 1 1";
 
 #[test]
-fn with_a_doomed_one(rt: HostRuntime) -> Result<(), Fail> {
-    script(&rt, rt.alloc(), DOOMED)
+fn each_action_in_each_state(rt: HostRuntime) -> Result<(), Refusal> {
+    for text in [NONE, FAILED, OPEN, DOOMED] {
+        script(&rt, rt.alloc(), text)?;
+    }
+    Ok(())
 }
