@@ -1,5 +1,6 @@
 pub mod AnswerLemmas
 pub mod BehindLemmas
+pub mod ByteLemmas
 pub mod CatalogLemmas
 pub mod CreateLemmas
 pub mod DumpAgain

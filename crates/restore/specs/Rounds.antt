@@ -1,5 +1,5 @@
 -- Rows of lines that are read and wait to be taken into a table.
-use Rattle.std.specs.Prelude.{◌≡◌, ◌≢◌, ℕ, ◌+◌, Bool, true, List, [], ◌++◌, length, Result, Ok, Err}
+use Rattle.std.specs.Prelude.{◌≡◌, ◌≢◌, ℕ, ◌+◌, Bool, true, List, [], ◌∷◌, ◌++◌, length, Result, Ok, Err}
 use Rattle.std.specs.List.{AllByRecursion, list_all}
 use Rattle.std.specs.Prelude.{IfOk}
 use Rattle.schema.specs.Definition.{Catalog, columns_of}
@@ -7,6 +7,7 @@ use Rattle.schema.specs.declared.tables.Tables.{Tables}
 use Rattle.schema.specs.Plain.{is_sound}
 use Rattle.restore.specs.declared.error.ReadError.{ReadError}
 use Rattle.restore.specs.declared.error.RestoreFault.{RestoreFault}
+use Rattle.restore.specs.declared.lines.Line.{Line}
 use Rattle.restore.specs.declared.lines.Lines.{Lines}
 use Rattle.restore.specs.declared.rounds.Round.{Round}
 use Rattle.restore.specs.declared.rows.ReadPiece.{ReadPiece}
@@ -49,3 +50,8 @@ module _ {A : Type 0} (c : Catalog) (t : ℕ) (X : Tables A) (told : Told A) whe
 abbrev pub AreTaken : {A E : Type 0} → Catalog → ℕ → Tables A → ℕ → List (Result (ReadPiece A) E) → Result (Tables A) ReadError → Type 0
 AreTaken {A} {E} c t Y number pieces result =
     (X : Tables A) (told : Told A) (next : ℕ) (left : List (List ℕ)) → left ≢ [] → AreWaiting c t X told Y number pieces next left → AreIn c t X told next left result
+
+-- a line and those behind it are read as the next round, once the rows of a round that waits before them are taken
+abbrev pub IsNextRound : {A : Type 0} → Catalog → ℕ → Tables A → Round A → Line → Result (Lines × Tables A × Round A) ReadError → Type 0
+IsNextRound {A} c t Y round line result =
+    (X : Tables A) (told : Told A) → AreWaiting c t X told Y round.number round.pieces.items line.number (line.bytes.now ∷ lines_of line.rest.text.now) → IsBegun c t X told result

@@ -5,6 +5,8 @@ ghost use Rattle.std.specs.List.{slice_split};
 ghost use Rattle.std.specs.Option.{option_copied};
 ghost use Rattle.restore.specs.CreateLine.{behind, parted, parts_of};
 
+use memchr::memchr;
+
 /// What stands behind some bytes, where the text begins with them.
 pub fn behind<'t>(bytes: &[u8], text: &'t [u8]) -> Option<&'t [u8]>
     ensures { option_copied result ≡ behind bytes.now text.now }
@@ -17,7 +19,7 @@ fn place_of(byte: u8, text: &[u8]) -> Option<usize>
     ensures place { result ≡ position (λ b. b == byte) text.now }
     ensures within { IfSome result (λ n. n < length text.now) }
 {
-    text.iter().position(|other| *other == byte)
+    memchr(byte, text)
 }
 
 // What stands before and behind a place.

@@ -8,7 +8,7 @@ ghost use Rattle.schema.specs.Plain.{is_sound};
 ghost use Rattle.dumpplan.specs.Lines.{end_of_rows};
 ghost use Rattle.restore.specs.Progress.{read_in_steps};
 ghost use Rattle.restore.specs.Reading.{Before, Within, ended, kinds_of, lines_of, read_lines, read_dump};
-ghost use Rattle.restore.specs.Rounds.{Told, RisesKnown, AreWaiting, AreTaken, IsBegun};
+ghost use Rattle.restore.specs.Rounds.{RisesKnown, AreTaken, IsNextRound};
 ghost use Rattle.restore.specs.Rows.{ArePieces};
 ghost use Rattle.restore.specs.Steps.{Reads, no_memory};
 
@@ -28,7 +28,10 @@ use std::thread::Threads;
 use value::kind::Kind;
 
 /// How many stretches of lines a piece has at most.
-const MOST_STRETCHES: usize = 16;
+const PIECE_STRETCHES: usize = 32;
+
+/// How many stretches of lines a round has at most.
+const ROUND_STRETCHES: usize = 256;
 
 /// Threads that read a table's lines in rounds, a piece each, while the rows of the round before are taken. The gate is asked
 /// about each stretch of a piece.
@@ -69,6 +72,7 @@ impl<'w, R: Threads + Sync, G: Gate, A: Allocator + Copy + Send + Sync> Workers<
     fn most_lines(&self) -> usize {
         (self.jobs.get() as usize)
             .saturating_mul(self.share)
+            .min(ROUND_STRETCHES)
             .saturating_mul(STRETCH_LINES)
     }
 
@@ -76,7 +80,7 @@ impl<'w, R: Threads + Sync, G: Gate, A: Allocator + Copy + Send + Sync> Workers<
     fn count_round(&mut self, lines: usize) {
         let stretches = lines.div_ceil(STRETCH_LINES) as u64;
         self.stretches = self.stretches.saturating_add(stretches);
-        self.share = self.share.saturating_mul(2).min(MOST_STRETCHES);
+        self.share = self.share.saturating_mul(2).min(PIECE_STRETCHES);
     }
 
     // What a round's lines read as, in pieces of so many lines, and the tables with the rows of the round before, which this
@@ -193,7 +197,7 @@ impl<'w, R: Threads + Sync, G: Gate, A: Allocator + Copy + Send + Sync> Workers<
         requires number { line.rest.number ≡ line.number + 1 }
         requires row { bytes_eq line.bytes.now end_of_rows ≡ false }
         requires rise { RisesKnown catalog.now table round.pieces.items }
-        ensures begun { (X : Tables A) (told : Told A) → AreWaiting catalog.now table X told tables round.number round.pieces.items line.entry.number (line.entry.bytes.now ∷ lines_of line.entry.rest.text.now) → IsBegun catalog.now table X told result }
+        ensures begun { IsNextRound catalog.now table tables round line.entry result }
         ensures same_tables { IfOk result (λ x. length x.1 ≡ length catalog.now) }
         ensures rise { IfOk result (λ x. RisesKnown catalog.now table x.2.pieces.items) }
         ensures shorter { IfOk result (λ x. length x.0.text.now ≤ length line.entry.rest.text.now) }
