@@ -2,6 +2,7 @@ pub mod AskedLemmas
 pub mod EndLemmas
 pub mod FreelyLemmas
 pub mod LineLemmas
+pub mod OutcomeLemmas
 pub mod PrintLemmas
 pub mod RestoredLemmas
 pub mod RunLemmas

@@ -2,7 +2,7 @@
 use Rattle.std.proofs.Common.{◌≡◌, ◌⊎◌, ℕ, true, List, [], ◌++◌, Option, Some, None, inl, inr, refl, sym, ap, subst, ◌∙◌, append_assoc}
 use Rattle.std.proofs.lemmas.List.{append-nil}
 use Rattle.std.specs.Io.KnownBytes.{Appends}
-use Rattle.program.specs.Printed.{Printed, Prints, all}
+use Rattle.program.specs.Printed.{Adds, Printed, Prints, all}
 
 appends_twice : (a b c : Option (List ℕ)) (s t : List ℕ) → Appends a b s → Appends b c t → Appends a c (s ++ t)
 appends_twice None b c s t x y = tt
@@ -13,6 +13,22 @@ appends_twice (Some a) (Some b) (Some c) s t x y = y ∙ ap (λ l. l ++ t) x ∙
 appends_none : (a : Option (List ℕ)) → Appends a a []
 appends_none None = tt
 appends_none (Some a) = sym (append-nil a)
+
+-- nothing was added
+pub adds_none : (p : Printed) → Adds p p []
+adds_none p = (refl, refl, appends_none (all p))
+
+-- one text was added, and then another
+pub adds_twice : (p q r : Printed) (s t : List ℕ) → Adds p q s → Adds q r t → Adds p r (s ++ t)
+adds_twice p q r s t x y = (y.0 ∙ x.0, y.1 ∙ x.1, appends_twice (all p) (all q) (all r) s t x.2 y.2)
+
+-- a text was added, and then nothing more
+pub adds_no_more : (p q r : Printed) (s : List ℕ) → Adds p q s → Adds q r [] → Adds p r s
+adds_no_more p q r s x y = subst (λ t. Adds p r t) (append-nil s) (adds_twice p q r s [] x y)
+
+-- what was added was printed
+pub added_is_printed : (p q : Printed) (s : List ℕ) → Adds p q s → Prints p q s
+added_is_printed p q s x = (x.0, λ e. x.1 ∙ e, inr x.2)
 
 -- nothing more was printed
 pub prints_none : (p : Printed) → Prints p p []

@@ -6,6 +6,7 @@ pub mod Files
 pub mod Freely
 pub mod Lines
 pub mod Orders
+pub mod Outcomes
 pub mod Printed
 pub mod Restored
 pub mod Runs

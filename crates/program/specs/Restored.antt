@@ -8,7 +8,7 @@ use Rattle.schema.specs.declared.tables.Tables.{Tables}
 use Rattle.dumpplan.specs.Lines.{dump_text}
 use Rattle.restore.specs.Reading.{read_dump}
 use Rattle.program.specs.Files.{IsAllOf, IsWritten, read_of}
-use Rattle.program.specs.Printed.{IsFlushed, Printed, Prints}
+use Rattle.program.specs.Printed.{Adds, IsFlushed, Printed}
 
 module _ {A : Type 0} where
   -- how many rows there are in all tables, as far as 64 bits can say
@@ -23,4 +23,4 @@ module _ {A : Type 0} where
 abbrev pub IsRestored : (A : Type 0) → {Out : Type 0} → (List ℕ → Option (List ℕ)) → Option (List ℕ) → (Out → List ℕ) → (Out → List ℕ) → List ℕ → List ℕ → Printed → Printed → Type 0
 IsRestored A held input path_of taken path out p q = (bytes : List ℕ) × (c : Catalog) × (X : Tables A)
     × IsAllOf (read_of held input path) bytes × (read_dump bytes ≡ Ok (c, X))
-    × IsWritten path_of taken out (dump_text c X) × Prints p q (restored_text c X) × IsFlushed q
+    × IsWritten path_of taken out (dump_text c X) × Adds p q (restored_text c X) × IsFlushed q

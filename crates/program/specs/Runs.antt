@@ -1,9 +1,13 @@
 -- What the lines of a script do, one after the other, and what is printed of them (this project's own choice).
-use Rattle.std.specs.Prelude.{◌≡◌, ◌⊎◌, ℕ, true, List, [], ◌++◌, Option, Some, None, Ok, Err, codes, take}
+use Rattle.std.specs.Prelude.{◌≡◌, ◌⊎◌, ℕ, true, List, [], ◌++◌, Option, Some, None, Ok, Err, codes, slice_get, take}
 use Rattle.value.specs.declared.refusal.Refusal.{Refusal}
 use Rattle.value.specs.Codes.{sqlstate}
 use Rattle.history.specs.Events.{world}
-use Rattle.history.specs.Opening.{Recorded}
+use Rattle.history.specs.Opening.{Recorded, zero_base}
+use Rattle.schema.specs.Definition.{Catalog}
+use Rattle.schema.specs.Inserting.{empty_tables}
+use Rattle.schema.specs.declared.tables.Tables.{Tables}
+use Rattle.restore.specs.Reading.{read_dump}
 use Rattle.session.specs.Core.{IsCheckpoint}
 use Rattle.request.specs.declared.request.Request.TheVariants as ask
 use Rattle.script.specs.declared.command.Command.{Command}
@@ -11,11 +15,13 @@ use Rattle.script.specs.declared.command.Command.TheVariants as command
 use Rattle.script.specs.declared.script.Step.{Step}
 use Rattle.script.specs.declared.script.Step.TheVariants.{Session, Checkpoint}
 use Rattle.script.specs.declared.script.Line.{Line}
+use Rattle.script.specs.declared.schedule.Schedule.TheVariants.{InOrder}
+use Rattle.script.specs.Scripts.{Said, said}
 use Rattle.program.specs.Dumps.{TellsDump}
-use Rattle.program.specs.Files.{IsFileFault}
+use Rattle.program.specs.Files.{IsAllOf, IsFileFault, read_of}
 use Rattle.program.specs.Lines.{Tells}
 use Rattle.program.specs.Orders.{check_line, order_lines}
-use Rattle.program.specs.Printed.{IsFlushed, Printed, Prints}
+use Rattle.program.specs.Printed.{Adds, IsFlushed, Printed, Prints}
 use Rattle.program.specs.Steps.{AreDone}
 use Rattle.program.specs.declared.fault.Fault.{Fault}
 use Rattle.program.specs.declared.fault.Fault.TheVariants as fault
@@ -89,20 +95,37 @@ module _ {A : Type 0} where
 
   -- All lines were done, and what is to be printed of them was printed, with the serial order behind it where that is shown.
   abbrev pub HasRun : Way → Recorded A → List (Line A) → Printed → Printed → Type 0
-  HasRun way h lines p q = (k : Recorded A) × (text : List ℕ) × LinesAreDone way h lines k text × Prints p q (text ++ order_text way.shown k)
+  HasRun way h lines p q = (k : Recorded A) × (text : List ℕ) × LinesAreDone way h lines k text × Adds p q (text ++ order_text way.shown k)
 
-  -- The first lines were done, and what is to be printed of them was printed, and nothing else.
-  abbrev pub HasStopped : Way → Recorded A → List (Line A) → Printed → Printed → Type 0
-  HasStopped way h lines p q = (n : ℕ) × (k : Recorded A) × (text : List ℕ) × LinesAreDone way h (take n lines) k text × Prints p q text
+  -- standard output has failed, or the step behind n lines ends the script
+  abbrev pub IsDeviceAt : List (Line A) → ℕ → Fault → Printed → Type 0
+  IsDeviceAt lines n f q = (IsFileFault (codes "-") f × (q.failed ≡ true)) ⊎ ((line : Line A) × (slice_get lines n ≡ Some line) × Stops line.step f)
 
-  -- a history of no events yet, with room for so many
-  abbrev pub IsFresh : ℕ → Recorded A → Type 0
-  IsFresh most h = (h.records ≡ []) × (h.most ≡ most)
+  -- Why lines end once n of them are done: memory was refused, or standard output has failed, or the file of the dump that the next line asks for.
+  abbrev pub EndsAt : List (Line A) → ℕ → Fault → Printed → Type 0
+  EndsAt lines n f q = (f ≡ fault.Script 0) ⊎ IsDeviceAt lines n f q
 
-  -- From a history of no events yet all lines were done and printed, and the stream has all that was printed, unless it has failed.
-  abbrev pub ScriptHasRun : Way → List (Line A) → Printed → Printed → Type 0
-  ScriptHasRun way lines p q = (h : Recorded A) × IsFresh way.most_events h × HasRun way h lines p q × IsFlushed q
+  -- The first lines were done, and what is to be printed of them was printed, and nothing else; and this is why.
+  abbrev pub HasStopped : Way → Recorded A → List (Line A) → Fault → Printed → Printed → Type 0
+  HasStopped way h lines f p q = (n : ℕ) × (k : Recorded A) × (text : List ℕ) × LinesAreDone way h (take n lines) k text × Prints p q text × EndsAt lines n f q
+
+  -- the history of some tables before any event, with room for so many
+  abbrev pub begun : Catalog → Tables A → ℕ → Recorded A
+  begun c X most = record { opening = record { catalog = c; tables = X; base = zero_base }; records = []; most = most }
+
+  -- The tables that a script begins with: what the dump that it opens reads as; or those that it creates, without rows.
+  abbrev pub BeginsWith : (List ℕ → Option (List ℕ)) → Option (List ℕ) → Catalog → Catalog → Tables A → Type 0
+  BeginsWith held None created c X = (c ≡ created) × (X ≡ empty_tables created)
+  BeginsWith held (Some path) created c X = (bytes : List ℕ) × IsAllOf (held path) bytes × (read_dump bytes ≡ Ok (c, X))
+
+  -- From its tables all lines of a script were done and printed, and the stream has all that was printed, unless it has failed.
+  abbrev pub ScriptHasRun : (List ℕ → Option (List ℕ)) → Way → Said A → Printed → Printed → Type 0
+  ScriptHasRun held way s p q = (c : Catalog) × (X : Tables A) × BeginsWith held s.opens s.catalog c X × HasRun way (begun c X way.most_events) s.lines p q × IsFlushed q
 
   -- The tables weren't opened, and nothing was printed; or the first lines were done, and the stream has what was printed of them, unless it has failed.
-  abbrev pub ScriptHasStopped : Way → List (Line A) → Printed → Printed → Type 0
-  ScriptHasStopped way lines p q = (q ≡ p) ⊎ ((h : Recorded A) × IsFresh way.most_events h × HasStopped way h lines p q × IsFlushed q)
+  abbrev pub ScriptHasStopped : (List ℕ → Option (List ℕ)) → Way → Said A → Fault → Printed → Printed → Type 0
+  ScriptHasStopped held way s f p q = (q ≡ p) ⊎ ((c : Catalog) × (X : Tables A) × BeginsWith held s.opens s.catalog c X × HasStopped way (begun c X way.most_events) s.lines f p q × IsFlushed q)
+
+-- What a path has says a script, and that has run.
+abbrev pub PathHasRun : (A : Type 0) → (List ℕ → Option (List ℕ)) → Option (List ℕ) → Way → List ℕ → Printed → Printed → Type 0
+PathHasRun A held input way path p q = (bytes : List ℕ) × (s : Said A) × IsAllOf (read_of held input path) bytes × (said InOrder bytes ≡ Ok s) × ScriptHasRun held way s p q

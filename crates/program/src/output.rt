@@ -1,7 +1,8 @@
 //! What the program prints.
 
-ghost use Rattle.std.specs.Prelude.{◌≡◌, [], ◌++◌, true, false, IfErr, OnOk, OnErr};
-ghost use Rattle.program.specs.Printed.{Prints, IsFlushed};
+ghost use Rattle.std.specs.Prelude.{◌≡◌, [], ◌++◌, codes, true, IfErr, OnOk, OnErr};
+ghost use Rattle.program.specs.Files.{IsFileFault};
+ghost use Rattle.program.specs.Printed.{Adds, Prints, IsFlushed, unprinted};
 
 use crate::fault::Fault;
 use std::alloc::Allocator;
@@ -39,7 +40,7 @@ impl<'o, W: Write, A: Allocator> Model for Printer<'o, W, A> {
 impl<'o, W: Write, A: Allocator> Printer<'o, W, A> {
     /// Nothing is printed yet.
     pub(crate) fn new(alloc: A, out: &'o mut W) -> Printer<'o, W, A>
-        ensures { result ≡ record { stream = out.entry.ghost_name; out = W.contents out.old; held = []; failed = false } }
+        ensures { result ≡ unprinted out.entry.ghost_name (W.contents out.old) }
     {
         Printer {
             out,
@@ -51,7 +52,7 @@ impl<'o, W: Write, A: Allocator> Printer<'o, W, A> {
     /// Prints, now or at the next flush.
     #[tactic(auto, using(crate::proofs::PrintLemmas::prints_none))]
     pub(crate) fn print(&mut self, text: &[u8]) -> Result<(), PrintError>
-        ensures printed { OnOk result (Prints self.old self.new text.now) }
+        ensures printed { OnOk result (Adds self.old self.new text.now) }
         ensures stopped { OnErr result (Prints self.old self.new []) }
         ensures device { IfErr result (λ e. e ≡ PrintError.Device → self.new.failed ≡ true) }
     {
@@ -66,7 +67,8 @@ impl<'o, W: Write, A: Allocator> Printer<'o, W, A> {
 
     /// Writes all that was held back.
     pub(crate) fn flush(&mut self) -> Result<(), PrintError>
-        ensures printed { Prints self.old self.new [] }
+        ensures printed { OnOk result (Adds self.old self.new []) }
+        ensures stopped { OnErr result (Prints self.old self.new []) }
         ensures flushed { IsFlushed self.new }
         ensures device { OnErr result (self.new.failed ≡ true) }
         ensures error { IfErr result (λ e. e ≡ PrintError.Device) }
@@ -100,7 +102,7 @@ pub(crate) fn print_whole<'p, W: Write, A: Allocator>(
     memory: Fault<'p>,
     printer: &mut Printer<'_, W, A>,
 ) -> Result<(), Fault<'p>>
-    ensures printed { OnOk result (Prints printer.old printer.new text.now) }
+    ensures printed { OnOk result (Adds printer.old printer.new text.now) }
     ensures flushed { OnOk result (IsFlushed printer.new) }
     ensures stopped { OnErr result (Prints printer.old printer.new []) }
 {
@@ -114,7 +116,10 @@ pub(crate) fn print_whole<'p, W: Write, A: Allocator>(
 }
 
 /// How a fault of printing is told.
-pub(crate) fn fault_of_print(error: PrintError) -> Fault<'static> {
+pub(crate) fn fault_of_print(error: PrintError) -> Fault<'static>
+    ensures device { error ≡ PrintError.Device → IsFileFault (codes "-") result }
+    ensures memory { error ≡ PrintError.Memory → result ≡ Fault.Script 0 }
+{
     match error {
         PrintError::Device => Fault::Device { path: "-" },
         PrintError::Memory => Fault::Script { line: 0 },

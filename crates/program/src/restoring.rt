@@ -3,7 +3,7 @@
 ghost use Rattle.std.specs.Prelude.{◌≡◌, ◌⊎◌, [], Err, IfErr, IfOk, OnErr, OnOk, length, true};
 ghost use Rattle.dumpplan.specs.Lines.{dump_text};
 ghost use Rattle.program.specs.Files.{IsFileFault, IsWritten};
-ghost use Rattle.program.specs.Printed.{IsFlushed, Prints};
+ghost use Rattle.program.specs.Printed.{Adds, IsFlushed, Prints};
 ghost use Rattle.program.specs.Restored.{IsRestored, restored_text, rows_in};
 ghost use Rattle.schema.specs.Plain.{is_sound};
 ghost use Rattle.restore.specs.Reading.{read_dump};
@@ -166,7 +166,7 @@ where
     T: Threads + Wait + Sync,
     requires { is_sound catalog.now tables.now ≡ true }
     ensures written { OnOk result (IsWritten F.Out.path F.Out.taken out.entry.now (dump_text catalog.now tables.now)) }
-    ensures printed { OnOk result (Prints printer.old printer.new (restored_text catalog.now tables.now)) }
+    ensures printed { OnOk result (Adds printer.old printer.new (restored_text catalog.now tables.now)) }
     ensures flushed { OnOk result (IsFlushed printer.new) }
     ensures stopped { OnErr result (Prints printer.old printer.new []) }
 {

@@ -1,10 +1,15 @@
 //! Scripts: their reading, their lines, their audit.
 
-ghost use Rattle.std.specs.Prelude.{◌≡◌, ◌≢◌, ◌⊎◌, [], IfErr, IfOk, OnOk, OnErr, true};
+ghost use Rattle.std.specs.Prelude.{◌≡◌, ◌≢◌, ◌⊎◌, [], ℕ, List, Ok, IfErr, IfOk, OnOk, OnErr, codes, true};
+ghost use Rattle.std.specs.Option.{option_copied};
+ghost use Rattle.restore.specs.Reading.{read_dump as dump_read};
+ghost use Rattle.schema.specs.Definition.{Catalog as AnyCatalog};
+ghost use Rattle.schema.specs.declared.tables.Tables.{Tables as AnyTables};
+ghost use Rattle.schema.specs.Inserting.{empty_tables as without_rows};
 ghost use Rattle.schema.specs.Plain.{is_sound};
 ghost use Rattle.program.specs.Files.{IsAllOf, IsFileFault, read_of};
-ghost use Rattle.program.specs.Printed.{IsFlushed, Prints};
-ghost use Rattle.program.specs.Runs.{HasRun, HasStopped, IsFresh, ScriptHasRun, ScriptHasStopped};
+ghost use Rattle.program.specs.Printed.{Adds, IsFlushed, Prints};
+ghost use Rattle.program.specs.Runs.{BeginsWith, HasRun, HasStopped, PathHasRun, ScriptHasRun, ScriptHasStopped, begun};
 
 use crate::fault::{Fault, Status, end, tell};
 use crate::files::{Files, ReadError};
@@ -72,7 +77,8 @@ fn open_dump<'p, A, F>(
 where
     A: Allocator + Copy,
     F: Files<A>,
-    ensures { IfOk result (λ x. is_sound x.0 x.1 ≡ true) }
+    ensures read { IfOk result (λ x. (bytes : List ℕ) × IsAllOf (F.held files.now path.now) bytes × (dump_read bytes ≡ Ok x)) }
+    ensures sound { IfOk result (λ x. is_sound x.0 x.1 ≡ true) }
 {
     let dump = match files.read(alloc, path) {
         Ok(dump) => dump,
@@ -92,7 +98,8 @@ fn empty_tables<'p, A: Allocator + Copy>(
     alloc: A,
     catalog: Catalog<A>,
 ) -> Result<(Catalog<A>, Tables<A>), Fault<'p>>
-    ensures { IfOk result (λ x. is_sound x.0 x.1 ≡ true) }
+    ensures empty { IfOk result (λ x. (x.0 ≡ catalog) × (x.1 ≡ without_rows catalog)) }
+    ensures sound { IfOk result (λ x. is_sound x.0 x.1 ≡ true) }
 {
     match Tables::new(alloc, &catalog) {
         Ok(tables) => Ok((catalog, tables)),
@@ -111,7 +118,8 @@ pub(crate) fn open_tables<'p, A, F>(
 where
     A: Allocator + Copy,
     F: Files<A>,
-    ensures { IfOk result (λ x. is_sound x.0 x.1 ≡ true) }
+    ensures begins { IfOk result (λ x. BeginsWith (F.held files.now) (option_copied opens.entry) catalog x.0 x.1) }
+    ensures sound { IfOk result (λ x. is_sound x.0 x.1 ≡ true) }
 {
     match opens {
         Some(path) => open_dump(alloc, files, path.as_str()),
@@ -130,7 +138,7 @@ fn open_core<'p, A, F>(
 where
     A: Allocator + Copy,
     F: Files<A>,
-    ensures { IfOk result (λ core. IsFresh most_events core) }
+    ensures { IfOk result (λ core. (c : AnyCatalog) × (X : AnyTables A) × BeginsWith (F.held files.now) (option_copied opens.entry) catalog c X × (core ≡ begun c X most_events)) }
 {
     let (catalog, tables) = open_tables(alloc, files, opens, catalog)?;
     match Core::open(alloc, catalog, tables, most_events) {
@@ -144,8 +152,9 @@ fn show<'p, A, W>(text: &[u8], printer: &mut Printer<'_, W, A>) -> Result<(), Fa
 where
     A: Allocator,
     W: Write,
-    ensures printed { OnOk result (Prints printer.old printer.new text.now) }
+    ensures printed { OnOk result (Adds printer.old printer.new text.now) }
     ensures stopped { OnErr result (Prints printer.old printer.new []) }
+    ensures fault { IfErr result (λ f. (f ≡ Fault.Script 0) ⊎ IsFileFault (codes "-") f × (printer.new.failed ≡ true)) }
 {
     match printer.print(text) {
         Ok(()) => Ok(()),
@@ -169,7 +178,7 @@ where
     W: Write,
     T: Threads + Wait + Sync,
     ensures done { OnOk result (HasRun way core lines.entry.now printer.old printer.new) }
-    ensures stopped { OnErr result (HasStopped way core lines.entry.now printer.old printer.new) }
+    ensures stopped { IfErr result (λ f. HasStopped way core lines.entry.now f printer.old printer.new) }
 {
     for line in lines {
         let (next, text) = do_step(rt, alloc, files, core, &line.step, way)?;
@@ -196,7 +205,7 @@ where
     W: Write,
     T: Threads + Wait + Sync,
     ensures done { OnOk result (HasRun way core lines.entry.now printer.old printer.new) }
-    ensures stopped { OnErr result (HasStopped way core lines.entry.now printer.old printer.new) }
+    ensures stopped { IfErr result (λ f. HasStopped way core lines.entry.now f printer.old printer.new) }
     ensures flushed { IsFlushed printer.new }
 {
     let done = do_lines(rt, alloc, files, core, lines, way, printer);
@@ -222,8 +231,8 @@ where
     F: Files<A>,
     W: Write,
     T: Threads + Wait + Sync,
-    ensures done { OnOk result (ScriptHasRun way lines.entry.now printer.old printer.new) }
-    ensures stopped { OnErr result (ScriptHasStopped way lines.entry.now printer.old printer.new) }
+    ensures done { OnOk result (ScriptHasRun (F.held files.now) way (record { catalog = catalog; opens = option_copied opens.entry; lines = lines.entry.now }) printer.old printer.new) }
+    ensures stopped { IfErr result (λ f. ScriptHasStopped (F.held files.now) way (record { catalog = catalog; opens = option_copied opens.entry; lines = lines.entry.now }) f printer.old printer.new) }
 {
     let core = open_core(alloc, files, opens, catalog, way.most_events)?;
     do_all_lines(rt, alloc, files, core, lines, way, printer)
@@ -245,7 +254,8 @@ where
     W: Write,
     E: Write,
     T: Threads + Wait + Sync,
-    ensures { result ≢ Status.Usage }
+    ensures usage { result ≢ Status.Usage }
+    ensures done { result ≡ Status.Done → ScriptHasRun (F.held files.now) way script printer.old printer.new }
 {
     let (catalog, opens, lines) = script.into_parts();
     let done = do_script(
@@ -278,7 +288,8 @@ where
     W: Write,
     E: Write,
     T: Threads + Wait + Sync,
-    ensures { result ≢ Status.Usage }
+    ensures usage { result ≢ Status.Usage }
+    ensures done { result ≡ Status.Done → PathHasRun A (F.held files.now) (F.input files.now) way path.now printer.old printer.new }
 {
     let bytes = match read_path(alloc, files, path, Fault::Script { line: 0 }) {
         Ok(bytes) => bytes,

@@ -3,6 +3,7 @@
 ghost use Rattle.std.specs.Prelude.{◌≡◌, ◌≢◌, ◌⊎◌, ◌≤◌, map};
 ghost use Rattle.clap.specs.Words.{kind_of};
 ghost use Rattle.program.specs.CommandLine.{AreMistaken, IsMistake, MayBeMistaken, faults};
+ghost use Rattle.program.specs.Outcomes.{HasDone, IsDoneOn};
 
 use crate::fault::{Fault, Status, end, tell};
 use crate::files::Files;
@@ -34,10 +35,11 @@ where
     W: Write,
     E: Write,
     T: Threads + Wait + Sync,
-    ensures { result ≢ Status.Usage }
+    ensures usage { result ≢ Status.Usage }
+    ensures done { result ≡ Status.Done → IsDoneOn A (F.held files.now) (F.input files.now) task.entry (W.contents out.old) (W.contents out.new) }
 {
     let mut printer = Printer::new(alloc, out);
-    match task {
+    let status = match task {
         Task::Run { script, way } => { run_file(rt, alloc, files, script, way, &mut printer, err) }
         Task::Free {
             script,
@@ -57,7 +59,11 @@ where
             let done = restore_file(rt, alloc, files, dump, jobs, out, &mut printer);
             end(done, err)
         }
-    }
+    };
+    let stream = printer.into_out();
+    // It does nothing. The proof reads what `out` has from this use of it.
+    let _ = &*stream;
+    status
 }
 
 // Prints the help that the words ask for.
@@ -75,6 +81,7 @@ fn tell_words<W: Write, E: Write>(error: &Error, out: &mut W, err: &mut E) -> St
     ensures mistake { IsMistake (kind_of error.now) → result ≡ Status.Usage }
     ensures usage { result ≡ Status.Usage → IsMistake (kind_of error.now) }
     ensures memory { kind_of error.now ≡ ErrorKind.OutOfMemory → result ≡ Status.Refused }
+    ensures help { result ≡ Status.Done → (kind_of error.now ≡ ErrorKind.DisplayHelp) ⊎ (kind_of error.now ≡ ErrorKind.DisplayVersion) }
 {
     match error.kind() {
         ErrorKind::OutOfMemory => tell(&Fault::Script { line: 0 }, err),
@@ -104,6 +111,7 @@ where
     T: Threads + Wait + Sync,
     ensures usage { result ≡ Status.Usage → MayBeMistaken (faults (map (λ w. w.now) words.entry.now)) }
     ensures mistake { AreMistaken (faults (map (λ w. w.now) words.entry.now)) → (result ≡ Status.Usage) ⊎ (result ≡ Status.Refused) }
+    ensures did { result ≡ Status.Done → HasDone A (F.held files.now) (F.input files.now) (map (λ w. w.now) words.entry.now) (W.contents out.old) (W.contents out.new) }
 {
     match read_words(words_memory, words) {
         Err(error) => tell_words(&error, out, err),
@@ -134,6 +142,7 @@ where
     ensures within { result ≤ 3 }
     ensures usage { result ≡ 2 → MayBeMistaken (faults (map (λ w. w.now) words.entry.now)) }
     ensures mistake { AreMistaken (faults (map (λ w. w.now) words.entry.now)) → (result ≡ 2) ⊎ (result ≡ 1) }
+    ensures did { result ≡ 0 → HasDone A (F.held files.now) (F.input files.now) (map (λ w. w.now) words.entry.now) (W.contents out.old) (W.contents out.new) }
 {
     done(rt, words_memory, alloc, words, files, out, err).code()
 }

@@ -1,18 +1,20 @@
-use Rattle.program.proofs.RunLemmas.{lost, on_err_more, on_ok, run_flushed, stopped_flushed}
+use Rattle.std.proofs.lemmas.Result.{IfErr-weaker}
+use Rattle.program.proofs.RunLemmas.{flushed, lost, on_ok, stopped_flushed}
 use Rattle.program.proofs.run.do_all_lines.Goals as goal
 
 pub returns-in-Ok-clause-done : goal.returns-in-Ok-clause-done
 returns-in-Ok-clause-done g c =
     on_ok c.do_lines-done.result _ _
-    (λ run. run_flushed c.args.way c.args.core c.args.lines.now c.args.printer.now c.do_lines-done.new.printer c.flush.new.self run c.in-Ok.ensures.printed)
+    (λ run. flushed c.args.way c.args.core c.args.lines.now c.args.printer.now c.do_lines-done.new.printer c.flush.new.self run c.in-Ok.ensures.printed)
     c.do_lines-done.ensures.done
 
 pub returns-in-Ok-clause-stopped : goal.returns-in-Ok-clause-stopped
 returns-in-Ok-clause-stopped g c =
-    on_err_more c.do_lines-done.result _ _
-    (λ stop. stopped_flushed c.args.way c.args.core c.args.lines.now c.args.printer.now c.do_lines-done.new.printer c.flush.new.self stop c.in-Ok.ensures.printed)
+    IfErr-weaker c.do_lines-done.result _ _
+    (λ f stop. stopped_flushed c.args.way c.args.core c.args.lines.now f c.args.printer.now c.do_lines-done.new.printer c.flush.new.self stop c.in-Ok.ensures.printed)
     c.do_lines-done.ensures.stopped
 
 pub returns-in-Err-clause-stopped : goal.returns-in-Err-clause-stopped
 returns-in-Err-clause-stopped g c =
-    lost c.do_lines-done.result c.args.way c.args.core c.args.lines.now c.args.printer.now c.do_lines-done.new.printer c.flush.new.self c.do_lines-done.ensures.done c.do_lines-done.ensures.stopped c.in-Err.ensures.printed c.in-Err.ensures.device
+    lost c.do_lines-done.result c.args.way c.args.core c.args.lines.now c.fault_of_print.result c.args.printer.now c.do_lines-done.new.printer c.flush.new.self
+    c.do_lines-done.ensures.done c.do_lines-done.ensures.stopped c.in-Err.ensures.stopped (c.fault_of_print.ensures.device c.in-Err.ensures.error) c.in-Err.ensures.device

@@ -1,18 +1,23 @@
-use Rattle.std.proofs.Common.{◌∙◌, [], refl, arith}
-use Rattle.program.proofs.PrintLemmas.{prints_none}
-use Rattle.program.proofs.RunLemmas.{on_err, on_ok, on_err_more, one_more, stopped, run}
+use Rattle.std.proofs.Common.{◌∙◌, [], inl, refl, arith}
+use Rattle.std.proofs.lemmas.Result.{err_from_is_err_and}
+use Rattle.program.proofs.PrintLemmas.{adds_none, prints_none}
+use Rattle.program.proofs.RunLemmas.{ends_by_print, ends_by_step, if_err_of, on_ok, one_more, stopped, run}
 use Rattle.program.proofs.run.do_lines.Goals as goal
 
 pub loop-line-init : goal.loop-line-init
-loop-line-init g c = ([], (refl, refl), prints_none c.args.printer.now)
+loop-line-init g c = ([], (refl, refl), adds_none c.args.printer.now)
 
 pub returns-in_err-next-clause-stopped : goal.returns-in_err-next-clause-stopped
 returns-in_err-next-clause-stopped g c =
-    on_err c.from_residual.result _ (stopped c.args.way c.args.core c.loop-line.core c.args.lines.now c.loop-line.line-index c.args.printer.now c.loop-line.printer c.loop-line.printer c.loop-line.invariant (prints_none c.loop-line.printer))
+    let p = err_from_is_err_and c.from_residual.result c.from_residual.ensures.1 in
+    rw (p.1, p.2) (stopped c.args.way c.args.core c.loop-line.core c.args.lines.now c.loop-line.line-index c.in_err-next.field-0.0 c.args.printer.now c.loop-line.printer c.loop-line.printer c.loop-line.invariant (prints_none c.loop-line.printer)
+    (ends_by_step c.args.lines.now c.loop-line.line-index c.line-item.result c.in_err-next.field-0.0 c.loop-line.printer (omega arith) c.line-item.is c.in_err-next.ensures.fault))
 
 pub returns-in_err-order-clause-stopped : goal.returns-in_err-order-clause-stopped
 returns-in_err-order-clause-stopped g c =
-    on_err c.from_residual-in_err-order.result _ (stopped c.args.way c.args.core c.loop-line.core c.args.lines.now c.loop-line.line-index c.args.printer.now c.loop-line.printer c.loop-line.printer c.loop-line.invariant (prints_none c.loop-line.printer))
+    let p = err_from_is_err_and c.from_residual-in_err-order.result c.from_residual-in_err-order.ensures.1 in
+    rw (p.1, p.2) (stopped c.args.way c.args.core c.loop-line.core c.args.lines.now c.loop-line.line-index c.in_err-order.field-0.0 c.args.printer.now c.loop-line.printer c.loop-line.printer c.loop-line.invariant (prints_none c.loop-line.printer)
+    (inl c.in_err-order.ensures.memory))
 
 pub loop-line-preserved : goal.loop-line-preserved
 loop-line-preserved g c =
@@ -21,7 +26,9 @@ loop-line-preserved g c =
 
 pub returns-in_err-show-clause-stopped : goal.returns-in_err-show-clause-stopped
 returns-in_err-show-clause-stopped g c =
-    on_err c.from_residual-in_err-show.result _ (stopped c.args.way c.args.core c.loop-line.core c.args.lines.now c.loop-line.line-index c.args.printer.now c.loop-line.printer c.show.new.printer c.loop-line.invariant c.in_err-show.ensures.stopped)
+    let p = err_from_is_err_and c.from_residual-in_err-show.result c.from_residual-in_err-show.ensures.1 in
+    rw (p.1, p.2) (stopped c.args.way c.args.core c.loop-line.core c.args.lines.now c.loop-line.line-index c.in_err-show.field-0.0 c.args.printer.now c.loop-line.printer c.show.new.printer c.loop-line.invariant c.in_err-show.ensures.stopped
+    (ends_by_print c.args.lines.now c.loop-line.line-index c.in_err-show.field-0.0 c.show.new.printer c.in_err-show.ensures.fault))
 
 pub returns-clause-done : goal.returns-clause-done
 returns-clause-done g c =
@@ -31,6 +38,7 @@ returns-clause-done g c =
 
 pub returns-clause-stopped : goal.returns-clause-stopped
 returns-clause-stopped g c =
-    on_err_more c.show-2.result _ _
-    (λ none. stopped c.args.way c.args.core c.loop-line.core c.args.lines.now c.loop-line.line-index c.args.printer.now c.loop-line.printer c.show-2.new.printer c.loop-line.invariant none)
+    if_err_of c.show-2.result _ _ _
+    (λ f none why. stopped c.args.way c.args.core c.loop-line.core c.args.lines.now c.loop-line.line-index f c.args.printer.now c.loop-line.printer c.show-2.new.printer c.loop-line.invariant none (ends_by_print c.args.lines.now c.loop-line.line-index f c.show-2.new.printer why))
     c.show-2.ensures.stopped
+    c.show-2.ensures.fault

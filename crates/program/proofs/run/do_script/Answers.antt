@@ -1,15 +1,34 @@
-use Rattle.std.proofs.Common.{inr}
-use Rattle.program.proofs.RunLemmas.{on_err_more, on_ok}
+use Rattle.std.proofs.Common.{inl, inr, refl, subst}
+use Rattle.std.proofs.lemmas.Result.{IfErr-weaker}
+use Rattle.program.specs.Runs.{HasRun, HasStopped}
+use Rattle.program.proofs.RunLemmas.{if_err, on_ok}
 use Rattle.program.proofs.run.do_script.Goals as goal
+
+pub returns-in_err-core-clause-stopped : goal.returns-in_err-core-clause-stopped
+returns-in_err-core-clause-stopped g c = if_err c.from_residual.result _ (λ f is. inl refl)
 
 pub returns-clause-done : goal.returns-clause-done
 returns-clause-done g c =
+    let begun = c.in_ok-core.ensures in
     on_ok c.do_all_lines.result _ _
-    (λ run. (c.in_ok-core.core, c.in_ok-core.ensures, run, c.do_all_lines.ensures.flushed))
+    (λ run. (
+      begun.0,
+      begun.1,
+      begun.2,
+      subst (λ h. HasRun c.args.way h c.args.lines.now c.args.printer.now c.do_all_lines.new.printer) begun.3 run,
+      c.do_all_lines.ensures.flushed,
+    ))
     c.do_all_lines.ensures.done
 
 pub returns-clause-stopped : goal.returns-clause-stopped
 returns-clause-stopped g c =
-    on_err_more c.do_all_lines.result _ _
-    (λ stop. inr (c.in_ok-core.core, c.in_ok-core.ensures, stop, c.do_all_lines.ensures.flushed))
+    let begun = c.in_ok-core.ensures in
+    IfErr-weaker c.do_all_lines.result _ _
+    (λ f stop. inr (
+      begun.0,
+      begun.1,
+      begun.2,
+      subst (λ h. HasStopped c.args.way h c.args.lines.now f c.args.printer.now c.do_all_lines.new.printer) begun.3 stop,
+      c.do_all_lines.ensures.flushed,
+    ))
     c.do_all_lines.ensures.stopped

@@ -3,5 +3,5 @@ use Rattle.schema.specs.Plain.{is_sound}
 use Rattle.restore.proofs.ReadingLemmas.{empty_is_sound}
 use Rattle.program.proofs.run.empty_tables.Goals as goal
 
-pub returns-in-Ok : goal.returns-in-Ok
-returns-in-Ok g c = subst (λ X. is_sound c.args.catalog X ≡ true) (sym (rw c.in-Ok.is at c.new.ensures.ok)) (empty_is_sound _ c.args.catalog)
+pub returns-in-Ok-clause-sound : goal.returns-in-Ok-clause-sound
+returns-in-Ok-clause-sound g c = subst (λ X. is_sound c.args.catalog X ≡ true) (sym (rw c.in-Ok.is at c.new.ensures.ok)) (empty_is_sound _ c.args.catalog)

@@ -1,6 +1,6 @@
 use Rattle.std.proofs.Common.{◌∙◌, sym, ap, inl, inr}
 use Rattle.program.specs.Ends.{code}
-use Rattle.program.proofs.EndLemmas.{only_usage}
+use Rattle.program.proofs.EndLemmas.{only_done, only_usage}
 use Rattle.program.proofs.words.run_words.Goals as goal
 
 pub returns-clause-usage : goal.returns-clause-usage
@@ -11,3 +11,6 @@ returns-clause-mistake g c mistaken = elim (c.done.ensures.mistake mistaken) [
   | inl told ↦ inl (c.code.ensures ∙ ap code told)
   | inr refused ↦ inr (c.code.ensures ∙ ap code refused)
 ]
+
+pub returns-clause-did : goal.returns-clause-did
+returns-clause-did g c zero = c.done.ensures.did (only_done c.done.result (sym c.code.ensures ∙ zero))

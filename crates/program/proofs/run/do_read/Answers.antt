@@ -1,0 +1,10 @@
+use Rattle.std.proofs.Common.{◌∙◌}
+use Rattle.program.proofs.EndLemmas.{was_done}
+use Rattle.program.proofs.RunLemmas.{script_has_run}
+use Rattle.program.proofs.run.do_read.Goals as goal
+
+pub returns-clause-done : goal.returns-clause-done
+returns-clause-done g c told =
+    script_has_run _ c.args.way c.args.script _ _ c.as_slice.result.now c.args.printer.now c.do_script-done.new.printer
+    c.into_parts-catalog.ensures.catalog (c.as_ref.ensures.value ∙ c.into_parts-catalog.ensures.opens) (c.as_slice.ensures.value ∙ c.into_parts-catalog.ensures.lines)
+    (was_done c.do_script-done.result c.end.result _ c.end.ensures.kind c.do_script-done.ensures.done told)
