@@ -1,65 +1,23 @@
 //! Dumps of a session of a core.
 
+use crate::fixture::{Tape, not_asked, opening};
 use backup::{BackupFault, dump_session};
-use collector::{Device, DeviceError};
 use dumpplan::{Jobs, NoGate, PieceRows};
 use dumpworker::DumpFault;
 use history::event::{Action, Event};
 use history::key::SerialKey;
 use history::session_id::SessionId;
-use schema::catalog::Catalog;
-use schema::tables::Tables;
 use session::sessions::Core;
 use statement::reply::Reply;
 use std::alloc::Global;
 use std::process::Abort;
 use std::sync::Wait;
-use std::test::Fail;
 use std::thread::Threads;
 use value::refusal::{Code, Mode, Refusal, TxnNo};
 
-// A device that takes all that it is given, or fails.
-#[derive(Drop)]
-pub(crate) struct Tape<'r, R: Abort> {
-    rt: &'r R,
-    pub(crate) taken: Vec<u8>,
-    failures: u64,
-    fails: bool,
-}
-
-impl<'r, R: Abort> Tape<'r, R> {
-    pub(crate) fn new(rt: &'r R, alloc: Global, fails: bool) -> Tape<'r, R> {
-        Tape {
-            rt,
-            taken: Vec::new(alloc),
-            failures: 0,
-            fails,
-        }
-    }
-}
-
-impl<'r, R: Abort> Device for Tape<'r, R> {
-    ghost taken = { λ d. d.taken.items };
-
-    ghost failures = { λ d. d.failures };
-
-    fn write(&mut self, bytes: &[u8]) -> Result<usize, DeviceError> {
-        if !self.fails && self.taken.extend_from_slice(bytes).is_ok() {
-            return Ok(bytes.len());
-        }
-        assert!(self.rt; self.failures < 9);
-        self.failures += 1;
-        Err(DeviceError)
-    }
-}
-
 // A core of no tables, in which session 1 has begun a deferrable transaction.
-fn begun(alloc: Global, session: SessionId) -> Result<Core, Fail> {
-    let catalog = Catalog::new(alloc);
-    let tables = Tables::new(alloc, &catalog)?;
-    if !tables.sound(&catalog) {
-        return Err("the tables aren't sound".into());
-    }
+fn begun(alloc: Global, session: SessionId) -> Result<Core, Refusal> {
+    let (catalog, tables) = opening(alloc, &[])?;
     let mut core = Core::open(alloc, catalog, tables, 9)?;
     let action = Action::Begin(Mode::Deferrable);
     core.step(alloc, Event { session, action });
@@ -75,17 +33,17 @@ fn is_dumped<R: Abort + Threads + Wait + Sync>(
     session: SessionId,
     fails: bool,
     (wanted, text): (Result<(), BackupFault>, &[u8]),
-) -> Result<bool, Fail> {
-    let jobs = Jobs::new(2).ok_or("2 jobs")?;
-    let rows = PieceRows::new(1000).ok_or("1000 rows a piece")?;
+) -> Result<bool, Refusal> {
+    let jobs = Jobs::new(2).ok_or(not_asked())?;
+    let rows = PieceRows::new(1000).ok_or(not_asked())?;
     let mut tape = Tape::new(rt, alloc, fails);
     let done = dump_session(rt, alloc, core, session, jobs, rows, &mut tape, &NoGate);
     Ok(done == wanted && tape.taken.as_slice() == text)
 }
 
 #[test]
-fn unsafe_snapshots_are_not_dumped(rt: HostRuntime) -> Result<(), Fail> {
-    let session = SessionId::new(1).ok_or("session 1")?;
+fn unsafe_snapshots_are_not_dumped(rt: HostRuntime) -> Result<(), Refusal> {
+    let session = SessionId::new(1).ok_or(not_asked())?;
     let core = begun(rt.alloc(), session)?;
     let refusal = Refusal::of_code(Code::ObjectNotInPrerequisiteState);
     let wanted = (Err(BackupFault::View(refusal)), b"".as_slice());
@@ -94,8 +52,8 @@ fn unsafe_snapshots_are_not_dumped(rt: HostRuntime) -> Result<(), Fail> {
 }
 
 #[test]
-fn safe_snapshots_are_dumped(rt: HostRuntime) -> Result<(), Fail> {
-    let session = SessionId::new(1).ok_or("session 1")?;
+fn safe_snapshots_are_dumped(rt: HostRuntime) -> Result<(), Refusal> {
+    let session = SessionId::new(1).ok_or(not_asked())?;
     let mut core = begun(rt.alloc(), session)?;
     let action = Action::Poll;
     let reply = core.step(rt.alloc(), Event { session, action });
@@ -121,10 +79,10 @@ fn poll(alloc: Global, core: &mut Core, session: SessionId) -> Reply {
 
 // Session 2 reads and commits between the deferrable transactions of sessions 1 and 3, which find
 // the same snapshot safe. Answers the third session.
-fn read_between(alloc: Global, core: &mut Core) -> Result<SessionId, Fail> {
-    let one = SessionId::new(1).ok_or("session 1")?;
-    let session = SessionId::new(2).ok_or("session 2")?;
-    let three = SessionId::new(3).ok_or("session 3")?;
+fn read_between(alloc: Global, core: &mut Core) -> Result<SessionId, Refusal> {
+    let one = SessionId::new(1).ok_or(not_asked())?;
+    let session = SessionId::new(2).ok_or(not_asked())?;
+    let three = SessionId::new(3).ok_or(not_asked())?;
     let first = poll(alloc, core, one);
     let read = begin(alloc, core, session, Mode::ReadOnly);
     let action = Action::Commit;
@@ -135,13 +93,13 @@ fn read_between(alloc: Global, core: &mut Core) -> Result<SessionId, Fail> {
     if are_safe && matches!(read, Reply::Begun) && matches!(committed, Reply::Committed) {
         return Ok(three);
     }
-    Err("another reply".into())
+    Err(not_asked())
 }
 
 #[test]
-fn what_had_committed_before_the_dumps_own_begin(rt: HostRuntime) -> Result<(), Fail> {
+fn what_had_committed_before_the_dumps_own_begin(rt: HostRuntime) -> Result<(), Refusal> {
     let alloc = rt.alloc();
-    let session = SessionId::new(1).ok_or("session 1")?;
+    let session = SessionId::new(1).ok_or(not_asked())?;
     let mut core = begun(alloc, session)?;
     let session = read_between(alloc, &mut core)?;
     // The reader's key isn't above the snapshot: the tables that are dumped are those after it.

@@ -5,10 +5,12 @@
 #[cfg(test)]
 mod backups;
 #[cfg(test)]
+mod fixture;
+#[cfg(test)]
 mod passes;
 #[cfg(test)]
-mod readings;
-#[cfg(test)]
-mod safe_dumps;
+mod playing;
 #[cfg(test)]
 mod servers;
+#[cfg(test)]
+mod shown;

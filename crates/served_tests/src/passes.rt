@@ -3,28 +3,22 @@
 ghost use Rattle.std.specs.Prelude.{◌≡◌, []};
 ghost use Rattle.history.specs.Answer.{Allowed};
 
+use crate::fixture::opening;
 use history::event::{Action, Event};
 use pass::keeper::Keeper;
 use pass::token::Pass;
 use pass::word::{FirstSeat, HistoryWord, Naming};
-use schema::catalog::Catalog;
-use schema::tables::Tables;
 use session::sessions::Core;
 use std::alloc::Global;
 use std::marker::Brand;
 use std::process::Abort;
-use std::test::Fail;
 use std::thread::{Threads, join};
-use value::refusal::Mode;
+use value::refusal::{Mode, Refusal};
 
 #[test]
-fn two_sessions_in_threads(rt: HostRuntime) -> Result<(), Fail> {
+fn two_sessions_in_threads(rt: HostRuntime) -> Result<(), Refusal> {
     let alloc = rt.alloc();
-    let catalog = Catalog::new(alloc);
-    let tables = Tables::new(alloc, &catalog)?;
-    if !tables.sound(&catalog) {
-        return Err("the tables aren't sound".into());
-    }
+    let (catalog, tables) = opening(alloc, &[])?;
     let core = Core::open(alloc, catalog, tables, 10)?;
     let opened = core.history();
     let (word, first) = HistoryWord::new(alloc, opened.catalog(), opened.tables(), opened.base())?;
@@ -38,7 +32,7 @@ fn step_and_stamp<J: Naming<Global> + Send + Sync, R: Threads + Abort + Sync>(
     word: &HistoryWord,
     first: FirstSeat,
     mut core: Core,
-) -> Result<(), Fail>
+) -> Result<(), Refusal>
     requires word { word.now ≡ record { table = J.table; opening = J.opening } }
     requires first { first ≡ J.table }
     requires core { (core.opening ≡ J.opening) × (core.records ≡ []) }

@@ -1,0 +1,196 @@
+//! How a session plays its lines of a script, on a thread of its own.
+
+use crate::fixture::{Barrier, MOST_TURNS, comes};
+use crate::shown::{dumped, viewed};
+use pass::token::Pass;
+use pass::word::Naming;
+use request::request::Request;
+use server::shared::Server;
+use statement::reply::Reply;
+use std::alloc::{AllocError, Global};
+use std::process::Abort;
+use std::sync::Wait;
+use std::sync::atomic::Ordering;
+use std::thread;
+use std::thread::{Threads, join};
+use value::refusal::Mode;
+use value::text::Text;
+
+// Whether there are so many events in time.
+fn are_seen<'w, J: Naming<Global>>(pass: &mut Pass<'w, J>, events: u64) -> bool {
+    for _ in 0..MOST_TURNS {
+        if pass.stamp() >= events {
+            return true;
+        }
+        thread::yield_now();
+    }
+    false
+}
+
+// A reply in a word.
+fn word_of(reply: &Reply) -> &'static str {
+    match reply {
+        Reply::Begun => "begun",
+        Reply::Committed => "committed",
+        Reply::RolledBack => "rolled back",
+        Reply::Inserted => "inserted",
+        Reply::Safe(_) => "safe",
+        Reply::Refused(_) => "refused",
+        Reply::Rows(rows) => match rows.as_slice() {
+            [] => "no row",
+            [_] => "one row",
+            _ => "rows",
+        },
+        _ => "another reply",
+    }
+}
+
+// What a line asks of the server.
+fn request_of(alloc: Global, asked: &str) -> Result<Request, AllocError> {
+    match asked {
+        "BEGIN" => Ok(Request::Begin(Mode::ReadWrite)),
+        "BEGIN READ ONLY" => Ok(Request::Begin(Mode::ReadOnly)),
+        "BEGIN READ ONLY DEFERRABLE" => Ok(Request::Begin(Mode::Deferrable)),
+        "POLL" => Ok(Request::Poll),
+        "COMMIT" => Ok(Request::Commit),
+        "ROLLBACK" => Ok(Request::Rollback),
+        _ => Ok(Request::Sql(Text::of(String::from_str(alloc, asked)?))),
+    }
+}
+
+// How many rows a table has; 100 where that isn't answered.
+fn count<'w, J: Naming<Global>, R: Wait>(
+    rt: &R,
+    alloc: Global,
+    server: &Server<'w, J>,
+    pass: &mut Pass<'w, J>,
+    asked: &str,
+) -> u64 {
+    match request_of(alloc, asked) {
+        Ok(request) => match server.call(rt, alloc, pass, &request) {
+            Reply::Rows(rows) => rows.as_slice().len() as u64,
+            _ => 100,
+        },
+        Err(_) => 100,
+    }
+}
+
+// Whether a safe snapshot has as many rows as it has commits.
+fn counts<'w, J: Naming<Global>, R: Wait>(
+    rt: &R,
+    alloc: Global,
+    server: &Server<'w, J>,
+    pass: &mut Pass<'w, J>,
+) -> &'static str {
+    let in_a = count(rt, alloc, server, pass, "SELECT * FROM a");
+    let in_b = count(rt, alloc, server, pass, "SELECT * FROM b");
+    match server.call(rt, alloc, pass, &Request::Poll) {
+        Reply::Safe(snapshot) if in_a.wrapping_add(in_b) == snapshot => "as many rows as commits",
+        _ => "other rows",
+    }
+}
+
+// What the server answers, whose SELECTs wait at the barrier.
+fn reply<'w, J: Naming<Global>, R: Wait>(
+    rt: &R,
+    alloc: Global,
+    server: &Server<'w, J>,
+    pass: &mut Pass<'w, J>,
+    asked: &str,
+    barrier: &Barrier,
+) -> &'static str {
+    match request_of(alloc, asked) {
+        Ok(request) => word_of(&server.call_gated(rt, alloc, pass, &request, barrier)),
+        Err(_) => "no memory",
+    }
+}
+
+// Shuts the barrier, opens it, or waits until another is at it.
+fn at_barrier(asked: &str, barrier: &Barrier) -> &'static str {
+    if asked == "REACH" {
+        return if comes(&barrier.is_reached) {
+            "reached"
+        } else {
+            "late"
+        };
+    }
+    barrier.is_open.store(asked == "OPEN", Ordering::SeqCst);
+    "done"
+}
+
+// What a line is answered.
+fn told<'w, J: Naming<Global>, R: Threads + Wait + Abort + Sync>(
+    rt: &R,
+    alloc: Global,
+    server: &Server<'w, J>,
+    pass: &mut Pass<'w, J>,
+    asked: &str,
+    barrier: &Barrier,
+) -> &'static str {
+    if let Some(events) = asked.strip_prefix("AFTER ") {
+        let is_seen = are_seen(pass, events.parse::<u64>().unwrap_or(100));
+        return if is_seen { "seen" } else { "late" };
+    }
+    match asked {
+        "WAIT" => word_of(&server.wait_safe(rt, alloc, pass)),
+        "COUNT" => counts(rt, alloc, server, pass),
+        "VIEW" => viewed(rt, alloc, server, pass, barrier),
+        "DUMP 2" => dumped(rt, alloc, server, pass, 2, barrier),
+        "DUMP 8" => dumped(rt, alloc, server, pass, 8, barrier),
+        "SHUT" | "OPEN" | "REACH" => at_barrier(asked, barrier),
+        _ => reply(rt, alloc, server, pass, asked, barrier),
+    }
+}
+
+/// Plays the lines of a session. An answer that isn't the line's ends the program, whoever waits.
+pub(crate) fn play<'w, J: Naming<Global>, R: Threads + Wait + Abort + Sync>(
+    rt: &R,
+    alloc: Global,
+    server: &Server<'w, J>,
+    mut pass: Pass<'w, J>,
+    session: &str,
+    script: &str,
+    barrier: &Barrier,
+) -> Pass<'w, J> {
+    for line in script.lines() {
+        let (asked, want) = line.rsplit_once(": ").unwrap_or((line, "no answer"));
+        if let Some(asked) = asked.strip_prefix(session) {
+            let is_so = told(rt, alloc, server, &mut pass, asked, barrier) == want;
+            assert!(rt; is_so, "{line}");
+        }
+    }
+    pass
+}
+
+// Plays two sessions, each on a thread.
+fn play_two<'w, J: Naming<Global> + Send + Sync, R: Threads + Wait + Abort + Sync>(
+    rt: &R,
+    alloc: Global,
+    server: &Server<'w, J>,
+    two: Pass<'w, J>,
+    three: Pass<'w, J>,
+    script: &str,
+    barrier: &Barrier,
+) -> (Pass<'w, J>, Pass<'w, J>) {
+    join(
+        rt,
+        move || play(rt, alloc, server, two, "2 ", script, barrier),
+        move || play(rt, alloc, server, three, "3 ", script, barrier),
+    )
+}
+
+/// Plays three sessions, each on a thread.
+pub(crate) fn play_three<'w, J: Naming<Global> + Send + Sync, R: Threads + Wait + Abort + Sync>(
+    rt: &R,
+    alloc: Global,
+    server: &Server<'w, J>,
+    (one, two, three): (Pass<'w, J>, Pass<'w, J>, Pass<'w, J>),
+    script: &str,
+    barrier: &Barrier,
+) -> (Pass<'w, J>, (Pass<'w, J>, Pass<'w, J>)) {
+    join(
+        rt,
+        move || play(rt, alloc, server, one, "1 ", script, barrier),
+        move || play_two(rt, alloc, server, two, three, script, barrier),
+    )
+}
