@@ -70,10 +70,7 @@ fn few_are_covered_as_they_were_read_and_many_as_more(rt: HostRuntime) -> Result
             want,
             "{keys} {ranges} {references} {probe}"
         );
-        assert_eq!(rt;
-            held.covers(TableNo::at(1), &key(probe)?),
-            false
-        );
+        assert_eq!(rt; held.covers(TableNo::at(1), &key(probe)?), false);
     }
     Ok(())
 }
