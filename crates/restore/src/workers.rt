@@ -28,10 +28,10 @@ use std::thread::Threads;
 use value::kind::Kind;
 
 /// How many stretches of lines a piece has at most.
-const PIECE_STRETCHES: usize = 32;
+const PIECE_STRETCHES: usize = 16;
 
 /// How many stretches of lines a round has at most.
-const ROUND_STRETCHES: usize = 256;
+const ROUND_STRETCHES: usize = 128;
 
 /// Threads that read a table's lines in rounds, a piece each, while the rows of the round before are taken. The gate is asked
 /// about each stretch of a piece.
