@@ -14,21 +14,21 @@ use statement::reply::Reply;
 use std::alloc::Allocator;
 use value::refusal::{Code, Mode, Refusal};
 
-const CREATES: [&str; 3] = [
-    "CREATE TABLE p (id bigint PRIMARY KEY, name text NOT NULL);",
-    "CREATE TABLE c (id bigint PRIMARY KEY, p bigint REFERENCES p, raw bytea);",
-    "CREATE TABLE n (name text PRIMARY KEY, v bigint);",
-];
+const CREATES: &str = "\
+CREATE TABLE p (id bigint PRIMARY KEY, name text NOT NULL);
+CREATE TABLE c (id bigint PRIMARY KEY, p bigint REFERENCES p, raw bytea);
+CREATE TABLE n (name text PRIMARY KEY, v bigint);
+";
 
 /// The refusal of a call that a test has no condition for. No tried call answers it.
 pub fn not_asked() -> Refusal {
     Refusal::of_code(Code::SyntaxError)
 }
 
-// A core on empty tables.
-fn open<A: Allocator + Copy>(alloc: A) -> Result<Core<A>, Refusal> {
+/// A core on empty tables, a line for each.
+pub fn open<A: Allocator + Copy>(alloc: A, creates: &str) -> Result<Core<A>, Refusal> {
     let mut catalog = Catalog::new(alloc);
-    for text in CREATES {
+    for text in creates.lines() {
         catalog.add(alloc, parse_create(alloc, text)?)?;
     }
     let tables = Tables::new(alloc, &catalog)?;
@@ -53,6 +53,7 @@ fn action<A: Allocator + Copy>(
         "POLL" => Ok(Action::Poll),
         "EXPORT" => Ok(Action::Export),
         "IMPORT 1" => Ok(Action::Import(1)),
+        "IMPORT 2" => Ok(Action::Import(2)),
         "COMMIT" => Ok(Action::Commit),
         "ROLLBACK" => Ok(Action::Rollback),
         "PRUNE" => Ok(Action::Prune),
@@ -78,7 +79,7 @@ pub fn reply<A: Allocator + Copy>(
 
 /// A core after the sessions' texts, a line for each.
 pub fn core_after<A: Allocator + Copy>(alloc: A, texts: &str) -> Result<Core<A>, Refusal> {
-    let mut core = open(alloc)?;
+    let mut core = open(alloc, CREATES)?;
     for text in texts.trim_ascii().split('\n') {
         reply(alloc, &mut core, text)?;
     }

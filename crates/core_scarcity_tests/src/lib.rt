@@ -14,3 +14,7 @@ mod fixture;
 mod scripts;
 #[cfg(test)]
 mod sinks;
+#[cfg(test)]
+mod transcripts;
+#[cfg(test)]
+mod worked;
