@@ -5,9 +5,9 @@ use Rattle.program.proofs.run.run_file.Goals as goal
 
 pub returns-in-Ok-read_script-clause-done : goal.returns-in-Ok-read_script-clause-done
 returns-in-Ok-read_script-clause-done g c told = (
-    c.in-Ok.bytes.items,
-    c.in-Ok-read_script.script,
-    c.in-Ok.ensures.read,
-    subst (λ b. said InOrder b ≡ Ok c.in-Ok-read_script.script) c.as_slice.ensures.value c.in-Ok-read_script.ensures,
-    c.do_read.ensures.done told,
-  )
+  c.in-Ok.bytes.items,
+  c.in-Ok-read_script.script,
+  c.in-Ok.ensures.read,
+  subst (λ b. said InOrder b ≡ Ok c.in-Ok-read_script.script) c.as_slice.ensures.value c.in-Ok-read_script.ensures,
+  c.do_read.ensures.done told,
+)
