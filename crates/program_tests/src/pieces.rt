@@ -27,6 +27,7 @@ CREATE TABLE u (id bigint PRIMARY KEY);
 // How often something is written at a DUMP line.
 fn writes_of<R: Abort + AllocGlobal + Sync + Threads + Wait>(
     rt: &R,
+    words: &[&str],
     dump: &str,
 ) -> Result<u64, Fail> {
     let script = format!(in rt.alloc(); "{SEVEN}{dump}")?;
@@ -37,8 +38,6 @@ fn writes_of<R: Abort + AllocGlobal + Sync + Threads + Wait>(
     };
     let mut out = Vec::new(rt.alloc());
     let mut err = Vec::new(rt.alloc());
-    let words = ["run", "-"];
-    let words = words.as_slice();
     let status = run_words(
         rt,
         rt.alloc(),
@@ -54,8 +53,10 @@ fn writes_of<R: Abort + AllocGlobal + Sync + Threads + Wait>(
 
 // The head and the end are a piece each; a table of seven rows is cut at each so-manyth, and one without
 // rows is a piece.
-#[test]
-fn pieces_of_so_many_rows(rt: HostRuntime) -> Result<(), Fail> {
+fn assert_pieces<R: Abort + AllocGlobal + Sync + Threads + Wait>(
+    rt: &R,
+    words: &[&str],
+) -> Result<(), Fail> {
     for (dump, pieces) in [
         ("1 DUMP 1 1 out;\n", 10),
         ("1 DUMP 1 3 out;\n", 6),
@@ -65,7 +66,13 @@ fn pieces_of_so_many_rows(rt: HostRuntime) -> Result<(), Fail> {
         ("1 DUMP 1 7 out;\n", 4),
         ("1 DUMP 64 1000000 out;\n", 4),
     ] {
-        assert_eq!(rt; writes_of(&rt, dump)?, pieces, "{dump}");
+        assert_eq!(rt; writes_of(rt, words, dump)?, pieces, "{dump}");
     }
     Ok(())
+}
+
+#[test]
+fn pieces_of_so_many_rows(rt: HostRuntime) -> Result<(), Fail> {
+    assert_pieces(&rt, &["run", "-"])?;
+    assert_pieces(&rt, &["run", "-", "--free"])
 }
