@@ -33,7 +33,7 @@ module _ {A : Type 0} where
   abbrev pub fresh : ℕ → Known A
   fresh s = record { session = s; seen = []; mine = [] }
 
-  -- The text is what is printed, under the session's number, of the answer to what it asked for: the pass that knew p knows q.
+  -- The text is what is printed, under the session's number, of the answer to what it asked for, by which its pass, that knew p, came to know q.
   abbrev pub IsCallTold : Opening A → ℕ → Known A → Request A → List ℕ → Known A → Type 0
   IsCallTold o most p a text q = (r : Reply A) × IsCall most p (asked o.catalog a) r q × (text ≡ reply_text p.session r)
 

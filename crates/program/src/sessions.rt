@@ -41,7 +41,7 @@ pub(crate) fn printed_reply<A: Allocator>(
 }
 
 // The reply to what a session asks for. Where memory is wanting to parse a text, that is told to the
-/// session alone.
+// session alone.
 fn reply_to<A: Allocator + Copy>(
     alloc: A,
     core: &mut Core<A>,
