@@ -47,7 +47,17 @@ impl<A: Allocator> Model for Course<A> {
 
     ghost Value = { Track A };
 
-    ghost view = { λ c. record { session = c.session; number = c.number; begin = c.begin; end = c.end; owed = c.owed; committed = c.committed; imported = c.imported; statements = map (λ a. (a.statement, a.reply)) c.statements.items } };
+    ghost view = { λ c. record {
+      session = c.session;
+      number = c.number;
+      begin = c.begin;
+      end = c.end;
+      owed = c.owed;
+      committed = c.committed;
+      imported = c.imported;
+      statements = map (λ a. (a.statement, a.reply))
+          c.statements.items;
+    } };
 }
 
 // Whether a reply is a refusal.
@@ -101,7 +111,8 @@ impl<A: Allocator> Course<A> {
     ) -> Result<(), Refusal>
     where
         A: Copy,
-        ensures ok { OnOk result ((place : ℕ) → self.new ≡ gone_on place (Action.Run statement.now) reply.now self.old) }
+        ensures ok { OnOk result ((place : ℕ) → self.new ≡
+            gone_on place (Action.Run statement.now) reply.now self.old) }
         ensures memory { IfErr result (λ e. e ≡ out_of_memory) }
     {
         if !is_refused(reply) {
@@ -169,7 +180,8 @@ fn go_on_at<A: Allocator + Copy>(
     entry: &Record<A>,
 ) -> Result<(), Refusal>
     requires { i < length courses.old.items }
-    ensures ok { OnOk result ((x : Track A) → slice_get courses.old.items i ≡ Some x → courses.new.items ≡ slice_set courses.old.items i (gone_on place entry.now.action entry.now.reply x)) }
+    ensures ok { OnOk result ((x : Track A) → slice_get courses.old.items i ≡ Some x → courses.new.items ≡
+        slice_set courses.old.items i (gone_on place entry.now.action entry.now.reply x)) }
     ensures memory { IfErr result (λ e. e ≡ out_of_memory) }
 {
     let course = &mut courses[i];

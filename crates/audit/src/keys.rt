@@ -45,7 +45,8 @@ pub fn serial_keys<A: Allocator + Copy>(
     alloc: A,
     core: &Core<A>,
 ) -> Result<Vec<(TxnNo, SerialKey), A>, Refusal>
-    ensures ok { IfOk result (λ keys. map keyed keys.items ≡ serial.with_keys (world core.now) (serial.serial_order (world core.now))) }
+    ensures ok { IfOk result (λ keys. map keyed keys.items ≡
+        serial.with_keys (world core.now) (serial.serial_order (world core.now))) }
     ensures memory { IfErr result (λ e. e ≡ out_of_memory) }
     ensures serializable { IsSerializable core.now.opening core.now.records }
 {
@@ -72,7 +73,8 @@ fn numbers_of<A: Allocator>(
 /// The committed transactions in the serial order. Whatever the answer, the history is serializable,
 /// by that order.
 pub fn serial_order<A: Allocator + Copy>(alloc: A, core: &Core<A>) -> Result<Vec<TxnNo, A>, Refusal>
-    ensures ok { IfOk result (λ numbers. map (λ n. n.0) numbers.items ≡ map (λ t. t.number) (serial.serial_order (world core.now))) }
+    ensures ok { IfOk result (λ numbers. map (λ n. n.0) numbers.items ≡
+        map (λ t. t.number) (serial.serial_order (world core.now))) }
     ensures memory { IfErr result (λ e. e ≡ out_of_memory) }
     ensures serializable { IsSerializable core.now.opening core.now.records }
 {

@@ -33,7 +33,8 @@ fn answers_so<A: Allocator + Copy>(
 ) -> Result<bool, Refusal>
     requires fits { fits catalog.now answered.now.statement ≡ true }
     requires sound { is_sound catalog.now tables.old ≡ true }
-    ensures same { IfOk result (λ b. b ≡ same_answer (outcome catalog.now answered.now.statement tables.old).reply answered.now.reply) }
+    ensures same { IfOk result (λ b. b ≡ same_answer (outcome catalog.now answered.now.statement tables.old).reply
+        answered.now.reply) }
     ensures done { OnOk result (tables.new ≡ after catalog.now answered.now.statement tables.old) }
     ensures memory { IfErr result (λ e. e ≡ out_of_memory) }
 {
@@ -52,8 +53,10 @@ fn answer_again<A: Allocator + Copy>(
 ) -> Result<bool, Refusal>
     requires fits { are_fit catalog.now (map (λ a. (a.statement, a.reply)) statements.now) ≡ true }
     requires sound { is_sound catalog.now tables.old ≡ true }
-    ensures same { IfOk result (λ b. b ≡ answers_again catalog.now (map (λ a. (a.statement, a.reply)) statements.now) tables.old) }
-    ensures done { IfOk result (λ b. b ≡ true → tables.new ≡ end_of catalog.now (map (λ a. (a.statement, a.reply)) statements.now) tables.old) }
+    ensures same { IfOk result (λ b. b ≡ answers_again catalog.now (map (λ a. (a.statement, a.reply)) statements.now)
+        tables.old) }
+    ensures done { IfOk result (λ b. b ≡ true → tables.new ≡
+        end_of catalog.now (map (λ a. (a.statement, a.reply)) statements.now) tables.old) }
     ensures memory { IfErr result (λ e. e ≡ out_of_memory) }
 {
     let mut left = statements;
@@ -128,7 +131,8 @@ fn goes_after<A: Allocator + Copy>(
 ) -> Result<bool, Refusal>
     requires fits { are_fit catalog.now course.now.statements ≡ true }
     requires sound { is_sound catalog.now tables.old ≡ true }
-    ensures same { IfOk result (λ b. b ≡ (not (nat_lt course.now.end latest) && answers_again catalog.now course.now.statements tables.old)) }
+    ensures same { IfOk result (λ b. b ≡ (not (nat_lt course.now.end latest) && answers_again catalog.now
+        course.now.statements tables.old)) }
     ensures done { IfOk result (λ b. b ≡ true → tables.new ≡ end_of catalog.now course.now.statements tables.old) }
     ensures memory { IfErr result (λ e. e ≡ out_of_memory) }
 {
@@ -155,7 +159,11 @@ impl<A: Allocator + Copy> Replay<A> {
         requires in_place { AreInPlace self.old.left.items }
         requires fit { list_all (λ x. are_fit catalog.now x.statements) (present self.old.left.items) ≡ true }
         requires sound { is_sound catalog.now self.old.tables ≡ true }
-        ensures goes { IfOk result (λ b. (rest : ℕ → List (Track A) → AnyTables A → Bool) → goes_next catalog.now self.old.latest self.old.tables (find (λ y. y.number == number) (present self.old.left.items)) (λ l Y. rest l (without number (present self.old.left.items)) Y) ≡ (b && rest self.new.latest (present self.new.left.items) self.new.tables)) }
+        ensures goes { IfOk result (λ b. (rest : ℕ → List (Track A) → AnyTables A → Bool) →
+            goes_next catalog.now self.old.latest self.old.tables
+            (find (λ y. y.number == number) (present self.old.left.items))
+            (λ l Y. rest l (without number (present self.old.left.items)) Y) ≡
+            (b && rest self.new.latest (present self.new.left.items) self.new.tables)) }
         ensures in_place { AreInPlace self.new.left.items }
         ensures fit { list_all (λ x. are_fit catalog.now x.statements) (present self.new.left.items) ≡ true }
         ensures sound { IfOk result (λ b. b ≡ true → is_sound catalog.now self.new.tables ≡ true) }
@@ -184,7 +192,8 @@ fn replays<A: Allocator + Copy>(
     requires in_place { AreInPlace replay.left.items }
     requires fit { list_all (λ x. are_fit catalog.now x.statements) (present replay.left.items) ≡ true }
     requires sound { is_sound catalog.now replay.tables ≡ true }
-    ensures answer { IfOk result (λ b. b ≡ replays catalog.now base replay.latest (present replay.left.items) (map (λ n. n.0) numbers.now) replay.tables) }
+    ensures answer { IfOk result (λ b. b ≡ replays catalog.now base replay.latest (present replay.left.items)
+        (map (λ n. n.0) numbers.now) replay.tables) }
     ensures memory { IfErr result (λ e. e ≡ out_of_memory) }
 {
     let mut replay = replay;

@@ -43,7 +43,8 @@ where
     ensures answer { AnswersOrNoMemory result (viewed (seen_by J.opening J.most pass.new) pass.new.session) }
     ensures backup { IfOk result (λ view. IsBackup J.opening pass.new.seen pass.new.session view) }
     ensures counted { IfOk result (λ view. length view ≡ length J.opening.catalog) }
-    ensures reads_back { IfOk result (λ view. read_dump (dump_text J.opening.catalog view) ≡ Ok (J.opening.catalog, view)) }
+    ensures reads_back { IfOk result
+        (λ view. read_dump (dump_text J.opening.catalog view) ≡ Ok (J.opening.catalog, view)) }
 {
     server.catalog().well_formed();
     views_are_backups::<A>();
@@ -72,9 +73,11 @@ where
     W: Device + Send,
     G: Gate,
     T: Threads + Wait + Sync,
-    ensures whole { OnOk result (IsWhole (seen_by J.opening J.most pass.new) pass.new.session (W.taken device.old) (W.taken device.new)) }
+    ensures whole { OnOk result (IsWhole (seen_by J.opening J.most pass.new) pass.new.session (W.taken device.old)
+        (W.taken device.new)) }
     ensures same { OnOk result (W.failures device.new ≡ W.failures device.old) }
-    ensures none { IfErr result (λ fault. IsNone (seen_by J.opening J.most pass.new) pass.new.session (W.taken device.old) (W.failures device.old) fault (W.taken device.new) (W.failures device.new)) }
+    ensures none { IfErr result (λ fault. IsNone (seen_by J.opening J.most pass.new) pass.new.session
+        (W.taken device.old) (W.failures device.old) fault (W.taken device.new) (W.failures device.new)) }
     ensures legal { Legal J.opening pass.new.seen }
     ensures begins { IsPrefix pass.old.seen pass.new.seen }
     ensures session { pass.new.session ≡ pass.old.session }

@@ -36,7 +36,8 @@ fn view_session<A: Allocator + Copy>(
     ensures answer { AnswersOrNoMemory result (viewed core.now session) }
     ensures backup { IfOk result (λ view. IsBackup core.now.opening core.now.records session view) }
     ensures counted { IfOk result (λ view. length view ≡ length core.now.opening.catalog) }
-    ensures reads_back { IfOk result (λ view. read_dump (dump_text core.now.opening.catalog view) ≡ Ok (core.now.opening.catalog, view)) }
+    ensures reads_back { IfOk result (λ view. read_dump (dump_text core.now.opening.catalog view) ≡
+        Ok (core.now.opening.catalog, view)) }
 {
     core.is_legal();
     core.history().catalog().well_formed();
@@ -66,7 +67,8 @@ where
     T: Threads + Wait + Sync,
     ensures whole { OnOk result (IsWhole core.now session (W.taken device.old) (W.taken device.new)) }
     ensures same { OnOk result (W.failures device.new ≡ W.failures device.old) }
-    ensures none { IfErr result (λ fault. IsNone core.now session (W.taken device.old) (W.failures device.old) fault (W.taken device.new) (W.failures device.new)) }
+    ensures none { IfErr result (λ fault. IsNone core.now session (W.taken device.old) (W.failures device.old) fault
+        (W.taken device.new) (W.failures device.new)) }
 {
     let view = match view_session(alloc, core, session) {
         Ok(view) => view,

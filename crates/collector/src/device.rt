@@ -16,14 +16,18 @@ pub trait Device {
     /// Takes the first bytes, at least one where there is one, and answers how many; or fails and takes none.
     fn write(&mut self, bytes: &[u8]) -> Result<usize, DeviceError>
         ensures some { IfOk result (λ n. (n ≤ length bytes.now) × (bytes.now ≢ [] → 0 < n)) }
-        ensures taken { IfOk result (λ n. (taken self.new ≡ taken self.old ++ take n bytes.now) × (failures self.new ≡ failures self.old)) }
-        ensures failed { IfErr result (λ _. (taken self.new ≡ taken self.old) × (failures self.new ≡ failures self.old + 1)) };
+        ensures taken { IfOk result (λ n. (taken self.new ≡ taken self.old ++ take n bytes.now) ×
+            (failures self.new ≡ failures self.old)) }
+        ensures failed { IfErr result (λ _. (taken self.new ≡ taken self.old) ×
+            (failures self.new ≡ failures self.old + 1)) };
 }
 
 /// Writes all bytes, or fails once, having written a beginning of them.
 pub fn write_all<W: Device>(device: &mut W, bytes: &[u8]) -> Result<(), DeviceError>
-    ensures ok { OnOk result (WroteAll (W.taken device.old) (W.failures device.old) bytes.now (W.taken device.new) (W.failures device.new)) }
-    ensures err { OnErr result (WroteSome (W.taken device.old) (W.failures device.old) bytes.now (W.taken device.new) (W.failures device.new)) }
+    ensures ok { OnOk result (WroteAll (W.taken device.old) (W.failures device.old) bytes.now (W.taken device.new)
+        (W.failures device.new)) }
+    ensures err { OnErr result (WroteSome (W.taken device.old) (W.failures device.old) bytes.now (W.taken device.new)
+        (W.failures device.new)) }
 {
     let mut from = 0;
     while from < bytes.len() {

@@ -14,8 +14,8 @@ use schema::reader::SnapshotReader;
 use std::alloc::Allocator;
 use std::marker::Model;
 
-/// Writes the pieces of a dump in their order, though they are offered in any. To a contract it is their texts, what of them
-/// the device took, and what waits. It has room for all pieces from the start.
+/// Writes the pieces of a dump in their order, though they are offered in any. To a contract it is their texts, what of
+/// them the device took, and what waits. It has room for all pieces from the start.
 pub struct Collector<'a, R: SnapshotReader<A>, W: Device, A: Allocator> {
     pieces: Sequence<'a, R, W, A>,
 }
@@ -40,7 +40,8 @@ impl<'a, R: SnapshotReader<A>, W: Device, A: Allocator> Collector<'a, R, W, A> {
         device: &'a mut W,
     ) -> Result<Collector<'a, R, W, A>, &'a mut W>
         ensures texts { IfOk result (λ c. c.texts ≡ piece_texts catalog.now (R.tables reader.now) plan.now) }
-        ensures device { IfOk result (λ c. (c.name ≡ device.entry.ghost_name) × (c.before ≡ W.taken device.old) × (c.failures_before ≡ W.failures device.old)) }
+        ensures device { IfOk result (λ c. (c.name ≡ device.entry.ghost_name) × (c.before ≡ W.taken device.old) ×
+            (c.failures_before ≡ W.failures device.old)) }
         ensures open { IfOk result (λ c. c.failed ≡ false) }
         ensures none { IfOk result (λ c. (k : ℕ) → is_given c k ≡ false) }
         ensures err { IfErr result (λ e. (e.ghost_name ≡ device.entry.ghost_name) × (e.now ≡ device.old)) }
@@ -53,7 +54,8 @@ impl<'a, R: SnapshotReader<A>, W: Device, A: Allocator> Collector<'a, R, W, A> {
 
     /// Takes a piece by its number, and writes all that are in turn. It takes no memory.
     pub fn offer(&mut self, number: u64, bytes: Vec<u8, A>) -> Result<(), OfferFault>
-        requires { 0 < number → number ≤ length self.old.texts → bytes.items ≡ slice_index_or self.old.texts (number - 1) [] }
+        requires { 0 < number → number ≤ length self.old.texts →
+            bytes.items ≡ slice_index_or self.old.texts (number - 1) [] }
         ensures same { IsSameJob self.old self.new }
         ensures offered { Offered self.old number result self.new }
     {

@@ -34,9 +34,29 @@ impl<'a, R: SnapshotReader<A>, W: Device, A: Allocator> Model for Sequence<'a, R
 
     ghost Value = { Gathering };
 
-    ghost view = { λ c. record { texts = piece_texts c.catalog.now (R.tables c.reader.now) c.plan.now; name = c.device.ghost_name; before = W.taken c.start.value; failures_before = W.failures c.start.value; taken = W.taken c.device.now; failures = W.failures c.device.now; waiting = c.waiting.items; next = c.next; failed = c.failed } };
+    ghost view = { λ c. record {
+      texts = piece_texts c.catalog.now (R.tables c.reader.now) c.plan.now;
+      name = c.device.ghost_name;
+      before = W.taken c.start.value;
+      failures_before = W.failures c.start.value;
+      taken = W.taken c.device.now;
+      failures = W.failures c.device.now;
+      waiting = c.waiting.items;
+      next = c.next;
+      failed = c.failed;
+    } };
 
-    ghost invariant = { λ c. IsInTurn record { texts = piece_texts c.catalog.now (R.tables c.reader.now) c.plan.now; name = c.device.ghost_name; before = W.taken c.start.value; failures_before = W.failures c.start.value; taken = W.taken c.device.now; failures = W.failures c.device.now; waiting = c.waiting.items; next = c.next; failed = c.failed } };
+    ghost invariant = { λ c. IsInTurn record {
+      texts = piece_texts c.catalog.now (R.tables c.reader.now) c.plan.now;
+      name = c.device.ghost_name;
+      before = W.taken c.start.value;
+      failures_before = W.failures c.start.value;
+      taken = W.taken c.device.now;
+      failures = W.failures c.device.now;
+      waiting = c.waiting.items;
+      next = c.next;
+      failed = c.failed;
+    } };
 }
 
 impl<'a, R: SnapshotReader<A>, W: Device, A: Allocator> Sequence<'a, R, W, A> {
@@ -47,8 +67,11 @@ impl<'a, R: SnapshotReader<A>, W: Device, A: Allocator> Sequence<'a, R, W, A> {
         plan: &'a Plan<A>,
         device: &'a mut W,
     ) -> Result<Sequence<'a, R, W, A>, &'a mut W>
-        ensures ok { IfOk result (λ c. (c.texts ≡ piece_texts catalog.now (R.tables reader.now) plan.now) × (c.name ≡ device.entry.ghost_name) × (c.before ≡ W.taken device.old) × (c.failures_before ≡ W.failures device.old)) }
-        ensures none { IfOk result (λ c. (c.failed ≡ false) × (c.next ≡ 0) × ((k : ℕ) → slice_index_or c.waiting k None ≡ None)) }
+        ensures ok { IfOk result (λ c. (c.texts ≡ piece_texts catalog.now (R.tables reader.now) plan.now) ×
+            (c.name ≡ device.entry.ghost_name) × (c.before ≡ W.taken device.old) ×
+            (c.failures_before ≡ W.failures device.old)) }
+        ensures none { IfOk result (λ c. (c.failed ≡ false) × (c.next ≡ 0) ×
+            ((k : ℕ) → slice_index_or c.waiting k None ≡ None)) }
         ensures err { IfErr result (λ e. (e.ghost_name ≡ device.entry.ghost_name) × (e.now ≡ device.old)) }
     {
         let start = Snapshot::of(&*device);
@@ -87,7 +110,8 @@ impl<'a, R: SnapshotReader<A>, W: Device, A: Allocator> Sequence<'a, R, W, A> {
 
     // Takes a piece, and writes all that are in turn.
     pub(crate) fn offer(&mut self, number: u64, bytes: Vec<u8, A>) -> Result<(), OfferFault>
-        requires text { 0 < number → number ≤ length self.old.texts → bytes.items ≡ slice_index_or self.old.texts (number - 1) [] }
+        requires text { 0 < number → number ≤ length self.old.texts →
+            bytes.items ≡ slice_index_or self.old.texts (number - 1) [] }
         requires next { LacksNext self.old }
         ensures same { IsSameJob self.old self.new }
         ensures offered { Offered self.old number result self.new }

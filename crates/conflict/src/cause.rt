@@ -22,7 +22,8 @@ fn has_edge<A: Allocator>(commit: Commit, reader: &Party<A>, writer: &Party<A>) 
 
 // The last commit that may close a structure on a transaction.
 fn bound<A: Allocator>(commit: Commit, first: &Party<A>) -> u64
-    ensures { result ≡ bound (node_after commit.txn commit.number) (edge_of (node_after commit.txn commit.number) reads) first.now }
+    ensures { result ≡ bound (node_after commit.txn commit.number)
+        (edge_of (node_after commit.txn commit.number) reads) first.now }
 {
     let facts = first.facts_after(commit);
     if facts.read_write {
@@ -40,7 +41,8 @@ fn is_dangerous<A: Allocator>(
     pivot: &Party<A>,
     last: &Party<A>,
 ) -> bool
-    ensures { result ≡ is_dangerous (node_after commit.txn commit.number) (edge_of (node_after commit.txn commit.number) reads) first.now pivot.now last.now }
+    ensures { result ≡ is_dangerous (node_after commit.txn commit.number)
+        (edge_of (node_after commit.txn commit.number) reads) first.now pivot.now last.now }
 {
     let (middle, end) = (pivot.facts_after(commit), last.facts_after(commit));
     first.facts_after(commit).committed
@@ -81,7 +83,10 @@ fn last_of<A: Allocator>(
     parties: &[Party<A>],
 ) -> Option<Facts>
     ensures { result
-        ≡ option_map (node_after commit.txn commit.number) (earliest (node_after commit.txn commit.number) (edge_of (node_after commit.txn commit.number) reads) (filter (is_dangerous (node_after commit.txn commit.number) (edge_of (node_after commit.txn commit.number) reads) first.now pivot.now) parties.now)) }
+        ≡ option_map (node_after commit.txn commit.number)
+        (earliest (node_after commit.txn commit.number) (edge_of (node_after commit.txn commit.number) reads)
+        (filter (is_dangerous (node_after commit.txn commit.number)
+        (edge_of (node_after commit.txn commit.number) reads) first.now pivot.now) parties.now)) }
 {
     let mut last = None;
     for candidate in parties {
@@ -100,7 +105,11 @@ fn cause_between<A: Allocator>(
     parties: &[Party<A>],
 ) -> Option<Cause>
     ensures { result
-        ≡ caused (node_after commit.txn commit.number) (edge_of (node_after commit.txn commit.number) reads) first.now pivot.now (earliest (node_after commit.txn commit.number) (edge_of (node_after commit.txn commit.number) reads) (filter (is_dangerous (node_after commit.txn commit.number) (edge_of (node_after commit.txn commit.number) reads) first.now pivot.now) parties.now)) }
+        ≡ caused (node_after commit.txn commit.number) (edge_of (node_after commit.txn commit.number) reads)
+        first.now pivot.now (earliest (node_after commit.txn commit.number)
+        (edge_of (node_after commit.txn commit.number) reads)
+        (filter (is_dangerous (node_after commit.txn commit.number)
+        (edge_of (node_after commit.txn commit.number) reads) first.now pivot.now) parties.now)) }
 {
     if !has_edge(commit, first, pivot) {
         return None;
@@ -117,7 +126,11 @@ fn cause_between<A: Allocator>(
 // The structure that begins at a transaction, with the least pivot, if there is one.
 fn cause_from<A: Allocator>(commit: Commit, first: &Party<A>, parties: &[Party<A>]) -> Option<Cause>
     ensures { result
-        ≡ first_some (λ b. caused (node_after commit.txn commit.number) (edge_of (node_after commit.txn commit.number) reads) first.now b (earliest (node_after commit.txn commit.number) (edge_of (node_after commit.txn commit.number) reads) (filter (is_dangerous (node_after commit.txn commit.number) (edge_of (node_after commit.txn commit.number) reads) first.now b) parties.now))) parties.now }
+        ≡ first_some (λ b. caused (node_after commit.txn commit.number)
+        (edge_of (node_after commit.txn commit.number) reads) first.now b
+        (earliest (node_after commit.txn commit.number) (edge_of (node_after commit.txn commit.number) reads)
+        (filter (is_dangerous (node_after commit.txn commit.number)
+        (edge_of (node_after commit.txn commit.number) reads) first.now b) parties.now))) parties.now }
 {
     for pivot in parties {
         let cause = cause_between(commit, first, pivot, parties);
@@ -156,7 +169,8 @@ pub(crate) fn first_cause<A: Allocator>(
     parties: &[Party<A>],
 ) -> Option<Cause>
     requires { Each (IsThrough commit.txn commit.number parties.now committer.now) parties.now }
-    ensures { result ≡ first_cause (node_after commit.txn commit.number) (edge_of (node_after commit.txn commit.number) reads) parties.now }
+    ensures { result ≡ first_cause (node_after commit.txn commit.number)
+        (edge_of (node_after commit.txn commit.number) reads) parties.now }
 {
     for first in parties {
         let cause = cause_from_first(commit, first, committer, parties);

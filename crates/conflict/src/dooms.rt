@@ -107,7 +107,8 @@ fn first_before<A: Allocator>(
     causes: &[Cause],
     pivot: &Party<A>,
 ) -> Option<Facts>
-    ensures { result ≡ option_map node (find (spec.is_first node reads committer.now causes.now pivot.now) parties.now) }
+    ensures { result ≡ option_map node (find (spec.is_first node reads committer.now causes.now pivot.now)
+        parties.now) }
 {
     for first in parties {
         if is_first(committer, causes, pivot, first) {

@@ -11,7 +11,8 @@ ghost use Rattle.conflict.specs.Tracked.{Each, IsProper, Party, Tracked, after_f
 /// knows it again after each call.
 pub fn forgetting_changes_no_answer()
     ensures forget { (o : ℕ) (s : Tracked) → IsProper s → IsOldest o s → Alike o (after_forget o s) s }
-    ensures told { (o : ℕ) (s r : Tracked) (x : Told) → Alike o s r → IsFrom o x → CanTell x r → Alike o (told x s) (told x r) }
+    ensures told { (o : ℕ) (s r : Tracked) (x : Told) → Alike o s r → IsFrom o x → CanTell x r →
+        Alike o (told x s) (told x r) }
     ensures later { (o p : ℕ) (s r : Tracked) → o ≤ p → Alike o s r → Alike p s r }
     ensures chain { (o : ℕ) (s r q : Tracked) → Alike o s r → Alike o r q → Alike o s q }
     ensures itself { (o : ℕ) (s : Tracked) → Alike o s s }
@@ -27,5 +28,8 @@ pub fn what_is_told_is_proper()
 /// the places of their ends, and the same three of them are dangerous structures, the same structure
 /// is named of both. So what a tracker answers is what a history's transactions say.
 pub fn structures_are_those_of_the_tracked<T>()
-    ensures { (n : T → Node) (e : T → T → Bool) (f : T → Party) (ts : List T) → ((t : T) → record (n t) { place = 0 } ≡ node (f t)) → Each (λ a. Each (λ b. Each (λ c. is_dangerous n e a b c ≡ is_dangerous node edge (f a) (f b) (f c)) ts) ts) ts → first_cause n e ts ≡ first_cause node edge (map f ts) }
+    ensures { (n : T → Node) (e : T → T → Bool) (f : T → Party) (ts : List T) →
+        ((t : T) → record (n t) { place = 0 } ≡ node (f t)) →
+        Each (λ a. Each (λ b. Each (λ c. is_dangerous n e a b c ≡ is_dangerous node edge (f a) (f b) (f c)) ts) ts) ts
+        → first_cause n e ts ≡ first_cause node edge (map f ts) }
 {}

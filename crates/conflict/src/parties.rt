@@ -105,7 +105,8 @@ fn read_at<A: Allocator>(
 ) -> Result<bool, Refusal>
     requires { place < length parties.old.items }
     ensures ok { OnOk result (parties.new.items ≡ changed_at place (reading writer) parties.old.items) }
-    ensures new { IfOk result (λ new. new ≡ true → changed_at place without_last parties.new.items ≡ parties.old.items) }
+    ensures new { IfOk result (λ new. new ≡ true → changed_at place without_last parties.new.items ≡
+        parties.old.items) }
     ensures same { IfOk result (λ new. new ≡ false → parties.new.items ≡ parties.old.items) }
     ensures err { OnErr result (parties.new.items ≡ parties.old.items) }
     ensures memory { IfErr result (λ e. e ≡ out_of_memory) }

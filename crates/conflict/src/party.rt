@@ -31,9 +31,24 @@ impl Model for Facts {
 
     ghost Value = { Node };
 
-    ghost view = { λ f. record { number = f.number; read_write = f.read_write; snapshot = f.snapshot; active = f.active; committed = f.committed; commit = f.commit; place = 0 } };
+    ghost view = { λ f. record {
+      number = f.number;
+      read_write = f.read_write;
+      snapshot = f.snapshot;
+      active = f.active;
+      committed = f.committed;
+      commit = f.commit;
+      place = 0;
+    } };
 
-    ghost inverse = { λ n. record { number = n.number; read_write = n.read_write; snapshot = n.snapshot; active = n.active; committed = n.committed; commit = n.commit } };
+    ghost inverse = { λ n. record {
+      number = n.number;
+      read_write = n.read_write;
+      snapshot = n.snapshot;
+      active = n.active;
+      committed = n.committed;
+      commit = n.commit;
+    } };
 }
 
 /// A transaction that is to commit, and the number that its commit would have.
@@ -59,7 +74,14 @@ impl<A: Allocator> Model for Party<A> {
 
     ghost Value = { Kept };
 
-    ghost view = { λ p. record { number = p.number; read_write = p.read_write; snapshot = p.snapshot; active = p.active; commit = p.commit; outs = p.outs.items } };
+    ghost view = { λ p. record {
+      number = p.number;
+      read_write = p.read_write;
+      snapshot = p.snapshot;
+      active = p.active;
+      commit = p.commit;
+      outs = p.outs.items;
+    } };
 }
 
 /// Whether a transaction of a mode may write.

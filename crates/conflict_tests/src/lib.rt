@@ -1,4 +1,5 @@
-//! Tests alone: the tracker of conflicts, locks of what was read, safe snapshots, and the same questions as the core asks them.
+//! Tests alone: the tracker of conflicts, locks of what was read, safe snapshots, and the same questions as the core
+//! asks them.
 
 #![tactic(auto)]
 

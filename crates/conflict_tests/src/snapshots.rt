@@ -30,7 +30,8 @@ fn state(word: &str) -> Result<State, Refusal> {
     }
 }
 
-// The number of a snapshot, and the ends of transactions behind it: `4>3` has a conflict out to commit 3, and `4>no` none.
+// The number of a snapshot, and the ends of transactions behind it: `4>3` has a conflict out to commit 3, and `4>no`
+// none.
 const STATES: &str = "\
 3 none: waits
 3 4>no: waits

@@ -1,4 +1,5 @@
-//! What the core asks of transactions that are open: whose they are, what they wait for, and which snapshots they export.
+//! What the core asks of transactions that are open: whose they are, what they wait for, and which snapshots they
+//! export.
 
 use history::session_id::SessionId;
 use plain::deferrable::{is_pending, is_spoilt};

@@ -41,7 +41,8 @@ fn field_len(line: &[u8]) -> usize
 // The byte that stands first in a field's content, and the raw bytes after it.
 pub fn next_byte(first: u8, more: &[u8]) -> Option<(u8, &[u8])>
     ensures { MatchOption result (content (first ∷ more.now) ≡ None)
-        (λ r. (content (first ∷ more.now) ≡ option_map (λ bytes. r.0 ∷ bytes) (content r.1.now)) × (length r.1.now ≤ length more.now)) }
+        (λ r. (content (first ∷ more.now) ≡ option_map (λ bytes. r.0 ∷ bytes) (content r.1.now)) ×
+        (length r.1.now ≤ length more.now)) }
 {
     if first != b'\\' {
         return Some((first, more));

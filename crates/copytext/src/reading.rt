@@ -64,7 +64,8 @@ fn read_values<A: Allocator + Copy>(
     line: &[u8],
 ) -> Result<Vec<Value<A>, A>, Refusal>
     ensures ok { IfOk result (λ values. field_values kinds.now (cut line.now) ≡ Ok values.items) }
-    ensures err { IfErr result (λ e. (e ≡ out_of_memory) ⊎ (pointing_nowhere (field_values {A = A} kinds.now (cut line.now)) ≡ Err e)) }
+    ensures err { IfErr result (λ e. (e ≡ out_of_memory) ⊎
+        (pointing_nowhere (field_values {A = A} kinds.now (cut line.now)) ≡ Err e)) }
 {
     let mut values = Vec::with_capacity(alloc, kinds.len())?;
     let mut rest = Some(line);
@@ -79,15 +80,16 @@ fn read_values<A: Allocator + Copy>(
     Ok(values)
 }
 
-/// Reads the line of a row, without its newline. A fault of the line's form comes before one of a value; of those, the first
-/// from the left is answered.
+/// Reads the line of a row, without its newline. A fault of the line's form comes before one of a value; of those, the
+/// first from the left is answered.
 pub fn read_row<A: Allocator + Copy>(
     alloc: A,
     kinds: &[Kind],
     line: &[u8],
 ) -> Result<Vec<Value<A>, A>, Refusal>
     ensures ok { IfOk result (λ values. line_values kinds.now line.now ≡ Ok values.items) }
-    ensures err { IfErr result (λ e. (e ≡ out_of_memory) ⊎ (pointing_nowhere (line_values {A = A} kinds.now line.now) ≡ Err e)) }
+    ensures err { IfErr result (λ e. (e ≡ out_of_memory) ⊎
+        (pointing_nowhere (line_values {A = A} kinds.now line.now) ≡ Err e)) }
 {
     if !has_form(line, kinds.len()) {
         return Err(Refusal::of_code(Code::BadCopyFileFormat));

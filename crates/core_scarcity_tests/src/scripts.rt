@@ -132,7 +132,8 @@ fn refused_line(ample: Global, script: Script<'_>, line: &str) -> Result<String,
     }
 }
 
-// What is printed where a line was refused for want of memory: what is printed without it, and its refusal in its place.
+// What is printed where a line was refused for want of memory: what is printed without it, and its refusal in its
+// place.
 fn without<R: Threads + Wait + Sync>(
     rt: &R,
     ample: Global,

@@ -77,7 +77,8 @@ fn plan_of_none(alloc: Global, tables: &Tables, catalog: &Catalog) -> Result<Pla
 
 // The text of a piece of that plan, and none of a number that is none of it.
 fn text_of(alloc: Global, number: u64) -> Result<Vec<u8>, Refusal>
-    ensures { IfOk result (λ text. 0 < number → number ≤ 2 → text.items ≡ slice_index_or (head_text [] ∷ end_text ∷ []) (number - 1) []) }
+    ensures { IfOk result (λ text. 0 < number → number ≤ 2 → text.items ≡
+        slice_index_or (head_text [] ∷ end_text ∷ []) (number - 1) []) }
 {
     match number {
         1 => head_text(alloc, &Catalog::new(alloc)),

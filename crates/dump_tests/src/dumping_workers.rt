@@ -214,7 +214,8 @@ fn one_worker_makes_thousands_of_pieces(rt: HostRuntime) -> Result<(), Fail> {
     Ok(())
 }
 
-// Dumps tables by pieces of a row to a device that fails at one of its writes, and looks at what came of it. Answers whether it failed.
+// Dumps tables by pieces of a row to a device that fails at one of its writes, and looks at what came of it. Answers
+// whether it failed.
 fn dump_to<R: Abort + Threads + Wait + Sync>(
     rt: &R,
     alloc: Global,

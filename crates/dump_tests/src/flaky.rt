@@ -4,8 +4,8 @@ use collector::{Device, DeviceError};
 use std::alloc::Global;
 use std::process::Abort;
 
-// A device that takes all that it is given, or one byte a write, and fails at one of its writes. They count from 1; with 0 it
-// fails at none.
+// A device that takes all that it is given, or one byte a write, and fails at one of its writes. They count from 1;
+// with 0 it fails at none.
 #[derive(Drop)]
 pub struct Flaky<'r, R: Abort> {
     rt: &'r R,

@@ -52,8 +52,8 @@ fn number_of(key: &Key) -> i64 {
     }
 }
 
-// A piece, as it is written in a case: `1 from 4 before 7`, with `from 0` at the beginning of a table, and `1 from 7 of 7`,
-// where it ends a table of seven rows.
+// A piece, as it is written in a case: `1 from 4 before 7`, with `from 0` at the beginning of a table, and `1 from 7 of
+// 7`, where it ends a table of seven rows.
 fn shown(alloc: Global, piece: &Piece) -> Result<String, Refusal> {
     let range = match piece {
         Piece::Head => return Ok(String::from_str(alloc, "head")?),

@@ -59,7 +59,8 @@ fn append_name_and_kind<A: Allocator>(
     column: &Column<A>,
     text: &mut Vec<u8, A>,
 ) -> Result<(), Refusal>
-    ensures ok { OnOk result (text.new.items ≡ text.old.items ++ (column.now.name ++ space ∷ kind_word column.now.kind)) }
+    ensures ok { OnOk result (text.new.items ≡ text.old.items ++
+        (column.now.name ++ space ∷ kind_word column.now.kind)) }
     ensures memory { IfErr result (λ e. e ≡ out_of_memory) }
 {
     text.extend_from_slice(column.name().as_bytes())?;
@@ -123,7 +124,8 @@ fn append_more_columns<A: Allocator>(
     columns: &[Column<A>],
     text: &mut Vec<u8, A>,
 ) -> Result<(), Refusal>
-    ensures ok { OnOk result (text.new.items ≡ text.old.items ++ flat_map (λ d. 44 ∷ 32 ∷ column_text (written_column catalog.now d)) columns.now) }
+    ensures ok { OnOk result (text.new.items ≡ text.old.items ++
+        flat_map (λ d. 44 ∷ 32 ∷ column_text (written_column catalog.now d)) columns.now) }
     ensures memory { IfErr result (λ e. e ≡ out_of_memory) }
 {
     for column in columns {
@@ -139,7 +141,8 @@ fn append_columns<A: Allocator>(
     columns: &[Column<A>],
     text: &mut Vec<u8, A>,
 ) -> Result<(), Refusal>
-    ensures ok { OnOk result (text.new.items ≡ text.old.items ++ comma_separated (column_texts (map (written_column catalog.now) columns.now))) }
+    ensures ok { OnOk result (text.new.items ≡ text.old.items ++
+        comma_separated (column_texts (map (written_column catalog.now) columns.now))) }
     ensures memory { IfErr result (λ e. e ≡ out_of_memory) }
 {
     let Some((first, others)) = columns.split_first() else {

@@ -60,7 +60,8 @@ fn push_ranges<A: Allocator + Copy>(
     table_cuts: TableCuts<A>,
     pieces: &mut Vec<Piece<A>, A>,
 ) -> Result<(), Refusal>
-    ensures ok { OnOk result (pieces.new.items ≡ pieces.old.items ++ map Rows (ranges table table_cuts.rows None table_cuts.keys.items)) }
+    ensures ok { OnOk result (pieces.new.items ≡ pieces.old.items ++
+        map Rows (ranges table table_cuts.rows None table_cuts.keys.items)) }
     ensures memory { IfErr result (λ e. e ≡ out_of_memory) }
 {
     let TableCuts { keys, rows } = table_cuts;
@@ -85,7 +86,8 @@ fn push_table<A: Allocator + Copy, R: RowsReader<A>>(
     pieces: &mut Vec<Piece<A>, A>,
 ) -> Result<(), Refusal>
     requires { HasTable (R.tables reader.now) table }
-    ensures ok { OnOk result (pieces.new.items ≡ pieces.old.items ++ table_pieces piece_rows table (rows_of (R.tables reader.now) table)) }
+    ensures ok { OnOk result (pieces.new.items ≡ pieces.old.items ++
+        table_pieces piece_rows table (rows_of (R.tables reader.now) table)) }
     ensures ordered { IsInKeyOrder (rows_of (R.tables reader.now) table) }
     ensures memory { IfErr result (λ e. e ≡ out_of_memory) }
 {
@@ -93,8 +95,8 @@ fn push_table<A: Allocator + Copy, R: RowsReader<A>>(
     push_ranges(alloc, table, table_cuts, pieces)
 }
 
-/// Cuts the dump of a reader's tables, which are the catalog's: the head is a piece, each table's rows are pieces of at most
-/// so many, an empty table is one piece, and the last line is one.
+/// Cuts the dump of a reader's tables, which are the catalog's: the head is a piece, each table's rows are pieces of at
+/// most so many, an empty table is one piece, and the last line is one.
 pub fn plan<A: Allocator + Copy, R: RowsReader<A>>(
     alloc: A,
     reader: &R,
@@ -103,7 +105,8 @@ pub fn plan<A: Allocator + Copy, R: RowsReader<A>>(
 ) -> Result<Plan<A>, Refusal>
     requires { length (R.tables reader.now) ≡ length catalog.now }
     ensures pieces { IfOk result (λ p. p ≡ planned piece_rows (R.tables reader.now)) }
-    ensures text { IfOk result (λ p. joined (piece_texts catalog.now (R.tables reader.now) p) ≡ dump_text catalog.now (R.tables reader.now)) }
+    ensures text { IfOk result (λ p. joined (piece_texts catalog.now (R.tables reader.now) p) ≡
+        dump_text catalog.now (R.tables reader.now)) }
     ensures known { IfOk result (AllByRecursion (IsPieceOf (length catalog.now))) }
     ensures memory { IfErr result (λ e. e ≡ out_of_memory) }
 {

@@ -64,7 +64,8 @@ fn walk_from<'r, A: Allocator + Copy, R: RowsReader<A>>(
     range: &RowRange<A>,
 ) -> Result<Walk<'r, R, A>, Refusal>
     requires { HasTable (R.tables reader.now) range.now.table }
-    ensures rows { IfOk result (λ walk. walk ≡ rows_from range.now.from (rows_of (R.tables reader.now) range.now.table)) }
+    ensures rows { IfOk result (λ walk. walk ≡
+        rows_from range.now.from (rows_of (R.tables reader.now) range.now.table)) }
     ensures ordered { IsInKeyOrder (rows_of (R.tables reader.now) range.now.table) }
     ensures memory { IfErr result (λ e. e ≡ out_of_memory) }
 {
@@ -82,7 +83,9 @@ fn append_range<A: Allocator + Copy, R: RowsReader<A>>(
     text: &mut Vec<u8, A>,
 ) -> Result<(), Refusal>
     requires { HasTable (R.tables reader.now) range.now.table }
-    ensures ok { OnOk result (text.new.items ≡ text.old.items ++ rows_text (rows_before range.now.end (rows_from range.now.from (rows_of (R.tables reader.now) range.now.table)))) }
+    ensures ok { OnOk result (text.new.items ≡ text.old.items ++
+        rows_text (rows_before range.now.end
+        (rows_from range.now.from (rows_of (R.tables reader.now) range.now.table)))) }
     ensures memory { IfErr result (λ e. e ≡ out_of_memory) }
 {
     let mut walk = walk_from(alloc, reader, range)?;
@@ -103,7 +106,8 @@ pub fn range_text<A: Allocator + Copy, R: RowsReader<A>>(
     range: &RowRange<A>,
 ) -> Result<Vec<u8, A>, Refusal>
     requires { HasTable (R.tables reader.now) range.now.table }
-    ensures ok { IfOk result (λ text. text.items ≡ range_text table.now (rows_of (R.tables reader.now) range.now.table) range.now) }
+    ensures ok { IfOk result (λ text. text.items ≡
+        range_text table.now (rows_of (R.tables reader.now) range.now.table) range.now) }
     ensures memory { IfErr result (λ e. e ≡ out_of_memory) }
 {
     let mut text = Vec::new(alloc);

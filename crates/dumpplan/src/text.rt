@@ -36,7 +36,8 @@ fn append_rows<A: Allocator, R: SnapshotReader<A>>(
 ) -> Result<u64, Refusal>
     requires { HasTable (R.tables reader.now) table }
     ensures count { IfOk result (λ n. n ≡ length (rows_of (R.tables reader.now) table)) }
-    ensures ok { OnOk result (text.new.items ≡ text.old.items ++ flat_map (λ row. row_text (row.0 ∷ row.1)) (rows_of (R.tables reader.now) table)) }
+    ensures ok { OnOk result (text.new.items ≡ text.old.items ++
+        flat_map (λ row. row_text (row.0 ∷ row.1)) (rows_of (R.tables reader.now) table)) }
     ensures memory { IfErr result (λ e. e ≡ out_of_memory) }
 {
     let mut rows = 0;
@@ -54,7 +55,8 @@ fn append_create_lines<A: Allocator>(
     catalog: &Catalog<A>,
     text: &mut Vec<u8, A>,
 ) -> Result<(), Refusal>
-    ensures ok { OnOk result (text.new.items ≡ text.old.items ++ ended (map (λ d. create_line (written catalog.now d)) catalog.now)) }
+    ensures ok { OnOk result (text.new.items ≡ text.old.items ++
+        ended (map (λ d. create_line (written catalog.now d)) catalog.now)) }
     ensures memory { IfErr result (λ e. e ≡ out_of_memory) }
 {
     for place in 0..catalog.len() as u32 {

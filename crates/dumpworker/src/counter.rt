@@ -74,8 +74,10 @@ impl<A: Allocator + Copy> Counter<A> {
         requires table { drawer.old.seat.table_id ≡ self.now.table.shared.table_id }
         requires enough { drawer.old.seat.me.0.each ≤ drawer.old.seat.me.0.left }
         ensures table { drawer.new.seat.table_id ≡ self.now.table.shared.table_id }
-        ensures left { drawer.new.seat.me.0 ≡ hand drawer.old.seat.me.0.drawn (drawer.old.seat.me.0.left - drawer.old.seat.me.0.each) drawer.old.seat.me.0.each }
-        ensures new { (result.seat.table_id ≡ self.now.table.shared.table_id) × (result.seat.me.0 ≡ hand [] drawer.old.seat.me.0.each drawer.old.seat.me.0.each) }
+        ensures left { drawer.new.seat.me.0 ≡ hand drawer.old.seat.me.0.drawn
+            (drawer.old.seat.me.0.left - drawer.old.seat.me.0.each) drawer.old.seat.me.0.each }
+        ensures new { (result.seat.table_id ≡ self.now.table.shared.table_id) ×
+            (result.seat.me.0 ≡ hand [] drawer.old.seat.me.0.each drawer.old.seat.me.0.each) }
     {
         Drawer {
             seat: self.table.shared.split_seat::<Deal>(&mut drawer.seat),
@@ -87,7 +89,8 @@ impl<A: Allocator + Copy> Counter<A> {
         requires table { drawer.old.seat.table_id ≡ self.now.table.shared.table_id }
         requires some { 0 < drawer.old.seat.me.0.left }
         ensures table { drawer.new.seat.table_id ≡ self.now.table.shared.table_id }
-        ensures drawn { drawer.new.seat.me.0 ≡ hand (drawer.old.seat.me.0.drawn ++ result ∷ []) (drawer.old.seat.me.0.left - 1) drawer.old.seat.me.0.each }
+        ensures drawn { drawer.new.seat.me.0 ≡ hand (drawer.old.seat.me.0.drawn ++ result ∷ [])
+            (drawer.old.seat.me.0.left - 1) drawer.old.seat.me.0.each }
     {
         self.table.shared.fetch_add::<Draw>(&mut drawer.seat, 0, 1)
     }

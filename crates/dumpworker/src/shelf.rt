@@ -73,7 +73,8 @@ impl<'a, R: SnapshotReader<A>, W: Device, A: Allocator, D: Job> Shelf<'a, R, W, 
         made: Result<Vec<u8, A>, Refusal>,
     ) -> Result<(), Stopped>
         requires { IfOk made (λ text. text.items ≡ slice_index_or D.texts (number - 1) []) }
-        ensures offered { OnOk made (IsOffered self.old.collector number self.old.is_stopped self.new.collector self.new.is_stopped) }
+        ensures offered { OnOk made (IsOffered self.old.collector number self.old.is_stopped self.new.collector
+            self.new.is_stopped) }
         ensures unmade { OnErr made ((self.new.collector ≡ self.old.collector) × (self.new.is_stopped ≡ true)) }
         ensures goes_on { OnOk result (self.new.is_stopped ≡ false) }
         ensures stopped { OnErr result (self.new.is_stopped ≡ true) }

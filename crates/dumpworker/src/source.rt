@@ -30,7 +30,8 @@ impl<'a, R: RowsReader<A>, A: Allocator> Model for Source<'a, R, A> {
 
     ghost view = { λ s. piece_texts s.catalog.now (R.tables s.reader.now) s.plan.now };
 
-    ghost invariant = { λ s. (length (R.tables s.reader.now) ≡ length s.catalog.now) × AllByRecursion (IsPieceOf (length s.catalog.now)) s.plan.now };
+    ghost invariant = { λ s. (length (R.tables s.reader.now) ≡ length s.catalog.now) ×
+        AllByRecursion (IsPieceOf (length s.catalog.now)) s.plan.now };
 }
 
 impl<'a, R: RowsReader<A>, A: Allocator> Source<'a, R, A> {

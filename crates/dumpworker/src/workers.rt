@@ -89,7 +89,8 @@ where
             requires table { drawer.seat.table_id ≡ counter.now.table.shared.table_id }
             requires draws { drawer.seat.me.0 ≡ first_hand }
             requires jobs { (1 ≤ jobs) × (jobs ≤ 64) }
-            requires bounds { IsSend A.row × IsSync A.row × Frees A.Allocator A.dealloc_token × IsSync R.row × IsSend W.row × IsSync G.row × IsSync T.row × IsSend D.row × IsSync D.row }
+            requires bounds { IsSend A.row × IsSync A.row × Frees A.Allocator A.dealloc_token × IsSync R.row ×
+                IsSend W.row × IsSync G.row × IsSync T.row × IsSend D.row × IsSync D.row }
         {
             for _ in 1..jobs {
                 let other = counter.another(&mut drawer);
@@ -98,7 +99,8 @@ where
                         requires texts { source.now ≡ D.texts }
                         requires table { other.seat.table_id ≡ counter.now.table.shared.table_id }
                         requires draws { other.seat.me.0.left ≡ 2 ^ 57 }
-                        requires bounds { IsSend A.row × IsSync A.row × Frees A.Allocator A.dealloc_token × IsSync R.row × IsSend W.row × IsSync G.row × IsSync T.row × IsSend D.row × IsSync D.row }
+                        requires bounds { IsSend A.row × IsSync A.row × Frees A.Allocator A.dealloc_token ×
+                            IsSync R.row × IsSend W.row × IsSync G.row × IsSync T.row × IsSend D.row × IsSync D.row }
                     {
                         let _ = work(rt, alloc, source, shelf, counter, other, gate);
                     },

@@ -51,7 +51,8 @@ where
     requires name { lent.device.ghost_name ≡ D.name }
     requires before { (W.taken lent.device.now ≡ D.before) × (W.failures lent.device.now ≡ D.failures) }
     ensures name { result.device.ghost_name ≡ lent.entry.device.ghost_name }
-    ensures dumped { Dumped (joined D.texts) D.before D.failures answer.new (W.taken result.device.now) (W.failures result.device.now) }
+    ensures dumped { Dumped (joined D.texts) D.before D.failures answer.new (W.taken result.device.now)
+        (W.failures result.device.now) }
 {
     let Lent { device } = lent;
     let Ok((counter, drawer)) = Counter::new(alloc) else {
@@ -75,8 +76,9 @@ where
     }
 }
 
-/// Writes the dump text of a reader's tables, which are the catalog's. The calling thread is one of the workers, and the
-/// others are started; one that the machine doesn't start is left out. After a fault the device has a beginning of the text.
+/// Writes the dump text of a reader's tables, which are the catalog's. The calling thread is one of the workers, and
+/// the others are started; one that the machine doesn't start is left out. After a fault the device has a beginning of
+/// the text.
 pub fn dump<A, R, W, G, T>(
     rt: &T,
     alloc: A,
@@ -94,7 +96,8 @@ where
     G: Gate,
     T: Threads + Wait + Sync,
     requires { length (R.tables reader.now) ≡ length catalog.now }
-    ensures { Dumped (dump_text catalog.now (R.tables reader.now)) (W.taken device.old) (W.failures device.old) result (W.taken device.new) (W.failures device.new) }
+    ensures { Dumped (dump_text catalog.now (R.tables reader.now)) (W.taken device.old) (W.failures device.old)
+        result (W.taken device.new) (W.failures device.new) }
 {
     let plan = plan(alloc, reader, catalog, piece_rows)?;
     let mut answer = Err(DumpFault::Memory);

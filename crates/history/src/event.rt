@@ -15,8 +15,8 @@ pub enum Action<A: Allocator = Global> {
     Run(Statement<A>),
     /// A text that isn't a statement, with its refusal.
     Broken(Refusal),
-    /// POLL: whether a deferrable transaction's snapshot is safe yet. It takes a new one where its own can't become so. PostgreSQL
-    /// has no such command: there BEGIN itself waits.
+    /// POLL: whether a deferrable transaction's snapshot is safe yet. It takes a new one where its own can't become so.
+    /// PostgreSQL has no such command: there BEGIN itself waits.
     Poll,
     /// EXPORT: an identifier under which others can take the transaction's snapshot, as by pg_export_snapshot().
     Export,
@@ -26,7 +26,8 @@ pub enum Action<A: Allocator = Global> {
     Commit,
     /// ROLLBACK, which is never refused where there is a transaction.
     Rollback,
-    /// PRUNE: that versions which no transaction can see any more are dropped. It changes no reply, and needs no transaction.
+    /// PRUNE: that versions which no transaction can see any more are dropped. It changes no reply, and needs no
+    /// transaction.
     Prune,
 }
 

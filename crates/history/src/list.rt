@@ -29,7 +29,12 @@ impl<A: Allocator> Model for History<A> {
 
     ghost Value = { Recorded A };
 
-    ghost view = { λ h. record { opening = record { catalog = h.catalog; tables = h.tables; base = h.base }; records = h.records.items; most = h.most } };
+    ghost view = { λ h. record {
+      opening = record { catalog = h.catalog; tables = h.tables; base = h.base };
+      records
+          = h.records.items;
+      most = h.most;
+    } };
 
     ghost invariant = { λ h. (length h.records.items ≤ h.most) × (h.most ≤ vec_capacity h.records) };
 }
@@ -44,7 +49,11 @@ impl<A: Allocator> History<A> {
         base: Base,
         max_events: u32,
     ) -> Result<History<A>, Refusal>
-        ensures ok { IfOk result (λ made. made ≡ record { opening = record { catalog = catalog; tables = tables; base = base }; records = []; most = max_events }) }
+        ensures ok { IfOk result (λ made. made ≡ record {
+          opening = record { catalog = catalog; tables = tables; base = base };
+          records = [];
+          most = max_events;
+        }) }
         ensures within { OnOk result (max_events ≢ 0) }
         ensures refused { IfErr result (λ e. e ≡ opening_refusal (max_events == 0)) }
     {
@@ -113,7 +122,8 @@ impl<A: Allocator> History<A> {
 
     /// The last event with its reply.
     pub fn last(&self) -> Option<&Record<A>>
-        ensures some { IfSome result (λ entry. (before : List (AnyRecord A)) × (self.now.records ≡ before ++ entry.now ∷ [])) }
+        ensures some { IfSome result (λ entry. (before : List (AnyRecord A)) ×
+            (self.now.records ≡ before ++ entry.now ∷ [])) }
         ensures none { IfNone result (self.now.records ≡ []) }
     {
         self.records.last()

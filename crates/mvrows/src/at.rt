@@ -34,7 +34,8 @@ impl<'r, A: Allocator> At<'r, A> {
     // The keys of a table with their versions.
     fn table(&self, table: TableNo) -> &Table<A>
         requires { HasTable (shown self.now.snapshot self.now.rows.now) table }
-        ensures { shown_rows self.now.snapshot (rows_in result.now) ≡ rows_of (shown self.now.snapshot self.now.rows.now) table }
+        ensures { shown_rows self.now.snapshot (rows_in result.now) ≡
+            rows_of (shown self.now.snapshot self.now.rows.now) table }
     {
         self.rows.table(table)
     }

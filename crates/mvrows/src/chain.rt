@@ -88,7 +88,8 @@ impl<A: Allocator> Chain<A> {
     pub fn of(alloc: A, number: u64, change: &Change<A>) -> Result<Chain<A>, Refusal>
     where
         A: Copy,
-        ensures ok { IfOk result (λ c. c ≡ first_version change.now.key (record { number = number; fields = change.now.fields })) }
+        ensures ok { IfOk result (λ c. c ≡ first_version change.now.key
+            (record { number = number; fields = change.now.fields })) }
         ensures err { IfErr result (λ e. e ≡ out_of_memory) }
     {
         let key = change.key().copy(alloc)?;
@@ -156,7 +157,8 @@ impl<A: Allocator> Chain<A> {
     pub fn put(&mut self, alloc: A, number: u64, fields: Option<&[Value<A>]>) -> Result<(), Refusal>
     where
         A: Copy,
-        ensures ok { OnOk result (self.new ≡ newer (record { number = number; fields = option_copied fields.entry }) self.old) }
+        ensures ok { OnOk result (self.new ≡ newer (record { number = number; fields = option_copied fields.entry })
+            self.old) }
         ensures err { OnErr result (self.new ≡ self.old) }
         ensures memory { IfErr result (λ e. e ≡ out_of_memory) }
     {

@@ -107,7 +107,8 @@ impl<A: Allocator> Leaf<A> {
         A: Copy,
         requires { self.old.own ≡ true }
         ensures own { self.new.own ≡ true }
-        ensures ok { OnOk result (self.new.rows ≡ put_version change.now.key (record { number = commit; fields = change.now.fields }) self.old.rows) }
+        ensures ok { OnOk result (self.new.rows ≡ put_version change.now.key
+            (record { number = commit; fields = change.now.fields }) self.old.rows) }
         ensures err { OnErr result (self.new.rows ≡ self.old.rows) }
         ensures memory { IfErr result (λ e. e ≡ out_of_memory) }
     {
@@ -140,9 +141,11 @@ impl<A: Allocator> Leaf<A> {
     pub fn put(&mut self, alloc: A, commit: u64, change: &Change<A>) -> Result<(), Refusal>
     where
         A: Copy,
-        ensures ok { OnOk result (self.new.rows ≡ put_version change.now.key (record { number = commit; fields = change.now.fields }) self.old.rows) }
+        ensures ok { OnOk result (self.new.rows ≡ put_version change.now.key
+            (record { number = commit; fields = change.now.fields }) self.old.rows) }
         ensures err { OnErr result (self.new.rows ≡ self.old.rows) }
-        ensures undo { AllVersioned self.old.rows → IsUndoable commit self.old → undone commit self.new ≡ undone commit self.old }
+        ensures undo { AllVersioned self.old.rows → IsUndoable commit self.old →
+            undone commit self.new ≡ undone commit self.old }
         ensures undoable { IsUndoable commit self.old → IsUndoable commit self.new }
         ensures memory { IfErr result (λ e. e ≡ out_of_memory) }
     {
@@ -188,7 +191,8 @@ impl<A: Allocator> Leaf<A> {
     /// Settles a key of its own.
     pub fn settle(&mut self, oldest: u64, snapshots: &[u64], key: &Key<A>)
         requires { IsOwnKey key.now self.old }
-        ensures rows { self.new.rows ≡ settle_key (record { oldest = oldest; snapshots = snapshots.now }) key.now self.old.rows }
+        ensures rows { self.new.rows ≡ settle_key (record { oldest = oldest; snapshots = snapshots.now }) key.now
+            self.old.rows }
         ensures own { self.new.own ≡ self.old.own }
     {
         match &mut self.holder {

@@ -165,9 +165,12 @@ fn put<A: Allocator + Copy>(
     change: &Change<A>,
 ) -> Result<(), Refusal>
     requires within_length { place ≤ length chains.old.items }
-    requires before { AllByRecursion (λ k. is_le (value_cmp change.now.key k.key) ≡ false) (take place chains.old.items) }
-    requires within { AllByRecursion (λ k. is_le (value_cmp change.now.key k.key) ≡ true) (drop place chains.old.items) }
-    ensures ok { OnOk result (chains.new.items ≡ put_version change.now.key (record { number = number; fields = change.now.fields }) chains.old.items) }
+    requires before { AllByRecursion (λ k. is_le (value_cmp change.now.key k.key) ≡ false)
+        (take place chains.old.items) }
+    requires within { AllByRecursion (λ k. is_le (value_cmp change.now.key k.key) ≡ true)
+        (drop place chains.old.items) }
+    ensures ok { OnOk result (chains.new.items ≡
+        put_version change.now.key (record { number = number; fields = change.now.fields }) chains.old.items) }
     ensures err { OnErr result (chains.new.items ≡ chains.old.items) }
     ensures memory { IfErr result (λ e. e ≡ out_of_memory) }
 {
@@ -192,7 +195,8 @@ fn settle<A: Allocator>(
     requires within_length { place ≤ length chains.old.items }
     requires before { AllByRecursion (λ k. is_le (value_cmp key.now k.key) ≡ false) (take place chains.old.items) }
     requires within { AllByRecursion (λ k. is_le (value_cmp key.now k.key) ≡ true) (drop place chains.old.items) }
-    ensures { chains.new.items ≡ settle_key (record { oldest = oldest; snapshots = snapshots.now }) key.now chains.old.items }
+    ensures { chains.new.items ≡ settle_key (record { oldest = oldest; snapshots = snapshots.now }) key.now
+        chains.old.items }
 {
     if !is_at(chains.as_slice(), place, key) {
         return;
@@ -239,7 +243,8 @@ impl<A: Allocator> Page<A> {
         rows: &mut Vec<&'p Row<A>, A>,
     ) -> Result<(), Refusal>
         requires { length rows.old.items ≤ most }
-        ensures ok { OnOk result (lent rows.new.items ≡ take most (lent rows.old.items ++ rows_within (shown_rows snapshot self.now) bound.entry)) }
+        ensures ok { OnOk result (lent rows.new.items ≡
+            take most (lent rows.old.items ++ rows_within (shown_rows snapshot self.now) bound.entry)) }
         ensures memory { IfErr result (λ e. e ≡ out_of_memory) }
     {
         let chains = self.chains.as_slice();
@@ -307,7 +312,8 @@ impl<A: Allocator> Page<A> {
     pub fn put(&mut self, alloc: A, number: u64, change: &Change<A>) -> Result<(), Refusal>
     where
         A: Copy,
-        ensures ok { OnOk result (self.new ≡ put_version change.now.key (record { number = number; fields = change.now.fields }) self.old) }
+        ensures ok { OnOk result (self.new ≡ put_version change.now.key
+            (record { number = number; fields = change.now.fields }) self.old) }
         ensures err { OnErr result (self.new ≡ self.old) }
         ensures memory { IfErr result (λ e. e ≡ out_of_memory) }
     {
@@ -319,7 +325,8 @@ impl<A: Allocator> Page<A> {
     pub fn first(alloc: A, number: u64, change: &Change<A>) -> Result<Page<A>, Refusal>
     where
         A: Copy,
-        ensures ok { IfOk result (λ page. page ≡ first_version change.now.key (record { number = number; fields = change.now.fields }) ∷ []) }
+        ensures ok { IfOk result (λ page. page ≡ first_version change.now.key
+            (record { number = number; fields = change.now.fields }) ∷ []) }
         ensures err { IfErr result (λ e. e ≡ out_of_memory) }
     {
         let mut chains = Vec::new(alloc);

@@ -70,7 +70,8 @@ fn put_change<A: Allocator + Copy>(
 ) -> Result<(), Refusal>
     requires versioned { AreVersioned (rows_held tables.old.items) }
     requires undoable { AllByRecursion (AreUndoable commit) tables.old.items }
-    ensures ok { OnOk result (rows_held tables.new.items ≡ install_change commit change.now (rows_held tables.old.items)) }
+    ensures ok { OnOk result (rows_held tables.new.items ≡
+        install_change commit change.now (rows_held tables.old.items)) }
     ensures undo { map (undone_in commit) tables.new.items ≡ map (undone_in commit) tables.old.items }
     ensures undoable { AllByRecursion (AreUndoable commit) tables.new.items }
     ensures versioned { AreVersioned (rows_held tables.new.items) }
@@ -122,7 +123,8 @@ fn settle_change<A: Allocator>(
     change: &Change<A>,
 )
     requires { AreFresh (change.now ∷ []) tables.old.items }
-    ensures rows { rows_held tables.new.items ≡ settle_change (record { oldest = oldest; snapshots = snapshots.now }) change.now (rows_held tables.old.items) }
+    ensures rows { rows_held tables.new.items ≡ settle_change (record { oldest = oldest; snapshots = snapshots.now })
+        change.now (rows_held tables.old.items) }
     ensures fresh { (xs : List (Change A)) → AreFresh xs tables.old.items → AreFresh xs tables.new.items }
 {
     let place = change.table().place() as usize;
@@ -140,7 +142,8 @@ fn settle_all<A: Allocator>(
     changes: &[Change<A>],
 )
     requires { AreFresh changes.now tables.old.items }
-    ensures { rows_held tables.new.items ≡ settled (record { oldest = oldest; snapshots = snapshots.now }) changes.now (rows_held tables.old.items) }
+    ensures { rows_held tables.new.items ≡ settled (record { oldest = oldest; snapshots = snapshots.now })
+        changes.now (rows_held tables.old.items) }
 {
     for change in changes {
         settle_change(tables, oldest, snapshots, change);
@@ -241,7 +244,8 @@ fn make_all_prunable<A: Allocator + Copy>(
     oldest: u64,
 ) -> Result<(), Refusal>
     ensures same { rows_held tables.new.items ≡ rows_held tables.old.items }
-    ensures ok { OnOk result (map (own_pruned_in oldest) tables.new.items ≡ map (λ leaves. pruned_rows oldest (rows_in leaves)) tables.old.items) }
+    ensures ok { OnOk result (map (own_pruned_in oldest) tables.new.items ≡
+        map (λ leaves. pruned_rows oldest (rows_in leaves)) tables.old.items) }
     ensures memory { IfErr result (λ e. e ≡ out_of_memory) }
 {
     for table in tables.iter_mut() {
@@ -307,7 +311,8 @@ impl<A: Allocator> Rows<A> {
     where
         A: Copy,
         requires { TablesAreBelow commit self.old }
-        ensures ok { OnOk result (self.new ≡ settled (record { oldest = oldest; snapshots = snapshots.now }) changes.now (installed commit changes.now self.old)) }
+        ensures ok { OnOk result (self.new ≡ settled (record { oldest = oldest; snapshots = snapshots.now })
+            changes.now (installed commit changes.now self.old)) }
         ensures err { OnErr result (self.new ≡ self.old) }
         ensures memory { IfErr result (λ e. e ≡ out_of_memory) }
     {

@@ -27,8 +27,8 @@ enum Owner<A: Allocator = Global> {
     Shared(Arc<Table<A>, A>),
 }
 
-/// A table with the versions of its keys. A view takes a share of it, whatever its size. A change goes to a table that nobody
-/// else has: where a view has this one, to another list of the same pages.
+/// A table with the versions of its keys. A view takes a share of it, whatever its size. A change goes to a table that
+/// nobody else has: where a view has this one, to another list of the same pages.
 #[derive(Drop)]
 #[derive_where(Debug)]
 pub(crate) struct SharedTable<A: Allocator = Global> {
@@ -48,8 +48,12 @@ impl<A: Allocator> Model for SharedTable<A> {
 // The table that nobody else has, out of its owner; another of the same pages where views share it.
 fn owned<A: Allocator + Copy>(alloc: A, owner: Owner<A>) -> Result<Table<A>, (Owner<A>, Refusal)>
     ensures rows { IfOk result (λ table. rows_in table ≡ rows_in (held_table owner)) }
-    ensures undo { (commit : ℕ) → IfOk result (λ table. AllVersioned (rows_in (held_table owner)) → AreUndoable commit (held_table owner) → undone_in commit table ≡ undone_in commit (held_table owner)) }
-    ensures undoable { (commit : ℕ) → IfOk result (λ table. AreUndoable commit (held_table owner) → AreUndoable commit table) }
+    ensures undo { (commit : ℕ) →
+        IfOk result
+        (λ table. AllVersioned (rows_in (held_table owner)) → AreUndoable commit (held_table owner) →
+        undone_in commit table ≡ undone_in commit (held_table owner)) }
+    ensures undoable { (commit : ℕ) →
+        IfOk result (λ table. AreUndoable commit (held_table owner) → AreUndoable commit table) }
     ensures err { IfErr result (λ e. e.0 ≡ owner) }
     ensures memory { IfErr result (λ e. e.1 ≡ out_of_memory) }
 {
@@ -103,8 +107,12 @@ impl<A: Allocator> SharedTable<A> {
     where
         A: Copy,
         ensures rows { IfOk result (λ table. rows_in table ≡ rows_in self.old) }
-        ensures undo { (commit : ℕ) → IfOk result (λ table. AllVersioned (rows_in self.old) → AreUndoable commit self.old → undone_in commit table ≡ undone_in commit self.old) }
-        ensures undoable { (commit : ℕ) → IfOk result (λ table. AreUndoable commit self.old → AreUndoable commit table) }
+        ensures undo { (commit : ℕ) →
+            IfOk result
+            (λ table. AllVersioned (rows_in self.old) → AreUndoable commit self.old → undone_in commit table ≡
+            undone_in commit self.old) }
+        ensures undoable { (commit : ℕ) →
+            IfOk result (λ table. AreUndoable commit self.old → AreUndoable commit table) }
         ensures err { OnErr result (self.new ≡ self.old) }
         ensures memory { IfErr result (λ e. e ≡ out_of_memory) }
     {
@@ -122,9 +130,12 @@ impl<A: Allocator> SharedTable<A> {
     pub fn put(&mut self, alloc: A, commit: u64, change: &Change<A>) -> Result<(), Refusal>
     where
         A: Copy,
-        ensures ok { OnOk result (rows_in self.new ≡ put_version change.now.key (record { number = commit; fields = change.now.fields }) (rows_in self.old)) }
+        ensures ok { OnOk result (rows_in self.new ≡
+            put_version change.now.key (record { number = commit; fields = change.now.fields })
+            (rows_in self.old)) }
         ensures err { OnErr result (rows_in self.new ≡ rows_in self.old) }
-        ensures undo { AllVersioned (rows_in self.old) → AreUndoable commit self.old → undone_in commit self.new ≡ undone_in commit self.old }
+        ensures undo { AllVersioned (rows_in self.old) → AreUndoable commit self.old →
+            undone_in commit self.new ≡ undone_in commit self.old }
         ensures undoable { AreUndoable commit self.old → AreUndoable commit self.new }
         ensures memory { IfErr result (λ e. e ≡ out_of_memory) }
     {
@@ -171,9 +182,11 @@ impl<A: Allocator> SharedTable<A> {
     /// Prunes a key that the table has just put in.
     pub fn settle(&mut self, oldest: u64, snapshots: &[u64], key: &Key<A>)
         requires { IsFreshIn key.now self.old }
-        ensures rows { rows_in self.new ≡ settle_key (record { oldest = oldest; snapshots = snapshots.now }) key.now (rows_in self.old) }
+        ensures rows { rows_in self.new ≡ settle_key (record { oldest = oldest; snapshots = snapshots.now }) key.now
+            (rows_in self.old) }
         ensures undoable { (commit : ℕ) → AreUndoable commit self.old → AreUndoable commit self.new }
-        ensures fresh { (commit : ℕ) (k : Value A) → IsFresh commit k (rows_in self.old) → IsFresh commit k (rows_in self.new) }
+        ensures fresh { (commit : ℕ) (k : Value A) → IsFresh commit k (rows_in self.old) →
+            IsFresh commit k (rows_in self.new) }
     {
         match &mut self.owner {
             Owner::Own(table) => table.settle(oldest, snapshots, key),

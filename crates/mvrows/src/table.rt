@@ -70,8 +70,10 @@ fn place_of<A: Allocator>(leaves: &[Leaf<A>], key: &Key<A>) -> usize
     requires laid_out { AreLaidOut (pages_of leaves.now) }
     requires some { 0 < length leaves.now }
     ensures range { result < length leaves.now }
-    ensures before { AllByRecursion (λ k. is_le (value_cmp key.now k.key) ≡ false) (joined (take result (pages_of leaves.now))) }
-    ensures after { AllByRecursion (λ l. value_cmp key.now l ≡ Less) (map (λ k. k.key) (joined (drop (result + 1) (pages_of leaves.now)))) }
+    ensures before { AllByRecursion (λ k. is_le (value_cmp key.now k.key) ≡ false)
+        (joined (take result (pages_of leaves.now))) }
+    ensures after { AllByRecursion (λ l. value_cmp key.now l ≡ Less)
+        (map (λ k. k.key) (joined (drop (result + 1) (pages_of leaves.now)))) }
 {
     let from = start(leaves, Bound::From(key));
     if from < leaves.len() {
@@ -106,7 +108,8 @@ fn push_rows_in<'l, A: Allocator>(
     rows: &mut Vec<&'l Row<A>, A>,
 ) -> Result<(), Refusal>
     requires { length rows.old.items ≤ most }
-    ensures ok { OnOk result (lent rows.new.items ≡ take most (lent rows.old.items ++ rows_within (shown_rows snapshot (rows_in leaves.now)) bound.entry)) }
+    ensures ok { OnOk result (lent rows.new.items ≡
+        take most (lent rows.old.items ++ rows_within (shown_rows snapshot (rows_in leaves.now)) bound.entry)) }
     ensures memory { IfErr result (λ e. e ≡ out_of_memory) }
 {
     for leaf in leaves {
@@ -202,7 +205,8 @@ fn cut<A: Allocator + Copy>(
     ensures rows { rows_in leaves.new.items ≡ rows_in leaves.old.items }
     ensures laid_out { AreLaidOut (pages_of leaves.new.items) }
     ensures some { 0 < length leaves.new.items }
-    ensures undo { (commit : ℕ) → AllVersioned (rows_in leaves.old.items) → AreUndoable commit leaves.old.items → undone_in commit leaves.new.items ≡ undone_in commit leaves.old.items }
+    ensures undo { (commit : ℕ) → AllVersioned (rows_in leaves.old.items) → AreUndoable commit leaves.old.items →
+        undone_in commit leaves.new.items ≡ undone_in commit leaves.old.items }
     ensures undoable { (commit : ℕ) → AreUndoable commit leaves.old.items → AreUndoable commit leaves.new.items }
     ensures memory { IfErr result (λ e. e ≡ out_of_memory) }
 {
@@ -233,7 +237,8 @@ fn make_room<A: Allocator + Copy>(
     ensures rows { rows_in leaves.new.items ≡ rows_in leaves.old.items }
     ensures laid_out { AreLaidOut (pages_of leaves.new.items) }
     ensures some { 0 < length leaves.new.items }
-    ensures undo { (commit : ℕ) → AllVersioned (rows_in leaves.old.items) → AreUndoable commit leaves.old.items → undone_in commit leaves.new.items ≡ undone_in commit leaves.old.items }
+    ensures undo { (commit : ℕ) → AllVersioned (rows_in leaves.old.items) → AreUndoable commit leaves.old.items →
+        undone_in commit leaves.new.items ≡ undone_in commit leaves.old.items }
     ensures undoable { (commit : ℕ) → AreUndoable commit leaves.old.items → AreUndoable commit leaves.new.items }
     ensures memory { IfErr result (λ e. e ≡ out_of_memory) }
 {
@@ -255,10 +260,13 @@ fn put<A: Allocator + Copy>(
 ) -> Result<(), Refusal>
     requires laid_out { AreLaidOut (pages_of leaves.old.items) }
     requires some { 0 < length leaves.old.items }
-    ensures ok { OnOk result (rows_in leaves.new.items ≡ put_version change.now.key (record { number = commit; fields = change.now.fields }) (rows_in leaves.old.items)) }
+    ensures ok { OnOk result (rows_in leaves.new.items ≡
+        put_version change.now.key (record { number = commit; fields = change.now.fields })
+        (rows_in leaves.old.items)) }
     ensures err { OnErr result (rows_in leaves.new.items ≡ rows_in leaves.old.items) }
     ensures laid_out { AreLaidOut (pages_of leaves.new.items) }
-    ensures undo { AllVersioned (rows_in leaves.old.items) → AreUndoable commit leaves.old.items → undone_in commit leaves.new.items ≡ undone_in commit leaves.old.items }
+    ensures undo { AllVersioned (rows_in leaves.old.items) → AreUndoable commit leaves.old.items →
+        undone_in commit leaves.new.items ≡ undone_in commit leaves.old.items }
     ensures undoable { AreUndoable commit leaves.old.items → AreUndoable commit leaves.new.items }
     ensures memory { IfErr result (λ e. e ≡ out_of_memory) }
 {
@@ -275,7 +283,9 @@ fn put_first<A: Allocator + Copy>(
     change: &Change<A>,
 ) -> Result<(), Refusal>
     requires { length leaves.old.items ≡ 0 }
-    ensures ok { OnOk result (rows_in leaves.new.items ≡ put_version change.now.key (record { number = commit; fields = change.now.fields }) (rows_in leaves.old.items)) }
+    ensures ok { OnOk result (rows_in leaves.new.items ≡
+        put_version change.now.key (record { number = commit; fields = change.now.fields })
+        (rows_in leaves.old.items)) }
     ensures err { OnErr result (leaves.new.items ≡ leaves.old.items) }
     ensures laid_out { OnOk result (AreLaidOut (pages_of leaves.new.items)) }
     ensures undo { OnOk result (undone_in commit leaves.new.items ≡ undone_in commit leaves.old.items) }
@@ -296,10 +306,13 @@ fn put_more<A: Allocator + Copy>(
 ) -> Result<(), Refusal>
     requires laid_out { AreLaidOut (pages_of leaves.old.items) }
     requires some { 0 < length leaves.old.items }
-    ensures ok { OnOk result (rows_in leaves.new.items ≡ put_version change.now.key (record { number = commit; fields = change.now.fields }) (rows_in leaves.old.items)) }
+    ensures ok { OnOk result (rows_in leaves.new.items ≡
+        put_version change.now.key (record { number = commit; fields = change.now.fields })
+        (rows_in leaves.old.items)) }
     ensures err { OnErr result (rows_in leaves.new.items ≡ rows_in leaves.old.items) }
     ensures laid_out { AreLaidOut (pages_of leaves.new.items) }
-    ensures undo { AllVersioned (rows_in leaves.old.items) → AreUndoable commit leaves.old.items → undone_in commit leaves.new.items ≡ undone_in commit leaves.old.items }
+    ensures undo { AllVersioned (rows_in leaves.old.items) → AreUndoable commit leaves.old.items →
+        undone_in commit leaves.new.items ≡ undone_in commit leaves.old.items }
     ensures undoable { AreUndoable commit leaves.old.items → AreUndoable commit leaves.new.items }
     ensures memory { IfErr result (λ e. e ≡ out_of_memory) }
 {
@@ -323,7 +336,8 @@ fn make_all_prunable<A: Allocator + Copy>(
     oldest: u64,
 ) -> Result<(), Refusal>
     ensures pages { pages_of leaves.new.items ≡ pages_of leaves.old.items }
-    ensures ok { OnOk result (map (own_pruned oldest) leaves.new.items ≡ map (λ h. pruned_rows oldest h.rows) leaves.old.items) }
+    ensures ok { OnOk result (map (own_pruned oldest) leaves.new.items ≡
+        map (λ h. pruned_rows oldest h.rows) leaves.old.items) }
     ensures memory { IfErr result (λ e. e ≡ out_of_memory) }
 {
     for leaf in leaves.iter_mut() {
@@ -346,7 +360,8 @@ fn settle<A: Allocator>(leaves: &mut Vec<Leaf<A>, A>, oldest: u64, snapshots: &[
     requires laid_out { AreLaidOut (pages_of leaves.old.items) }
     requires some { 0 < length leaves.old.items }
     requires fresh { IsFreshIn key.now leaves.old.items }
-    ensures rows { rows_in leaves.new.items ≡ settle_key (record { oldest = oldest; snapshots = snapshots.now }) key.now (rows_in leaves.old.items) }
+    ensures rows { rows_in leaves.new.items ≡ settle_key (record { oldest = oldest; snapshots = snapshots.now }) key.now
+        (rows_in leaves.old.items) }
     ensures laid_out { AreLaidOut (pages_of leaves.new.items) }
     ensures undoable { (commit : ℕ) → AreUndoable commit leaves.old.items → AreUndoable commit leaves.new.items }
 {
@@ -471,7 +486,8 @@ impl<A: Allocator> Table<A> {
         bound: Bound<&Key<A>>,
         most: usize,
     ) -> Result<Vec<&Row<A>, A>, Refusal>
-        ensures rows { IfOk result (λ rows. lent rows.items ≡ take most (rows_within (shown_rows snapshot (rows_in self.now)) bound.entry)) }
+        ensures rows { IfOk result (λ rows. lent rows.items ≡
+            take most (rows_within (shown_rows snapshot (rows_in self.now)) bound.entry)) }
         ensures err { IfErr result (λ e. e ≡ out_of_memory) }
     {
         let leaves = self.leaves.as_slice();
@@ -508,9 +524,12 @@ impl<A: Allocator> Table<A> {
     pub fn put(&mut self, alloc: A, commit: u64, change: &Change<A>) -> Result<(), Refusal>
     where
         A: Copy,
-        ensures ok { OnOk result (rows_in self.new ≡ put_version change.now.key (record { number = commit; fields = change.now.fields }) (rows_in self.old)) }
+        ensures ok { OnOk result (rows_in self.new ≡
+            put_version change.now.key (record { number = commit; fields = change.now.fields })
+            (rows_in self.old)) }
         ensures err { OnErr result (rows_in self.new ≡ rows_in self.old) }
-        ensures undo { AllVersioned (rows_in self.old) → AreUndoable commit self.old → undone_in commit self.new ≡ undone_in commit self.old }
+        ensures undo { AllVersioned (rows_in self.old) → AreUndoable commit self.old →
+            undone_in commit self.new ≡ undone_in commit self.old }
         ensures undoable { AreUndoable commit self.old → AreUndoable commit self.new }
         ensures memory { IfErr result (λ e. e ≡ out_of_memory) }
     {
@@ -551,9 +570,11 @@ impl<A: Allocator> Table<A> {
     /// Prunes a key that the table has just put in.
     pub fn settle(&mut self, oldest: u64, snapshots: &[u64], key: &Key<A>)
         requires { IsFreshIn key.now self.old }
-        ensures rows { rows_in self.new ≡ settle_key (record { oldest = oldest; snapshots = snapshots.now }) key.now (rows_in self.old) }
+        ensures rows { rows_in self.new ≡ settle_key (record { oldest = oldest; snapshots = snapshots.now }) key.now
+            (rows_in self.old) }
         ensures undoable { (commit : ℕ) → AreUndoable commit self.old → AreUndoable commit self.new }
-        ensures fresh { (commit : ℕ) (k : Value A) → IsFresh commit k (rows_in self.old) → IsFresh commit k (rows_in self.new) }
+        ensures fresh { (commit : ℕ) (k : Value A) → IsFresh commit k (rows_in self.old) →
+            IsFresh commit k (rows_in self.new) }
     {
         if !self.leaves.is_empty() {
             settle(&mut self.leaves, oldest, snapshots, key);

@@ -76,7 +76,8 @@ fn next_rows<'t, A: Allocator>(
     after: Bound<&Key<A>>,
     most: usize,
 ) -> Result<Vec<&'t Row<A>, A>, Refusal>
-    ensures rows { IfOk result (λ rows. lent rows.items ≡ take most (rows_within (shown_rows snapshot (rows_in table.now)) after.entry)) }
+    ensures rows { IfOk result (λ rows. lent rows.items ≡
+        take most (rows_within (shown_rows snapshot (rows_in table.now)) after.entry)) }
     ensures ordered { IsInKeyOrder (shown_rows snapshot (rows_in table.now)) }
     ensures err { IfErr result (λ e. e ≡ out_of_memory) }
 {
@@ -88,7 +89,8 @@ impl<A: Allocator> Versions<A> {
     // The keys of a table with their versions.
     fn table(&self, table: TableNo) -> &Table<A>
         requires { HasTable (shown self.now.snapshot (rows_held self.now.tables.items)) table }
-        ensures { shown_rows self.now.snapshot (rows_in result.now) ≡ rows_of (shown self.now.snapshot (rows_held self.now.tables.items)) table }
+        ensures { shown_rows self.now.snapshot (rows_in result.now) ≡
+            rows_of (shown self.now.snapshot (rows_held self.now.tables.items)) table }
     {
         self.tables[table.place() as usize].table()
     }

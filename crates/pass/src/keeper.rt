@@ -34,7 +34,8 @@ impl<'w, J: Naming<A>, A: Allocator> Model for Keeper<'w, J, A> {
 
     ghost view = { λ p. record { records = p.seat.me.0.seen; made = p.made } };
 
-    ghost invariant = { λ p. (p.word.now.table ≡ J.table) × (p.word.now.opening ≡ J.opening) × (p.seat.table_id ≡ J.table) × (p.seat.me.1 ≡ [])
+    ghost invariant = { λ p. (p.word.now.table ≡ J.table) × (p.word.now.opening ≡ J.opening) ×
+        (p.seat.table_id ≡ J.table) × (p.seat.me.1 ≡ [])
         × (p.seat.me.0.keeps ≡ true) × (p.seat.me.0.made ≡ p.made) × Legal J.opening p.seat.me.0.seen };
 }
 
@@ -58,7 +59,12 @@ impl<'w, J: Naming<A>, A: Allocator> Keeper<'w, J, A> {
     /// The pass of the next session.
     pub fn pass(&mut self) -> Pass<'w, J, A>
         requires { self.old.made < 64 }
-        ensures pass { result ≡ record { session = self.old.made + 1; seen = self.old.records; mine = of_session (self.old.made + 1) self.old.records } }
+        ensures pass { result ≡ record {
+          session = self.old.made + 1;
+          seen = self.old.records;
+          mine = of_session
+              (self.old.made + 1) self.old.records;
+        } }
         ensures keeper { self.new ≡ record { records = self.old.records; made = self.old.made + 1 } }
     {
         let Some(session) = SessionId::new(self.made + 1) else {
@@ -83,7 +89,12 @@ impl<'w, J: Naming<A>, A: Allocator> Keeper<'w, J, A> {
         requires answer { entry.now.reply ≡ answer J.opening self.old.records pass.old.session entry.now.action }
         requires room { length self.old.records + 1 < 2 ^ 64 }
         ensures keeper { self.new ≡ record { records = self.old.records ++ entry.now ∷ []; made = self.old.made } }
-        ensures pass { pass.new ≡ record { session = pass.old.session; seen = self.old.records ++ entry.now ∷ []; mine = pass.old.mine ++ (entry.now.action, entry.now.reply) ∷ [] } }
+        ensures pass { pass.new ≡ record {
+          session = pass.old.session;
+          seen = self.old.records ++
+              entry.now ∷ [];
+          mine = pass.old.mine ++ (entry.now.action, entry.now.reply) ∷ [];
+        } }
         ensures begins { IsPrefix pass.old.seen self.old.records }
         ensures mine { pass.old.mine ≡ of_session pass.old.session self.old.records }
     {

@@ -47,7 +47,8 @@ pub(crate) fn unite<A: Allocator>(words: &Words<A>, seat: &mut Place<A>, other: 
     requires table { (seat.old.table_id ≡ words.now.shared.table_id) × (other.table_id ≡ words.now.shared.table_id) }
     requires one { words.now.shared.table_id.words ≡ 1 }
     requires free { other.me.1 ≡ [] }
-    ensures { (seat.new.table_id ≡ seat.old.table_id) × (seat.new.me ≡ (united seat.old.me.0 other.me.0, seat.old.me.1)) }
+    ensures { (seat.new.table_id ≡ seat.old.table_id) ×
+        (seat.new.me ≡ (united seat.old.me.0 other.me.0, seat.old.me.1)) }
 {
     words.shared.join_seat::<Unite>(seat, other);
 }
@@ -56,7 +57,8 @@ pub(crate) fn hear<A: Allocator>(words: &Words<A>, seat: &mut Place<A>, other: P
     requires table { (seat.old.table_id ≡ words.now.shared.table_id) × (other.table_id ≡ words.now.shared.table_id) }
     requires one { words.now.shared.table_id.words ≡ 1 }
     requires free { other.me.1 ≡ [] }
-    ensures { (seat.new.table_id ≡ seat.old.table_id) × (seat.new.me ≡ (heard seat.old.me.0 other.me.0, seat.old.me.1)) }
+    ensures { (seat.new.table_id ≡ seat.old.table_id) ×
+        (seat.new.me ≡ (heard seat.old.me.0 other.me.0, seat.old.me.1)) }
 {
     words.shared.join_seat::<Hear>(seat, other);
 }
@@ -115,7 +117,8 @@ pub(crate) fn add<A: Allocator>(words: &Words<A>, seat: &mut Place<A>)
     requires whole { (seat.old.me.0.keeps ≡ true) × (seat.old.me.0.holds ≡ true) }
     requires session { seat.old.me.0.next.session ≡ seat.old.me.0.session }
     requires allowed { Allowed words.now.shared.key.catalog seat.old.me.0.next.action }
-    requires answer { seat.old.me.0.next.reply ≡ answer words.now.shared.key seat.old.me.0.seen seat.old.me.0.session seat.old.me.0.next.action }
+    requires answer { seat.old.me.0.next.reply ≡ answer words.now.shared.key seat.old.me.0.seen seat.old.me.0.session
+        seat.old.me.0.next.action }
     requires room { length seat.old.me.0.seen + 1 < 2 ^ 64 }
     ensures seat { (seat.new.table_id ≡ seat.old.table_id) × (seat.new.me.1 ≡ seat.old.me.1) }
     ensures added { Added seat.old.me.0 seat.new.me.0 }

@@ -34,8 +34,10 @@ impl<'w, J: Naming<A>, A: Allocator> Model for Pass<'w, J, A> {
 
     ghost view = { λ p. record { session = p.session; seen = p.seat.me.0.seen; mine = p.seat.me.0.mine } };
 
-    ghost invariant = { λ p. (p.word.now.table ≡ J.table) × (p.word.now.opening ≡ J.opening) × (p.seat.table_id ≡ J.table) × (p.seat.me.1 ≡ [])
-        × (p.seat.me.0.keeps ≡ false) × (p.seat.me.0.holds ≡ true) × (p.seat.me.0.session ≡ p.session) × Legal J.opening p.seat.me.0.seen
+    ghost invariant = { λ p. (p.word.now.table ≡ J.table) × (p.word.now.opening ≡ J.opening) ×
+        (p.seat.table_id ≡ J.table) × (p.seat.me.1 ≡ [])
+        × (p.seat.me.0.keeps ≡ false) × (p.seat.me.0.holds ≡ true) × (p.seat.me.0.session ≡ p.session) ×
+        Legal J.opening p.seat.me.0.seen
         × (p.seat.me.0.mine ≡ of_session p.seat.me.0.session p.seat.me.0.seen) };
 }
 
@@ -65,7 +67,11 @@ impl<'w, J: Naming<A>, A: Allocator> Pass<'w, J, A> {
 
     // It sees the longer of what it and another have seen.
     fn learn(&mut self, other: &mut Pass<'w, J, A>)
-        ensures pass { self.new ≡ record { session = self.old.session; seen = longer self.old.seen other.old.seen; mine = self.old.mine } }
+        ensures pass { self.new ≡ record {
+          session = self.old.session;
+          seen = longer self.old.seen other.old.seen;
+          mine = self.old.mine;
+        } }
         ensures begins { IsPrefix self.old.seen self.new.seen }
         ensures other { IsPrefix other.old.seen self.new.seen }
         ensures kept { other.new ≡ other.old }
@@ -78,8 +84,17 @@ impl<'w, J: Naming<A>, A: Allocator> Pass<'w, J, A> {
     /// Both have then seen the longer of what they had seen, of which the other is a beginning. It
     /// is six loads of one word, three for each pass, and waits for nobody.
     pub fn meet(&mut self, other: &mut Pass<'w, J, A>)
-        ensures pass { self.new ≡ record { session = self.old.session; seen = longer self.old.seen other.old.seen; mine = self.old.mine } }
-        ensures other { other.new ≡ record { session = other.old.session; seen = longer self.old.seen other.old.seen; mine = other.old.mine } }
+        ensures pass { self.new ≡ record {
+          session = self.old.session;
+          seen = longer self.old.seen other.old.seen;
+          mine = self.old.mine;
+        } }
+        ensures other { other.new ≡ record {
+          session = other.old.session;
+          seen = longer self.old.seen other.old.seen;
+          mine
+              = other.old.mine;
+        } }
         ensures begins { IsPrefix self.old.seen self.new.seen }
         ensures begins_other { IsPrefix other.old.seen self.new.seen }
         ensures legal { Legal J.opening self.new.seen }

@@ -109,7 +109,8 @@ impl<A: Allocator> HistoryWord<A> {
         tables: &Tables<A>,
         base: Base,
     ) -> Result<(HistoryWord<A>, FirstSeat<A>), AllocError>
-        ensures opening { IfOk result (λ made. made.0.opening ≡ record { catalog = catalog.now; tables = tables.now; base = base }) }
+        ensures opening { IfOk result (λ made. made.0.opening ≡
+            record { catalog = catalog.now; tables = tables.now; base = base }) }
         ensures seat { IfOk result (λ made. made.1 ≡ made.0.table) }
     {
         let origin = Origin {

@@ -77,7 +77,8 @@ fn add_at<A: Allocator + Copy>(
     added: Added<A>,
 ) -> Result<(), Refusal>
     requires { at < length transactions.old.items }
-    ensures ok { OnOk result (transactions.new.items ≡ turned_at at (adds added.reads.items added.changes.items added.marks.items) transactions.old.items) }
+    ensures ok { OnOk result (transactions.new.items ≡
+        turned_at at (adds added.reads.items added.changes.items added.marks.items) transactions.old.items) }
     ensures err { OnErr result (transactions.new.items ≡ transactions.old.items) }
     ensures memory { IfErr result (λ e. e ≡ out_of_memory) }
 {
@@ -91,7 +92,10 @@ impl<A: Allocator> World<A> {
         A: Copy,
         requires within { at < length self.old.txns }
         requires room { self.old.place + 1 < 2 ^ 64 }
-        ensures ok { OnOk result (self.new ≡ record self.old { txns = turned_at at (adds added.reads.items added.changes.items added.marks.items) self.old.txns; place = self.old.place + 1 }) }
+        ensures ok { OnOk result (self.new ≡ record self.old {
+          txns = turned_at at (adds added.reads.items added.changes.items added.marks.items) self.old.txns;
+          place = self.old.place + 1;
+        }) }
         ensures err { OnErr result (self.new ≡ self.old) }
         ensures memory { IfErr result (λ e. e ≡ out_of_memory) }
     {

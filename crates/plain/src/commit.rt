@@ -130,7 +130,8 @@ fn try_course<A: Allocator>(
 ) -> Option<Cause>
     requires past { HoldsStretch past transactions.old.items }
     requires within { at < length transactions.old.items }
-    requires committer { StructuresHold node edge (on_course course (txn_at transactions.old.items at)) (turned_at at (on_course course) transactions.old.items) }
+    requires committer { StructuresHold node edge (on_course course (txn_at transactions.old.items at))
+        (turned_at at (on_course course) transactions.old.items) }
     ensures cause { result ≡ first_cause node edge (turned_at at (on_course course) transactions.old.items) }
     ensures same { transactions.new.items ≡ transactions.old.items }
 {
@@ -173,7 +174,8 @@ fn snapshots_with<A: Allocator>(
 ) -> Result<Vec<u64, A>, Refusal>
     requires past { HoldsStretch past transactions.old.items }
     requires within { at < length transactions.old.items }
-    ensures ok { IfOk result (λ snapshots. snapshots.items ≡ owed_snapshots (turned_at at (on_course course) transactions.old.items)) }
+    ensures ok { IfOk result (λ snapshots. snapshots.items ≡
+        owed_snapshots (turned_at at (on_course course) transactions.old.items)) }
     ensures same { transactions.new.items ≡ transactions.old.items }
     ensures memory { IfErr result (λ e. e ≡ out_of_memory) }
 {
@@ -197,7 +199,8 @@ fn install<A: Allocator + Copy>(
 ) -> Result<(), Refusal>
     requires order { AreInOrder rows.old }
     requires below { TablesAreBelow number rows.old }
-    ensures ok { OnOk result (IsInstalled (record { oldest = oldest; snapshots = snapshots.now }) number changes.old rows.old rows.new) }
+    ensures ok { OnOk result (IsInstalled (record { oldest = oldest; snapshots = snapshots.now }) number changes.old
+        rows.old rows.new) }
     ensures err { OnErr result (rows.new ≡ rows.old) }
     ensures same { changes.new ≡ changes.old }
     ensures memory { IfErr result (λ e. e ≡ out_of_memory) }
@@ -219,7 +222,8 @@ fn install_at<A: Allocator + Copy>(
     requires within { at < length transactions.old.items }
     requires order { AreInOrder rows.old }
     requires below { TablesAreBelow number rows.old }
-    ensures ok { OnOk result (IsInstalled (record { oldest = oldest; snapshots = snapshots.now }) number (txn_at transactions.old.items at).changes rows.old rows.new) }
+    ensures ok { OnOk result (IsInstalled (record { oldest = oldest; snapshots = snapshots.now }) number
+        (txn_at transactions.old.items at).changes rows.old rows.new) }
     ensures err { OnErr result (rows.new ≡ rows.old) }
     ensures same { transactions.new.items ≡ transactions.old.items }
     ensures memory { IfErr result (λ e. e ≡ out_of_memory) }
@@ -267,7 +271,12 @@ impl<A: Allocator> World<A> {
     fn turn_committer(&mut self, at: usize, committed: Course, causes: &[Cause])
         requires within { at < length self.old.txns }
         requires room { self.old.place + 1 < 2 ^ 64 }
-        ensures { self.new ≡ record self.old { base = record self.old.base { commits = self.old.base.commits + 1 }; txns = map (doomed_by (self.old.place + 1) causes.now) (turned_at at (on_course committed) self.old.txns); place = self.old.place + 1 } }
+        ensures { self.new ≡ record self.old {
+          base = record self.old.base { commits = self.old.base.commits + 1 };
+          txns = map (doomed_by (self.old.place + 1) causes.now)
+              (turned_at at (on_course committed) self.old.txns);
+          place = self.old.place + 1;
+        } }
     {
         self.base.commits += 1;
         self.place += 1;
@@ -295,7 +304,8 @@ impl<A: Allocator> World<A> {
         committed: Course,
     ) -> Result<Vec<u64, A>, Refusal>
         requires within { at < length self.old.txns }
-        ensures ok { IfOk result (λ snapshots. snapshots.items ≡ owed_snapshots (turned_at at (on_course committed) self.old.txns)) }
+        ensures ok { IfOk result (λ snapshots. snapshots.items ≡
+            owed_snapshots (turned_at at (on_course committed) self.old.txns)) }
         ensures same { self.new ≡ self.old }
         ensures memory { IfErr result (λ e. e ≡ out_of_memory) }
     {
@@ -306,7 +316,8 @@ impl<A: Allocator> World<A> {
     fn dooms_of(&self, alloc: A, at: usize) -> Result<Vec<Cause, A>, Refusal>
         requires within { at < length self.now.txns }
         requires open { is_open (txn_at self.now.txns at).standing ≡ true }
-        ensures ok { IfOk result (λ causes. causes.items ≡ spec.dooms node reads_from self.now.txns (txn_at self.now.txns at)) }
+        ensures ok { IfOk result (λ causes. causes.items ≡
+            spec.dooms node reads_from self.now.txns (txn_at self.now.txns at)) }
         ensures memory { IfErr result (λ e. e ≡ out_of_memory) }
     {
         let all = self.transactions.as_slice();
@@ -328,9 +339,18 @@ impl<A: Allocator> World<A> {
         requires room { self.old.place + 1 < 2 ^ 64 }
         requires current { AreCurrent self.old rows.old }
         requires open { is_open (txn_at self.old.txns at).standing ≡ true }
-        ensures rows { OnOk result (IsInstalled (needed_of (next_commit self.old) (turned_at at (on_course committed) self.old.txns)) (next_commit self.old) (txn_at self.old.txns at).changes rows.old rows.new) }
+        ensures rows { OnOk result (IsInstalled (needed_of (next_commit self.old)
+            (turned_at at (on_course committed) self.old.txns)) (next_commit self.old)
+            (txn_at self.old.txns at).changes rows.old rows.new) }
         ensures rows_err { OnErr result (rows.new ≡ rows.old) }
-        ensures ok { OnOk result (self.new ≡ record self.old { base = record self.old.base { commits = self.old.base.commits + 1 }; txns = map (doomed_by (self.old.place + 1) (spec.dooms node reads_from self.old.txns (txn_at self.old.txns at))) (turned_at at (on_course committed) self.old.txns); place = self.old.place + 1 }) }
+        ensures ok { OnOk result (self.new ≡ record self.old {
+          base = record self.old.base { commits = self.old.base.commits + 1 };
+          txns = map
+              (doomed_by (self.old.place + 1)
+              (spec.dooms node reads_from self.old.txns (txn_at self.old.txns at)))
+              (turned_at at (on_course committed) self.old.txns);
+          place = self.old.place + 1;
+        }) }
         ensures err { OnErr result (self.new ≡ self.old) }
         ensures memory { IfErr result (λ e. e ≡ out_of_memory) }
     {
@@ -355,7 +375,8 @@ impl<A: Allocator> World<A> {
     fn committed(&self, at: usize) -> Course
         requires within { at < length self.now.txns }
         requires room { self.now.place + 1 < 2 ^ 64 }
-        ensures course { (c : Catalog) (X : Tables A) → on_course result (txn_at self.now.txns at) ≡ numbered (world_on c X self.now) (txn_at self.now.txns at) }
+        ensures course { (c : Catalog) (X : Tables A) →
+            on_course result (txn_at self.now.txns at) ≡ numbered (world_on c X self.now) (txn_at self.now.txns at) }
     {
         let transaction = &self.transactions[at];
         if is_read_write(transaction.mode) {
@@ -369,9 +390,12 @@ impl<A: Allocator> World<A> {
     // stays; it takes no memory.
     fn cause_of_commit(&mut self, at: usize, committed: Course) -> Option<Cause>
         requires within { at < length self.old.txns }
-        requires course { (c : Catalog) (X : Tables A) → on_course committed (txn_at self.old.txns at) ≡ numbered (world_on c X self.old) (txn_at self.old.txns at) }
-        requires committer { (c : Catalog) (X : Tables A) → HoldCommitter (world_on c X self.old) (txn_at self.old.txns at) }
-        ensures cause { (c : Catalog) (X : Tables A) → result ≡ cause_of (world_on c X self.old) (txn_at self.old.txns at) }
+        requires course { (c : Catalog) (X : Tables A) →
+            on_course committed (txn_at self.old.txns at) ≡ numbered (world_on c X self.old) (txn_at self.old.txns at) }
+        requires committer { (c : Catalog) (X : Tables A) →
+            HoldCommitter (world_on c X self.old) (txn_at self.old.txns at) }
+        ensures cause { (c : Catalog) (X : Tables A) →
+            result ≡ cause_of (world_on c X self.old) (txn_at self.old.txns at) }
         ensures same { self.new ≡ self.old }
     {
         // Naming a field tells what the type keeps true.
@@ -384,7 +408,9 @@ impl<A: Allocator> World<A> {
         requires within { at < length self.old.txns }
         requires room { self.old.place + 1 < 2 ^ 64 }
         requires open { is_open (txn_at self.old.txns at).standing ≡ true }
-        ensures world { (c : Catalog) (X : Tables A) → self.new ≡ after_owned (world_on c X self.old) Action.Commit (commit_reply (Some cause)) (txn_at self.old.txns at) }
+        ensures world { (c : Catalog) (X : Tables A) →
+            self.new ≡ after_owned (world_on c X self.old) Action.Commit (commit_reply (Some cause))
+            (txn_at self.old.txns at) }
         ensures log { HasSameCommits self.old self.new }
     {
         // The contract alone speaks of the cause.
@@ -407,9 +433,12 @@ impl<A: Allocator> World<A> {
         requires room { self.old.place + 1 < 2 ^ 64 }
         requires current { AreCurrent self.old rows.old }
         requires open { is_open (txn_at self.old.txns at).standing ≡ true }
-        requires course { (c : Catalog) (X : Tables A) → on_course committed (txn_at self.old.txns at) ≡ numbered (world_on c X self.old) (txn_at self.old.txns at) }
-        ensures ok { OnOk result ((c : Catalog) (X : Tables A) → self.new ≡ after_owned (world_on c X self.old) Action.Commit (commit_reply None) (txn_at self.old.txns at)) }
-        ensures rows { OnOk result (StayShown self.old rows.old (committed_by Action.Commit (commit_reply None) (Some (txn_at self.old.txns at))) self.new rows.new) }
+        requires course { (c : Catalog) (X : Tables A) →
+            on_course committed (txn_at self.old.txns at) ≡ numbered (world_on c X self.old) (txn_at self.old.txns at) }
+        ensures ok { OnOk result ((c : Catalog) (X : Tables A) → self.new ≡
+            after_owned (world_on c X self.old) Action.Commit (commit_reply None) (txn_at self.old.txns at)) }
+        ensures rows { OnOk result (StayShown self.old rows.old
+            (committed_by Action.Commit (commit_reply None) (Some (txn_at self.old.txns at))) self.new rows.new) }
         ensures err { OnErr result (self.new ≡ self.old) }
         ensures rows_err { OnErr result (rows.new ≡ rows.old) }
         ensures memory { IfErr result (λ e. e ≡ out_of_memory) }
@@ -435,10 +464,14 @@ impl<A: Allocator> World<A> {
         requires room { self.old.place + 1 < 2 ^ 64 }
         requires current { AreCurrent self.old rows.old }
         requires open { is_open (txn_at self.old.txns at).standing ≡ true }
-        requires committer { (c : Catalog) (X : Tables A) → HoldCommitter (world_on c X self.old) (txn_at self.old.txns at) }
-        ensures cause { IfOk result (λ cause. (c : Catalog) (X : Tables A) → cause ≡ cause_of (world_on c X self.old) (txn_at self.old.txns at)) }
-        ensures world { IfOk result (λ cause. (c : Catalog) (X : Tables A) → self.new ≡ after_owned (world_on c X self.old) Action.Commit (commit_reply cause) (txn_at self.old.txns at)) }
-        ensures rows { IfOk result (λ cause. StayShown self.old rows.old (committed_by Action.Commit (commit_reply cause) (Some (txn_at self.old.txns at))) self.new rows.new) }
+        requires committer { (c : Catalog) (X : Tables A) →
+            HoldCommitter (world_on c X self.old) (txn_at self.old.txns at) }
+        ensures cause { IfOk result (λ cause. (c : Catalog) (X : Tables A) → cause ≡
+            cause_of (world_on c X self.old) (txn_at self.old.txns at)) }
+        ensures world { IfOk result (λ cause. (c : Catalog) (X : Tables A) → self.new ≡
+            after_owned (world_on c X self.old) Action.Commit (commit_reply cause) (txn_at self.old.txns at)) }
+        ensures rows { IfOk result (λ cause. StayShown self.old rows.old
+            (committed_by Action.Commit (commit_reply cause) (Some (txn_at self.old.txns at))) self.new rows.new) }
         ensures err { OnErr result (self.new ≡ self.old) }
         ensures rows_err { OnErr result (rows.new ≡ rows.old) }
         ensures memory { IfErr result (λ e. e ≡ out_of_memory) }
@@ -465,10 +498,14 @@ impl<A: Allocator> World<A> {
         requires room { self.old.place + 1 < 2 ^ 64 }
         requires current { AreCurrent self.old rows.old }
         requires open { is_open (txn_at self.old.txns at).standing ≡ true }
-        requires committer { (c : Catalog) (X : Tables A) → HoldCommitter (world_on c X self.old) (txn_at self.old.txns at) }
-        ensures reply { IfOk result (λ r. (c : Catalog) (X : Tables A) → r ≡ both (commit_reply (cause_of (world_on c X self.old) (txn_at self.old.txns at)))) }
-        ensures world { IfOk result (λ r. (c : Catalog) (X : Tables A) → self.new ≡ after_owned (world_on c X self.old) Action.Commit r.reply (txn_at self.old.txns at)) }
-        ensures rows { IfOk result (λ r. StayShown self.old rows.old (committed_by Action.Commit r.reply (Some (txn_at self.old.txns at))) self.new rows.new) }
+        requires committer { (c : Catalog) (X : Tables A) →
+            HoldCommitter (world_on c X self.old) (txn_at self.old.txns at) }
+        ensures reply { IfOk result (λ r. (c : Catalog) (X : Tables A) → r ≡
+            both (commit_reply (cause_of (world_on c X self.old) (txn_at self.old.txns at)))) }
+        ensures world { IfOk result (λ r. (c : Catalog) (X : Tables A) → self.new ≡
+            after_owned (world_on c X self.old) Action.Commit r.reply (txn_at self.old.txns at)) }
+        ensures rows { IfOk result (λ r. StayShown self.old rows.old
+            (committed_by Action.Commit r.reply (Some (txn_at self.old.txns at))) self.new rows.new) }
         ensures err { OnErr result (self.new ≡ self.old) }
         ensures rows_err { OnErr result (rows.new ≡ rows.old) }
         ensures memory { IfErr result (λ e. e ≡ out_of_memory) }

@@ -60,7 +60,8 @@ impl<A: Allocator> Transaction<A> {
 
     /// The course on which it is over with the event at a place.
     pub fn ends(&self, standing: Standing, place: u64) -> Course
-        ensures course { on_course result self.now ≡ kept (record self.now { standing = standing_of standing; end = place }) }
+        ensures course { on_course result self.now ≡
+            kept (record self.now { standing = standing_of standing; end = place }) }
         ensures same { kept self.now ≡ self.now }
     {
         Course {
@@ -72,7 +73,8 @@ impl<A: Allocator> Transaction<A> {
 
     /// The course on which it has committed as this number, with the event at a place.
     pub fn commits(&self, commit: u64, place: u64) -> Course
-        ensures course { on_course result self.now ≡ kept (record self.now { standing = standing_of Standing.Done; end = place; commit = commit }) }
+        ensures course { on_course result self.now ≡ kept
+            (record self.now { standing = standing_of Standing.Done; end = place; commit = commit }) }
         ensures same { kept self.now ≡ self.now }
     {
         Course {
@@ -85,7 +87,8 @@ impl<A: Allocator> Transaction<A> {
 
     /// The course on which it has a snapshot of so many commits, taken at a place.
     pub fn sees(&self, snapshot: u64, taken: u64, known: bool) -> Course
-        ensures { on_course result self.now ≡ kept (record self.now { snapshot = snapshot; taken = taken; known = known }) }
+        ensures { on_course result self.now ≡ kept
+            (record self.now { snapshot = snapshot; taken = taken; known = known }) }
     {
         Course {
             snapshot,
@@ -97,7 +100,14 @@ impl<A: Allocator> Transaction<A> {
 
     /// The course on which it has an exported snapshot for its own.
     pub fn imports(&self, source: &ExportedSnapshot) -> Course
-        ensures { on_course result self.now ≡ kept (record self.now { snapshot = source.now.snapshot; taken = source.now.taken; imported = true; known = source.now.known }) }
+        ensures { on_course result self.now ≡ kept
+            (record self.now {
+              snapshot = source.now.snapshot;
+              taken = source.now.taken;
+              imported = true;
+              known
+                  = source.now.known;
+            }) }
     {
         Course {
             snapshot: source.snapshot,

@@ -83,7 +83,8 @@ impl<A: Allocator> World<A> {
     // The course of a transaction whose snapshot isn't known to be safe, at a POLL.
     fn polled(&self, transaction: &Transaction<A>) -> Course
         requires { self.now.place + 1 < 2 ^ 64 }
-        ensures { (c : Catalog) (X : Tables A) → on_course result transaction.now ≡ kept (polled (world_on c X self.now) transaction.now) }
+        ensures { (c : Catalog) (X : Tables A) →
+            on_course result transaction.now ≡ kept (polled (world_on c X self.now) transaction.now) }
     {
         if self.retakes(transaction) {
             transaction.sees(self.commits(), self.place + 1, transaction.known)
@@ -95,8 +96,11 @@ impl<A: Allocator> World<A> {
     // The answer to a POLL.
     fn poll(&self, transaction: &Transaction<A>) -> Decision<A>
         requires { self.now.place + 1 < 2 ^ 64 }
-        ensures reply { (c : Catalog) (X : Tables A) → result.reply ≡ poll_reply (world_on c X self.now) transaction.now }
-        ensures course { (c : Catalog) (X : Tables A) → on_course result.course transaction.now ≡ kept (moved (world_on c X self.now) Action.Poll result.reply transaction.now) }
+        ensures reply { (c : Catalog) (X : Tables A) →
+            result.reply ≡ poll_reply (world_on c X self.now) transaction.now }
+        ensures course { (c : Catalog) (X : Tables A) →
+            on_course result.course transaction.now ≡ kept
+            (moved (world_on c X self.now) Action.Poll result.reply transaction.now) }
         ensures brief { IsBrief result.reply }
     {
         if !is_deferrable(transaction.mode) {
@@ -130,8 +134,11 @@ impl<A: Allocator> World<A> {
 
     // The answer to an IMPORT.
     fn import(&self, transaction: &Transaction<A>, id: u64) -> Decision<A>
-        ensures reply { (c : Catalog) (X : Tables A) → result.reply ≡ import_reply (world_on c X self.now) transaction.now id }
-        ensures course { (c : Catalog) (X : Tables A) → on_course result.course transaction.now ≡ kept (moved (world_on c X self.now) (Action.Import id) result.reply transaction.now) }
+        ensures reply { (c : Catalog) (X : Tables A) →
+            result.reply ≡ import_reply (world_on c X self.now) transaction.now id }
+        ensures course { (c : Catalog) (X : Tables A) →
+            on_course result.course transaction.now ≡ kept
+            (moved (world_on c X self.now) (Action.Import id) result.reply transaction.now) }
         ensures brief { IsBrief result.reply }
     {
         if !matches!(transaction.mode, Mode::ReadOnly) {
@@ -162,8 +169,11 @@ impl<A: Allocator> World<A> {
     fn decide_open(&self, transaction: &Transaction<A>, action: &Action<A>) -> Decision<A>
         requires room { self.now.place + 1 < 2 ^ 64 }
         requires simple { is_simple action.now ≡ true }
-        ensures reply { (c : Catalog) (X : Tables A) → result.reply ≡ open_reply (world_on c X self.now) transaction.now action.now }
-        ensures course { (c : Catalog) (X : Tables A) → on_course result.course transaction.now ≡ kept (moved (world_on c X self.now) action.now result.reply transaction.now) }
+        ensures reply { (c : Catalog) (X : Tables A) →
+            result.reply ≡ open_reply (world_on c X self.now) transaction.now action.now }
+        ensures course { (c : Catalog) (X : Tables A) →
+            on_course result.course transaction.now ≡ kept
+            (moved (world_on c X self.now) action.now result.reply transaction.now) }
         ensures brief { IsBrief result.reply }
     {
         match action {
@@ -194,8 +204,11 @@ impl<A: Allocator> World<A> {
     pub(crate) fn decide(&self, transaction: &Transaction<A>, action: &Action<A>) -> Decision<A>
         requires room { self.now.place + 1 < 2 ^ 64 }
         requires simple { is_open transaction.now.standing ≡ true → is_simple action.now ≡ true }
-        ensures reply { (c : Catalog) (X : Tables A) → result.reply ≡ reply_from transaction.now.standing (world_on c X self.now) transaction.now action.now }
-        ensures course { (c : Catalog) (X : Tables A) → on_course result.course transaction.now ≡ kept (turned (world_on c X self.now) action.now result.reply transaction.now) }
+        ensures reply { (c : Catalog) (X : Tables A) →
+            result.reply ≡ reply_from transaction.now.standing (world_on c X self.now) transaction.now action.now }
+        ensures course { (c : Catalog) (X : Tables A) →
+            on_course result.course transaction.now ≡ kept
+            (turned (world_on c X self.now) action.now result.reply transaction.now) }
         ensures brief { IsBrief result.reply }
     {
         match transaction.standing {

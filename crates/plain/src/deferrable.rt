@@ -35,7 +35,8 @@ fn reaches_any_shown<A: Allocator>(
     transaction: &Transaction<A>,
     other: &Transaction<A>,
 ) -> bool
-    ensures { result ≡ list_any (λ v. spec.edge other.now v && nat_le v.commit transaction.now.snapshot) transactions.now }
+    ensures { result ≡ list_any (λ v. spec.edge other.now v && nat_le v.commit transaction.now.snapshot)
+        transactions.now }
 {
     transactions
         .iter()
@@ -49,7 +50,8 @@ fn spoils<A: Allocator>(
     transaction: &Transaction<A>,
     other: &Transaction<A>,
 ) -> bool
-    ensures { result ≡ (spec.was_active transaction.now other.now && spec.spoils transactions.now transaction.now other.now) }
+    ensures { result ≡ (spec.was_active transaction.now other.now && spec.spoils transactions.now transaction.now
+        other.now) }
 {
     was_active(transaction, other)
         && other.standing.is_done()

@@ -64,7 +64,8 @@ fn first_before<T: Party>(
     pivot: &T,
 ) -> Option<Facts>
     ensures { result
-        ≡ option_map T.node (find (spec.is_first T.node T.reads committer.now causes.now pivot.now) (front.now ++ back.now)) }
+        ≡ option_map T.node (find (spec.is_first T.node T.reads committer.now causes.now pivot.now)
+        (front.now ++ back.now)) }
 {
     let first = first_among(front, committer, causes, pivot);
     if first.is_some() {
@@ -101,7 +102,8 @@ fn push_doom<T: Party, A: Allocator>(
     causes: &mut Vec<Cause, A>,
     pivot: &T,
 ) -> Result<(), Refusal>
-    ensures ok { OnOk result (causes.new.items ≡ spec.with_doom T.node T.reads (front.now ++ back.now) committer.now causes.old.items pivot.now) }
+    ensures ok { OnOk result (causes.new.items ≡
+        spec.with_doom T.node T.reads (front.now ++ back.now) committer.now causes.old.items pivot.now) }
     ensures memory { IfErr result (λ e. e ≡ out_of_memory) }
 {
     if let Some(cause) = doom_of(front, back, committer, causes.as_slice(), pivot) {
@@ -118,7 +120,8 @@ fn push_dooms<T: Party, A: Allocator>(
     causes: &mut Vec<Cause, A>,
     pivots: &[T],
 ) -> Result<(), Refusal>
-    ensures ok { OnOk result (causes.new.items ≡ fold (spec.with_doom T.node T.reads (front.now ++ back.now) committer.now) causes.old.items pivots.now) }
+    ensures ok { OnOk result (causes.new.items ≡
+        fold (spec.with_doom T.node T.reads (front.now ++ back.now) committer.now) causes.old.items pivots.now) }
     ensures memory { IfErr result (λ e. e ≡ out_of_memory) }
 {
     for pivot in pivots {
@@ -135,7 +138,8 @@ pub fn dooms<T: Party, A: Allocator>(
     back: &[T],
     committer: &T,
 ) -> Result<Vec<Cause, A>, Refusal>
-    ensures ok { IfOk result (λ causes. causes.items ≡ spec.dooms T.node T.reads (front.now ++ back.now) committer.now) }
+    ensures ok { IfOk result (λ causes. causes.items ≡
+        spec.dooms T.node T.reads (front.now ++ back.now) committer.now) }
     ensures memory { IfErr result (λ e. e ≡ out_of_memory) }
 {
     let mut causes = Vec::new(alloc);

@@ -23,7 +23,13 @@ use value::refusal::{Code, Refusal};
 
 // A transaction's snapshot under an identifier.
 fn exported<A: Allocator>(transaction: &Transaction<A>, id: u64) -> ExportedSnapshot
-    ensures { result ≡ record { id = id; exporter = transaction.now.number; snapshot = transaction.now.snapshot; taken = transaction.now.taken; known = transaction.now.known } }
+    ensures { result ≡ record {
+      id = id;
+      exporter = transaction.now.number;
+      snapshot = transaction.now.snapshot;
+      taken = transaction.now.taken;
+      known = transaction.now.known;
+    } }
 {
     ExportedSnapshot {
         id,
@@ -44,7 +50,12 @@ impl<A: Allocator> World<A> {
     ) -> Result<(), Refusal>
         requires within { at < length self.old.txns }
         requires room { self.old.place + 1 < 2 ^ 64 }
-        ensures ok { OnOk result (self.new ≡ record self.old { txns = turned_at at (on_course course) self.old.txns; exports = self.old.exports ++ exported ∷ []; place = self.old.place + 1 }) }
+        ensures ok { OnOk result (self.new ≡ record self.old {
+          txns = turned_at at (on_course course) self.old.txns;
+          exports = self.old.exports ++
+              exported ∷ [];
+          place = self.old.place + 1;
+        }) }
         ensures err { OnErr result (self.new ≡ self.old) }
         ensures memory { IfErr result (λ e. e ≡ out_of_memory) }
     {
@@ -68,8 +79,10 @@ impl<A: Allocator> World<A> {
         requires within { at < length self.old.txns }
         requires room { self.old.place + 1 < 2 ^ 64 }
         requires open { is_open (txn_at self.old.txns at).standing ≡ true }
-        ensures reply { IfOk result (λ r. (c : Catalog) (X : Tables A) → r ≡ both (export_reply (world_on c X self.old) (txn_at self.old.txns at))) }
-        ensures world { IfOk result (λ r. (c : Catalog) (X : Tables A) → self.new ≡ after_owned (world_on c X self.old) Action.Export r.reply (txn_at self.old.txns at)) }
+        ensures reply { IfOk result (λ r. (c : Catalog) (X : Tables A) → r ≡
+            both (export_reply (world_on c X self.old) (txn_at self.old.txns at))) }
+        ensures world { IfOk result (λ r. (c : Catalog) (X : Tables A) → self.new ≡
+            after_owned (world_on c X self.old) Action.Export r.reply (txn_at self.old.txns at)) }
         ensures log { OnOk result (HasSameCommits self.old self.new) }
         ensures err { OnErr result (self.new ≡ self.old) }
         ensures memory { IfErr result (λ e. e ≡ out_of_memory) }

@@ -88,7 +88,8 @@ fn is_needed_at<A: Allocator>(
     reach: u64,
 ) -> bool
     requires { (kept ≤ at) × (at < length transactions.now) }
-    ensures { result ≡ is_needed_among oldest reach (take kept transactions.now ++ drop at transactions.now) (txn_at transactions.now at) }
+    ensures { result ≡ is_needed_among oldest reach (take kept transactions.now ++ drop at transactions.now)
+        (txn_at transactions.now at) }
 {
     let (before, _) = transactions.split_at(kept);
     let (_, left) = transactions.split_at(at);

@@ -80,7 +80,8 @@ fn first_of_both(before: Option<Facts>, behind: Option<Facts>) -> Option<Facts>
 // Of the transactions that close a structure on two others, the first to commit.
 fn last_among<T: Party>(first: &T, pivot: &T, transactions: &[T]) -> Option<Facts>
     ensures { result
-        ≡ option_map T.node (earliest T.node (edge_of T.node T.reads) (filter (is_dangerous T.node (edge_of T.node T.reads) first.now pivot.now) transactions.now)) }
+        ≡ option_map T.node (earliest T.node (edge_of T.node T.reads)
+        (filter (is_dangerous T.node (edge_of T.node T.reads) first.now pivot.now) transactions.now)) }
 {
     let mut last = None;
     for candidate in transactions {
@@ -94,7 +95,8 @@ fn last_among<T: Party>(first: &T, pivot: &T, transactions: &[T]) -> Option<Fact
 // The same of two lists, one behind the other.
 fn last_of<T: Party>(first: &T, pivot: &T, front: &[T], back: &[T]) -> Option<Facts>
     ensures { result
-        ≡ option_map T.node (earliest T.node (edge_of T.node T.reads) (filter (is_dangerous T.node (edge_of T.node T.reads) first.now pivot.now) (front.now ++ back.now))) }
+        ≡ option_map T.node (earliest T.node (edge_of T.node T.reads)
+        (filter (is_dangerous T.node (edge_of T.node T.reads) first.now pivot.now) (front.now ++ back.now))) }
 {
     first_of_both(
         last_among(first, pivot, front),
@@ -140,7 +142,8 @@ pub(crate) fn commit_of<T: Party>(transaction: &T) -> u64
 /// The lesser of a number and of a commit, where the transaction has an edge to one before its own.
 pub(crate) fn lesser<T: Party>(least: u64, transaction: &T, other: &T) -> u64
     ensures { result
-        ≡ (if edge_of T.node T.reads transaction.now other.now && nat_lt (T.node other.now).commit (T.node transaction.now).commit
+        ≡ (if edge_of T.node T.reads transaction.now other.now && nat_lt (T.node other.now).commit
+        (T.node transaction.now).commit
         then min (T.node other.now).commit least
         else least) }
 {

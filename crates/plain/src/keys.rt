@@ -22,7 +22,8 @@ use value::refusal::TxnNo;
 fn lesser_committed<T: Party>(least: u64, transaction: &T, other: &T) -> u64
     ensures { result
         ≡ (if (T.node other.now).committed
-        then (if edge_of T.node T.reads transaction.now other.now && nat_lt (T.node other.now).commit (T.node transaction.now).commit
+        then (if edge_of T.node T.reads transaction.now other.now && nat_lt (T.node other.now).commit
+        (T.node transaction.now).commit
         then min (T.node other.now).commit least
         else least)
         else least) }
@@ -38,7 +39,8 @@ fn lesser_committed<T: Party>(least: u64, transaction: &T, other: &T) -> u64
 // an edge.
 fn first_committed<T: Party>(transaction: &T, transactions: &[T]) -> u64
     ensures { result
-        ≡ first_part T.node (edge_of T.node T.reads) transaction.now (filter (λ t. (T.node t).committed) transactions.now) }
+        ≡ first_part T.node (edge_of T.node T.reads) transaction.now
+        (filter (λ t. (T.node t).committed) transactions.now) }
 {
     let mut least = commit_of(transaction);
     let mut left = transactions;
@@ -103,7 +105,11 @@ fn with_key<A: Allocator>(
     transaction: &Transaction<A>,
 ) -> (TxnNo, SerialKey)
     requires { HoldsStretch past transactions.now }
-    ensures { keyed result ≡ (transaction.now.number, serial_key node edge (filter (λ t. is_done t.standing) transactions.now) transaction.now) }
+    ensures { keyed result ≡ (
+      transaction.now.number,
+      serial_key node edge
+          (filter (λ t. is_done t.standing) transactions.now) transaction.now,
+    ) }
 {
     (
         TxnNo(transaction.number),

@@ -1,4 +1,5 @@
-//! The definitions as a program: each function answers what the definition of the same name gives, over the transactions that still matter. What only asks takes no memory.
+//! The definitions as a program: each function answers what the definition of the same name gives, over the
+//! transactions that still matter. What only asks takes no memory.
 
 #![tactic(auto)]
 

@@ -27,9 +27,25 @@ impl Model for Facts {
 
     ghost Value = { Node };
 
-    ghost view = { λ f. record { number = f.number; read_write = f.read_write; snapshot = f.snapshot; active = f.active; committed = f.committed; commit = f.commit; place = f.place } };
+    ghost view = { λ f. record {
+      number = f.number;
+      read_write = f.read_write;
+      snapshot = f.snapshot;
+      active = f.active;
+      committed = f.committed;
+      commit = f.commit;
+      place = f.place;
+    } };
 
-    ghost inverse = { λ n. record { number = n.number; read_write = n.read_write; snapshot = n.snapshot; active = n.active; committed = n.committed; commit = n.commit; place = n.place } };
+    ghost inverse = { λ n. record {
+      number = n.number;
+      read_write = n.read_write;
+      snapshot = n.snapshot;
+      active = n.active;
+      committed = n.committed;
+      commit = n.commit;
+      place = n.place;
+    } };
 }
 
 /// A transaction, as isolation looks at it.

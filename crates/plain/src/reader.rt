@@ -110,7 +110,8 @@ impl<A: Allocator> World<A> {
     where
         A: Copy,
         requires { AreInOrder rows.now }
-        ensures { (c : Catalog) (X : Tables A) → AnswersOrNoMemory result (reader_on (versions_at rows.now) (kept_current c X self.now session)) }
+        ensures { (c : Catalog) (X : Tables A) →
+            AnswersOrNoMemory result (reader_on (versions_at rows.now) (kept_current c X self.now session)) }
     {
         match find_current(self.transactions.as_slice(), self.past, session) {
             Some(at) => self.transactions[at].reader(alloc, rows),

@@ -56,7 +56,9 @@ impl<A: Allocator> World<A> {
         requires fits { Fits catalog.now statement.now }
         requires reads { writes statement.now ≡ false }
         requires found { IsFound catalog.now (with_own (versions_at rows.now) transaction.now) statement.now reply }
-        ensures ok { IfOk result (λ r. (X : AnyTables A) → IsRan (world_on catalog.now X self.now) (with_own (versions_at rows.now) transaction.now) statement.now r) }
+        ensures ok { IfOk result (λ r. (X : AnyTables A) →
+            IsRan (world_on catalog.now X self.now) (with_own (versions_at rows.now) transaction.now)
+            statement.now r) }
         ensures memory { IfErr result (λ e. e ≡ out_of_memory) }
     {
         if transaction.must_wait() {
@@ -88,9 +90,14 @@ impl<A: Allocator> World<A> {
         requires open { is_open (txn_at self.old.txns at).standing ≡ true }
         requires fits { Fits catalog.now statement.now }
         requires reads { writes statement.now ≡ false }
-        requires found { IsFound catalog.now (with_own (versions_at rows.now) (txn_at self.old.txns at)) statement.now reply }
-        ensures reply { IfOk result (λ r. (X : AnyTables A) → r ≡ both (run_reply (world_on catalog.now X self.old) (with_own (versions_at rows.now) (txn_at self.old.txns at)) statement.now)) }
-        ensures world { IfOk result (λ r. (X : AnyTables A) → self.new ≡ after_owned (world_on catalog.now X self.old) (Action.Run statement.now) r.reply (with_own (versions_at rows.now) (txn_at self.old.txns at))) }
+        requires found { IsFound catalog.now (with_own (versions_at rows.now) (txn_at self.old.txns at))
+            statement.now reply }
+        ensures reply { IfOk result (λ r. (X : AnyTables A) → r ≡
+            both (run_reply (world_on catalog.now X self.old)
+            (with_own (versions_at rows.now) (txn_at self.old.txns at)) statement.now)) }
+        ensures world { IfOk result (λ r. (X : AnyTables A) → self.new ≡
+            after_owned (world_on catalog.now X self.old) (Action.Run statement.now) r.reply
+            (with_own (versions_at rows.now) (txn_at self.old.txns at))) }
         ensures log { OnOk result (HasSameCommits self.old self.new) }
         ensures err { OnErr result (self.new ≡ self.old) }
         ensures memory { IfErr result (λ e. e ≡ out_of_memory) }
@@ -122,9 +129,15 @@ impl<A: Allocator> World<A> {
         requires current { AreCurrent self.old rows.now }
         requires allowed { Allowed catalog.now action.now }
         requires reads { only_reads action.now ≡ true }
-        requires found { IsFoundFor catalog.now (Some (ready (versions_at rows.now) action.now (txn_at self.old.txns at))) action.now reply }
-        ensures reply { IfOk result (λ r. (X : AnyTables A) → r ≡ both (reply_of (world_on catalog.now X self.old) (Some (ready (versions_at rows.now) action.now (txn_at self.old.txns at))) action.now)) }
-        ensures world { IfOk result (λ r. (X : AnyTables A) → self.new ≡ after_owned (world_on catalog.now X self.old) action.now r.reply (ready (versions_at rows.now) action.now (txn_at self.old.txns at))) }
+        requires found { IsFoundFor catalog.now
+            (Some (ready (versions_at rows.now) action.now (txn_at self.old.txns at)))
+            action.now reply }
+        ensures reply { IfOk result (λ r. (X : AnyTables A) → r ≡
+            both (reply_of (world_on catalog.now X self.old)
+            (Some (ready (versions_at rows.now) action.now (txn_at self.old.txns at))) action.now)) }
+        ensures world { IfOk result (λ r. (X : AnyTables A) → self.new ≡
+            after_owned (world_on catalog.now X self.old) action.now r.reply
+            (ready (versions_at rows.now) action.now (txn_at self.old.txns at))) }
         ensures rows { OnOk result (StayShown self.old rows.now [] self.new rows.now) }
         ensures err { OnErr result (self.new ≡ self.old) }
         ensures memory { IfErr result (λ e. e ≡ out_of_memory) }
@@ -158,9 +171,15 @@ impl<A: Allocator> World<A> {
         requires current { AreCurrent self.old rows.now }
         requires allowed { Allowed catalog.now action.now }
         requires reads { only_reads action.now ≡ true }
-        requires found { IsFoundFor catalog.now (ready_for (versions_at rows.now) action.now (kept_current catalog.now [] self.old session)) action.now reply }
-        ensures reply { IfOk result (λ r. (X : AnyTables A) → r ≡ both (reply_of (world_on catalog.now X self.old) (ready_for (versions_at rows.now) action.now (kept_current catalog.now X self.old session)) action.now)) }
-        ensures world { IfOk result (λ r. (X : AnyTables A) → self.new ≡ kept_after (world_on catalog.now X self.old) session action.now r.reply (ready_for (versions_at rows.now) action.now (kept_current catalog.now X self.old session))) }
+        requires found { IsFoundFor catalog.now (ready_for (versions_at rows.now) action.now
+            (kept_current catalog.now [] self.old session)) action.now reply }
+        ensures reply { IfOk result (λ r. (X : AnyTables A) → r ≡
+            both (reply_of (world_on catalog.now X self.old)
+            (ready_for (versions_at rows.now) action.now (kept_current catalog.now X self.old session))
+            action.now)) }
+        ensures world { IfOk result (λ r. (X : AnyTables A) → self.new ≡
+            kept_after (world_on catalog.now X self.old) session action.now r.reply
+            (ready_for (versions_at rows.now) action.now (kept_current catalog.now X self.old session))) }
         ensures rows { OnOk result (StayShown self.old rows.now [] self.new rows.now) }
         ensures err { OnErr result (self.new ≡ self.old) }
         ensures memory { IfErr result (λ e. e ≡ out_of_memory) }

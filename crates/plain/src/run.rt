@@ -82,7 +82,8 @@ fn evaluate_own<A: Allocator + Copy>(
     requires order { AreInOrder rows.now }
     requires fits { Fits catalog.now statement.now }
     requires held { are_of catalog.now (put_all changes.old (shown snapshot rows.now)) ≡ true }
-    ensures ok { IfOk result (λ o. o ≡ outcome catalog.now statement.now (put_all changes.old (shown snapshot rows.now))) }
+    ensures ok { IfOk result (λ o. o ≡
+        outcome catalog.now statement.now (put_all changes.old (shown snapshot rows.now))) }
     ensures same { changes.new ≡ changes.old }
     ensures memory { IfErr result (λ e. e ≡ out_of_memory) }
 {
@@ -104,7 +105,8 @@ fn evaluate_at<A: Allocator + Copy>(
     requires order { AreInOrder rows.now }
     requires fits { Fits catalog.now statement.now }
     requires held { HoldsOwn catalog.now (versions_at rows.now) (txn_at transactions.old.items at) }
-    ensures ok { IfOk result (λ o. o ≡ outcome catalog.now statement.now (with_own (versions_at rows.now) (txn_at transactions.old.items at)).own) }
+    ensures ok { IfOk result (λ o. o ≡ outcome catalog.now statement.now
+        (with_own (versions_at rows.now) (txn_at transactions.old.items at)).own) }
     ensures same { transactions.new.items ≡ transactions.old.items }
     ensures memory { IfErr result (λ e. e ≡ out_of_memory) }
 {
@@ -143,7 +145,8 @@ impl<A: Allocator> Transaction<A> {
         requires order { AreInOrder rows.now }
         requires fits { Fits catalog.now statement.now }
         requires held { HoldsOwn catalog.now (versions_at rows.now) self.old }
-        ensures ok { IfOk result (λ o. o ≡ outcome catalog.now statement.now (with_own (versions_at rows.now) self.old).own) }
+        ensures ok { IfOk result (λ o. o ≡ outcome catalog.now statement.now
+            (with_own (versions_at rows.now) self.old).own) }
         ensures same { self.new ≡ self.old }
         ensures memory { IfErr result (λ e. e ≡ out_of_memory) }
     {
@@ -238,7 +241,9 @@ impl<A: Allocator> World<A> {
         requires order { AreInOrder rows.now }
         requires fits { Fits catalog.now statement.now }
         requires held { HoldsOwn catalog.now (versions_at rows.now) (txn_at self.old.txns at) }
-        ensures ok { IfOk result (λ r. (X : AnyTables A) → IsRan (world_on catalog.now X self.old) (with_own (versions_at rows.now) (txn_at self.old.txns at)) statement.now r) }
+        ensures ok { IfOk result (λ r. (X : AnyTables A) →
+            IsRan (world_on catalog.now X self.old) (with_own (versions_at rows.now) (txn_at self.old.txns at))
+            statement.now r) }
         ensures same { self.new ≡ self.old }
         ensures memory { IfErr result (λ e. e ≡ out_of_memory) }
     {
@@ -256,7 +261,9 @@ impl<A: Allocator> World<A> {
     // The course of an open transaction after a refusal of a statement.
     fn refused_course(&self, transaction: &Transaction<A>, code: Code) -> Course
         requires { self.now.place + 1 < 2 ^ 64 }
-        ensures { on_course result transaction.now ≡ kept (if goes_on code then transaction.now else record transaction.now { standing = standing_of Standing.Failed; end = self.now.place + 1 }) }
+        ensures { on_course result transaction.now ≡
+            kept (if goes_on code then transaction.now else record transaction.now
+            { standing = standing_of Standing.Failed; end = self.now.place + 1 }) }
     {
         if goes_on(code) {
             transaction.course()
@@ -271,7 +278,9 @@ impl<A: Allocator> World<A> {
         requires room { self.old.place + 1 < 2 ^ 64 }
         requires open { is_open (txn_at self.old.txns at).standing ≡ true }
         ensures reply { result ≡ both (Reply.Refused refusal) }
-        ensures world { (c : AnyCatalog) (X : AnyTables A) (tables : ℕ → AnyTables A) (q : AnyStatement A) → self.new ≡ after_owned (world_on c X self.old) (Action.Run q) (Reply.Refused refusal) (with_own tables (txn_at self.old.txns at)) }
+        ensures world { (c : AnyCatalog) (X : AnyTables A) (tables : ℕ → AnyTables A) (q : AnyStatement A) →
+            self.new ≡ after_owned (world_on c X self.old) (Action.Run q) (Reply.Refused refusal)
+            (with_own tables (txn_at self.old.txns at)) }
         ensures log { HasSameCommits self.old self.new }
     {
         let course = self.refused_course(&self.transactions[at], refusal.code);
@@ -299,8 +308,12 @@ impl<A: Allocator> World<A> {
         requires order { AreInOrder rows.now }
         requires fits { Fits catalog.now statement.now }
         requires held { HoldsOwn catalog.now (versions_at rows.now) (txn_at self.old.txns at) }
-        ensures reply { IfOk result (λ r. (X : AnyTables A) → r ≡ both (run_reply (world_on catalog.now X self.old) (with_own (versions_at rows.now) (txn_at self.old.txns at)) statement.now)) }
-        ensures world { IfOk result (λ r. (X : AnyTables A) → self.new ≡ after_owned (world_on catalog.now X self.old) (Action.Run statement.now) r.reply (with_own (versions_at rows.now) (txn_at self.old.txns at))) }
+        ensures reply { IfOk result (λ r. (X : AnyTables A) → r ≡
+            both (run_reply (world_on catalog.now X self.old)
+            (with_own (versions_at rows.now) (txn_at self.old.txns at)) statement.now)) }
+        ensures world { IfOk result (λ r. (X : AnyTables A) → self.new ≡
+            after_owned (world_on catalog.now X self.old) (Action.Run statement.now) r.reply
+            (with_own (versions_at rows.now) (txn_at self.old.txns at))) }
         ensures log { OnOk result (HasSameCommits self.old self.new) }
         ensures err { OnErr result (self.new ≡ self.old) }
         ensures memory { IfErr result (λ e. e ≡ out_of_memory) }

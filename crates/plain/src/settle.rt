@@ -29,8 +29,12 @@ impl<A: Allocator> World<A> {
         requires within { at < length self.old.txns }
         requires room { self.old.place + 1 < 2 ^ 64 }
         requires simple { is_open (txn_at self.old.txns at).standing ≡ true → is_simple action.now ≡ true }
-        ensures reply { (c : Catalog) (X : Tables A) → result ≡ both (reply_from (txn_at self.old.txns at).standing (world_on c X self.old) (txn_at self.old.txns at) action.now) }
-        ensures world { (c : Catalog) (X : Tables A) → self.new ≡ after_owned (world_on c X self.old) action.now result.reply (txn_at self.old.txns at) }
+        ensures reply { (c : Catalog) (X : Tables A) →
+            result ≡ both
+            (reply_from (txn_at self.old.txns at).standing (world_on c X self.old) (txn_at self.old.txns at)
+            action.now) }
+        ensures world { (c : Catalog) (X : Tables A) →
+            self.new ≡ after_owned (world_on c X self.old) action.now result.reply (txn_at self.old.txns at) }
         ensures log { HasSameCommits self.old self.new }
     {
         let decision = self.decide(&self.transactions[at], action);
@@ -47,7 +51,12 @@ impl<A: Allocator> World<A> {
     where
         A: Copy,
         requires { self.old.place + 1 < 2 ^ 64 }
-        ensures ok { OnOk result (self.new ≡ record self.old { txns = self.old.txns ++ begun_at session mode (self.old.base.transactions + length self.old.txns + 1) (self.old.place + 1) self.old.base.commits ∷ []; place = self.old.place + 1 }) }
+        ensures ok { OnOk result (self.new ≡ record self.old {
+          txns = self.old.txns ++ begun_at session mode
+              (self.old.base.transactions + length self.old.txns + 1) (self.old.place + 1) self.old.base.commits ∷
+              [];
+          place = self.old.place + 1;
+        }) }
         ensures err { OnErr result (self.new ≡ self.old) }
         ensures memory { IfErr result (λ e. e ≡ out_of_memory) }
     {
@@ -81,7 +90,8 @@ impl<A: Allocator> World<A> {
         A: Copy,
         requires { self.old.place + 1 < 2 ^ 64 }
         ensures reply { IfOk result (λ r. r ≡ both (idle action.now)) }
-        ensures world { IfOk result (λ r. (c : Catalog) (X : Tables A) → self.new ≡ kept_after (world_on c X self.old) session action.now r.reply None) }
+        ensures world { IfOk result (λ r. (c : Catalog) (X : Tables A) → self.new ≡
+            kept_after (world_on c X self.old) session action.now r.reply None) }
         ensures log { OnOk result (HasSameCommits self.old self.new) }
         ensures err { OnErr result (self.new ≡ self.old) }
         ensures memory { IfErr result (λ e. e ≡ out_of_memory) }

@@ -25,9 +25,22 @@ impl Model for ExportedSnapshot {
 
     ghost Value = { Exported_snapshot };
 
-    ghost view = { λ x. record { id = x.id; exporter = x.exporter; snapshot = x.snapshot; taken = x.taken; known = x.known } };
+    ghost view = { λ x. record {
+      id = x.id;
+      exporter = x.exporter;
+      snapshot = x.snapshot;
+      taken = x.taken;
+      known = x.known;
+    } };
 
-    ghost inverse = { λ x. record { id = x.id; exporter = x.exporter; snapshot = x.snapshot; taken = x.taken; known = x.known } };
+    ghost inverse = { λ x. record {
+      id = x.id;
+      exporter = x.exporter;
+      snapshot = x.snapshot;
+      taken = x.taken;
+      known
+          = x.known;
+    } };
 }
 
 // The place among these of the session's transaction, which it has still to end.

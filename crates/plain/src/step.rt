@@ -47,10 +47,16 @@ impl<A: Allocator> World<A> {
         requires allowed { Allowed catalog.now action.now }
         requires current { AreCurrent self.old rows.old }
         requires held { HoldsOwn catalog.now (versions_at rows.old) (txn_at self.old.txns at) }
-        requires committer { is_open (txn_at self.old.txns at).standing ≡ true → HoldCommitter (world_on catalog.now [] self.old) (txn_at self.old.txns at) }
-        ensures reply { IfOk result (λ r. (X : AnyTables A) → r ≡ both (reply_of (world_on catalog.now X self.old) (Some (ready (versions_at rows.old) action.now (txn_at self.old.txns at))) action.now)) }
-        ensures world { IfOk result (λ r. (X : AnyTables A) → self.new ≡ after_owned (world_on catalog.now X self.old) action.now r.reply (ready (versions_at rows.old) action.now (txn_at self.old.txns at))) }
-        ensures rows { IfOk result (λ r. StayShown self.old rows.old (committed_by action.now r.reply (Some (txn_at self.old.txns at))) self.new rows.new) }
+        requires committer { is_open (txn_at self.old.txns at).standing ≡ true →
+            HoldCommitter (world_on catalog.now [] self.old) (txn_at self.old.txns at) }
+        ensures reply { IfOk result (λ r. (X : AnyTables A) → r ≡
+            both (reply_of (world_on catalog.now X self.old)
+            (Some (ready (versions_at rows.old) action.now (txn_at self.old.txns at))) action.now)) }
+        ensures world { IfOk result (λ r. (X : AnyTables A) → self.new ≡
+            after_owned (world_on catalog.now X self.old) action.now r.reply
+            (ready (versions_at rows.old) action.now (txn_at self.old.txns at))) }
+        ensures rows { IfOk result (λ r. StayShown self.old rows.old
+            (committed_by action.now r.reply (Some (txn_at self.old.txns at))) self.new rows.new) }
         ensures err { OnErr result (self.new ≡ self.old) }
         ensures rows_err { OnErr result (rows.new ≡ rows.old) }
         ensures memory { IfErr result (λ e. e ≡ out_of_memory) }
@@ -84,10 +90,17 @@ impl<A: Allocator> World<A> {
         requires allowed { Allowed catalog.now action.now }
         requires current { AreCurrent self.old rows.old }
         requires held { HoldsCurrent catalog.now (versions_at rows.old) (kept_current catalog.now [] self.old session) }
-        requires committer { HoldsCommitter (world_on catalog.now [] self.old) (kept_current catalog.now [] self.old session) }
-        ensures reply { IfOk result (λ r. (X : AnyTables A) → r ≡ both (reply_of (world_on catalog.now X self.old) (ready_for (versions_at rows.old) action.now (kept_current catalog.now X self.old session)) action.now)) }
-        ensures world { IfOk result (λ r. (X : AnyTables A) → self.new ≡ kept_after (world_on catalog.now X self.old) session action.now r.reply (ready_for (versions_at rows.old) action.now (kept_current catalog.now X self.old session))) }
-        ensures rows { IfOk result (λ r. StayShown self.old rows.old (committed_by action.now r.reply (kept_current catalog.now [] self.old session)) self.new rows.new) }
+        requires committer { HoldsCommitter (world_on catalog.now [] self.old)
+            (kept_current catalog.now [] self.old session) }
+        ensures reply { IfOk result (λ r. (X : AnyTables A) → r ≡
+            both (reply_of (world_on catalog.now X self.old)
+            (ready_for (versions_at rows.old) action.now (kept_current catalog.now X self.old session))
+            action.now)) }
+        ensures world { IfOk result (λ r. (X : AnyTables A) → self.new ≡
+            kept_after (world_on catalog.now X self.old) session action.now r.reply
+            (ready_for (versions_at rows.old) action.now (kept_current catalog.now X self.old session))) }
+        ensures rows { IfOk result (λ r. StayShown self.old rows.old
+            (committed_by action.now r.reply (kept_current catalog.now [] self.old session)) self.new rows.new) }
         ensures err { OnErr result (self.new ≡ self.old) }
         ensures rows_err { OnErr result (rows.new ≡ rows.old) }
         ensures memory { IfErr result (λ e. e ≡ out_of_memory) }

@@ -48,7 +48,13 @@ impl Stretch {
     // number, all over with the event at a place.
     fn with(self, newest: u64, place: u64) -> Stretch
         requires { self.to + 1 < 2 ^ 64 }
-        ensures { result ≡ record { from = self.from; to = self.to + 1; newest = max self.newest newest; until = max self.until place } }
+        ensures { result ≡ record {
+          from = self.from;
+          to = self.to + 1;
+          newest = max self.newest newest;
+          until = max
+              self.until place;
+        } }
     {
         Stretch {
             from: self.from,

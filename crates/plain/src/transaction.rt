@@ -102,7 +102,25 @@ impl<A: Allocator> Model for Transaction<A> {
 
     ghost Value = { Txn A };
 
-    ghost view = { λ t. record { session = t.session; number = t.number; mode = t.mode; begin = t.begin; standing = standing_of t.standing; end = t.end; commit = t.commit; snapshot = t.snapshot; taken = t.taken; imported = t.imported; known = t.known; asked = t.asked; statements = []; own = []; reads = t.reads; changes = t.changes; marks = t.marks.items } };
+    ghost view = { λ t. record {
+      session = t.session;
+      number = t.number;
+      mode = t.mode;
+      begin = t.begin;
+      standing = standing_of t.standing;
+      end = t.end;
+      commit = t.commit;
+      snapshot = t.snapshot;
+      taken = t.taken;
+      imported = t.imported;
+      known = t.known;
+      asked = t.asked;
+      statements = [];
+      own = [];
+      reads = t.reads;
+      changes = t.changes;
+      marks = t.marks.items;
+    } };
 }
 
 impl<A: Allocator> Transaction<A> {

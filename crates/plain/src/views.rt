@@ -57,7 +57,8 @@ impl<A: Allocator> World<A> {
     pub fn view(&self, alloc: A, rows: &Rows<A>, session: SessionId) -> Result<View<A>, Refusal>
     where
         A: Copy,
-        ensures { (c : Catalog) (X : Tables A) → AnswersOrNoMemory result (view_on (versions_at rows.now) (kept_current c X self.now session)) }
+        ensures { (c : Catalog) (X : Tables A) →
+            AnswersOrNoMemory result (view_on (versions_at rows.now) (kept_current c X self.now session)) }
     {
         match find_current(self.transactions.as_slice(), self.past, session) {
             Some(at) => self.transactions[at].view(alloc, rows),
@@ -76,8 +77,14 @@ impl<A: Allocator> World<A> {
 
     /// The numbers of transactions, commits, identifiers and events so far.
     pub fn counted(&self) -> Base
-        ensures value { result ≡ record { transactions = self.now.base.transactions + length self.now.txns; commits = self.now.base.commits; identifiers = self.now.base.identifiers + length self.now.exports; events = self.now.place } }
-        ensures within { (result.transactions ≤ result.events) × (result.commits ≤ result.events) × (result.identifiers ≤ result.events) }
+        ensures value { result ≡ record {
+          transactions = self.now.base.transactions + length self.now.txns;
+          commits = self.now.base.commits;
+          identifiers = self.now.base.identifiers + length self.now.exports;
+          events = self.now.place;
+        } }
+        ensures within { (result.transactions ≤ result.events) × (result.commits ≤ result.events) ×
+            (result.identifiers ≤ result.events) }
     {
         Base {
             transactions: self.base.transactions + self.transactions.len() as u64,

@@ -32,9 +32,16 @@ impl<A: Allocator> Model for World<A> {
 
     ghost Value = { Ledger A };
 
-    ghost view = { λ w. record { base = w.base; txns = w.transactions.items; exports = w.exports.items; place = w.place } };
+    ghost view = { λ w. record {
+      base = w.base;
+      txns = w.transactions.items;
+      exports = w.exports.items;
+      place = w.place;
+    } };
 
-    ghost invariant = { λ w. IsCounted (record { base = w.base; txns = w.transactions.items; exports = w.exports.items; place = w.place }) × HoldsStretch w.past w.transactions.items };
+    ghost invariant = { λ w. IsCounted
+        (record { base = w.base; txns = w.transactions.items; exports = w.exports.items; place = w.place }) ×
+        HoldsStretch w.past w.transactions.items };
 }
 
 // Takes the transaction at a place to a course.
@@ -79,7 +86,10 @@ impl<A: Allocator> World<A> {
     pub(crate) fn turn(&mut self, at: usize, course: Course)
         requires within { at < length self.old.txns }
         requires room { self.old.place + 1 < 2 ^ 64 }
-        ensures { self.new ≡ record self.old { txns = turned_at at (on_course course) self.old.txns; place = self.old.place + 1 } }
+        ensures { self.new ≡ record self.old {
+          txns = turned_at at (on_course course) self.old.txns;
+          place = self.old.place + 1;
+        } }
     {
         self.past = self.past.without(at);
         turn(&mut self.transactions, at, course);

@@ -48,7 +48,8 @@ pub(crate) fn dump_text<'p, A: Allocator>(
     done: Result<(), BackupFault>,
 ) -> Result<Vec<u8, A>, Fault<'p>>
     ensures text { IfOk result (λ text. spec.dump_text session done ≡ Some text.items) }
-    ensures fault { IfErr result (λ f. (f ≡ Fault.Script 0) ⊎ (f ≡ Fault.Device path.entry) × (done ≡ Err (BackupFault.Dump DumpFault.Device))) }
+    ensures fault { IfErr result (λ f. (f ≡ Fault.Script 0) ⊎ (f ≡ Fault.Device path.entry) ×
+        (done ≡ Err (BackupFault.Dump DumpFault.Device))) }
 {
     match done {
         Ok(()) => whole_text(alloc, session),

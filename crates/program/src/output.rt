@@ -34,7 +34,13 @@ impl<'o, W: Write, A: Allocator> Model for Printer<'o, W, A> {
 
     ghost Value = { Printed };
 
-    ghost view = { λ p. record { stream = p.out.ghost_name; out = W.contents p.out.now; held = p.held.items; failed = p.has_failed } };
+    ghost view = { λ p. record {
+      stream = p.out.ghost_name;
+      out = W.contents p.out.now;
+      held = p.held.items;
+      failed
+          = p.has_failed;
+    } };
 }
 
 impl<'o, W: Write, A: Allocator> Printer<'o, W, A> {

@@ -193,7 +193,9 @@ where
     F: Files<A>,
     W: Write,
     T: Threads + Wait + Sync,
-    ensures done { OnOk result (IsRestored A (F.held files.now) (F.input files.now) F.Out.path F.Out.taken path.entry.now out.entry.now printer.old printer.new) }
+    ensures done { OnOk result (IsRestored A (F.held files.now) (F.input files.now) F.Out.path F.Out.taken
+        path.entry.now
+        out.entry.now printer.old printer.new) }
     ensures stopped { OnErr result (Prints printer.old printer.new []) }
 {
     let bytes = read_path(alloc, files, path, NO_MEMORY)?;

@@ -53,7 +53,8 @@ pub(crate) fn read_path<'p, A, F>(
 where
     A: Allocator + Copy,
     F: Files<A>,
-    ensures read { IfOk result (λ bytes. IsAllOf (read_of (F.held files.now) (F.input files.now) path.now) bytes.items) }
+    ensures read { IfOk result (λ bytes. IsAllOf (read_of (F.held files.now) (F.input files.now) path.now)
+        bytes.items) }
     ensures fault { IfErr result (λ f. (f ≡ memory.entry) ⊎ IsFileFault path.now f) }
 {
     let read = if path == "-" {
@@ -77,7 +78,8 @@ fn open_dump<'p, A, F>(
 where
     A: Allocator + Copy,
     F: Files<A>,
-    ensures read { IfOk result (λ x. (bytes : List ℕ) × IsAllOf (F.held files.now path.now) bytes × (dump_read bytes ≡ Ok x)) }
+    ensures read { IfOk result (λ x. (bytes : List ℕ) × IsAllOf (F.held files.now path.now) bytes ×
+        (dump_read bytes ≡ Ok x)) }
     ensures sound { IfOk result (λ x. is_sound x.0 x.1 ≡ true) }
 {
     let dump = match files.read(alloc, path) {
@@ -138,7 +140,8 @@ fn open_core<'p, A, F>(
 where
     A: Allocator + Copy,
     F: Files<A>,
-    ensures { IfOk result (λ core. (c : AnyCatalog) × (X : AnyTables A) × BeginsWith (F.held files.now) (option_copied opens.entry) catalog c X × (core ≡ begun c X most_events)) }
+    ensures { IfOk result (λ core. (c : AnyCatalog) × (X : AnyTables A) ×
+        BeginsWith (F.held files.now) (option_copied opens.entry) catalog c X × (core ≡ begun c X most_events)) }
 {
     let (catalog, tables) = open_tables(alloc, files, opens, catalog)?;
     match Core::open(alloc, catalog, tables, most_events) {
@@ -231,8 +234,12 @@ where
     F: Files<A>,
     W: Write,
     T: Threads + Wait + Sync,
-    ensures done { OnOk result (ScriptHasRun (F.held files.now) way (record { catalog = catalog; opens = option_copied opens.entry; lines = lines.entry.now }) printer.old printer.new) }
-    ensures stopped { IfErr result (λ f. ScriptHasStopped (F.held files.now) way (record { catalog = catalog; opens = option_copied opens.entry; lines = lines.entry.now }) f printer.old printer.new) }
+    ensures done { OnOk result (ScriptHasRun (F.held files.now) way
+        (record { catalog = catalog; opens = option_copied opens.entry; lines = lines.entry.now }) printer.old
+        printer.new) }
+    ensures stopped { IfErr result (λ f. ScriptHasStopped (F.held files.now) way
+        (record { catalog = catalog; opens = option_copied opens.entry; lines = lines.entry.now }) f printer.old
+        printer.new) }
 {
     let core = open_core(alloc, files, opens, catalog, way.most_events)?;
     do_all_lines(rt, alloc, files, core, lines, way, printer)
@@ -289,7 +296,8 @@ where
     E: Write,
     T: Threads + Wait + Sync,
     ensures usage { result ≢ Status.Usage }
-    ensures done { result ≡ Status.Done → PathHasRun A (F.held files.now) (F.input files.now) way path.now printer.old printer.new }
+    ensures done { result ≡ Status.Done →
+        PathHasRun A (F.held files.now) (F.input files.now) way path.now printer.old printer.new }
 {
     let bytes = match read_path(alloc, files, path, Fault::Script { line: 0 }) {
         Ok(bytes) => bytes,

@@ -146,7 +146,8 @@ fn pgserial<'w>(alloc: Global) -> Result<Command<'w>, AllocError>
 
 // What the parser makes of some words.
 fn matches_of<'w>(alloc: Global, words: &'w [&'w str]) -> Result<ArgMatches<'w>, Error>
-    ensures command { IfOk result (λ m. subcommand_rows_of m ≡ subcommand_of spec.pgserial (map (λ w. w.now) words.entry.now)) }
+    ensures command { IfOk result (λ m. subcommand_rows_of m ≡
+        subcommand_of spec.pgserial (map (λ w. w.now) words.entry.now)) }
     ensures fails { FailsBy (fault_of spec.pgserial (map (λ w. w.now) words.entry.now)) result }
 {
     let program = pgserial(alloc)?;

@@ -36,7 +36,8 @@ where
     E: Write,
     T: Threads + Wait + Sync,
     ensures usage { result ≢ Status.Usage }
-    ensures done { result ≡ Status.Done → IsDoneOn A (F.held files.now) (F.input files.now) task.entry (W.contents out.old) (W.contents out.new) }
+    ensures done { result ≡ Status.Done →
+        IsDoneOn A (F.held files.now) (F.input files.now) task.entry (W.contents out.old) (W.contents out.new) }
 {
     let mut printer = Printer::new(alloc, out);
     let status = match task {
@@ -81,7 +82,8 @@ fn tell_words<W: Write, E: Write>(error: &Error, out: &mut W, err: &mut E) -> St
     ensures mistake { IsMistake (kind_of error.now) → result ≡ Status.Usage }
     ensures usage { result ≡ Status.Usage → IsMistake (kind_of error.now) }
     ensures memory { kind_of error.now ≡ ErrorKind.OutOfMemory → result ≡ Status.Refused }
-    ensures help { result ≡ Status.Done → (kind_of error.now ≡ ErrorKind.DisplayHelp) ⊎ (kind_of error.now ≡ ErrorKind.DisplayVersion) }
+    ensures help { result ≡ Status.Done → (kind_of error.now ≡ ErrorKind.DisplayHelp) ⊎
+        (kind_of error.now ≡ ErrorKind.DisplayVersion) }
 {
     match error.kind() {
         ErrorKind::OutOfMemory => tell(&Fault::Script { line: 0 }, err),
@@ -110,8 +112,11 @@ where
     E: Write,
     T: Threads + Wait + Sync,
     ensures usage { result ≡ Status.Usage → MayBeMistaken (faults (map (λ w. w.now) words.entry.now)) }
-    ensures mistake { AreMistaken (faults (map (λ w. w.now) words.entry.now)) → (result ≡ Status.Usage) ⊎ (result ≡ Status.Refused) }
-    ensures did { result ≡ Status.Done → HasDone A (F.held files.now) (F.input files.now) (map (λ w. w.now) words.entry.now) (W.contents out.old) (W.contents out.new) }
+    ensures mistake { AreMistaken (faults (map (λ w. w.now) words.entry.now)) → (result ≡ Status.Usage) ⊎
+        (result ≡ Status.Refused) }
+    ensures did { result ≡ Status.Done →
+        HasDone A (F.held files.now) (F.input files.now) (map (λ w. w.now) words.entry.now) (W.contents out.old)
+        (W.contents out.new) }
 {
     match read_words(words_memory, words) {
         Err(error) => tell_words(&error, out, err),
@@ -142,7 +147,9 @@ where
     ensures within { result ≤ 3 }
     ensures usage { result ≡ 2 → MayBeMistaken (faults (map (λ w. w.now) words.entry.now)) }
     ensures mistake { AreMistaken (faults (map (λ w. w.now) words.entry.now)) → (result ≡ 2) ⊎ (result ≡ 1) }
-    ensures did { result ≡ 0 → HasDone A (F.held files.now) (F.input files.now) (map (λ w. w.now) words.entry.now) (W.contents out.old) (W.contents out.new) }
+    ensures did { result ≡ 0 →
+        HasDone A (F.held files.now) (F.input files.now) (map (λ w. w.now) words.entry.now) (W.contents out.old)
+        (W.contents out.new) }
 {
     done(rt, words_memory, alloc, words, files, out, err).code()
 }

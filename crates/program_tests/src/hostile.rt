@@ -43,8 +43,8 @@ fn no_beginning_is_a_dump(rt: HostRuntime) -> Result<(), Fail> {
     Ok(())
 }
 
-// Dumps, each with what is told of it; `|` stands for a newline, `/` for a tab. They are the first example of docs/FORMATS.md
-// with a line more or another line in place of one of its own.
+// Dumps, each with what is told of it; `|` stands for a newline, `/` for a tab. They are the first example of
+// docs/FORMATS.md with a line more or another line in place of one of its own.
 const TURNED: &str = "\n\
 13: 22P04: -- dump 1|CREATE TABLE p (id bigint PRIMARY KEY, name text NOT NULL);|CREATE TABLE c (id bigint PRIMARY KEY, p bigint REFERENCES p, raw bytea);|COPY p (id, name) FROM stdin;|1/a|2/x|\\.|COPY c (id, p, raw) FROM stdin;|-5/2/\\N|7/\\N/\\N|\\.|-- end||
 8: 22P04: -- dump 1|CREATE TABLE p (id bigint PRIMARY KEY, name text NOT NULL);|CREATE TABLE c (id bigint PRIMARY KEY, p bigint REFERENCES p, raw bytea);|COPY p (id, name) FROM stdin;|1/a|2/x|\\.|COPY p (id, name) FROM stdin;|-5/2/\\N|7/\\N/\\N|\\.|-- end|

@@ -8,7 +8,8 @@ ghost use Rattle.restore.specs.declared.error.ReadError.TheVariants as read;
 use std::alloc::{AllocError, AllocFailed};
 use value::refusal::{Code, Refusal};
 
-/// The first line of a dump that isn't taken, counted from 1, and why. Want of memory is told of no line: its number is 0.
+/// The first line of a dump that isn't taken, counted from 1, and why. Want of memory is told of no line: its number is
+/// 0.
 #[derive(Clone, Copy, Debug, PartialEq, Eq)]
 pub struct RestoreFault {
     pub line: u64,

@@ -14,15 +14,21 @@ use std::alloc::Allocator;
 
 /// A dump of a catalog and its sound tables, in either version, reads as that catalog and these tables.
 pub fn reads_what_is_dumped<A: Allocator>()
-    ensures counted { (c : Catalog) (X : Tables A) → is_catalog c ≡ true → is_sound c X ≡ true → read_dump (dump_text c X) ≡ Ok (c, X) }
-    ensures uncounted { (c : Catalog) (X : Tables A) → is_catalog c ≡ true → is_sound c X ≡ true → read_dump (dump_text1 c X) ≡ Ok (c, X) }
+    ensures counted { (c : Catalog) (X : Tables A) → is_catalog c ≡ true → is_sound c X ≡ true →
+        read_dump (dump_text c X) ≡ Ok (c, X) }
+    ensures uncounted { (c : Catalog) (X : Tables A) → is_catalog c ≡ true → is_sound c X ≡ true →
+        read_dump (dump_text1 c X) ≡ Ok (c, X) }
 {}
 
-/// What a dump reads as is told by its lines alone: the first line that has a fault, by itself and the lines before it, with
-/// its code; and where no line has one, the catalog of its CREATE TABLE lines and the rows of its rows' lines.
+/// What a dump reads as is told by its lines alone: the first line that has a fault, by itself and the lines before it,
+/// with its code; and where no line has one, the catalog of its CREATE TABLE lines and the rows of its rows' lines.
 pub fn reads_by_its_lines<A: Allocator>()
-    ensures faulty { (dump : List ℕ) (f : RestoreFault) → IsFirstFault A (lines_of dump) f → read_dump {A = A} dump ≡ Err f }
-    ensures only_faulty { (dump : List ℕ) (f : RestoreFault) → read_dump {A = A} dump ≡ Err f → IsFirstFault A (lines_of dump) f }
-    ensures whole { (dump : List ℕ) → AreFaultless A (lines_of dump) → read_dump {A = A} dump ≡ Ok (said_by (ended_lines dump)) }
-    ensures only_whole { (dump : List ℕ) (c : Catalog) (X : Tables A) → read_dump dump ≡ Ok (c, X) → AreFaultless A (lines_of dump) }
+    ensures faulty { (dump : List ℕ) (f : RestoreFault) → IsFirstFault A (lines_of dump) f →
+        read_dump {A = A} dump ≡ Err f }
+    ensures only_faulty { (dump : List ℕ) (f : RestoreFault) → read_dump {A = A} dump ≡ Err f →
+        IsFirstFault A (lines_of dump) f }
+    ensures whole { (dump : List ℕ) → AreFaultless A (lines_of dump) →
+        read_dump {A = A} dump ≡ Ok (said_by (ended_lines dump)) }
+    ensures only_whole { (dump : List ℕ) (c : Catalog) (X : Tables A) → read_dump dump ≡ Ok (c, X) →
+        AreFaultless A (lines_of dump) }
 {}

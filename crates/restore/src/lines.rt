@@ -27,8 +27,8 @@ pub struct Line<'d> {
     pub rest: Lines<'d>,
 }
 
-/// The next line, which must be ended by a newline, and the lines after it. A number past those of 64 bits is told as want
-/// of memory: no dump has so many lines.
+/// The next line, which must be ended by a newline, and the lines after it. A number past those of 64 bits is told as
+/// want of memory: no dump has so many lines.
 pub fn next_line(lines: Lines<'_>) -> Result<(&[u8], Lines<'_>), ReadError>
     ensures line { IsNextLine lines.entry.number lines.entry.text.now result }
 {
@@ -43,7 +43,8 @@ pub fn next_line(lines: Lines<'_>) -> Result<(&[u8], Lines<'_>), ReadError>
 
 /// The next line, where it is a row's, and the lines after it.
 pub fn next_row_line(left: Lines<'_>) -> Result<Option<(&[u8], Lines<'_>)>, ReadError>
-    ensures line { IfOk result (λ found. IfSome found (λ x. parted 10 left.entry.text.now ≡ Some (x.0.now, x.1.text.now))) }
+    ensures line { IfOk result (λ found. IfSome found
+        (λ x. parted 10 left.entry.text.now ≡ Some (x.0.now, x.1.text.now))) }
     ensures number { IfOk result (λ found. IfSome found (λ x. x.1.number ≡ left.entry.number + 1)) }
     ensures row { IfOk result (λ found. IfSome found (λ x. bytes_eq x.0.now end_of_rows ≡ false)) }
     ensures shorter { IfOk result (λ found. IfSome found (λ x. length x.1.text.now < length left.entry.text.now)) }

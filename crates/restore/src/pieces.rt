@@ -142,17 +142,20 @@ fn put_read<A: Allocator + Copy>(
     requires has { table < length _catalog.now }
     requires same_tables { length tables.old ≡ length _catalog.now }
     requires next { IfOk row (λ r. IsNext (columns_of _catalog.now table) (rows_of tables.old table) r) }
-    ensures row { (line : List ℕ) → Gives (λ r. r) row (row_of_line (kinds_of _catalog.now table) line) → Gives (λ _. tables.new) result (with_row _catalog.now tables.old table line) }
+    ensures row { (line : List ℕ) → Gives (λ r. r) row (row_of_line (kinds_of _catalog.now table) line) →
+        Gives (λ _. tables.new) result (with_row _catalog.now tables.old table line) }
     ensures put { IfOk row (λ r. OnOk result (rows_of tables.new table ≡ put_row (rows_of tables.old table) r)) }
     ensures same_tables { length tables.new ≡ length _catalog.now }
-    ensures sound { (line : List ℕ) → Gives (λ r. r) row (row_of_line (kinds_of _catalog.now table) line) → is_sound _catalog.now tables.old ≡ true → is_sound _catalog.now tables.new ≡ true }
+    ensures sound { (line : List ℕ) → Gives (λ r. r) row (row_of_line (kinds_of _catalog.now table) line) →
+        is_sound _catalog.now tables.old ≡ true → is_sound _catalog.now tables.new ≡ true }
 {
     let row = row?;
     tables.put(alloc, table, row)?;
     Ok(())
 }
 
-// Puts rows that rise behind those of a table, up to the first that isn't taken. The first stands in the line of a number.
+// Puts rows that rise behind those of a table, up to the first that isn't taken. The first stands in the line of a
+// number.
 fn put_rows<A: Allocator + Copy>(
     alloc: A,
     catalog: &Catalog<A>,
@@ -166,9 +169,13 @@ fn put_rows<A: Allocator + Copy>(
     requires numbers { number + vec_len rows < 2 ^ 64 }
     requires rise { rise (columns_of catalog.now table) rows.items ≡ true }
     requires follows { follows (rows_of tables.old table) rows.items ≡ true }
-    ensures rows { (counted : Bool) (lines more : List (List ℕ)) → AreRead (kinds_of catalog.now table) rows.items lines → list_all is_row_line lines ≡ true → more ≢ [] → Reads (λ _. read_lines (number + length lines) (Within counted catalog.now tables.new table) more) result (read_lines number (Within counted catalog.now tables.old table) (lines ++ more)) }
+    ensures rows { (counted : Bool) (lines more : List (List ℕ)) →
+        AreRead (kinds_of catalog.now table) rows.items lines → list_all is_row_line lines ≡ true → more ≢ [] →
+        Reads (λ _. read_lines (number + length lines) (Within counted catalog.now tables.new table) more) result
+        (read_lines number (Within counted catalog.now tables.old table) (lines ++ more)) }
     ensures same_tables { length tables.new ≡ length catalog.now }
-    ensures sound { (lines : List (List ℕ)) → AreRead (kinds_of catalog.now table) rows.items lines → is_sound catalog.now tables.old ≡ true → is_sound catalog.now tables.new ≡ true }
+    ensures sound { (lines : List (List ℕ)) → AreRead (kinds_of catalog.now table) rows.items lines →
+        is_sound catalog.now tables.old ≡ true → is_sound catalog.now tables.new ≡ true }
 {
     let mut line = number;
     for row in rows {
@@ -193,9 +200,13 @@ fn take_rows<A: Allocator + Copy>(
     requires same_tables { length tables.old ≡ length catalog.now }
     requires numbers { number + vec_len piece.rows < 2 ^ 64 }
     requires rise { piece.rise ≡ rise (columns_of catalog.now table) piece.rows.items }
-    ensures rows { (counted : Bool) (lines more : List (List ℕ)) → AreRead (kinds_of catalog.now table) piece.rows.items lines → list_all is_row_line lines ≡ true → more ≢ [] → Reads (λ _. read_lines (number + length lines) (Within counted catalog.now tables.new table) more) result (read_lines number (Within counted catalog.now tables.old table) (lines ++ more)) }
+    ensures rows { (counted : Bool) (lines more : List (List ℕ)) →
+        AreRead (kinds_of catalog.now table) piece.rows.items lines → list_all is_row_line lines ≡ true → more ≢ [] →
+        Reads (λ _. read_lines (number + length lines) (Within counted catalog.now tables.new table) more) result
+        (read_lines number (Within counted catalog.now tables.old table) (lines ++ more)) }
     ensures same_tables { length tables.new ≡ length catalog.now }
-    ensures sound { (lines : List (List ℕ)) → AreRead (kinds_of catalog.now table) piece.rows.items lines → is_sound catalog.now tables.old ≡ true → is_sound catalog.now tables.new ≡ true }
+    ensures sound { (lines : List (List ℕ)) → AreRead (kinds_of catalog.now table) piece.rows.items lines →
+        is_sound catalog.now tables.old ≡ true → is_sound catalog.now tables.new ≡ true }
 {
     let ReadPiece { rows, rise } = piece;
     if rise && follows(tables, table, rows.as_slice()) {
@@ -205,7 +216,8 @@ fn take_rows<A: Allocator + Copy>(
     }
 }
 
-// The number of the line so many lines on. One past those of 64 bits is told as want of memory: no dump has so many lines.
+// The number of the line so many lines on. One past those of 64 bits is told as want of memory: no dump has so many
+// lines.
 fn number_after(number: u64, count: usize) -> Result<u64, ReadError>
     ensures ok { IfOk result (λ n. (n ≡ number + count) × (number + count < 2 ^ 64)) }
     ensures memory { IfErr result (λ e. e ≡ error.Memory) }
@@ -216,7 +228,8 @@ fn number_after(number: u64, count: usize) -> Result<u64, ReadError>
     }
 }
 
-/// Takes the rows of pieces into a table, up to the first row that isn't taken. The first stands in the line of a number.
+/// Takes the rows of pieces into a table, up to the first row that isn't taken. The first stands in the line of a
+/// number.
 pub fn take_pieces<A: Allocator + Copy>(
     alloc: A,
     catalog: &Catalog<A>,
@@ -227,10 +240,17 @@ pub fn take_pieces<A: Allocator + Copy>(
 ) -> Result<(), ReadError>
     requires has { table < length catalog.now }
     requires same_tables { length tables.old ≡ length catalog.now }
-    requires rise { AllByRecursion (λ p. IfOk p (λ piece. piece.rise ≡ rise (columns_of catalog.now table) piece.rows.items)) pieces.items }
-    ensures rows { (counted : Bool) (size : ℕ) (lines more : List (List ℕ)) → ArePieces size (columns_of catalog.now table) (kinds_of catalog.now table) pieces.items lines → list_all is_row_line lines ≡ true → more ≢ [] → Reads (λ _. read_lines (number + length lines) (Within counted catalog.now tables.new table) more) result (read_lines number (Within counted catalog.now tables.old table) (lines ++ more)) }
+    requires rise { AllByRecursion (λ p. IfOk p (λ piece. piece.rise ≡
+        rise (columns_of catalog.now table) piece.rows.items)) pieces.items }
+    ensures rows { (counted : Bool) (size : ℕ) (lines more : List (List ℕ)) →
+        ArePieces size (columns_of catalog.now table) (kinds_of catalog.now table) pieces.items lines →
+        list_all is_row_line lines ≡ true → more ≢ [] →
+        Reads (λ _. read_lines (number + length lines) (Within counted catalog.now tables.new table) more) result
+        (read_lines number (Within counted catalog.now tables.old table) (lines ++ more)) }
     ensures same_tables { length tables.new ≡ length catalog.now }
-    ensures sound { (size : ℕ) (lines : List (List ℕ)) → ArePieces size (columns_of catalog.now table) (kinds_of catalog.now table) pieces.items lines → is_sound catalog.now tables.old ≡ true → is_sound catalog.now tables.new ≡ true }
+    ensures sound { (size : ℕ) (lines : List (List ℕ)) →
+        ArePieces size (columns_of catalog.now table) (kinds_of catalog.now table) pieces.items lines →
+        is_sound catalog.now tables.old ≡ true → is_sound catalog.now tables.new ≡ true }
 {
     let mut line = number;
     for piece in pieces {

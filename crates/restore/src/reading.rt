@@ -51,7 +51,9 @@ fn read_catalog<A: Allocator + Copy>(
     alloc: A,
     mut lines: Lines<'_>,
 ) -> Result<(Catalog<A>, Lines<'_>), ReadError>
-    ensures { (counted : Bool) → Reads (λ x. read_lines {A = A} x.1.number (Before counted x.0 (empty_tables x.0) 0) (lines_of x.1.text.now)) result (read_lines lines.entry.number (Created counted []) (lines_of lines.entry.text.now)) }
+    ensures { (counted : Bool) →
+        Reads (λ x. read_lines {A = A} x.1.number (Before counted x.0 (empty_tables x.0) 0) (lines_of x.1.text.now))
+        result (read_lines lines.entry.number (Created counted []) (lines_of lines.entry.text.now)) }
 {
     let mut catalog = Catalog::new(alloc);
     loop {
@@ -71,7 +73,8 @@ pub fn read_head<A: Allocator + Copy>(
     alloc: A,
     lines: Lines<'_>,
 ) -> Result<(bool, Catalog<A>, Lines<'_>), ReadError>
-    ensures { Reads (λ x. read_lines {A = A} x.2.number (Before x.0 x.1 (empty_tables x.1) 0) (lines_of x.2.text.now)) result (read_lines lines.entry.number Start (lines_of lines.entry.text.now)) }
+    ensures { Reads (λ x. read_lines {A = A} x.2.number (Before x.0 x.1 (empty_tables x.1) 0)
+        (lines_of x.2.text.now)) result (read_lines lines.entry.number Start (lines_of lines.entry.text.now)) }
 {
     let (line, rest) = next_line(lines)?;
     match version_of(line) {
@@ -91,7 +94,9 @@ pub fn read_copy_line<'d, A: Allocator + Copy>(
     table: TableNo,
 ) -> Result<Lines<'d>, ReadError>
     requires { table < length catalog.now }
-    ensures { (counted : Bool) (X : Tables A) → Reads (λ l. read_lines l.number (Within counted catalog.now X table) (lines_of l.text.now)) result (read_lines lines.entry.number (Before counted catalog.now X table) (lines_of lines.entry.text.now)) }
+    ensures { (counted : Bool) (X : Tables A) →
+        Reads (λ l. read_lines l.number (Within counted catalog.now X table) (lines_of l.text.now)) result
+        (read_lines lines.entry.number (Before counted catalog.now X table) (lines_of lines.entry.text.now)) }
 {
     match copy_line(alloc, catalog.table(table)) {
         Ok(wanted) => read_line(lines, wanted.as_slice()),
@@ -109,7 +114,10 @@ fn read_rows<'d, A: Allocator + Copy>(
 ) -> Result<Lines<'d>, ReadError>
     requires has { table < length catalog.now }
     requires same_tables { length tables.old ≡ length catalog.now }
-    ensures rows { (counted : Bool) → Reads (λ l. read_lines l.number (ended counted catalog.now tables.new table) (lines_of l.text.now)) result (read_lines lines.entry.number (Within counted catalog.now tables.old table) (lines_of lines.entry.text.now)) }
+    ensures rows { (counted : Bool) →
+        Reads (λ l. read_lines l.number (ended counted catalog.now tables.new table) (lines_of l.text.now)) result
+        (read_lines lines.entry.number (Within counted catalog.now tables.old table)
+        (lines_of lines.entry.text.now)) }
     ensures same_tables { length tables.new ≡ length catalog.now }
     ensures sound { is_sound catalog.now tables.old ≡ true → is_sound catalog.now tables.new ≡ true }
 {
@@ -134,7 +142,10 @@ pub fn read_end_of_rows<'d, A: Allocator>(
     table: TableNo,
 ) -> Result<Lines<'d>, ReadError>
     requires { HasNoRowLine lines.text.now }
-    ensures { (counted : Bool) → Reads (λ l. read_lines l.number (ended counted catalog.now tables.now table) (lines_of l.text.now)) result (read_lines lines.entry.number (Within counted catalog.now tables.now table) (lines_of lines.entry.text.now)) }
+    ensures { (counted : Bool) →
+        Reads (λ l. read_lines l.number (ended counted catalog.now tables.now table) (lines_of l.text.now)) result
+        (read_lines lines.entry.number (Within counted catalog.now tables.now table)
+        (lines_of lines.entry.text.now)) }
 {
     // The contract alone speaks of these.
     let (_catalog, _tables, _table) = (catalog, tables, table);
@@ -151,7 +162,9 @@ pub fn read_count<'d, A: Allocator + Copy>(
     tables: &Tables<A>,
 ) -> Result<Lines<'d>, ReadError>
     requires { table < length tables.now }
-    ensures { Reads (λ l. read_lines l.number (Before counted catalog.now tables.now (table + 1)) (lines_of l.text.now)) result (read_lines lines.entry.number (ended counted catalog.now tables.now table) (lines_of lines.entry.text.now)) }
+    ensures { Reads (λ l. read_lines l.number (Before counted catalog.now tables.now (table + 1))
+        (lines_of l.text.now)) result (read_lines lines.entry.number
+        (ended counted catalog.now tables.now table) (lines_of lines.entry.text.now)) }
 {
     // The contract alone speaks of the catalog.
     let _catalog = catalog;
@@ -176,7 +189,9 @@ fn read_table<'d, A: Allocator + Copy>(
 ) -> Result<Lines<'d>, ReadError>
     requires has { table < length catalog.now }
     requires same_tables { length tables.old ≡ length catalog.now }
-    ensures rows { Reads (λ l. read_lines l.number (Before counted catalog.now tables.new (table + 1)) (lines_of l.text.now)) result (read_lines lines.entry.number (Before counted catalog.now tables.old table) (lines_of lines.entry.text.now)) }
+    ensures rows { Reads (λ l. read_lines l.number (Before counted catalog.now tables.new (table + 1))
+        (lines_of l.text.now)) result (read_lines lines.entry.number
+        (Before counted catalog.now tables.old table) (lines_of lines.entry.text.now)) }
     ensures same_tables { length tables.new ≡ length catalog.now }
     ensures sound { is_sound catalog.now tables.old ≡ true → is_sound catalog.now tables.new ≡ true }
 {
@@ -194,7 +209,9 @@ fn read_tables<'d, A: Allocator + Copy>(
     tables: &mut Tables<A>,
 ) -> Result<Lines<'d>, ReadError>
     requires { length tables.old ≡ length catalog.now }
-    ensures rows { Reads (λ l. read_lines l.number (Before counted catalog.now tables.new (length catalog.now)) (lines_of l.text.now)) result (read_lines lines.entry.number (Before counted catalog.now tables.old 0) (lines_of lines.entry.text.now)) }
+    ensures rows { Reads (λ l. read_lines l.number (Before counted catalog.now tables.new (length catalog.now))
+        (lines_of l.text.now)) result (read_lines lines.entry.number (Before counted catalog.now tables.old 0)
+        (lines_of lines.entry.text.now)) }
     ensures sound { is_sound catalog.now tables.old ≡ true → is_sound catalog.now tables.new ≡ true }
 {
     for place in 0..catalog.len() as u32 {
@@ -209,7 +226,10 @@ pub fn read_end<A: Allocator>(
     catalog: &Catalog<A>,
     tables: &Tables<A>,
 ) -> Result<(), ReadError>
-    ensures { (counted : Bool) → Reads (λ _. Ok (catalog.now, tables.now)) result (read_lines lines.entry.number (Before counted catalog.now tables.now (length catalog.now)) (lines_of lines.entry.text.now)) }
+    ensures { (counted : Bool) →
+        Reads (λ _. Ok (catalog.now, tables.now)) result
+        (read_lines lines.entry.number (Before counted catalog.now tables.now (length catalog.now))
+        (lines_of lines.entry.text.now)) }
 {
     let (_catalog, _tables) = (catalog, tables);
     let rest = read_line(lines, b"-- end")?;

@@ -135,7 +135,8 @@ pub fn read_round<R: Threads + Sync, G: Gate, A: Allocator + Copy + Send + Sync>
     before: u64,
 ) -> Result<ReadPieces<A>, AllocError>
     requires { 0 < piece_lines }
-    ensures { IfOk result (λ pieces. ArePieces piece_lines columns.now kinds.now pieces.items (map (λ line. line.now) lines.now)) }
+    ensures { IfOk result (λ pieces. ArePieces piece_lines columns.now kinds.now pieces.items
+        (map (λ line. line.now) lines.now)) }
 {
     let pieces = thread::map_chunks(
         rt,
@@ -143,7 +144,8 @@ pub fn read_round<R: Threads + Sync, G: Gate, A: Allocator + Copy + Send + Sync>
         lines,
         piece_lines,
         &|start, lines| -> Result<ReadPiece<A>, AllocError>
-            ensures { IfOk result (λ piece. IsPiece columns.entry.now kinds.entry.now piece (map (λ line. line.now) lines.entry.now)) }
+            ensures { IfOk result (λ piece. IsPiece columns.entry.now kinds.entry.now piece
+                (map (λ line. line.now) lines.entry.now)) }
         {
             read_piece(
                 alloc,

@@ -135,7 +135,8 @@ fn insert_read<A: Allocator + Copy>(
 ) -> Result<(), LineError>
     requires has { table < length catalog.now }
     requires same_tables { length tables.old ≡ length catalog.now }
-    ensures row { (line : List ℕ) → Gives (λ r. r) row (row_of_line (kinds_of catalog.now table) line) → Gives (λ _. tables.new) result (with_row catalog.now tables.old table line) }
+    ensures row { (line : List ℕ) → Gives (λ r. r) row (row_of_line (kinds_of catalog.now table) line) →
+        Gives (λ _. tables.new) result (with_row catalog.now tables.old table line) }
     ensures err { OnErr result (tables.new ≡ tables.old) }
     ensures same_tables { length tables.new ≡ length catalog.now }
     ensures sound { is_sound catalog.now tables.old ≡ true → is_sound catalog.now tables.new ≡ true }
@@ -165,7 +166,8 @@ pub fn insert_line<A: Allocator + Copy>(
     insert_read(alloc, catalog, tables, table, row)
 }
 
-/// Inserts rows, each as its line read, into a table, up to the first that isn't taken. The first stands in the line of a number.
+/// Inserts rows, each as its line read, into a table, up to the first that isn't taken. The first stands in the line of
+/// a number.
 pub fn insert_rows<A: Allocator + Copy>(
     alloc: A,
     catalog: &Catalog<A>,
@@ -177,7 +179,10 @@ pub fn insert_rows<A: Allocator + Copy>(
     requires has { table < length catalog.now }
     requires same_tables { length tables.old ≡ length catalog.now }
     requires numbers { number + vec_len rows < 2 ^ 64 }
-    ensures rows { (counted : Bool) (lines more : List (List ℕ)) → AreRead (kinds_of catalog.now table) rows.items lines → list_all is_row_line lines ≡ true → more ≢ [] → Reads (λ _. read_lines (number + length lines) (Within counted catalog.now tables.new table) more) result (read_lines number (Within counted catalog.now tables.old table) (lines ++ more)) }
+    ensures rows { (counted : Bool) (lines more : List (List ℕ)) →
+        AreRead (kinds_of catalog.now table) rows.items lines → list_all is_row_line lines ≡ true → more ≢ [] →
+        Reads (λ _. read_lines (number + length lines) (Within counted catalog.now tables.new table) more) result
+        (read_lines number (Within counted catalog.now tables.old table) (lines ++ more)) }
     ensures same_tables { length tables.new ≡ length catalog.now }
     ensures sound { is_sound catalog.now tables.old ≡ true → is_sound catalog.now tables.new ≡ true }
 {

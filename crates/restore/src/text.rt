@@ -33,7 +33,8 @@ fn around(text: &[u8], place: usize) -> (&[u8], &[u8])
 
 /// What stands before and behind the first of a byte, where the text has it.
 pub fn parted(byte: u8, text: &[u8]) -> Option<(&[u8], &[u8])>
-    ensures parts { MatchOption result (parted byte text.now ≡ None) (λ p. parted byte text.now ≡ Some (p.0.now, p.1.now)) }
+    ensures parts { MatchOption result (parted byte text.now ≡ None)
+        (λ p. parted byte text.now ≡ Some (p.0.now, p.1.now)) }
     ensures shorter { IfSome result (λ p. length p.1.now < length text.now) }
 {
     match place_of(byte, text) {

@@ -33,8 +33,8 @@ const PIECE_STRETCHES: usize = 16;
 /// How many stretches of lines a round has at most.
 const ROUND_STRETCHES: usize = 128;
 
-/// Threads that read a table's lines in rounds, a piece each, while the rows of the round before are taken. The gate is asked
-/// about each stretch of a piece.
+/// Threads that read a table's lines in rounds, a piece each, while the rows of the round before are taken. The gate is
+/// asked about each stretch of a piece.
 #[derive(Drop)]
 pub struct Workers<'w, R, G, A: Allocator> {
     rt: &'w R,
@@ -83,8 +83,8 @@ impl<'w, R: Threads + Sync, G: Gate, A: Allocator + Copy + Send + Sync> Workers<
         self.share = self.share.saturating_mul(2).min(PIECE_STRETCHES);
     }
 
-    // What a round's lines read as, in pieces of so many lines, and the tables with the rows of the round before, which this
-    // thread takes while others read.
+    // What a round's lines read as, in pieces of so many lines, and the tables with the rows of the round before, which
+    // this thread takes while others read.
     fn read_beside(
         &self,
         catalog: &Catalog<A>,
@@ -102,7 +102,8 @@ impl<'w, R: Threads + Sync, G: Gate, A: Allocator + Copy + Send + Sync> Workers<
         requires has { table < length catalog.now }
         requires same_tables { length tables ≡ length catalog.now }
         requires rise { RisesKnown catalog.now table round.pieces.items }
-        ensures read { IfOk result.0 (λ pieces. ArePieces size (columns_of catalog.now table) kinds.now pieces.items (map (λ line. line.now) lines.now)) }
+        ensures read { IfOk result.0 (λ pieces. ArePieces size (columns_of catalog.now table) kinds.now pieces.items
+            (map (λ line. line.now) lines.now)) }
         ensures taken { AreTaken catalog.now table tables round.number round.pieces.items result.1 }
         ensures same_tables { IfOk result.1 (λ X. length X ≡ length catalog.now) }
     {
@@ -111,13 +112,17 @@ impl<'w, R: Threads + Sync, G: Gate, A: Allocator + Copy + Send + Sync> Workers<
         thread::join(
             rt,
             || -> Result<ReadPieces<A>, AllocError>
-                requires bounds { IsSend A.row × IsSync A.row × Frees A.Allocator A.dealloc_token × IsSync R.row × IsSync G.row }
+                requires bounds { IsSend A.row × IsSync A.row × Frees A.Allocator A.dealloc_token × IsSync R.row ×
+                    IsSync G.row }
                 requires size { 0 < size }
-                ensures { IfOk result (λ pieces. ArePieces size columns.entry.now kinds.entry.now pieces.items (map (λ line. line.now) lines.entry.now)) }
+                ensures { IfOk result (λ pieces. ArePieces size columns.entry.now kinds.entry.now pieces.items
+                    (map (λ line. line.now) lines.entry.now)) }
             { read_round(rt, alloc, columns, kinds, lines, size, gate, before) },
             move || -> Result<Tables<A>, ReadError>
-                requires { (table < length catalog.now) × (length tables ≡ length catalog.now) × RisesKnown catalog.now table round.pieces.items }
-                ensures { AreTaken catalog.entry.now table tables round.number round.pieces.items result × IfOk result (λ X. length X ≡ length catalog.entry.now) }
+                requires { (table < length catalog.now) × (length tables ≡ length catalog.now) ×
+                    RisesKnown catalog.now table round.pieces.items }
+                ensures { AreTaken catalog.entry.now table tables round.number round.pieces.items result ×
+                    IfOk result (λ X. length X ≡ length catalog.entry.now) }
             { take_round(alloc, catalog, table, tables, round) },
         )
     }
@@ -140,7 +145,8 @@ impl<'w, R: Threads + Sync, G: Gate, A: Allocator + Copy + Send + Sync> Workers<
         requires has { table < length catalog.now }
         requires same_tables { length tables ≡ length catalog.now }
         requires rise { RisesKnown catalog.now table round.pieces.items }
-        ensures read { IfOk result.0 (λ pieces. ArePieces size (columns_of catalog.now table) kinds.now pieces.items (map (λ line. line.now) lines.now)) }
+        ensures read { IfOk result.0 (λ pieces. ArePieces size (columns_of catalog.now table) kinds.now pieces.items
+            (map (λ line. line.now) lines.now)) }
         ensures taken { AreTaken catalog.now table tables round.number round.pieces.items result.1 }
         ensures same_tables { IfOk result.1 (λ X. length X ≡ length catalog.now) }
     {
@@ -169,7 +175,8 @@ impl<'w, R: Threads + Sync, G: Gate, A: Allocator + Copy + Send + Sync> Workers<
         requires has { table < length catalog.now }
         requires same_tables { length tables ≡ length catalog.now }
         requires rise { RisesKnown catalog.now table round.pieces.items }
-        ensures read { IfOk result.0 (λ pieces. ArePieces size (columns_of catalog.now table) kinds.now pieces.items (map (λ line. line.now) lines.now)) }
+        ensures read { IfOk result.0 (λ pieces. ArePieces size (columns_of catalog.now table) kinds.now pieces.items
+            (map (λ line. line.now) lines.now)) }
         ensures taken { AreTaken catalog.now table tables round.number round.pieces.items result.1 }
         ensures same_tables { IfOk result.1 (λ X. length X ≡ length catalog.now) }
     {
@@ -180,8 +187,8 @@ impl<'w, R: Threads + Sync, G: Gate, A: Allocator + Copy + Send + Sync> Workers<
         }
     }
 
-    // The next round of a row's line and those behind it, which is read while the rows of the round before are taken; the lines
-    // that are left, and the tables.
+    // The next round of a row's line and those behind it, which is read while the rows of the round before are taken;
+    // the lines that are left, and the tables.
     fn next_round<'d>(
         &mut self,
         line: Line<'d>,
@@ -230,7 +237,10 @@ impl<'w, R: Threads + Sync, G: Gate, A: Allocator + Copy + Send + Sync> Workers<
     ) -> Result<(Lines<'d>, Tables<A>), ReadError>
         requires has { table < length catalog.now }
         requires same_tables { length tables ≡ length catalog.now }
-        ensures rows { (counted : Bool) → Reads (λ x. read_lines x.0.number (ended counted catalog.now x.1 table) (lines_of x.0.text.now)) result (read_lines lines.entry.number (Within counted catalog.now tables table) (lines_of lines.entry.text.now)) }
+        ensures rows { (counted : Bool) →
+            Reads (λ x. read_lines x.0.number (ended counted catalog.now x.1 table) (lines_of x.0.text.now)) result
+            (read_lines lines.entry.number (Within counted catalog.now tables table)
+            (lines_of lines.entry.text.now)) }
         ensures same_tables { IfOk result (λ x. length x.1 ≡ length catalog.now) }
         ensures sound { IfOk result (λ x. is_sound catalog.now tables ≡ true → is_sound catalog.now x.1 ≡ true) }
     {
@@ -273,7 +283,10 @@ impl<'w, R: Threads + Sync, G: Gate, A: Allocator + Copy + Send + Sync> Workers<
     ) -> Result<(Lines<'d>, Tables<A>), ReadError>
         requires has { table < length catalog.now }
         requires same_tables { length tables ≡ length catalog.now }
-        ensures rows { Reads (λ x. read_lines x.0.number (Before counted catalog.now x.1 (table + 1)) (lines_of x.0.text.now)) result (read_lines lines.entry.number (Before counted catalog.now tables table) (lines_of lines.entry.text.now)) }
+        ensures rows { Reads (λ x. read_lines x.0.number (Before counted catalog.now x.1 (table + 1))
+            (lines_of x.0.text.now)) result
+            (read_lines lines.entry.number (Before counted catalog.now tables table)
+            (lines_of lines.entry.text.now)) }
         ensures same_tables { IfOk result (λ x. length x.1 ≡ length catalog.now) }
         ensures sound { IfOk result (λ x. is_sound catalog.now tables ≡ true → is_sound catalog.now x.1 ≡ true) }
     {
@@ -292,7 +305,9 @@ impl<'w, R: Threads + Sync, G: Gate, A: Allocator + Copy + Send + Sync> Workers<
         mut tables: Tables<A>,
     ) -> Result<(Lines<'d>, Tables<A>), ReadError>
         requires { length tables ≡ length catalog.now }
-        ensures rows { Reads (λ x. read_lines x.0.number (Before counted catalog.now x.1 (length catalog.now)) (lines_of x.0.text.now)) result (read_lines lines.entry.number (Before counted catalog.now tables 0) (lines_of lines.entry.text.now)) }
+        ensures rows { Reads (λ x. read_lines x.0.number (Before counted catalog.now x.1 (length catalog.now))
+            (lines_of x.0.text.now)) result
+            (read_lines lines.entry.number (Before counted catalog.now tables 0) (lines_of lines.entry.text.now)) }
         ensures sound { IfOk result (λ x. is_sound catalog.now tables ≡ true → is_sound catalog.now x.1 ≡ true) }
     {
         for place in 0..catalog.len() as u32 {
@@ -326,9 +341,9 @@ impl<'w, R: Threads + Sync, G: Gate, A: Allocator + Copy + Send + Sync> Workers<
     }
 }
 
-/// Reads a dump as `restore_one` does. The lines of a table's rows are read in rounds, by up to `jobs` threads side by side,
-/// while the calling thread takes the rows of the round before. The gate is asked round each 1000 lines, which are numbered
-/// from 1 in the order of the dump.
+/// Reads a dump as `restore_one` does. The lines of a table's rows are read in rounds, by up to `jobs` threads side by
+/// side, while the calling thread takes the rows of the round before. The gate is asked round each 1000 lines, which
+/// are numbered from 1 in the order of the dump.
 pub fn restore<R: Threads + Sync, G: Gate, A: Allocator + Copy + Send + Sync>(
     rt: &R,
     alloc: A,

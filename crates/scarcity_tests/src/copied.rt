@@ -210,8 +210,8 @@ fn refuse_workers<A: Allocator + Copy + Send + Sync, R: Abort + Threads + Sync>(
     Ok((is_reached, false))
 }
 
-// Refuses the first request of workers that read the dump of so many numbers, and each `step`-th behind it. They read it
-// as they should after each refusal.
+// Refuses the first request of workers that read the dump of so many numbers, and each `step`-th behind it. They read
+// it as they should after each refusal.
 fn refuse_restore<A: Allocator + Copy + Send + Sync, R: Abort + Threads + Sync>(
     rt: &R,
     memory: &Memory,

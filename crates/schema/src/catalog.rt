@@ -195,7 +195,8 @@ impl<A: Allocator> Model for Catalog<A> {
     ghost view = { λ c. values_of c.tables.entries };
 
     // Each table stands beside its own name, there are few enough, and each may stand after those before it.
-    ghost invariant = { λ c. IsByName c.tables.entries × (length (values_of c.tables.entries) ≤ 256) × (are_tables_after [] (values_of c.tables.entries) ≡ true) };
+    ghost invariant = { λ c. IsByName c.tables.entries × (length (values_of c.tables.entries) ≤ 256) ×
+        (are_tables_after [] (values_of c.tables.entries) ≡ true) };
 }
 
 impl<A: Allocator> Catalog<A> {

@@ -125,7 +125,9 @@ fn put<A: Allocator + Copy>(
     row: Option<Row<A>>,
 ) -> Result<(), Refusal>
     requires { IfSome row (λ r. r.0 ≡ key) }
-    ensures ok { OnOk result (changes_from 0 tables.new.items ≡ put_change (changes_from 0 tables.old.items) (record { table = table; key = key; fields = option_map (λ r. r.1) row })) }
+    ensures ok { OnOk result (changes_from 0 tables.new.items ≡
+        put_change (changes_from 0 tables.old.items)
+        (record { table = table; key = key; fields = option_map (λ r. r.1) row })) }
     ensures err { OnErr result (changes_from 0 tables.new.items ≡ changes_from 0 tables.old.items) }
     ensures few { vec_len tables.old ≤ 2 ^ 32 → vec_len tables.new ≤ 2 ^ 32 }
     ensures memory { IfErr result (λ e. e ≡ out_of_memory) }
@@ -156,7 +158,8 @@ fn next<'c, A: Allocator>(
     place: usize,
     after: Bound<&Key<A>>,
 ) -> Option<(&'c Key<A>, &'c Option<Row<A>>)>
-    ensures { option_map (λ p. (p.0.now, p.1.now)) result ≡ next_keyed (slice_index_or tables.now place []) after.entry }
+    ensures { option_map (λ p. (p.0.now, p.1.now)) result ≡
+        next_keyed (slice_index_or tables.now place []) after.entry }
 {
     match tables.get(place) {
         Some(changes) => changes.next(after),
@@ -209,7 +212,8 @@ impl<A: Allocator> Changes<A> {
     pub fn put_row(&mut self, alloc: A, table: TableNo, row: Row<A>) -> Result<(), Refusal>
     where
         A: Copy,
-        ensures ok { OnOk result (self.new ≡ put_change self.old (record { table = table; key = row.0; fields = Some row.1 })) }
+        ensures ok { OnOk result (self.new ≡ put_change self.old
+            (record { table = table; key = row.0; fields = Some row.1 })) }
         ensures err { OnErr result (self.new ≡ self.old) }
         ensures memory { IfErr result (λ e. e ≡ out_of_memory) }
     {

@@ -102,7 +102,8 @@ impl<A: Allocator> Model for TableDef<A> {
     ghost view = { λ d. record { name = d.name; columns = d.columns.items } };
 
     // The names are names and differ, there is a column, and the key has no mark.
-    ghost invariant = { λ d. (is_well_made d.name d.columns.items ≡ true) × (without_key_mark d.columns.items ≡ d.columns.items) };
+    ghost invariant = { λ d. (is_well_made d.name d.columns.items ≡ true) ×
+        (without_key_mark d.columns.items ≡ d.columns.items) };
 }
 
 // Whether the names that a column has and references are names.

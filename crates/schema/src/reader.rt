@@ -87,7 +87,8 @@ pub fn row_after<'r, A: Allocator, R: SnapshotReader<A>>(
     row: &Row<A>,
 ) -> Option<&'r Row<A>>
     requires { HasTable (R.tables reader.now) table }
-    ensures left { rows_left (rows_of (R.tables reader.now) table) result ≡ rows_after (rows_of (R.tables reader.now) table) row.now.0 }
+    ensures left { rows_left (rows_of (R.tables reader.now) table) result ≡
+        rows_after (rows_of (R.tables reader.now) table) row.now.0 }
     ensures ordered { IsInKeyOrder (rows_of (R.tables reader.now) table) }
 {
     reader.next_row(table, Bound::After(row.key()))
@@ -100,7 +101,8 @@ pub fn row_within<'r, A: Allocator, R: SnapshotReader<A>>(
     bound: Bound<&Key<A>>,
 ) -> Option<&'r Row<A>>
     requires { HasTable (R.tables reader.now) table }
-    ensures left { rows_left (rows_of (R.tables reader.now) table) result ≡ rows_within (rows_of (R.tables reader.now) table) bound.entry }
+    ensures left { rows_left (rows_of (R.tables reader.now) table) result ≡
+        rows_within (rows_of (R.tables reader.now) table) bound.entry }
     ensures ordered { IsInKeyOrder (rows_of (R.tables reader.now) table) }
 {
     reader.next_row(table, bound)

@@ -77,7 +77,8 @@ fn push_rows_in<'p, A: Allocator>(
     rows: &mut Vec<&'p Row<A>, A>,
 ) -> Result<(), Refusal>
     requires { length rows.old.items ≤ most }
-    ensures ok { OnOk result (lent rows.new.items ≡ take most (lent rows.old.items ++ rows_within (joined pages.now) bound.entry)) }
+    ensures ok { OnOk result (lent rows.new.items ≡
+        take most (lent rows.old.items ++ rows_within (joined pages.now) bound.entry)) }
     ensures memory { IfErr result (λ e. e ≡ out_of_memory) }
 {
     for page in pages {
@@ -95,7 +96,8 @@ fn place_of<A: Allocator>(pages: &[Page<A>], key: &Value<A>) -> usize
     requires some { 0 < length pages.now }
     ensures range { result < length pages.now }
     ensures before { AllByRecursion (λ row. is_le (value_cmp key.now row.0) ≡ false) (joined (take result pages.now)) }
-    ensures after { AllByRecursion (λ l. value_cmp key.now l ≡ Less) (map (λ row. row.0) (joined (drop (result + 1) pages.now))) }
+    ensures after { AllByRecursion (λ l. value_cmp key.now l ≡ Less)
+        (map (λ row. row.0) (joined (drop (result + 1) pages.now))) }
 {
     let from = start(pages, Bound::From(key));
     if from < pages.len() {
@@ -108,7 +110,8 @@ fn place_of<A: Allocator>(pages: &[Page<A>], key: &Value<A>) -> usize
 // Whether a key comes behind all rows.
 fn is_behind<A: Allocator>(pages: &[Page<A>], key: &Value<A>) -> bool
     requires { AreLaidOut pages.now }
-    ensures behind { IsTrue result → AllByRecursion (λ row. is_le (value_cmp key.now row.0) ≡ false) (joined pages.now) }
+    ensures behind { IsTrue result →
+        AllByRecursion (λ row. is_le (value_cmp key.now row.0) ≡ false) (joined pages.now) }
     ensures some { result ≡ false → 0 < length pages.now }
 {
     match pages.last() {

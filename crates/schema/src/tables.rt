@@ -113,8 +113,8 @@ impl<A: Allocator> Tables<A> {
         Ok(())
     }
 
-    /// Puts in changes, one after another. One of a table that isn't there changes nothing. After want of memory those before
-    /// some change are put in.
+    /// Puts in changes, one after another. One of a table that isn't there changes nothing. After want of memory those
+    /// before some change are put in.
     pub fn apply_all(&mut self, alloc: A, changes: &[Change<A>]) -> Result<(), Refusal>
     where
         A: Copy,

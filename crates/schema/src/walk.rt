@@ -29,7 +29,8 @@ pub trait RowsReader<A: Allocator>: SnapshotReader<A> {
         most: usize,
     ) -> Result<Vec<&Row<A>, A>, Refusal>
         requires { HasTable (Self.tables self.now) table }
-        ensures rows { IfOk result (λ rows. lent rows.items ≡ take most (rows_within (rows_of (Self.tables self.now) table) after.entry)) }
+        ensures rows { IfOk result (λ rows. lent rows.items ≡
+            take most (rows_within (rows_of (Self.tables self.now) table) after.entry)) }
         ensures ordered { IsInKeyOrder (rows_of (Self.tables self.now) table) }
         ensures err { IfErr result (λ e. e ≡ out_of_memory) };
 }
@@ -75,7 +76,8 @@ fn rows_behind<'r, R: RowsReader<A>, A: Allocator + Copy>(
     batch: &[&'r Row<A>],
 ) -> Result<Vec<&'r Row<A>, A>, Refusal>
     requires { HasTable (R.tables reader.now) table }
-    ensures rows { IfOk result (λ rows. rows_to_come (rows_of (R.tables reader.now) table) (lent rows.items) 0 ≡ rows_behind (rows_of (R.tables reader.now) table) (lent batch.now)) }
+    ensures rows { IfOk result (λ rows. rows_to_come (rows_of (R.tables reader.now) table) (lent rows.items) 0 ≡
+        rows_behind (rows_of (R.tables reader.now) table) (lent batch.now)) }
     ensures err { IfErr result (λ e. e ≡ out_of_memory) }
 {
     match batch.last() {

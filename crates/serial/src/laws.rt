@@ -68,8 +68,10 @@ pub fn legal_histories_are_serializable<A: Allocator>()
 /// a legal history a longer one.
 pub fn grows<A: Allocator>()
     ensures start { (o : Opening A) → IsTrue (is_sound o.catalog o.tables) → Legal o [] }
-    ensures push { (o : Opening A) → (es : List (AnyRecord A)) → (s : ℕ) → (a : AnyAction A) → (r : AnyReply A) → Legal o es
-        → Allowed o.catalog a → r ≡ answer o es s a → Legal o (es ++ record { session = s; action = a; reply = r } ∷ []) }
+    ensures push { (o : Opening A) → (es : List (AnyRecord A)) → (s : ℕ) → (a : AnyAction A) → (r : AnyReply A) →
+        Legal o es
+        → Allowed o.catalog a → r ≡ answer o es s a →
+        Legal o (es ++ record { session = s; action = a; reply = r } ∷ []) }
 {}
 
 /// What is of a session after one more event: that event too, if it is the session's.
@@ -101,12 +103,14 @@ pub fn continues_on_a_base<A: Allocator>()
 
 /// The tables that a view shows are sound.
 pub fn views_are_sound<A: Allocator>()
-    ensures { (o : Opening A) → (es : List (AnyRecord A)) → (s : ℕ) → (X : AnyTables A) → Legal o es → view_answer o es s ≡ Ok X → IsTrue (is_sound o.catalog X) }
+    ensures { (o : Opening A) → (es : List (AnyRecord A)) → (s : ℕ) → (X : AnyTables A) → Legal o es →
+        view_answer o es s ≡ Ok X → IsTrue (is_sound o.catalog X) }
 {}
 
 /// The tables that a session's transaction sees are sound.
 pub fn readers_are_sound<A: Allocator>()
-    ensures { (o : Opening A) → (es : List (AnyRecord A)) → (s : ℕ) → (X : AnyTables A) → Legal o es → reader_answer o es s ≡ Ok X → IsTrue (is_sound o.catalog X) }
+    ensures { (o : Opening A) → (es : List (AnyRecord A)) → (s : ℕ) → (X : AnyTables A) → Legal o es →
+        reader_answer o es s ≡ Ok X → IsTrue (is_sound o.catalog X) }
 {}
 
 /// The tables that a session may view are a state of the serial order, that of the prefix at its
@@ -114,13 +118,15 @@ pub fn readers_are_sound<A: Allocator>()
 /// began, or, where that one has imported its snapshot, before the deferrable one began from which
 /// the snapshot comes, through however many imports. And they stay one, whatever is done later.
 pub fn views_are_backups<A: Allocator>()
-    ensures { (o : Opening A) → (es : List (AnyRecord A)) → (s : ℕ) → (X : AnyTables A) → Legal o es → view_answer o es s ≡ Ok X → IsBackup o es s X }
+    ensures { (o : Opening A) → (es : List (AnyRecord A)) → (s : ℕ) → (X : AnyTables A) → Legal o es →
+        view_answer o es s ≡ Ok X → IsBackup o es s X }
 {}
 
 /// As long as a session does nothing, what its transaction sees stays, whatever others do, where it may
 /// still read. It may not where another's commit has doomed it.
 pub fn readers_stay<A: Allocator>()
-    ensures { (o : Opening A) → (es more : List (AnyRecord A)) → (s : ℕ) → (X Y : AnyTables A) → Legal o (es ++ more) → of_session s (es ++ more) ≡ of_session s es
+    ensures { (o : Opening A) → (es more : List (AnyRecord A)) → (s : ℕ) → (X Y : AnyTables A) →
+        Legal o (es ++ more) → of_session s (es ++ more) ≡ of_session s es
         → reader_answer o es s ≡ Ok X → reader_answer o (es ++ more) s ≡ Ok Y → Y ≡ X }
 {}
 
@@ -132,37 +138,57 @@ pub fn structures_hold_the_committer<A: Allocator>()
 
 /// What is kept of a history's transactions, where it is all that matters, answers as all of them do.
 pub fn what_is_kept_answers_alike<A: Allocator>()
-    ensures reply { AfterLegal (λ (w : World A). (n : ℕ) (keep : ℕ → Bool) → Keeps w n keep → (s : ℕ) (a : AnyAction A) → reply_in (thin keep w) s a ≡ reply_in w s a) }
-    ensures cause { AfterLegal (λ (w : World A). (s : ℕ) (t : Txn A) (n : ℕ) (keep : ℕ → Bool) → IsOpenOf w s t → Keeps w n keep
+    ensures reply { AfterLegal (λ (w : World A). (n : ℕ) (keep : ℕ → Bool) → Keeps w n keep →
+        (s : ℕ) (a : AnyAction A) →
+        reply_in (thin keep w) s a ≡ reply_in w s a) }
+    ensures cause { AfterLegal (λ (w : World A). (s : ℕ) (t : Txn A) (n : ℕ) (keep : ℕ → Bool) → IsOpenOf w s t →
+        Keeps w n keep
         → first_cause node edge (replaced (numbered w t) (kept_of keep w.txns)) ≡ cause_of w t) }
-    ensures key { AfterLegal (λ (w : World A). (s : ℕ) (t : Txn A) (n : ℕ) (keep : ℕ → Bool) → IsOpenOf w s t → Keeps w n keep
-        → serial_key node edge (filter (λ u. is_done u.standing) (replaced (numbered w t) (kept_of keep w.txns))) (numbered w t)
+    ensures key { AfterLegal (λ (w : World A). (s : ℕ) (t : Txn A) (n : ℕ) (keep : ℕ → Bool) → IsOpenOf w s t →
+        Keeps w n keep
+        → serial_key node edge (filter (λ u. is_done u.standing) (replaced (numbered w t) (kept_of keep w.txns)))
+        (numbered w t)
         ≡ serial_key node edge (filter (λ u. is_done u.standing) (committing w t)) (numbered w t)) }
-    ensures spoilt { AfterLegal (λ (w : World A). (s : ℕ) (t : Txn A) (n : ℕ) (keep : ℕ → Bool) → IsOpenOf w s t → Keeps w n keep → is_safe_reader t ≡ false
+    ensures spoilt { AfterLegal (λ (w : World A). (s : ℕ) (t : Txn A) (n : ℕ) (keep : ℕ → Bool) → IsOpenOf w s t →
+        Keeps w n keep → is_safe_reader t ≡ false
         → is_spoilt (kept_of keep w.txns) t ≡ is_spoilt w.txns t) }
-    ensures pending { AfterLegal (λ (w : World A). (n : ℕ) (keep : ℕ → Bool) → Keeps w n keep → (t : Txn A) → is_pending (kept_of keep w.txns) t ≡ is_pending w.txns t) }
-    ensures dooms { AfterLegal (λ (w : World A). (s : ℕ) (t : Txn A) (n : ℕ) (keep : ℕ → Bool) → IsOpenOf w s t → Keeps w n keep
+    ensures pending { AfterLegal (λ (w : World A). (n : ℕ) (keep : ℕ → Bool) → Keeps w n keep → (t : Txn A) →
+        is_pending (kept_of keep w.txns) t ≡ is_pending w.txns t) }
+    ensures dooms { AfterLegal (λ (w : World A). (s : ℕ) (t : Txn A) (n : ℕ) (keep : ℕ → Bool) → IsOpenOf w s t →
+        Keeps w n keep
         → dooms node reads_from (kept_of keep w.txns) t ≡ dooms node reads_from w.txns t) }
-    ensures taken { AfterLegal (λ (w : World A). (s : ℕ) (t : Txn A) (n : ℕ) (keep : ℕ → Bool) → IsOpenOf w s t → Keeps w n keep → is_safe_reader t ≡ false
-        → (xs : List (Change A)) → list_any (λ x. list_any (λ u. is_taken t u x) (kept_of keep w.txns)) xs ≡ meets_another w t xs) }
-    ensures session { AfterLegal (λ (w : World A). (n : ℕ) (keep : ℕ → Bool) → Keeps w n keep → (s : ℕ) → find (is_of s) (kept_of keep w.txns) ≡ current w s) }
-    ensures living { AfterLegal (λ (w : World A). (n : ℕ) (keep : ℕ → Bool) → Keeps w n keep → (x : Exported_snapshot) → is_living (kept_of keep w.txns) x ≡ is_living w.txns x) }
+    ensures taken { AfterLegal (λ (w : World A). (s : ℕ) (t : Txn A) (n : ℕ) (keep : ℕ → Bool) → IsOpenOf w s t →
+        Keeps w n keep → is_safe_reader t ≡ false
+        → (xs : List (Change A)) → list_any (λ x. list_any (λ u. is_taken t u x) (kept_of keep w.txns)) xs ≡
+        meets_another w t xs) }
+    ensures session { AfterLegal (λ (w : World A). (n : ℕ) (keep : ℕ → Bool) → Keeps w n keep → (s : ℕ) →
+        find (is_of s) (kept_of keep w.txns) ≡ current w s) }
+    ensures living { AfterLegal (λ (w : World A). (n : ℕ) (keep : ℕ → Bool) → Keeps w n keep → (x : Exported_snapshot) →
+        is_living (kept_of keep w.txns) x ≡ is_living w.txns x) }
 {}
 
 /// What doesn't matter any more never does again: an event adds to what matters but the transaction
 /// that it begins. And what matters can be told from what is kept alone.
 pub fn what_is_dropped_never_matters_again<A: Allocator>()
-    ensures later { AfterLegal (λ (w : World A). (s : ℕ) (a : AnyAction A) (n : ℕ) (keep : ℕ → Bool) → Allowed w.catalog a → Keeps w n keep
+    ensures later { AfterLegal (λ (w : World A). (s : ℕ) (a : AnyAction A) (n : ℕ) (keep : ℕ → Bool) →
+        Allowed w.catalog a → Keeps w n keep
         → keep (w.base.transactions + length w.txns + 1) ≡ true
-        → AllByRecursion (λ u. is_needed n (follows w (record { session = s; action = a; reply = reply_in w s a })).txns u ≡ true → keep u.number ≡ true)
+        → AllByRecursion (λ u. is_needed n
+        (follows w (record { session = s; action = a; reply = reply_in w s a })).txns u ≡ true → keep u.number ≡
+        true)
         (follows w (record { session = s; action = a; reply = reply_in w s a })).txns) }
-    ensures oldest { AfterLegal (λ (w : World A). (s : ℕ) (a : AnyAction A) (n : ℕ) → Allowed w.catalog a → IsOldest w n → n ≤ commits w
+    ensures oldest { AfterLegal (λ (w : World A). (s : ℕ) (a : AnyAction A) (n : ℕ) → Allowed w.catalog a →
+        IsOldest w n → n ≤ commits w
         → IsOldest (follows w (record { session = s; action = a; reply = reply_in w s a })) n) }
-    ensures event { AfterLegal (λ (w : World A). (n : ℕ) (keep : ℕ → Bool) → Keeps w n keep → (s : ℕ) (t : Txn A) → current w s ≡ Some t → (a : AnyAction A) (r : AnyReply A)
-        → follows (thin keep w) (record { session = s; action = a; reply = r }) ≡ thin keep (follows w (record { session = s; action = a; reply = r }))) }
+    ensures event { AfterLegal (λ (w : World A). (n : ℕ) (keep : ℕ → Bool) → Keeps w n keep → (s : ℕ) (t : Txn A) →
+        current w s ≡ Some t → (a : AnyAction A) (r : AnyReply A)
+        → follows (thin keep w) (record { session = s; action = a; reply = r }) ≡
+        thin keep (follows w (record { session = s; action = a; reply = r }))) }
     ensures alone { AfterLegal (λ (w : World A). (n : ℕ) (keep : ℕ → Bool) → Keeps w n keep
         → filter (is_needed n (kept_of keep w.txns)) (kept_of keep w.txns) ≡ filter (is_needed n w.txns) w.txns) }
     ensures least { AfterLegal (λ (w : World A). (n : ℕ) → IsOldest w n → Keeps w n (needed_numbers n w.txns)) }
-    ensures these { AfterLegal (λ (w : World A). (n : ℕ) → kept_of (needed_numbers n w.txns) w.txns ≡ filter (is_needed n w.txns) w.txns) }
-    ensures raised { AfterLegal (λ (w : World A). (n m : ℕ) (keep : ℕ → Bool) → Keeps w n keep → n ≤ m → IsOldest w m → Keeps w m keep) }
+    ensures these { AfterLegal (λ (w : World A). (n : ℕ) → kept_of (needed_numbers n w.txns) w.txns ≡
+        filter (is_needed n w.txns) w.txns) }
+    ensures raised { AfterLegal (λ (w : World A). (n m : ℕ) (keep : ℕ → Bool) → Keeps w n keep → n ≤ m → IsOldest w m →
+        Keeps w m keep) }
 {}

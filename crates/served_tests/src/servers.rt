@@ -1,4 +1,5 @@
-//! Sessions on threads of their own, each of which plays its lines of a script; what a server is refused for, and checkpoints.
+//! Sessions on threads of their own, each of which plays its lines of a script; what a server is refused for, and
+//! checkpoints.
 
 ghost use Rattle.std.specs.Prelude.{◌≡◌, [], IsTrue};
 ghost use Rattle.schema.specs.Plain.{is_sound};
@@ -19,9 +20,9 @@ use std::sync::Wait;
 use std::thread::Threads;
 use value::refusal::{Code, Refusal};
 
-// Scripts of three sessions, with blank lines between them. A line has a session's number, what it asks for and what it is
-// answered. AFTER 6 waits for six events. At SHUT and OPEN a barrier is shut and opened at which SELECTs, views and dumps are
-// held, and REACH waits until one is.
+// Scripts of three sessions, with blank lines between them. A line has a session's number, what it asks for and what it
+// is answered. AFTER 6 waits for six events. At SHUT and OPEN a barrier is shut and opened at which SELECTs, views and
+// dumps are held, and REACH waits until one is.
 const SCRIPTS: &str = "\
 1 BEGIN: begun
 1 INSERT INTO a VALUES (1): inserted

@@ -40,7 +40,8 @@ impl<'w, J: Naming<A>, A: Allocator> Model for Locked<'w, J, A> {
 
     ghost view = { λ l. l.core };
 
-    ghost invariant = { λ l. (l.core.opening ≡ J.opening) × (l.core.most ≡ J.most) × (l.keeper.records ≡ l.core.records) };
+    ghost invariant = { λ l. (l.core.opening ≡ J.opening) × (l.core.most ≡ J.most) ×
+        (l.keeper.records ≡ l.core.records) };
 }
 
 impl<'w, J: Naming<A>, A: Allocator> Locked<'w, J, A> {

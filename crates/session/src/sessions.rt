@@ -52,7 +52,8 @@ impl<A: Allocator> Model for Core<A> {
 
     ghost view = { λ c. c.history };
 
-    ghost invariant = { λ c. IsKept c.history c.world × HoldsKeys c.history c.keys.items (vec_capacity c.keys) × HoldsRows c.history c.world c.rows };
+    ghost invariant = { λ c. IsKept c.history c.world × HoldsKeys c.history c.keys.items (vec_capacity c.keys) ×
+        HoldsRows c.history c.world c.rows };
 }
 
 // The versions of the tables that a history opens with.
@@ -80,7 +81,9 @@ fn open_history<A: Allocator + Copy>(
     requires no_keys { keys.items ≡ [] }
     requires capacity { history.most ≤ vec_capacity keys }
     requires sound { IsTrue (is_sound history.opening.catalog history.opening.tables) }
-    requires within { (history.opening.base.transactions ≤ history.opening.base.events) × (history.opening.base.commits ≤ history.opening.base.events) × (history.opening.base.identifiers ≤ history.opening.base.events) }
+    requires within { (history.opening.base.transactions ≤ history.opening.base.events) ×
+        (history.opening.base.commits ≤ history.opening.base.events) ×
+        (history.opening.base.identifiers ≤ history.opening.base.events) }
     requires room { history.opening.base.events + history.most < 2 ^ 64 }
     ensures ok { IfOk result (λ made. made ≡ history) }
     ensures memory { IfErr result (λ e. e ≡ out_of_memory) }
@@ -104,9 +107,11 @@ fn open_on<A: Allocator + Copy>(
     max_events: u32,
 ) -> Result<Core<A>, Refusal>
     requires sound { IsTrue (is_sound catalog tables) }
-    requires within { (base.transactions ≤ base.events) × (base.commits ≤ base.events) × (base.identifiers ≤ base.events) }
+    requires within { (base.transactions ≤ base.events) × (base.commits ≤ base.events) ×
+        (base.identifiers ≤ base.events) }
     requires room { base.events + max_events < 2 ^ 64 }
-    ensures ok { IfOk result (λ made. made ≡ record { opening = record { catalog = catalog; tables = tables; base = base }; records = []; most = max_events }) }
+    ensures ok { IfOk result (λ made. made ≡ record
+        { opening = record { catalog = catalog; tables = tables; base = base }; records = []; most = max_events }) }
     ensures within { OnOk result (max_events ≢ 0) }
     ensures refused { IfErr result (λ e. e ≡ opening_refusal (max_events == 0)) }
 {
@@ -130,7 +135,8 @@ fn add_last<A: Allocator>(
     action: &Action<A>,
 )
     requires { length keys.old.items < vec_capacity keys.old }
-    ensures keys { map keyed keys.new.items ≡ map keyed keys.old.items ++ (if is_commit action.now then option_to_list (committed_at world.now.place world.now.txns) else []) }
+    ensures keys { map keyed keys.new.items ≡ map keyed keys.old.items ++
+        (if is_commit action.now then option_to_list (committed_at world.now.place world.now.txns) else []) }
     ensures few { length keys.new.items ≤ length keys.old.items + 1 }
     ensures room { vec_capacity keys.new ≡ vec_capacity keys.old }
 {
@@ -162,7 +168,8 @@ fn go_on_quiet<A: Allocator + Copy>(
     requires kept { IsKept history.now world.now }
     requires rows { HoldsRows history.now world.now rows.now }
     requires quiet { are_quiet world.now.txns ≡ true }
-    ensures { AnswersOrNoMemory result (from_opening max_events (checkpoint_answer history.now.opening history.now.records max_events)) }
+    ensures { AnswersOrNoMemory result (from_opening max_events
+        (checkpoint_answer history.now.opening history.now.records max_events)) }
 {
     let base = world.counted();
     if exceeds(base.events, max_events) {
@@ -183,7 +190,8 @@ fn go_on<A: Allocator + Copy>(
 ) -> Result<Core<A>, Refusal>
     requires kept { IsKept history.now world.now }
     requires rows { HoldsRows history.now world.now rows.now }
-    ensures { AnswersOrNoMemory result (from_opening max_events (checkpoint_answer history.now.opening history.now.records max_events)) }
+    ensures { AnswersOrNoMemory result (from_opening max_events
+        (checkpoint_answer history.now.opening history.now.records max_events)) }
 {
     if world.is_quiet() {
         go_on_quiet(alloc, history, world, rows, max_events)
@@ -204,7 +212,11 @@ impl<A: Allocator> Core<A> {
     where
         A: Copy,
         requires { IsTrue (is_sound catalog tables) }
-        ensures ok { IfOk result (λ made. made ≡ record { opening = record { catalog = catalog; tables = tables; base = zero_base }; records = []; most = max_events }) }
+        ensures ok { IfOk result (λ made. made ≡ record {
+          opening = record { catalog = catalog; tables = tables; base = zero_base };
+          records = [];
+          most = max_events;
+        }) }
         ensures within { OnOk result (max_events ≢ 0) }
         ensures refused { IfErr result (λ e. e ≡ opening_refusal (max_events == 0)) }
     {
@@ -332,7 +344,8 @@ impl<A: Allocator> Core<A> {
     fn next(&self, alloc: A, max_events: u32) -> Result<Core<A>, Refusal>
     where
         A: Copy,
-        ensures { AnswersOrNoMemory result (from_opening max_events (checkpoint_answer self.now.opening self.now.records max_events)) }
+        ensures { AnswersOrNoMemory result (from_opening max_events
+            (checkpoint_answer self.now.opening self.now.records max_events)) }
     {
         go_on(alloc, &self.history, &self.world, &self.rows, max_events)
     }

@@ -221,7 +221,8 @@ fn first_inner<A: Allocator>(readings: &[Reading<A>], table: TableNo) -> Option<
 /// are kept of them.
 pub fn inner_key<A: Allocator>(readings: &[Reading<A>], table: TableNo) -> Option<usize>
     requires { IsEachOnce readings.now }
-    ensures { IfSome result (λ i. (i < length readings.now) × CoverAlike (take i readings.now ++ drop (i + 1) readings.now) readings.now) }
+    ensures { IfSome result (λ i. (i < length readings.now) ×
+        CoverAlike (take i readings.now ++ drop (i + 1) readings.now) readings.now) }
 {
     if has_spare_keys(readings, table) {
         first_inner(readings, table)

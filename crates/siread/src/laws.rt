@@ -13,8 +13,10 @@ use std::alloc::Allocator;
 /// all that it has read, knows it again after each read, and what the locks tell is the cover of all
 /// that it has read.
 pub fn reads_cover_alike<A: Allocator>()
-    ensures keys { (rs qs : List (AnyReading A)) → CoverAlike rs qs → (t : ℕ) → (k : AnyValue A) → covers rs t k ≡ covers qs t k }
-    ensures references { (rs qs : List (AnyReading A)) → CoverAlike rs qs → (t j : ℕ) → (k : AnyValue A) → covers_value rs t j k ≡ covers_value qs t j k }
+    ensures keys { (rs qs : List (AnyReading A)) → CoverAlike rs qs → (t : ℕ) → (k : AnyValue A) →
+        covers rs t k ≡ covers qs t k }
+    ensures references { (rs qs : List (AnyReading A)) → CoverAlike rs qs → (t j : ℕ) → (k : AnyValue A) →
+        covers_value rs t j k ≡ covers_value qs t j k }
     ensures more { (rs qs xs : List (AnyReading A)) → CoverAlike rs qs → CoverAlike (rs ++ xs) (qs ++ xs) }
     ensures chain { (rs qs ps : List (AnyReading A)) → CoverAlike rs qs → CoverAlike qs ps → CoverAlike rs ps }
     ensures itself { (rs : List (AnyReading A)) → CoverAlike rs rs }

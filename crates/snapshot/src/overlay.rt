@@ -46,9 +46,13 @@ impl<'a, R: SnapshotReader<A>, A: Allocator> Overlay<'a, R, A> {
         after: Bound<&Key<A>>,
     ) -> Result<Option<&'a Row<A>>, &'a Key<A>>
         requires { HasTable (R.tables self.now.reader.now) table }
-        ensures row { IfOk result (λ row. option_copied row ≡ next_row (rows_with self.now.changes.now (R.tables self.now.reader.now) table) after.entry) }
-        ensures gone { IfErr result (λ key. next_row (rows_with self.now.changes.now (R.tables self.now.reader.now) table) after.entry ≡ next_after (rows_with self.now.changes.now (R.tables self.now.reader.now) table) key.now) }
-        ensures fewer { IfErr result (λ key. length (changes_after self.now.changes.now table key.now) < length (changes_within self.now.changes.now table after.entry)) }
+        ensures row { IfOk result (λ row. option_copied row ≡
+            next_row (rows_with self.now.changes.now (R.tables self.now.reader.now) table) after.entry) }
+        ensures gone { IfErr result (λ key. next_row
+            (rows_with self.now.changes.now (R.tables self.now.reader.now) table) after.entry ≡
+            next_after (rows_with self.now.changes.now (R.tables self.now.reader.now) table) key.now) }
+        ensures fewer { IfErr result (λ key. length (changes_after self.now.changes.now table key.now) < length
+            (changes_within self.now.changes.now table after.entry)) }
         ensures ordered { IsInKeyOrder (rows_with self.now.changes.now (R.tables self.now.reader.now) table) }
     {
         self.changes.in_key_order(table);
@@ -68,7 +72,8 @@ impl<'a, R: SnapshotReader<A>, A: Allocator> Overlay<'a, R, A> {
     // The row of the least key after one.
     fn next_past(&self, table: TableNo, key: &'a Key<A>) -> Option<&'a Row<A>>
         requires { HasTable (R.tables self.now.reader.now) table }
-        ensures { option_copied result ≡ next_after (rows_with self.now.changes.now (R.tables self.now.reader.now) table) key.now }
+        ensures { option_copied result ≡ next_after
+            (rows_with self.now.changes.now (R.tables self.now.reader.now) table) key.now }
     {
         let mut past = key;
         'past: loop {
@@ -82,7 +87,8 @@ impl<'a, R: SnapshotReader<A>, A: Allocator> Overlay<'a, R, A> {
     /// `next_row`, whose row is lent as long as the reader and the changes are.
     pub fn lend_next(&self, table: TableNo, after: Bound<&Key<A>>) -> Option<&'a Row<A>>
         requires { HasTable (put_all self.now.changes.now (R.tables self.now.reader.now)) table }
-        ensures row { option_copied result ≡ next_row (rows_with self.now.changes.now (R.tables self.now.reader.now) table) after.entry }
+        ensures row { option_copied result ≡ next_row
+            (rows_with self.now.changes.now (R.tables self.now.reader.now) table) after.entry }
         ensures ordered { IsInKeyOrder (rows_with self.now.changes.now (R.tables self.now.reader.now) table) }
     {
         match self.next_or_gone(table, after) {
@@ -94,7 +100,8 @@ impl<'a, R: SnapshotReader<A>, A: Allocator> Overlay<'a, R, A> {
     /// `get`, whose row is lent as long as the reader and the changes are.
     pub fn lend(&self, table: TableNo, key: &Key<A>) -> Option<&'a Row<A>>
         requires { HasTable (put_all self.now.changes.now (R.tables self.now.reader.now)) table }
-        ensures { option_copied result ≡ row_of (rows_with self.now.changes.now (R.tables self.now.reader.now) table) key.now }
+        ensures { option_copied result ≡ row_of
+            (rows_with self.now.changes.now (R.tables self.now.reader.now) table) key.now }
     {
         self.changes.in_key_order(table);
         match self.changes.get(table, key) {

@@ -27,7 +27,8 @@ pub fn refused_at(tokens: &[Token]) -> ParseError
 /// The tokens after one of a kind, if it comes first.
 #[tactic(auto, unfolding(crate::specs::Reading::past))]
 pub fn past(tokens: &[Token], kind: TokenKind) -> Option<&[Token]>
-    ensures { MatchOption result (spec.past kind tokens.now ≡ None) (λ rest. spec.past kind tokens.now ≡ Some rest.now) }
+    ensures { MatchOption result (spec.past kind tokens.now ≡ None)
+        (λ rest. spec.past kind tokens.now ≡ Some rest.now) }
 {
     match tokens {
         [token, rest @ ..] if same_kind(token.kind, kind) => Some(rest),

@@ -227,7 +227,8 @@ fn projection<A: Allocator>(
 
 // The kind of the first column, and the columns after it.
 fn first_kind<A: Allocator>(columns: &[Column<A>]) -> Option<(Kind, &[Column<A>])>
-    ensures { MatchOption result (spec.first_kind columns.now ≡ None) (λ x. spec.first_kind columns.now ≡ Some (x.0, x.1.now)) }
+    ensures { MatchOption result (spec.first_kind columns.now ≡ None)
+        (λ x. spec.first_kind columns.now ≡ Some (x.0, x.1.now)) }
 {
     match columns {
         [column, others @ ..] => Some((column.kind(), others)),

@@ -64,7 +64,8 @@ fn evaluate_select<A: Allocator + Copy, R: SnapshotReader<A>>(
 ) -> Result<Outcome<A>, Refusal>
     requires fits { Fits catalog.now (Statement.Select table projection.now conditions.now) }
     requires held { are_of catalog.now (R.tables reader.now) ≡ true }
-    ensures { AnswersOrNoMemory result (Ok (answers (Reply.Rows (shown projection.now (chosen (R.tables reader.now) table conditions.now))))) }
+    ensures { AnswersOrNoMemory result (Ok (answers
+        (Reply.Rows (shown projection.now (chosen (R.tables reader.now) table conditions.now))))) }
 {
     let rows = select(alloc, catalog, reader, table, projection, conditions)?;
     Ok(answers(alloc, Reply::Rows(rows)))

@@ -172,7 +172,8 @@ fn select_fits<A: Allocator>(
     projection: &Projection<A>,
     conditions: &[Condition<A>],
 ) -> bool
-    ensures { result ≡ (has_table catalog.now table && projection_fits (columns_of catalog.now table) projection.now && list_all (condition_fits (columns_of catalog.now table)) conditions.now) }
+    ensures { result ≡ (has_table catalog.now table && projection_fits (columns_of catalog.now table) projection.now
+        && list_all (condition_fits (columns_of catalog.now table)) conditions.now) }
 {
     if !catalog.has(table) {
         return false;
@@ -193,7 +194,9 @@ fn update_fits<A: Allocator>(
     assignments: &[Assignment<A>],
     conditions: &[Condition<A>],
 ) -> bool
-    ensures { result ≡ (has_table catalog.now table && list_all (assignment_fits (columns_of catalog.now table)) assignments.now && assigns_once assignments.now && list_all (condition_fits (columns_of catalog.now table)) conditions.now) }
+    ensures { result ≡ (has_table catalog.now table && list_all (assignment_fits (columns_of catalog.now table))
+        assignments.now && assigns_once assignments.now && list_all
+        (condition_fits (columns_of catalog.now table)) conditions.now) }
 {
     if !catalog.has(table) {
         return false;
@@ -209,14 +212,16 @@ fn delete_fits<A: Allocator>(
     table: TableNo,
     conditions: &[Condition<A>],
 ) -> bool
-    ensures { result ≡ (has_table catalog.now table && list_all (condition_fits (columns_of catalog.now table)) conditions.now) }
+    ensures { result ≡ (has_table catalog.now table && list_all (condition_fits (columns_of catalog.now table))
+        conditions.now) }
 {
     catalog.has(table) && conditions_fit(columns_of(catalog, table), conditions)
 }
 
 impl<A: Allocator> Statement<A> {
-    /// Whether it fits a catalog: its table and columns are there, its literals are null or of their columns' kinds, an INSERT
-    /// has one for each column, and an UPDATE assigns neither the key nor a column twice, and sums to bigints alone.
+    /// Whether it fits a catalog: its table and columns are there, its literals are null or of their columns' kinds, an
+    /// INSERT has one for each column, and an UPDATE assigns neither the key nor a column twice, and sums to bigints
+    /// alone.
     pub fn fits(&self, catalog: &Catalog<A>) -> bool
         ensures { result ≡ fits catalog.now self.now }
     {

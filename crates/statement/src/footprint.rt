@@ -102,7 +102,8 @@ fn read_referenced<A: Allocator>(
     column: &Column<A>,
     readings: &mut Vec<Reading<A>, A>,
 ) -> Result<(), Refusal>
-    ensures ok { OnOk result (readings.new.items ≡ readings.old.items ++ option_map_or (λ u. in_table u (Extent.Whole ∷ [])) column.now.references []) }
+    ensures ok { OnOk result (readings.new.items ≡ readings.old.items ++
+        option_map_or (λ u. in_table u (Extent.Whole ∷ [])) column.now.references []) }
     ensures err { IfErr result (λ e. e ≡ out_of_memory) }
 {
     if let Some(table) = column.references() {
@@ -212,7 +213,8 @@ fn read_assignment<A: Allocator>(
     assignment: &Assignment<A>,
     readings: &mut Vec<Reading<A>, A>,
 ) -> Result<(), Refusal>
-    ensures ok { OnOk result (readings.new.items ≡ readings.old.items ++ reads_assigned (column_at columns.now assignment.now.column) assignment.now.source) }
+    ensures ok { OnOk result (readings.new.items ≡ readings.old.items ++
+        reads_assigned (column_at columns.now assignment.now.column) assignment.now.source) }
     ensures err { IfErr result (λ e. e ≡ out_of_memory) }
 {
     match column_at(columns, assignment.column) {
@@ -228,7 +230,8 @@ fn read_assignments<A: Allocator + Copy>(
     assignments: &[Assignment<A>],
     readings: &mut Vec<Reading<A>, A>,
 ) -> Result<(), Refusal>
-    ensures ok { OnOk result (readings.new.items ≡ readings.old.items ++ reads_assignments columns.now assignments.now) }
+    ensures ok { OnOk result (readings.new.items ≡ readings.old.items ++
+        reads_assignments columns.now assignments.now) }
     ensures err { IfErr result (λ e. e ≡ out_of_memory) }
 {
     match assignments {
@@ -250,7 +253,8 @@ pub(crate) fn references<A: Allocator>(column: &Column<A>, table: TableNo) -> bo
     }
 }
 
-// Reads the rows of a table that name a key in one of its columns that reference another, the columns counted from a place on.
+// Reads the rows of a table that name a key in one of its columns that reference another, the columns counted from a
+// place on.
 fn read_naming<A: Allocator + Copy>(
     alloc: A,
     table: TableNo,
@@ -261,7 +265,8 @@ fn read_naming<A: Allocator + Copy>(
     readings: &mut Vec<Reading<A>, A>,
 ) -> Result<(), Refusal>
     requires { place + length columns.now ≤ 32 }
-    ensures ok { OnOk result (readings.new.items ≡ readings.old.items ++ in_table table (rows_naming key.now referenced place columns.now)) }
+    ensures ok { OnOk result (readings.new.items ≡ readings.old.items ++
+        in_table table (rows_naming key.now referenced place columns.now)) }
     ensures err { IfErr result (λ e. e ≡ out_of_memory) }
 {
     match columns {
@@ -290,7 +295,8 @@ fn read_whole<A: Allocator>(
     columns: &[Column<A>],
     readings: &mut Vec<Reading<A>, A>,
 ) -> Result<(), Refusal>
-    ensures ok { OnOk result (readings.new.items ≡ readings.old.items ++ in_table table (if list_any (references referenced) columns.now then Extent.Whole ∷ [] else [])) }
+    ensures ok { OnOk result (readings.new.items ≡ readings.old.items ++
+        in_table table (if list_any (references referenced) columns.now then Extent.Whole ∷ [] else [])) }
     ensures err { IfErr result (λ e. e ≡ out_of_memory) }
 {
     if any_references(columns, referenced) {
@@ -312,7 +318,8 @@ fn read_columns<A: Allocator + Copy>(
     readings: &mut Vec<Reading<A>, A>,
 ) -> Result<(), Refusal>
     requires { length columns.now ≤ 32 }
-    ensures ok { OnOk result (readings.new.items ≡ readings.old.items ++ in_table table (reads_columns (listed gone.now) referenced columns.now)) }
+    ensures ok { OnOk result (readings.new.items ≡ readings.old.items ++
+        in_table table (reads_columns (listed gone.now) referenced columns.now)) }
     ensures err { IfErr result (λ e. e ≡ out_of_memory) }
 {
     match gone {
@@ -332,7 +339,8 @@ fn read_referencing<A: Allocator + Copy>(
     catalog: &Catalog<A>,
     readings: &mut Vec<Reading<A>, A>,
 ) -> Result<(), Refusal>
-    ensures ok { OnOk result (readings.new.items ≡ readings.old.items ++ reads_referencing (listed gone.now) referenced 0 catalog.now) }
+    ensures ok { OnOk result (readings.new.items ≡ readings.old.items ++
+        reads_referencing (listed gone.now) referenced 0 catalog.now) }
     ensures err { IfErr result (λ e. e ≡ out_of_memory) }
 {
     for place in 0..catalog.len() {

@@ -23,7 +23,8 @@ pub enum Interval<A: Allocator = Global> {
 
 // A value as a key, where it isn't null.
 pub(crate) fn key_of<A: Allocator>(alloc: A, value: &Value<A>) -> Result<Option<Key<A>>, Refusal>
-    ensures ok { IfOk result (λ k. MatchOption k (is_null value.now ≡ true) (λ k. (is_null value.now ≡ false) × (k ≡ value.now))) }
+    ensures ok { IfOk result (λ k. MatchOption k (is_null value.now ≡ true)
+        (λ k. (is_null value.now ≡ false) × (k ≡ value.now))) }
     ensures err { IfErr result (λ e. e ≡ out_of_memory) }
 {
     Ok(Key::new(value.copy(alloc)?))

@@ -160,7 +160,8 @@ pub(crate) fn key(number: i64) -> Key {
     key
 }
 
-// A row of a key and fields: a text, where it isn't `-`, and a number, where it isn't 0; as many of them as are asked for.
+// A row of a key and fields: a text, where it isn't `-`, and a number, where it isn't 0; as many of them as are asked
+// for.
 pub(crate) fn row(
     alloc: Global,
     number: i64,

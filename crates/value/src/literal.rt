@@ -43,7 +43,8 @@ fn has_bigint_form(text: &[u8]) -> bool
 
 // The code of a text that is no bigint of 64 bits: its form, or else its range.
 fn code_of_no_bigint(text: &[u8]) -> Code
-    ensures { result ≡ (if is_bigint_form text.now then Code.NumericValueOutOfRange else Code.InvalidTextRepresentation) }
+    ensures { result ≡ (if is_bigint_form text.now then Code.NumericValueOutOfRange else
+        Code.InvalidTextRepresentation) }
 {
     if has_bigint_form(text) {
         Code::NumericValueOutOfRange

@@ -34,13 +34,15 @@ pub enum Code {
     NoActiveSqlTransaction,
     /// What a failed transaction no longer does.
     InFailedSqlTransaction,
-    /// A commit that would make a dangerous structure, a transaction that another's commit has doomed, or a write of a row that a transaction beside it has written. To be tried again.
+    /// A commit that would make a dangerous structure, a transaction that another's commit has doomed, or a write of a
+    /// row that a transaction beside it has written. To be tried again.
     SerializationFailure,
     /// A text that is no statement, or a bad table definition.
     SyntaxError,
     /// A name that is no column of the table.
     UndefinedColumn,
-    /// A literal, a sum, a field or a reference of another kind than the column, or a row with another number of fields.
+    /// A literal, a sum, a field or a reference of another kind than the column, or a row with another number of
+    /// fields.
     DatatypeMismatch,
     /// A name that is no table.
     UndefinedTable,
@@ -50,7 +52,8 @@ pub enum Code {
     OutOfMemory,
     /// One of this server's limits: tables, columns, a statement's length, recorded events.
     ProgramLimitExceeded,
-    /// A snapshot that isn't known to be safe yet, a transaction that isn't deferrable, or an identifier of a snapshot that is unknown or gone.
+    /// A snapshot that isn't known to be safe yet, a transaction that isn't deferrable, or an identifier of a snapshot
+    /// that is unknown or gone.
     ObjectNotInPrerequisiteState,
 }
 

@@ -148,7 +148,8 @@ where
     J: Naming<Global>,
     S: Sinks,
     T: Threads + Wait + Sync,
-    ensures { IfOk result (λ text. IsAtLine J.opening J.most (Step.Session session command.entry.now) pass.old text.items pass.new) }
+    ensures { IfOk result (λ text. IsAtLine J.opening J.most (Step.Session session command.entry.now) pass.old
+        text.items pass.new) }
 {
     if session.number() == pass.session().number() {
         tell_command(rt, alloc, server, sinks, pass, command)

@@ -48,7 +48,8 @@ impl<'p, 's, 'w, J: Naming<Global>, S: Sinks> Seat<'p, 's, 'w, J, S> {
 
     /// Does the session's lines, in their order. It stops at a fault.
     pub(crate) fn play<T: Threads + Wait + Sync>(&mut self, rt: &T, alloc: Global)
-        ensures { IfOk self.new.told (λ text. AreTold J.opening J.most self.old.lines.now self.old.pass text.items self.new.pass) }
+        ensures { IfOk self.new.told (λ text. AreTold J.opening J.most self.old.lines.now self.old.pass text.items
+            self.new.pass) }
     {
         self.told = tell_lines(
             rt,

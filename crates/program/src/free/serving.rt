@@ -130,7 +130,10 @@ where
     S: Sinks,
     T: Threads + Wait + Sync,
     ensures count { length result.items ≡ length seats.entry.items }
-    ensures each { (i : ℕ) (d : _) → i < length seats.entry.items → IfOk (slice_index_or result.items i d).told (λ v. AreTold J.opening J.most (slice_index_or seats.entry.items i d).lines.now (slice_index_or seats.entry.items i d).pass v.items (slice_index_or result.items i d).pass) }
+    ensures each { (i : ℕ) (d : _) → i < length seats.entry.items →
+        IfOk (slice_index_or result.items i d).told
+        (λ v. AreTold J.opening J.most (slice_index_or seats.entry.items i d).lines.now
+        (slice_index_or seats.entry.items i d).pass v.items (slice_index_or result.items i d).pass) }
 {
     changed(
         rt,
@@ -214,7 +217,9 @@ pub(crate) fn serve<'p, S, T>(
 where
     S: Sinks,
     T: Threads + Wait + Sync,
-    ensures { IfOk result (λ text. AreServed (record { catalog = beginning.entry.catalog; tables = beginning.entry.tables; base = zero_base }) beginning.entry.most_events beginning.entry.lines.now text.items) }
+    ensures { IfOk result (λ text. AreServed
+        (record { catalog = beginning.entry.catalog; tables = beginning.entry.tables; base = zero_base })
+        beginning.entry.most_events beginning.entry.lines.now text.items) }
 {
     let Ok((word, first)) = HistoryWord::new(
         alloc,

@@ -154,8 +154,9 @@ impl<A: Allocator + Copy> Catalog<A> {
 
     /// Adds a table as the last, with its references resolved, and gives its number.
     ///
-    /// Refused where a table has its name, then where a table that it references isn't there, then where a reference has
-    /// another kind than the key that it references, then where there are 256 tables or it has more than 32 columns.
+    /// Refused where a table has its name, then where a table that it references isn't there, then where a reference
+    /// has another kind than the key that it references, then where there are 256 tables or it has more than 32
+    /// columns.
     pub fn add(&mut self, alloc: A, table: TableDef<A>) -> Result<TableNo, Refusal>
         ensures answer { AnswersOrNoMemory (leaving result self.new) (pointing_nowhere (added self.old table)) }
         ensures number { IfOk result (λ t. t ≡ length self.old) }

@@ -36,8 +36,8 @@ fn level_over<A: Allocator>(levels: &[u32], columns: &[Column<A>]) -> u32
 }
 
 impl<A: Allocator + Copy> Catalog<A> {
-    /// The level of each table: 0 where it references none, else one above the greatest level that it references. A table
-    /// references earlier tables alone, so that there is one such list.
+    /// The level of each table: 0 where it references none, else one above the greatest level that it references. A
+    /// table references earlier tables alone, so that there is one such list.
     pub fn levels(&self, alloc: A) -> Result<Vec<u32, A>, Refusal>
         ensures ok { IfOk result (λ levels. AreLevels self.now levels.items) }
         ensures err { IfErr result (λ e. e ≡ out_of_memory) }

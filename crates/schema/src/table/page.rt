@@ -181,7 +181,8 @@ impl<A: Allocator> Page<A> {
         rows: &mut Vec<&'p Row<A>, A>,
     ) -> Result<(), Refusal>
         requires { length rows.old.items ≤ most }
-        ensures ok { OnOk result (lent rows.new.items ≡ take most (lent rows.old.items ++ rows_within self.now bound.entry)) }
+        ensures ok { OnOk result (lent rows.new.items ≡
+            take most (lent rows.old.items ++ rows_within self.now bound.entry)) }
         ensures memory { IfErr result (λ e. e ≡ out_of_memory) }
     {
         let page = self.rows.as_slice();

@@ -208,8 +208,8 @@ impl<A: Allocator> Tables<A> {
 
     /// Inserts a row into a table of the catalog.
     ///
-    /// Refused where the number or a kind of the fields differs from the columns', then where a text has the zero byte, then
-    /// where a value is null that mustn't be, then where the key is there, then where a reference names no row.
+    /// Refused where the number or a kind of the fields differs from the columns', then where a text has the zero byte,
+    /// then where a value is null that mustn't be, then where the key is there, then where a reference names no row.
     pub fn insert(
         &mut self,
         alloc: A,
@@ -221,7 +221,8 @@ impl<A: Allocator> Tables<A> {
         A: Copy,
         requires has { table < length catalog.now }
         requires same_tables { length self.old ≡ length catalog.now }
-        ensures answer { AnswersOrNoMemory (leaving result self.new) (pointing_nowhere (inserted catalog.now self.old table row)) }
+        ensures answer { AnswersOrNoMemory (leaving result self.new)
+            (pointing_nowhere (inserted catalog.now self.old table row)) }
         ensures err { OnErr result (self.new ≡ self.old) }
 
         // Sound tables stay sound.

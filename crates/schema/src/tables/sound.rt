@@ -40,7 +40,8 @@ pub fn has_kind<A: Allocator>(kind: Kind, value: &Value<A>) -> bool
 impl<A: Allocator> Tables<A> {
     // Whether a value may stand in a column.
     fn fits(&self, column: &Column<A>, value: &Value<A>) -> bool
-        ensures { result ≡ (has_kind column.now.kind value.now && not (column.now.not_null && is_null value.now) && is_there self.now column.now value.now) }
+        ensures { result ≡ (has_kind column.now.kind value.now && not (column.now.not_null && is_null value.now) &&
+            is_there self.now column.now value.now) }
     {
         has_kind(column.kind(), value)
             && !(column.not_null() && is_null(value))
@@ -78,21 +79,24 @@ impl<A: Allocator> Tables<A> {
 
     // Whether each row of a page may stand in its table.
     fn fits_page(&self, columns: &[Column<A>], page: &Page<A>) -> bool
-        ensures { result ≡ list_all (λ row. not (is_null row.0) && fits_columns self.now columns.now (cells row)) page.now }
+        ensures { result ≡ list_all (λ row. not (is_null row.0) && fits_columns self.now columns.now (cells row))
+            page.now }
     {
         page.rows().iter().all(|row| self.fits_row(columns, row))
     }
 
     // Whether each row of some pages may stand in their table.
     fn fits_pages(&self, columns: &[Column<A>], pages: &[Page<A>]) -> bool
-        ensures { result ≡ list_all (λ page. list_all (λ row. not (is_null row.0) && fits_columns self.now columns.now (cells row)) page) pages.now }
+        ensures { result ≡ list_all (λ page. list_all
+            (λ row. not (is_null row.0) && fits_columns self.now columns.now (cells row)) page) pages.now }
     {
         pages.iter().all(|page| self.fits_page(columns, page))
     }
 
     // Whether each row of a table may stand in it.
     fn fits_rows(&self, columns: &[Column<A>], table: &Table<A>) -> bool
-        ensures rows { result ≡ list_all (λ row. not (is_null row.0) && fits_columns self.now columns.now (cells row)) table.now }
+        ensures rows { result ≡ list_all (λ row. not (is_null row.0) && fits_columns self.now columns.now (cells row))
+            table.now }
         ensures ordered { IsInKeyOrder table.now }
     {
         self.fits_pages(columns, table.pages())
@@ -105,8 +109,8 @@ impl<A: Allocator> Tables<A> {
         self.fits_rows(schema.columns(), table)
     }
 
-    /// Whether the tables are the catalog's, each field has its column's kind, no text has the zero byte, no value is null that
-    /// mustn't be, and each reference names a row.
+    /// Whether the tables are the catalog's, each field has its column's kind, no text has the zero byte, no value is
+    /// null that mustn't be, and each reference names a row.
     pub fn sound(&self, catalog: &Catalog<A>) -> bool
         ensures { result ≡ is_sound catalog.now self.now }
     {

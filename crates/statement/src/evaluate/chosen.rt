@@ -33,7 +33,8 @@ fn push_chosen<'r, A: Allocator>(
     chosen: &mut Vec<&'r Row<A>, A>,
 ) -> Result<(), Refusal>
     requires { HasColumns conditions.now row.now }
-    ensures ok { OnOk result (map (λ row. row.now) chosen.new.items ≡ map (λ row. row.now) chosen.old.items ++ filter (satisfies conditions.now) (row.now ∷ [])) }
+    ensures ok { OnOk result (map (λ row. row.now) chosen.new.items ≡ map (λ row. row.now) chosen.old.items ++
+        filter (satisfies conditions.now) (row.now ∷ [])) }
     ensures err { IfErr result (λ e. e ≡ out_of_memory) }
 {
     if satisfies(conditions, row) {
@@ -49,7 +50,8 @@ fn push_found<'r, A: Allocator>(
     chosen: &mut Vec<&'r Row<A>, A>,
 ) -> Result<(), Refusal>
     requires { IfSome found (λ row. HasColumns conditions.now row.now) }
-    ensures ok { OnOk result (map (λ row. row.now) chosen.new.items ≡ map (λ row. row.now) chosen.old.items ++ filter (satisfies conditions.now) (listed (option_copied found.entry))) }
+    ensures ok { OnOk result (map (λ row. row.now) chosen.new.items ≡ map (λ row. row.now) chosen.old.items ++
+        filter (satisfies conditions.now) (listed (option_copied found.entry))) }
     ensures err { IfErr result (λ e. e ≡ out_of_memory) }
 {
     match found {
@@ -87,7 +89,8 @@ fn first_from<'r, A: Allocator, R: SnapshotReader<A>>(
     end: &End<A>,
 ) -> Option<&'r Row<A>>
     requires { HasTable (R.tables reader.now) table }
-    ensures left { rows_left (rows_of (R.tables reader.now) table) result ≡ filter (λ row. is_from end.now row.0) (rows_of (R.tables reader.now) table) }
+    ensures left { rows_left (rows_of (R.tables reader.now) table) result ≡
+        filter (λ row. is_from end.now row.0) (rows_of (R.tables reader.now) table) }
     ensures ordered { IsInKeyOrder (rows_of (R.tables reader.now) table) }
 {
     let bound = lower_bound(end);
@@ -104,8 +107,10 @@ fn chosen_between<'r, A: Allocator, R: SnapshotReader<A>>(
     high: &End<A>,
 ) -> Result<Vec<&'r Row<A>, A>, Refusal>
     requires has { HasTable (R.tables reader.now) table }
-    requires within { AllByRecursion (λ row. IsWithin conditions.now low.now high.now row) (rows_of (R.tables reader.now) table) }
-    ensures ok { IfOk result (λ rows. map (λ row. row.now) rows.items ≡ chosen (R.tables reader.now) table conditions.now) }
+    requires within { AllByRecursion (λ row. IsWithin conditions.now low.now high.now row)
+        (rows_of (R.tables reader.now) table) }
+    ensures ok { IfOk result (λ rows. map (λ row. row.now) rows.items ≡
+        chosen (R.tables reader.now) table conditions.now) }
     ensures err { IfErr result (λ e. e ≡ out_of_memory) }
 {
     let mut chosen = Vec::new(alloc);
@@ -131,7 +136,8 @@ fn chosen_at<'r, A: Allocator, R: SnapshotReader<A>>(
     requires has { HasTable (R.tables reader.now) table }
     requires sorted { is_sorted value_cmp (rows_of (R.tables reader.now) table) ≡ true }
     requires at { AllByRecursion (λ row. IsAt conditions.now key.now row) (rows_of (R.tables reader.now) table) }
-    ensures ok { IfOk result (λ rows. map (λ row. row.now) rows.items ≡ chosen (R.tables reader.now) table conditions.now) }
+    ensures ok { IfOk result (λ rows. map (λ row. row.now) rows.items ≡
+        chosen (R.tables reader.now) table conditions.now) }
     ensures err { IfErr result (λ e. e ≡ out_of_memory) }
 {
     let found = reader.get(table, key);
@@ -142,7 +148,8 @@ fn chosen_at<'r, A: Allocator, R: SnapshotReader<A>>(
 
 // The only key between two ends, where they are the same and both included.
 fn only_key<'e, A: Allocator>(low: &'e End<A>, high: &End<A>) -> Option<&'e Key<A>>
-    ensures { IfSome result (λ key. (k : Datum A) → is_from low.now k ≡ true → is_to high.now k ≡ true → value_cmp key.now k ≡ Equal) }
+    ensures { IfSome result (λ key. (k : Datum A) → is_from low.now k ≡ true → is_to high.now k ≡ true →
+        value_cmp key.now k ≡ Equal) }
 {
     match (low, high) {
         (End::Closed(first), End::Closed(last)) => {
@@ -167,8 +174,10 @@ fn chosen_within<'r, A: Allocator, R: SnapshotReader<A>>(
 ) -> Result<Vec<&'r Row<A>, A>, Refusal>
     requires has { HasTable (R.tables reader.now) table }
     requires sorted { is_sorted value_cmp (rows_of (R.tables reader.now) table) ≡ true }
-    requires within { AllByRecursion (λ row. IsWithin conditions.now low.now high.now row) (rows_of (R.tables reader.now) table) }
-    ensures ok { IfOk result (λ rows. map (λ row. row.now) rows.items ≡ chosen (R.tables reader.now) table conditions.now) }
+    requires within { AllByRecursion (λ row. IsWithin conditions.now low.now high.now row)
+        (rows_of (R.tables reader.now) table) }
+    ensures ok { IfOk result (λ rows. map (λ row. row.now) rows.items ≡
+        chosen (R.tables reader.now) table conditions.now) }
     ensures err { IfErr result (λ e. e ≡ out_of_memory) }
 {
     match only_key(low, high) {
@@ -186,7 +195,8 @@ pub(crate) fn chosen<'r, A: Allocator + Copy, R: SnapshotReader<A>>(
 ) -> Result<Vec<&'r Row<A>, A>, Refusal>
     requires has { HasTable (R.tables reader.now) table }
     requires readable { AreReadable conditions.now (rows_of (R.tables reader.now) table) }
-    ensures ok { IfOk result (λ rows. map (λ row. row.now) rows.items ≡ chosen (R.tables reader.now) table conditions.now) }
+    ensures ok { IfOk result (λ rows. map (λ row. row.now) rows.items ≡
+        chosen (R.tables reader.now) table conditions.now) }
     ensures err { IfErr result (λ e. e ≡ out_of_memory) }
 {
     match intersection(alloc, conditions)? {

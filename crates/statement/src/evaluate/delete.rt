@@ -103,7 +103,8 @@ fn walked_names_one<A: Allocator, R: SnapshotReader<A>>(
 ) -> bool
     requires has { HasTable (R.tables reader.now) walked }
     requires sorted { is_sorted value_cmp (map (λ row. row.now) gone.now) ≡ true }
-    ensures { result ≡ list_any (λ row. names_one table (map (λ row. row.now) gone.now) columns.now (cells row)) (rows_of (R.tables reader.now) walked) }
+    ensures { result ≡ list_any (λ row. names_one table (map (λ row. row.now) gone.now) columns.now (cells row))
+        (rows_of (R.tables reader.now) walked) }
 {
     let mut next = first_row(reader, walked);
     while let Some(row) = next {
@@ -115,7 +116,8 @@ fn walked_names_one<A: Allocator, R: SnapshotReader<A>>(
     false
 }
 
-// Whether a row of a table references a key that goes from another. Without a column that references the other it isn't walked.
+// Whether a row of a table references a key that goes from another. Without a column that references the other it isn't
+// walked.
 fn any_names_one<A: Allocator, R: SnapshotReader<A>>(
     reader: &R,
     walked: TableNo,
@@ -125,7 +127,8 @@ fn any_names_one<A: Allocator, R: SnapshotReader<A>>(
 ) -> bool
     requires has { HasTable (R.tables reader.now) walked }
     requires sorted { is_sorted value_cmp (map (λ row. row.now) gone.now) ≡ true }
-    ensures { result ≡ list_any (λ row. names_one table (map (λ row. row.now) gone.now) columns.now (cells row)) (rows_of (R.tables reader.now) walked) }
+    ensures { result ≡ list_any (λ row. names_one table (map (λ row. row.now) gone.now) columns.now (cells row))
+        (rows_of (R.tables reader.now) walked) }
 {
     any_references(columns, table) && walked_names_one(reader, walked, columns, table, gone)
 }
@@ -173,7 +176,8 @@ fn delete_rows<A: Allocator + Copy>(
     requires has { table < length catalog.now }
     requires sorted { is_sorted value_cmp (map (λ row. row.now) rows.now) ≡ true }
     ensures changes { IfOk result (λ written. written.changes ≡ map (removes table) (map (λ row. row.now) rows.now)) }
-    ensures marks { IfOk result (λ written. written.marks.items ≡ references_of_rows table (columns_of catalog.now table) (map (λ row. row.now) rows.now)) }
+    ensures marks { IfOk result (λ written. written.marks.items ≡
+        references_of_rows table (columns_of catalog.now table) (map (λ row. row.now) rows.now)) }
     ensures memory { IfErr result (λ e. e ≡ out_of_memory) }
 {
     let columns = columns_of(catalog, table);
@@ -196,7 +200,8 @@ pub(super) fn delete<A: Allocator + Copy, R: SnapshotReader<A>>(
 ) -> Result<Outcome<A>, Refusal>
     requires fits { Fits catalog.now (Statement.Delete table conditions.now) }
     requires held { are_of catalog.now (R.tables reader.now) ≡ true }
-    ensures { AnswersOrNoMemory result (Ok (deleted catalog.now table (chosen (R.tables reader.now) table conditions.now) (R.tables reader.now))) }
+    ensures { AnswersOrNoMemory result (Ok (deleted catalog.now table
+        (chosen (R.tables reader.now) table conditions.now) (R.tables reader.now))) }
 {
     let rows = chosen(alloc, reader, table, conditions.as_slice())?;
     match least_table(catalog, reader, table, rows.as_slice()) {

@@ -65,7 +65,8 @@ fn least_dangling<A: Allocator + Copy, R: SnapshotReader<A>>(
 ) -> Result<Option<u32>, Refusal>
     requires held { are_of catalog.now (R.tables reader.now) ≡ true }
     requires few { place + length columns.now ≤ 32 }
-    ensures least { IfOk result (λ least. least ≡ least_column (lacks_row (R.tables reader.now)) place columns.now values.now) }
+    ensures least { IfOk result (λ least. least ≡
+        least_column (lacks_row (R.tables reader.now)) place columns.now values.now) }
     ensures few { IfOk result (λ least. IfSome least (λ n. n < 32)) }
     ensures memory { IfErr result (λ e. e ≡ out_of_memory) }
 {
@@ -134,7 +135,8 @@ fn insert_row<A: Allocator + Copy>(
 ) -> Result<Written<A>, Refusal>
     requires { table < length catalog.now }
     ensures changes { IfOk result (λ written. written.changes ≡ puts table row ∷ []) }
-    ensures marks { IfOk result (λ written. written.marks.items ≡ references_of table (columns_of catalog.now table) row.0 (Some row.1)) }
+    ensures marks { IfOk result (λ written. written.marks.items ≡
+        references_of table (columns_of catalog.now table) row.0 (Some row.1)) }
     ensures memory { IfErr result (λ e. e ≡ out_of_memory) }
 {
     let mut written = Written::new(alloc);
@@ -180,7 +182,8 @@ fn insert_values<A: Allocator + Copy, R: SnapshotReader<A>>(
     requires some { 0 < length (columns_of catalog.now table) }
     requires held { are_of catalog.now (R.tables reader.now) ≡ true }
     requires same { values.now ≡ key.now ∷ fields.now }
-    ensures ok { IfOk result (λ outcome. outcome ≡ inserted catalog.now table (key.now ∷ fields.now) (R.tables reader.now)) }
+    ensures ok { IfOk result (λ outcome. outcome ≡
+        inserted catalog.now table (key.now ∷ fields.now) (R.tables reader.now)) }
     ensures memory { IfErr result (λ e. e ≡ out_of_memory) }
 {
     match key_of(alloc, key)? {

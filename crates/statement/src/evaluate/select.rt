@@ -97,8 +97,8 @@ fn shown<A: Allocator + Copy>(
     }
 }
 
-/// What a SELECT shows of the rows that satisfy all conditions, by key. Only the rows between the ends that the conditions on
-/// the key leave are read, and only those shown are copied.
+/// What a SELECT shows of the rows that satisfy all conditions, by key. Only the rows between the ends that the
+/// conditions on the key leave are read, and only those shown are copied.
 pub fn select<A: Allocator + Copy, R: SnapshotReader<A>>(
     alloc: A,
     catalog: &Catalog<A>,

@@ -100,7 +100,8 @@ impl<'u, A: Allocator + Copy, R: SnapshotReader<A>> Updating<'u, A, R> {
         row: &Row<A>,
     ) -> Result<bool, Refusal>
         requires { are_of self.now.catalog.now (R.tables self.now.reader.now) ≡ true }
-        ensures ok { IfOk result (λ b. b ≡ refuses stage (R.tables self.now.reader.now) place column.now (given row.now source.now)) }
+        ensures ok { IfOk result (λ b. b ≡ refuses stage (R.tables self.now.reader.now) place column.now
+            (given row.now source.now)) }
         ensures err { IfErr result (λ e. e ≡ out_of_memory) }
     {
         match stage {
@@ -130,7 +131,8 @@ impl<'u, A: Allocator + Copy, R: SnapshotReader<A>> Updating<'u, A, R> {
         row: &Row<A>,
     ) -> Result<bool, Refusal>
         requires { are_of self.now.catalog.now (R.tables self.now.reader.now) ≡ true }
-        ensures ok { IfOk result (λ b. b ≡ is_given (refuses stage (R.tables self.now.reader.now)) self.now.assignments.now row.now place column.now) }
+        ensures ok { IfOk result (λ b. b ≡ is_given (refuses stage (R.tables self.now.reader.now))
+            self.now.assignments.now row.now place column.now) }
         ensures err { IfErr result (λ e. e ≡ out_of_memory) }
     {
         match assignment_to(self.assignments, place) {
@@ -150,7 +152,8 @@ impl<'u, A: Allocator + Copy, R: SnapshotReader<A>> Updating<'u, A, R> {
     ) -> Result<Option<u32>, Refusal>
         requires held { are_of self.now.catalog.now (R.tables self.now.reader.now) ≡ true }
         requires few { place + length columns.now ≤ 32 }
-        ensures ok { IfOk result (λ o. o ≡ least_given (refuses stage (R.tables self.now.reader.now)) self.now.assignments.now row.now place columns.now) }
+        ensures ok { IfOk result (λ o. o ≡ least_given (refuses stage (R.tables self.now.reader.now))
+            self.now.assignments.now row.now place columns.now) }
         ensures within { IfOk result (λ o. IfSome o (λ n. n < 32)) }
         ensures err { IfErr result (λ e. e ≡ out_of_memory) }
     {
@@ -176,7 +179,8 @@ impl<'u, A: Allocator + Copy, R: SnapshotReader<A>> Updating<'u, A, R> {
     ) -> Result<Option<u32>, Refusal>
         requires held { are_of self.now.catalog.now (R.tables self.now.reader.now) ≡ true }
         requires few { length columns.now ≤ 32 }
-        ensures ok { IfOk result (λ o. o ≡ first_given (refuses stage (R.tables self.now.reader.now)) self.now.assignments.now columns.now (map (λ row. row.now) rows.now)) }
+        ensures ok { IfOk result (λ o. o ≡ first_given (refuses stage (R.tables self.now.reader.now))
+            self.now.assignments.now columns.now (map (λ row. row.now) rows.now)) }
         ensures within { IfOk result (λ o. IfSome o (λ n. n < 32)) }
         ensures err { IfErr result (λ e. e ≡ out_of_memory) }
     {
@@ -199,7 +203,8 @@ impl<'u, A: Allocator + Copy, R: SnapshotReader<A>> Updating<'u, A, R> {
     ) -> Result<Option<Refusal>, Refusal>
         requires held { are_of self.now.catalog.now (R.tables self.now.reader.now) ≡ true }
         requires few { length columns.now ≤ 32 }
-        ensures ok { IfOk result (λ o. o ≡ fault_of stage (R.tables self.now.reader.now) self.now.assignments.now columns.now (map (λ row. row.now) rows.now)) }
+        ensures ok { IfOk result (λ o. o ≡ fault_of stage (R.tables self.now.reader.now) self.now.assignments.now
+            columns.now (map (λ row. row.now) rows.now)) }
         ensures err { IfErr result (λ e. e ≡ out_of_memory) }
     {
         match self.first_given(alloc, stage, columns, rows)? {
@@ -220,7 +225,8 @@ impl<'u, A: Allocator + Copy, R: SnapshotReader<A>> Updating<'u, A, R> {
     ) -> Result<Option<Refusal>, Refusal>
         requires held { are_of self.now.catalog.now (R.tables self.now.reader.now) ≡ true }
         requires few { length columns.now ≤ 32 }
-        ensures ok { IfOk result (λ o. o ≡ first_fault (R.tables self.now.reader.now) self.now.assignments.now columns.now (map (λ row. row.now) rows.now)) }
+        ensures ok { IfOk result (λ o. o ≡ first_fault (R.tables self.now.reader.now) self.now.assignments.now
+            columns.now (map (λ row. row.now) rows.now)) }
         ensures err { IfErr result (λ e. e ≡ out_of_memory) }
     {
         let fault = self.fault(alloc, Stage::Value, columns, rows)?;
@@ -246,7 +252,9 @@ impl<'u, A: Allocator + Copy, R: SnapshotReader<A>> Updating<'u, A, R> {
         requires columns { columns.now ≡ columns_of self.now.catalog.now table }
         requires rows { AreRowsOf (R.tables self.now.reader.now) table (map (λ row. row.now) rows.now) }
         requires assignable { AllByRecursion (AreAssignable self.now.assignments.now) (map (λ row. row.now) rows.now) }
-        ensures ok { IfOk result (λ o. o ≡ writes_rows self.now.catalog.now (R.tables self.now.reader.now) (Reply.Updated (length rows.now)) (map (λ row. puts table (updated_row self.now.assignments.now row)) (map (λ row. row.now) rows.now))) }
+        ensures ok { IfOk result (λ o. o ≡ writes_rows self.now.catalog.now (R.tables self.now.reader.now)
+            (Reply.Updated (length rows.now))
+            (map (λ row. puts table (updated_row self.now.assignments.now row)) (map (λ row. row.now) rows.now))) }
         ensures err { IfErr result (λ e. e ≡ out_of_memory) }
     {
         let mut written = Written::new(alloc);
@@ -270,7 +278,8 @@ pub(super) fn update<A: Allocator + Copy, R: SnapshotReader<A>>(
 ) -> Result<Outcome<A>, Refusal>
     requires fits { Fits catalog.now (Statement.Update table assignments.now conditions.now) }
     requires held { are_of catalog.now (R.tables reader.now) ≡ true }
-    ensures { AnswersOrNoMemory result (Ok (updated catalog.now table assignments.now (chosen (R.tables reader.now) table conditions.now) (R.tables reader.now))) }
+    ensures { AnswersOrNoMemory result (Ok (updated catalog.now table assignments.now
+        (chosen (R.tables reader.now) table conditions.now) (R.tables reader.now))) }
 {
     let chosen = chosen(alloc, reader, table, conditions.as_slice())?;
     let rows = chosen.as_slice();

@@ -26,7 +26,8 @@ fn push_reference<A: Allocator>(
     value: &Value<A>,
     marks: &mut Vec<Mark<A>, A>,
 ) -> Result<(), Refusal>
-    ensures ok { OnOk result (marks.new.items ≡ marks.old.items ++ references_among table place (column.now ∷ []) (value.now ∷ [])) }
+    ensures ok { OnOk result (marks.new.items ≡ marks.old.items ++
+        references_among table place (column.now ∷ []) (value.now ∷ [])) }
     ensures memory { IfErr result (λ e. e ≡ out_of_memory) }
 {
     if column.references().is_none() {
@@ -52,7 +53,8 @@ fn push_among<A: Allocator + Copy>(
     marks: &mut Vec<Mark<A>, A>,
 ) -> Result<(), Refusal>
     requires { place + length columns.now ≤ 32 }
-    ensures ok { OnOk result (marks.new.items ≡ marks.old.items ++ references_among table place columns.now values.now) }
+    ensures ok { OnOk result (marks.new.items ≡ marks.old.items ++
+        references_among table place columns.now values.now) }
     ensures memory { IfErr result (λ e. e ≡ out_of_memory) }
 {
     match columns {
@@ -76,7 +78,8 @@ fn push_references<A: Allocator + Copy>(
     marks: &mut Vec<Mark<A>, A>,
 ) -> Result<(), Refusal>
     requires { length columns.now ≤ 32 }
-    ensures ok { OnOk result (marks.new.items ≡ marks.old.items ++ references_of table columns.now row.now.0 (Some row.now.1)) }
+    ensures ok { OnOk result (marks.new.items ≡ marks.old.items ++
+        references_of table columns.now row.now.0 (Some row.now.1)) }
     ensures memory { IfErr result (λ e. e ≡ out_of_memory) }
 {
     match columns {
@@ -118,7 +121,8 @@ impl<A: Allocator + Copy> Written<A> {
         requires few { length columns.now ≤ 32 }
         requires last { ComesAfter self.old.changes (puts table row) }
         ensures changes { OnOk result (self.new.changes ≡ self.old.changes ++ puts table row ∷ []) }
-        ensures marks { OnOk result (self.new.marks.items ≡ self.old.marks.items ++ references_of table columns.now row.0 (Some row.1)) }
+        ensures marks { OnOk result (self.new.marks.items ≡ self.old.marks.items ++
+            references_of table columns.now row.0 (Some row.1)) }
         ensures memory { IfErr result (λ e. e ≡ out_of_memory) }
     {
         push_references(alloc, table, columns, &row, &mut self.marks)?;
@@ -137,7 +141,9 @@ impl<A: Allocator + Copy> Written<A> {
         requires few { length columns.now ≤ 32 }
         requires last { ComesAfter self.old.changes (puts table after) }
         ensures changes { OnOk result (self.new.changes ≡ self.old.changes ++ puts table after ∷ []) }
-        ensures marks { OnOk result (self.new.marks.items ≡ self.old.marks.items ++ references_of table columns.now before.now.0 (Some before.now.1) ++ references_of table columns.now after.0 (Some after.1)) }
+        ensures marks { OnOk result (self.new.marks.items ≡ self.old.marks.items ++
+            references_of table columns.now before.now.0 (Some before.now.1) ++
+            references_of table columns.now after.0 (Some after.1)) }
         ensures memory { IfErr result (λ e. e ≡ out_of_memory) }
     {
         push_references(alloc, table, columns, before, &mut self.marks)?;
@@ -155,7 +161,8 @@ impl<A: Allocator + Copy> Written<A> {
         requires few { length columns.now ≤ 32 }
         requires last { ComesAfter self.old.changes (removes table row.now) }
         ensures changes { OnOk result (self.new.changes ≡ self.old.changes ++ removes table row.now ∷ []) }
-        ensures marks { OnOk result (self.new.marks.items ≡ self.old.marks.items ++ references_of table columns.now row.now.0 (Some row.now.1)) }
+        ensures marks { OnOk result (self.new.marks.items ≡ self.old.marks.items ++
+            references_of table columns.now row.now.0 (Some row.now.1)) }
         ensures memory { IfErr result (λ e. e ≡ out_of_memory) }
     {
         push_references(alloc, table, columns, row, &mut self.marks)?;
