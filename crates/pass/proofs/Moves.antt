@@ -8,10 +8,9 @@ use lib.ListN.{get_elem?}
 use prog.Atomic.{either}
 use Rattle.atomic_table.specs.Table.{keeps, Allows, Splits, Joins}
 use Rattle.atomic_table.proofs.Lists.{at_set, at_snoc}
-use Rattle.schema.specs.Plain.{is_sound}
 use Rattle.history.specs.declared.event.Record.{Record}
 use Rattle.history.specs.Opening.{Opening}
-use Rattle.history.specs.Answer.{Allowed, Legal, of_session, answer}
+use Rattle.history.specs.Answer.{Allowed, of_session, answer}
 use Rattle.pass.specs.declared.knowledge.Knowledge.{Knowledge}
 use Rattle.pass.specs.Knowing.{pick, longer}
 use Rattle.pass.specs.Rules.{opener, nobody, bare, part, note, one_more, next_one, united, heard, Fits, AllFit, AreApart, IsKeptBy, IsKept, Looked, Compared, Checked, Noted, added, Added}

@@ -1,10 +1,12 @@
 -- What the holders of a history know of it.
-use Rattle.std.specs.Prelude.{ℕ, Bool, true, false, nat_lt, List, length}
+use Rattle.std.specs.Prelude.{ℕ, ◌≡◌, Bool, true, false, nat_lt, List, length}
+use mathlib.Core.List.{IsPrefix}
 use Rattle.atomic_table.specs.Seated.{TableId}
 use Rattle.statement.specs.declared.reply.Reply.{Reply}
 use Rattle.history.specs.declared.event.Action.{Action}
 use Rattle.history.specs.declared.event.Record.{Record}
 use Rattle.history.specs.Opening.{Opening}
+use Rattle.history.specs.Answer.{Legal, of_session}
 
 -- a history word: which one it is, and what its history opens with
 pub record Named (A : Type 0) : Type 0 where
@@ -31,3 +33,11 @@ module _ {A : Type 0} where
   -- the longer of two beginnings of one history
   abbrev pub longer : List (Record A) → List (Record A) → List (Record A)
   longer xs ys = pick (nat_lt (length xs) (length ys)) ys xs
+
+  -- A look that is no event has shown the history to a pass that knew p, which knows q now: what it has seen is legal, what it had seen begins that, and its session, which has done no more, has done just what the history has of it.
+  pub record HasLooked (o : Opening A) (p q : Known A) : Type 0 where
+    pub legal : Legal o q.seen
+    pub begins : IsPrefix p.seen q.seen
+    pub session : q.session ≡ p.session
+    pub mine : q.mine ≡ p.mine
+    pub exact : q.mine ≡ of_session q.session q.seen

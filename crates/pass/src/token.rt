@@ -3,7 +3,7 @@
 ghost use Rattle.std.specs.Prelude.{◌≡◌, length};
 ghost use mathlib.Core.List.{IsPrefix};
 ghost use Rattle.history.specs.Answer.{Legal, of_session};
-ghost use Rattle.pass.specs.Knowing.{longer};
+ghost use Rattle.pass.specs.Knowing.{HasLooked, longer};
 
 use crate::knowledge::Knowledge;
 use crate::steps::{compare, hear, look, tell};
@@ -45,11 +45,7 @@ impl<'w, J: Naming<A>, A: Allocator> Pass<'w, J, A> {
     /// How many events the history has. It is one load, and waits for nobody.
     pub fn stamp(&mut self) -> u64
         ensures length { result ≡ length self.new.seen }
-        ensures begins { IsPrefix self.old.seen self.new.seen }
-        ensures legal { Legal J.opening self.new.seen }
-        ensures session { self.new.session ≡ self.old.session }
-        ensures mine { self.new.mine ≡ self.old.mine }
-        ensures exact { self.new.mine ≡ of_session self.new.session self.new.seen }
+        ensures looked { HasLooked J.opening self.old self.new }
     {
         look::<A, J>(self.word.words(), &mut self.seat)
     }
