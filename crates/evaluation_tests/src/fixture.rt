@@ -8,7 +8,9 @@ use schema::tables::Tables;
 use sqltext::create::parse_create;
 use sqltext::parse::parse_statement;
 use statement::evaluate::{evaluate, sound_tables_are_held};
+use statement::footprint::footprint;
 use statement::outcome::Outcome;
+use statement::reading::{End, Extent};
 use statement::reply::Reply;
 use statement::statement::Statement;
 use std::alloc::Global;
@@ -215,22 +217,84 @@ fn written(alloc: Global, database: &Database, text: &str) -> Result<String, Ref
     Ok(printed)
 }
 
-// The answer to what stands before the colon of a line: what a statement writes, or its reply.
+// An end of a range: `-` where there is none, else the key, before `!` where it isn't included.
+fn push_end(alloc: Global, printed: &mut String, end: &End) -> Result<(), Refusal> {
+    match end {
+        End::Open => printed.push_str("-")?,
+        End::Closed(key) => push_value(alloc, printed, key.value())?,
+        End::Without(key) => {
+            push_value(alloc, printed, key.value())?;
+            printed.push_str("!")?;
+        }
+    }
+    Ok(())
+}
+
+// What is read of a table: `all`, `3`, `3 to 5!`, or `column 1 = 3`.
+fn push_extent(alloc: Global, printed: &mut String, extent: &Extent) -> Result<(), Refusal> {
+    match extent {
+        Extent::Whole => printed.push_str("all")?,
+        Extent::One(key) => push_value(alloc, printed, key.value())?,
+        Extent::Range(low, high) => {
+            push_end(alloc, printed, low)?;
+            printed.push_str(" to ")?;
+            push_end(alloc, printed, high)?;
+        }
+        Extent::Referencing(column, key) => {
+            let text = format!(in alloc; "column {column} = ")?;
+            printed.push_str(text.as_str())?;
+            push_value(alloc, printed, key.value())?;
+        }
+    }
+    Ok(())
+}
+
+// What a statement's text reads: a table, counted from 0, and what of it, with a comma between each two.
+fn read(alloc: Global, database: &Database, text: &str) -> Result<String, Refusal> {
+    let statement = parse_statement(alloc, &database.catalog, text)?;
+    let read = footprint(alloc, &database.catalog, &statement)?;
+    let mut printed = String::new(alloc);
+    for reading in read.as_slice() {
+        if !printed.is_empty() {
+            printed.push_str(", ")?;
+        }
+        let table = format!(in alloc; "{} ", reading.table.place())?;
+        printed.push_str(table.as_str())?;
+        push_extent(alloc, &mut printed, &reading.extent)?;
+    }
+    if printed.is_empty() {
+        printed.push_str("nothing")?;
+    }
+    Ok(printed)
+}
+
+// The answer to what stands before the colon of a line: what a statement writes or reads, or its reply.
 fn answer(alloc: Global, database: &Database, asked: &str) -> Result<String, Refusal> {
-    match asked.strip_prefix("WRITTEN ") {
-        Some(text) => written(alloc, database, text),
+    if let Some(text) = asked.strip_prefix("WRITTEN ") {
+        return written(alloc, database, text);
+    }
+    match asked.strip_prefix("READ ") {
+        Some(text) => read(alloc, database, text),
         None => reply(alloc, database, asked),
     }
 }
 
+// Whether a line needs no answer: a blank one, and one that makes the tables and their rows.
+fn is_of_the_database(line: &str) -> bool {
+    line.is_empty() || line.starts_with("CREATE") || line.starts_with("INSERT")
+}
+
 /// A script's tables and rows; each further line has a statement, after WRITTEN where it is asked
-/// what it writes, and after a colon the answer, on those rows.
+/// what it writes, and after READ what it reads, and after a colon the answer, on those rows.
 pub fn script(rt: &impl Abort, alloc: Global, script: &str) -> Result<(), Refusal> {
     let database = database_of(alloc, script)?;
     for line in script.lines() {
-        if let Some((asked, want)) = line.split_once(": ") {
-            let got = answer(alloc, &database, asked)?;
-            assert_eq!(rt; got.as_str(), want, "{asked}");
+        match line.split_once(": ") {
+            Some((asked, want)) => {
+                let got = answer(alloc, &database, asked)?;
+                assert_eq!(rt; got.as_str(), want, "{asked}");
+            }
+            None => assert!(rt; is_of_the_database(line), "no answer: {line}"),
         }
     }
     Ok(())

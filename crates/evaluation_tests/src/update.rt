@@ -44,9 +44,19 @@ UPDATE t SET v = v + 1: ERROR 22003 column 2
 UPDATE t SET v = v - 1: ERROR 22003 column 2
 UPDATE t SET v = v + 0: UPDATE 3";
 
+const GREATEST: &str = "
+CREATE TABLE t (id bigint PRIMARY KEY, v bigint);
+INSERT INTO t VALUES (1, 9223372036854775807)
+UPDATE t SET v = v + 1: ERROR 22003 column 2
+UPDATE t SET v = v + 0: UPDATE 1
+UPDATE t SET v = v - 9223372036854775807: UPDATE 1
+WRITTEN UPDATE t SET v = v + 1: nothing
+WRITTEN UPDATE t SET v = v - 9223372036854775807: 1|0;";
+
 #[test]
 fn sums_at_the_ends_of_bigint(rt: HostRuntime) -> Result<(), Refusal> {
-    script(&rt, rt.alloc(), SUMS)
+    script(&rt, rt.alloc(), SUMS)?;
+    script(&rt, rt.alloc(), GREATEST)
 }
 
 const ROW_BEFORE: &str = "
