@@ -10,15 +10,12 @@ use Rattle.script.specs.declared.script.Line.{Line}
 use Rattle.program.specs.declared.fault.Fault.{Fault}
 use Rattle.program.specs.declared.fault.Fault.TheVariants as fault
 use Rattle.program.specs.declared.run.Way.{Way}
-use Rattle.program.specs.Runs.{BeginsWith, EndsAt, HasRun, HasStopped, IsDone, LinesAreDone, ScriptHasRun, Stops, begun, order_text}
+use Rattle.program.specs.Beginnings.{BeginsWith}
+use Rattle.program.specs.Runs.{EndsAt, HasRun, HasStopped, IsDone, LinesAreDone, ScriptHasRun, Stops, begun, order_text}
 use Rattle.schema.specs.Definition.{Catalog}
 use Rattle.script.specs.Scripts.{Said}
 use Rattle.program.proofs.PrintLemmas.{added_is_printed, adds_no_more, adds_twice, prints_no_more}
 use Rattle.program.proofs.StepsLemmas.{done_more}
-
-pub if_err : {T E : Type 0} (r : Result T E) (P : E → Type 0) → ((e : E) → r ≡ Err e → P e) → IfErr r P
-if_err (Ok x) P f = tt
-if_err (Err e) P f = f e refl
 
 pub on_ok : {T E : Type 0} (r : Result T E) (P Q : Type 0) → (P → Q) → OnOk r P → OnOk r Q
 on_ok (Ok x) P Q f p = f p

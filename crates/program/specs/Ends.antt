@@ -19,10 +19,14 @@ status (fault.Script line) = Refused
 status (fault.Dump line c) = Refused
 status (fault.Device path) = Device
 
+-- a dump's first faulty line as the program's fault
+abbrev pub dump_fault : RestoreFault → Fault
+dump_fault f = fault.Dump f.line f.code
+
 -- what is read of a dump, with its first faulty line as the program's fault
 abbrev pub loaded : {X : Type 0} → Result X RestoreFault → Result X Fault
 loaded (Ok x) = Ok x
-loaded (Err f) = Err (fault.Dump f.line f.code)
+loaded (Err f) = Err (dump_fault f)
 
 abbrev pub end : Result (Unit {0}) Fault → Status
 end (Ok done) = Done

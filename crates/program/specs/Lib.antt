@@ -1,4 +1,5 @@
 pub mod Asked
+pub mod Beginnings
 pub mod CommandLine
 pub mod Dumps
 pub mod Ends

@@ -5,9 +5,7 @@ use Rattle.value.specs.Codes.{sqlstate}
 use Rattle.history.specs.Events.{world}
 use Rattle.history.specs.Opening.{Recorded, zero_base}
 use Rattle.schema.specs.Definition.{Catalog}
-use Rattle.schema.specs.Inserting.{empty_tables}
 use Rattle.schema.specs.declared.tables.Tables.{Tables}
-use Rattle.restore.specs.Reading.{read_dump}
 use Rattle.session.specs.Core.{IsCheckpoint}
 use Rattle.request.specs.declared.request.Request.TheVariants as ask
 use Rattle.script.specs.declared.command.Command.{Command}
@@ -17,6 +15,7 @@ use Rattle.script.specs.declared.script.Step.TheVariants.{Session, Checkpoint}
 use Rattle.script.specs.declared.script.Line.{Line}
 use Rattle.script.specs.declared.schedule.Schedule.TheVariants.{InOrder}
 use Rattle.script.specs.Scripts.{Said, said}
+use Rattle.program.specs.Beginnings.{BeginsWith, IsUnbegun}
 use Rattle.program.specs.Dumps.{TellsDump}
 use Rattle.program.specs.Files.{IsAllOf, IsFileFault, read_of}
 use Rattle.program.specs.Lines.{Tells}
@@ -113,18 +112,13 @@ module _ {A : Type 0} where
   abbrev pub begun : Catalog → Tables A → ℕ → Recorded A
   begun c X most = record { opening = record { catalog = c; tables = X; base = zero_base }; records = []; most = most }
 
-  -- The tables that a script begins with: what the dump that it opens reads as; or those that it creates, without rows.
-  abbrev pub BeginsWith : (List ℕ → Option (List ℕ)) → Option (List ℕ) → Catalog → Catalog → Tables A → Type 0
-  BeginsWith held None created c X = (c ≡ created) × (X ≡ empty_tables created)
-  BeginsWith held (Some path) created c X = (bytes : List ℕ) × IsAllOf (held path) bytes × (read_dump bytes ≡ Ok (c, X))
-
   -- From its tables all lines of a script were done and printed, and the stream has all that was printed, unless it has failed.
   abbrev pub ScriptHasRun : (List ℕ → Option (List ℕ)) → Way → Said A → Printed → Printed → Type 0
   ScriptHasRun held way s p q = (c : Catalog) × (X : Tables A) × BeginsWith held s.opens s.catalog c X × HasRun way (begun c X way.most_events) s.lines p q × IsFlushed q
 
-  -- The tables weren't opened, and nothing was printed; or the first lines were done, and the stream has what was printed of them, unless it has failed.
+  -- The script hasn't begun, for this fault, and nothing was printed; or the first lines were done, and the stream has what was printed of them, unless it has failed.
   abbrev pub ScriptHasStopped : (List ℕ → Option (List ℕ)) → Way → Said A → Fault → Printed → Printed → Type 0
-  ScriptHasStopped held way s f p q = (q ≡ p) ⊎ ((c : Catalog) × (X : Tables A) × BeginsWith held s.opens s.catalog c X × HasStopped way (begun c X way.most_events) s.lines f p q × IsFlushed q)
+  ScriptHasStopped held way s f p q = (IsUnbegun A held s.opens s.catalog f × (q ≡ p)) ⊎ ((c : Catalog) × (X : Tables A) × BeginsWith held s.opens s.catalog c X × HasStopped way (begun c X way.most_events) s.lines f p q × IsFlushed q)
 
 -- What a path has says a script, and that has run.
 abbrev pub PathHasRun : (A : Type 0) → (List ℕ → Option (List ℕ)) → Option (List ℕ) → Way → List ℕ → Printed → Printed → Type 0

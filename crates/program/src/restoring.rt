@@ -29,7 +29,8 @@ use value::refusal::{Code, Refusal};
 // How many rows a piece has.
 const ROWS: u32 = 1000;
 
-const NO_MEMORY: Fault<'static> = Fault::Dump {
+/// What is told where memory is wanting for a dump.
+pub(crate) const NO_MEMORY: Fault<'static> = Fault::Dump {
     line: 0,
     code: Code::OutOfMemory,
 };

@@ -7,14 +7,15 @@ ghost use Rattle.schema.specs.Definition.{Catalog as AnyCatalog};
 ghost use Rattle.schema.specs.declared.tables.Tables.{Tables as AnyTables};
 ghost use Rattle.schema.specs.Inserting.{empty_tables as without_rows};
 ghost use Rattle.schema.specs.Plain.{is_sound};
+ghost use Rattle.program.specs.Beginnings.{BeginsWith, IsUnbegun, IsUnopened, IsUnread};
 ghost use Rattle.program.specs.Files.{IsAllOf, IsFileFault, read_of};
 ghost use Rattle.program.specs.Printed.{Adds, IsFlushed, Prints};
-ghost use Rattle.program.specs.Runs.{BeginsWith, HasRun, HasStopped, PathHasRun, ScriptHasRun, ScriptHasStopped, begun};
+ghost use Rattle.program.specs.Runs.{HasRun, HasStopped, PathHasRun, ScriptHasRun, ScriptHasStopped, begun};
 
 use crate::fault::{Fault, Status, end, tell};
 use crate::files::{Files, ReadError};
 use crate::output::{Printer, fault_of_print};
-use crate::restoring::read_dump;
+use crate::restoring::{NO_MEMORY, read_dump};
 use crate::steps::{do_step, order_of};
 use schema::catalog::Catalog;
 use schema::tables::Tables;
@@ -25,7 +26,6 @@ use std::alloc::Allocator;
 use std::io::Write;
 use std::sync::Wait;
 use std::thread::Threads;
-use value::refusal::Code;
 use value::text::Text;
 
 /// Whether replies are printed, or the serial order.
@@ -41,6 +41,17 @@ pub(crate) enum Shown {
 pub(crate) struct Way {
     pub(crate) shown: Shown,
     pub(crate) most_events: u32,
+}
+
+// How it is told that a path's file wasn't read; `memory` tells that memory was wanting for it.
+fn fault_of_read<'p>(error: ReadError, path: &'p str, memory: Fault<'p>) -> Fault<'p>
+    ensures device { error ≡ ReadError.Device → IsFileFault path.now result }
+    ensures memory { error ≡ ReadError.Memory → result ≡ memory.entry }
+{
+    match error {
+        ReadError::Device => Fault::Device { path },
+        ReadError::Memory => memory,
+    }
 }
 
 /// The bytes of a path, where `-` is standard input.
@@ -64,8 +75,7 @@ where
     };
     match read {
         Ok(bytes) => Ok(bytes),
-        Err(ReadError::Device) => Err(Fault::Device { path }),
-        Err(ReadError::Memory) => Err(memory),
+        Err(error) => Err(fault_of_read(error, path, memory)),
     }
 }
 
@@ -81,18 +91,12 @@ where
     ensures read { IfOk result (λ x. (bytes : List ℕ) × IsAllOf (F.held files.now path.now) bytes ×
         (dump_read bytes ≡ Ok x)) }
     ensures sound { IfOk result (λ x. is_sound x.0 x.1 ≡ true) }
+    ensures fault { IfErr result (λ f. IsUnread A (F.held files.now path.now) path.now f) }
 {
-    let dump = match files.read(alloc, path) {
-        Ok(dump) => dump,
-        Err(ReadError::Device) => return Err(Fault::Device { path }),
-        Err(ReadError::Memory) => {
-            return Err(Fault::Dump {
-                line: 0,
-                code: Code::OutOfMemory,
-            });
-        }
-    };
-    read_dump(alloc, dump.as_slice())
+    match files.read(alloc, path) {
+        Ok(dump) => read_dump(alloc, dump.as_slice()),
+        Err(error) => Err(fault_of_read(error, path, NO_MEMORY)),
+    }
 }
 
 // The tables of a catalog, without rows.
@@ -102,6 +106,7 @@ fn empty_tables<'p, A: Allocator + Copy>(
 ) -> Result<(Catalog<A>, Tables<A>), Fault<'p>>
     ensures empty { IfOk result (λ x. (x.0 ≡ catalog) × (x.1 ≡ without_rows catalog)) }
     ensures sound { IfOk result (λ x. is_sound x.0 x.1 ≡ true) }
+    ensures memory { IfErr result (λ f. f ≡ Fault.Script 0) }
 {
     match Tables::new(alloc, &catalog) {
         Ok(tables) => Ok((catalog, tables)),
@@ -122,6 +127,7 @@ where
     F: Files<A>,
     ensures begins { IfOk result (λ x. BeginsWith (F.held files.now) (option_copied opens.entry) catalog x.0 x.1) }
     ensures sound { IfOk result (λ x. is_sound x.0 x.1 ≡ true) }
+    ensures fault { IfErr result (λ f. IsUnopened A (F.held files.now) (option_copied opens.entry) f) }
 {
     match opens {
         Some(path) => open_dump(alloc, files, path.as_str()),
@@ -140,8 +146,9 @@ fn open_core<'p, A, F>(
 where
     A: Allocator + Copy,
     F: Files<A>,
-    ensures { IfOk result (λ core. (c : AnyCatalog) × (X : AnyTables A) ×
+    ensures begun { IfOk result (λ core. (c : AnyCatalog) × (X : AnyTables A) ×
         BeginsWith (F.held files.now) (option_copied opens.entry) catalog c X × (core ≡ begun c X most_events)) }
+    ensures fault { IfErr result (λ f. IsUnbegun A (F.held files.now) (option_copied opens.entry) catalog f) }
 {
     let (catalog, tables) = open_tables(alloc, files, opens, catalog)?;
     match Core::open(alloc, catalog, tables, most_events) {

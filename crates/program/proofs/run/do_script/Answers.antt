@@ -1,15 +1,17 @@
 use Rattle.std.proofs.Common.{inl, inr, refl, subst}
-use Rattle.std.proofs.lemmas.Result.{IfErr-weaker}
+use Rattle.std.proofs.lemmas.Result.{IfErr-weaker, err_from_is_err_and}
 use Rattle.program.specs.Runs.{HasRun, HasStopped}
-use Rattle.program.proofs.RunLemmas.{if_err, on_ok}
+use Rattle.program.proofs.RunLemmas.{on_ok}
 use Rattle.program.proofs.run.do_script.Goals as goal
 
 pub returns-in_err-core-clause-stopped : goal.returns-in_err-core-clause-stopped
-returns-in_err-core-clause-stopped g c = if_err c.from_residual.result _ (λ f is. inl refl)
+returns-in_err-core-clause-stopped g c =
+    let p = err_from_is_err_and c.from_residual.result c.from_residual.ensures.1 in
+    rw (p.1, p.2) (inl (c.in_err-core.ensures.fault, refl))
 
 pub returns-clause-done : goal.returns-clause-done
 returns-clause-done g c =
-    let begun = c.in_ok-core.ensures in
+    let begun = c.in_ok-core.ensures.begun in
     on_ok c.do_all_lines.result _ _
     (λ run. (
       begun.0,
@@ -22,7 +24,7 @@ returns-clause-done g c =
 
 pub returns-clause-stopped : goal.returns-clause-stopped
 returns-clause-stopped g c =
-    let begun = c.in_ok-core.ensures in
+    let begun = c.in_ok-core.ensures.begun in
     IfErr-weaker c.do_all_lines.result _ _
     (λ f stop. inr (
       begun.0,
