@@ -3,6 +3,7 @@
 ghost use Rattle.std.specs.Prelude.{◌≡◌, [], IfOk};
 ghost use Rattle.program.specs.Files.{IsAllOf};
 
+use crate::progress::{Progress, Stage};
 use collector::Device;
 use std::alloc::{AllocError, Allocator};
 
@@ -49,4 +50,9 @@ pub trait Files<A: Allocator>: Stored {
         ensures path { IfOk result (λ file. Self.Out.path file ≡ path.now) }
         ensures empty { IfOk result (λ file. Self.Out.taken file ≡ []) }
         ensures sound { IfOk result (λ file. Self.Out.failures file ≡ 0) };
+
+    /// What is shown of how far a stage of long work is: nothing, where an impl doesn't say.
+    fn watch(&self, _stage: Stage) -> Progress<'_> {
+        Progress::Hidden
+    }
 }

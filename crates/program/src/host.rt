@@ -6,6 +6,7 @@ ghost use Rattle.std.specs.String.{string_bytes};
 
 use crate::files::{Files, OutFile, ReadError, Stored};
 use crate::late::{LateFile, Opener};
+use crate::progress::{Progress, Stage};
 use collector::{Device, DeviceError};
 use http_server::Log;
 use std::alloc::{AllocError, Allocator, Global};
@@ -185,5 +186,9 @@ impl<'r> Files<Global> for HostFiles<'r> {
         let path = String::from_str(alloc, path)?;
         let late = LateFile::new(HostPath { rt: self.rt, path });
         Ok(HostOut { late })
+    }
+
+    fn watch(&self, stage: Stage) -> Progress<'_> {
+        Progress::on_terminal(self.rt, stage)
     }
 }

@@ -10,6 +10,7 @@ pub mod host;
 pub mod late;
 mod ordering;
 mod output;
+pub mod progress;
 mod restoring;
 mod run;
 mod sessions;

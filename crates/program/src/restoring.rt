@@ -14,8 +14,9 @@ use crate::fault::Fault;
 use crate::files::Files;
 use crate::ordering::append;
 use crate::output::{Printer, print_whole};
+use crate::progress::Stage;
 use crate::run::read_path;
-use dumpplan::{Jobs, NoGate, PieceRows};
+use dumpplan::{Gate, Jobs, PieceRows};
 use dumpworker::{DumpFault, dump};
 use restore::{restore, restore_one};
 use schema::catalog::{Catalog, TableNo};
@@ -98,25 +99,48 @@ pub(crate) fn read_dump<'p, A: Allocator + Copy>(
 }
 
 // The same, with the lines of its rows read by workers.
-fn read_by_workers<'p, A, T>(
+fn read_by_workers<'p, A, T, G>(
     rt: &T,
     alloc: A,
     dump: &[u8],
     jobs: Jobs,
+    gate: &G,
 ) -> Result<(Catalog<A>, Tables<A>), Fault<'p>>
 where
     A: Allocator + Copy + Send + Sync,
     T: Threads + Sync,
+    G: Gate,
     ensures read { (result ≡ loaded (read_dump dump.now)) ⊎ (result ≡ loaded (Err no_memory)) }
     ensures sound { IfOk result (λ x. is_sound x.0 x.1 ≡ true) }
 {
-    match restore(rt, alloc, dump, jobs, &NoGate) {
+    match restore(rt, alloc, dump, jobs, gate) {
         Ok(found) => Ok(found),
         Err(fault) => Err(Fault::Dump {
             line: fault.line,
             code: fault.code,
         }),
     }
+}
+
+// The same, which shows how far it is where the files say so.
+fn read_shown<'p, A, F, T>(
+    rt: &T,
+    alloc: A,
+    files: &F,
+    dump: &[u8],
+    jobs: Jobs,
+) -> Result<(Catalog<A>, Tables<A>), Fault<'p>>
+where
+    A: Allocator + Copy + Send + Sync,
+    F: Files<A>,
+    T: Threads + Sync,
+    ensures read { (result ≡ loaded (read_dump dump.now)) ⊎ (result ≡ loaded (Err no_memory)) }
+    ensures sound { IfOk result (λ x. is_sound x.0 x.1 ≡ true) }
+{
+    let shown = files.watch(Stage::Reading);
+    let read = read_by_workers(rt, alloc, dump, jobs, &shown);
+    shown.clear();
+    read
 }
 
 // Writes tables to a file.
@@ -141,7 +165,10 @@ where
         return Err(NO_MEMORY);
     };
     let rows = piece_rows();
-    match dump(rt, alloc, tables, catalog, jobs, rows, &mut file, &NoGate) {
+    let shown = files.watch(Stage::Writing);
+    let dumped = dump(rt, alloc, tables, catalog, jobs, rows, &mut file, &shown);
+    shown.clear();
+    match dumped {
         Ok(()) => Ok(()),
         Err(DumpFault::Memory) => Err(NO_MEMORY),
         Err(DumpFault::Device) => Err(Fault::Device { path: out }),
@@ -200,6 +227,6 @@ where
     ensures stopped { OnErr result (Prints printer.old printer.new []) }
 {
     let bytes = read_path(alloc, files, path, NO_MEMORY)?;
-    let (catalog, tables) = read_by_workers(rt, alloc, bytes.as_slice(), jobs)?;
+    let (catalog, tables) = read_shown(rt, alloc, files, bytes.as_slice(), jobs)?;
     write_and_tell(rt, alloc, files, &catalog, &tables, jobs, out, printer)
 }

@@ -1,0 +1,120 @@
+//! How far the reading or writing of a dump is, told on a terminal.
+
+use dumpplan::Gate;
+use std::io::IsTerminal;
+use std::sync::atomic::{AtomicU64, Ordering};
+use std::time::Instant;
+
+// How many milliseconds pass at least before a line is shown, and before it is shown again.
+const PAUSE: u64 = 100;
+
+// As many blanks as a line has bytes at most.
+const BLANKS: &str = "                                                            ";
+
+/// What is done with the pieces of a dump.
+#[derive(Clone, Copy, Debug, PartialEq, Eq)]
+pub enum Stage {
+    Reading,
+    Writing,
+}
+
+impl Stage {
+    // What is told of a piece with which it is done.
+    fn participle(self) -> &'static str {
+        match self {
+            Stage::Reading => "read",
+            Stage::Writing => "written",
+        }
+    }
+}
+
+/// A line on standard error that tells how many pieces are done.
+#[derive(Drop)]
+pub struct Line<'r> {
+    rt: &'r HostRuntime,
+    stage: Stage,
+    start: Instant,
+    done: AtomicU64,
+    // How many milliseconds after the start it is shown next.
+    due: AtomicU64,
+}
+
+impl<'r> Line<'r> {
+    // Whether it is to be shown now. Of threads that ask at once one is told so.
+    fn is_due(&self) -> bool {
+        let Ok(passed) = self.start.elapsed(self.rt) else {
+            return false;
+        };
+        let Ok(now) = u64::try_from(passed.as_millis()) else {
+            return false;
+        };
+        let due = self.due.load(Ordering::SeqCst);
+        let next = now.saturating_add(PAUSE);
+        now >= due
+            && self
+                .due
+                .compare_exchange(due, next, Ordering::SeqCst, Ordering::SeqCst)
+                .is_ok()
+    }
+
+    // Counts a piece, and shows how many are done where that is due.
+    fn count(&self) {
+        let done = self.done.fetch_add(1, Ordering::SeqCst).saturating_add(1);
+        if self.is_due() {
+            let what = self.stage.participle();
+            let _ = eprint!(self.rt; "\r{done} pieces of up to 1000 rows {what}");
+        }
+    }
+
+    // Takes away what was shown.
+    fn clear(&self) {
+        if self.due.load(Ordering::SeqCst) > PAUSE {
+            let _ = eprint!(self.rt; "\r{BLANKS}\r");
+        }
+    }
+}
+
+/// What is shown of long work, which is asked round each of its pieces.
+#[derive(Drop)]
+pub enum Progress<'r> {
+    Hidden,
+    Shown(Line<'r>),
+}
+
+impl<'r> Progress<'r> {
+    /// A line on standard error where that is a terminal, and nothing elsewhere.
+    pub fn on_terminal(rt: &'r HostRuntime, stage: Stage) -> Progress<'r> {
+        if !rt.stderr().is_terminal() {
+            return Progress::Hidden;
+        }
+        match Instant::now(rt) {
+            Ok(start) => Progress::Shown(Line {
+                rt,
+                stage,
+                start,
+                done: AtomicU64::new(0),
+                due: AtomicU64::new(PAUSE),
+            }),
+            Err(_) => Progress::Hidden,
+        }
+    }
+
+    /// Takes away what was shown, when the work has ended.
+    pub fn clear(&self) {
+        match self {
+            Progress::Hidden => {}
+            Progress::Shown(line) => line.clear(),
+        }
+    }
+}
+
+impl<'r> Gate for Progress<'r> {
+    fn before(&self, _piece: u64) {}
+
+    fn after(&self, _piece: u64) {
+        match self {
+            Progress::Hidden => {}
+            Progress::Shown(line) => line.count(),
+        }
+    }
+}
