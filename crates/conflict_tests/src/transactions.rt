@@ -143,10 +143,13 @@ fn nobody_meets_those_that_did_nothing(rt: HostRuntime) -> Result<(), Fail> {
 #[test]
 fn the_least_snapshots_are_found(rt: HostRuntime) -> Result<(), Fail> {
     let all = two(rt.alloc())?;
-    assert_eq!(rt; least_snapshot(&all, Which::HoldingBack, 7), 1);
-    assert_eq!(rt; least_snapshot(&all, Which::Owed, 7), 1);
+    assert_eq!(rt; least_snapshot(&all, Which::HoldingBack, &[], 7), 1);
+    assert_eq!(rt; least_snapshot(&all, Which::Owed, &[], 7), 1);
     let (_, second) = all.split_at(1);
-    assert_eq!(rt; least_snapshot(second, Which::Owed, 7), 2);
-    assert_eq!(rt; least_snapshot(second, Which::Owed, 1), 1);
+    // A reader whose snapshot was taken at a calm place holds nothing back.
+    assert_eq!(rt; least_snapshot(second, Which::HoldingBack, &[3], 7), 2);
+    assert_eq!(rt; least_snapshot(second, Which::HoldingBack, &[3, 4], 7), 7);
+    assert_eq!(rt; least_snapshot(second, Which::Owed, &[], 7), 2);
+    assert_eq!(rt; least_snapshot(second, Which::Owed, &[], 1), 1);
     Ok(())
 }

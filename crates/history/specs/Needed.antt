@@ -3,7 +3,7 @@
 use Rattle.std.specs.Prelude.{◌≡◌, ℕ, ◌≤◌, nat_lt, Bool, true, false, not, ◌&&◌, ◌||◌, ◌⊎◌, ◌==◌, Some, List}
 use Rattle.std.specs.List.{filter, list_any, AllByRecursion}
 use Rattle.value.specs.Isolation.{is_dangerous}
-use Rattle.history.specs.Transactions.{Txn, World, node, edge, current, is_open, is_done, is_owed, is_read_write}
+use Rattle.history.specs.Transactions.{Txn, World, node, edge, current, is_open, is_done, is_owed, is_pending, is_read_write, is_spoilt}
 use Rattle.history.specs.Events.{numbered}
 use Rattle.history.specs.Answer.{committing}
 
@@ -25,13 +25,18 @@ module _ {A : Type 0} where
   abbrev pub is_needed : ℕ → List (Txn A) → Txn A → Bool
   is_needed n ts u = is_owed u.standing || is_recent n u || is_late_reader n u || is_met n ts u
 
-  -- it only reads, and from a snapshot that is known to be safe
-  abbrev pub is_safe_reader : Txn A → Bool
-  is_safe_reader t = not (is_read_write t.mode) && t.known
+  -- t's snapshot is safe by now: of those that may write and were active at it none is open still, and none committed with an edge to a commit that it shows
+  abbrev pub is_settled : List (Txn A) → Txn A → Bool
+  is_settled ts t = not (is_pending ts t) && not (is_spoilt ts t)
+
+  -- It only reads, and from a safe snapshot, whether that was asked for or not. PostgreSQL has no locks of it from then on (SXACT_FLAG_RO_SAFE),
+  -- and so from its BEGIN on where it begins while nobody is open who may write (GetSerializableTransactionSnapshotInt).
+  abbrev pub is_safe_reader : List (Txn A) → Txn A → Bool
+  is_safe_reader ts t = not (is_read_write t.mode) && (t.known || is_settled ts t)
 
   -- No open transaction has a snapshot below n, but safe readers.
   abbrev pub IsOldest : World A → ℕ → Type 0
-  IsOldest w n = AllByRecursion (λ t. is_open t.standing ≡ true → is_safe_reader t ≡ false → n ≤ t.snapshot) w.txns
+  IsOldest w n = AllByRecursion (λ t. is_open t.standing ≡ true → is_safe_reader w.txns t ≡ false → n ≤ t.snapshot) w.txns
 
   -- Those whose numbers are kept have all that matters.
   pub record Keeps (w : World A) (n : ℕ) (keep : ℕ → Bool) : Type 0 where

@@ -1,5 +1,6 @@
 pub mod CauseLemmas
 mod AroundLemmas
+pub mod CalmLemmas
 pub mod ReadLemmas
 mod ForgettingLemmas
 pub mod StretchLemmas

@@ -3,30 +3,31 @@
 use Rattle.std.specs.Prelude.{◌≡◌, ℕ, zero, suc, ◌+◌, nat_le, nat_lt, Bool, not, ◌&&◌, ◌||◌, List, length, filter}
 use Rattle.std.specs.List.{list_any}
 use Rattle.history.specs.Transactions.{Txn, edge, is_done, is_living, is_open, is_owed}
-use Rattle.history.specs.Needed.{is_late_reader, is_needed, is_recent, is_safe_reader}
+use Rattle.history.specs.Needed.{is_late_reader, is_needed, is_recent}
 use Rattle.plain.specs.declared.least.Which.{Which}
 use Rattle.plain.specs.declared.least.Which.TheVariants.{Owed, HoldingBack, Recent}
+use Rattle.plain.specs.Calm.{AreCalm, is_safe_from}
 use Rattle.plain.specs.Ledger.{Ledger, txn_at}
 use Rattle.plain.specs.Versions.{least_snapshot}
 
 module _ {A : Type 0} where
-  -- it is open, and no safe reader
-  abbrev pub holds_back : Txn A → Bool
-  holds_back t = is_open t.standing && not (is_safe_reader t)
+  -- it is open, and doesn't only read from a snapshot that is known to be safe or was taken at one of these places
+  abbrev pub holds_back : List ℕ → Txn A → Bool
+  holds_back places t = is_open t.standing && not (is_safe_from places t)
 
-  -- the least snapshot of an open transaction that isn't a safe reader, n where none has one below that
-  abbrev pub oldest_of : ℕ → List (Txn A) → ℕ
-  oldest_of n ts = least_snapshot holds_back n ts
+  -- the least snapshot of one that holds back, n where none has one below that
+  abbrev pub oldest_of : List ℕ → ℕ → List (Txn A) → ℕ
+  oldest_of places n ts = least_snapshot (holds_back places) n ts
 
-  -- the snapshot from which on questions are asked
-  abbrev pub oldest : Ledger A → ℕ
-  oldest l = oldest_of l.base.commits l.txns
+  -- the snapshot from which on questions are asked, where nobody was active at these places who may write
+  abbrev pub oldest : List ℕ → Ledger A → ℕ
+  oldest places l = oldest_of places l.base.commits l.txns
 
   -- those whose snapshots are looked at
-  abbrev pub is_looked_at : Which → Txn A → Bool
-  is_looked_at Owed t = is_owed t.standing
-  is_looked_at HoldingBack t = holds_back t
-  is_looked_at (Recent n) t = is_recent n t
+  abbrev pub is_looked_at : List ℕ → Which → Txn A → Bool
+  is_looked_at places Owed t = is_owed t.standing
+  is_looked_at places HoldingBack t = holds_back places t
+  is_looked_at places (Recent n) t = is_recent n t
 
   -- It matters, where the recent ones are among these, and none has a snapshot below reach.
   abbrev pub is_needed_among : ℕ → ℕ → List (Txn A) → Txn A → Bool
@@ -46,11 +47,13 @@ module _ {A : Type 0} where
   abbrev pub is_left : ℕ → ℕ → List (Txn A) → Txn A → Bool
   is_left k n ts u = nat_le u.number (number_before k ts) || is_needed n ts u
 
-  -- Of the transactions those are left that matter, and some from the front, of the identifiers those that live, in their order; and as many numbers are
+  -- Of the transactions those are left that matter, where readers don't hold back whose snapshots were taken at calm places, and some from the front, of the identifiers those that live, in their order; and as many numbers are
   -- used up as before.
   pub record IsThinned (l m : Ledger A) : Type 0 where
     pub passed : ℕ
-    pub txns : m.txns ≡ filter (is_left passed (oldest l) l.txns) l.txns
+    pub calm : List ℕ
+    pub are_calm : AreCalm calm l.place l.txns
+    pub txns : m.txns ≡ filter (is_left passed (oldest calm l) l.txns) l.txns
     pub exports : m.exports ≡ filter (is_living l.txns) l.exports
     pub transactions : m.base.transactions + length m.txns ≡ l.base.transactions + length l.txns
     pub commits : m.base.commits ≡ l.base.commits

@@ -1,4 +1,5 @@
 pub mod Answers
+pub mod Calm
 pub mod Courses
 pub mod Earliest
 pub mod Forgetting

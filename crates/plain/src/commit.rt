@@ -20,6 +20,7 @@ ghost use Rattle.plain.specs.Structures.{StructuresHold};
 ghost use Rattle.plain.specs.Versions.{AreCurrent, HasSameCommits, IsInstalled, StayShown, lowest_of, needed_of, next_commit, owed_snapshots};
 
 use crate::answered::Answered;
+use crate::calm::keep_calm;
 use crate::cause::cause_at;
 use crate::course::Course;
 use crate::dooms::dooms;
@@ -158,7 +159,13 @@ fn lowest_with<A: Allocator>(
 {
     let before = transactions[at].course();
     turn(transactions, at, course);
-    let least = least_owed(transactions.as_slice(), past.without(at), Which::Owed, most);
+    let least = least_owed(
+        transactions.as_slice(),
+        past.without(at),
+        Which::Owed,
+        &[],
+        most,
+    );
     turn(transactions, at, before);
     least
 }
@@ -281,6 +288,7 @@ impl<A: Allocator> World<A> {
         self.base.commits += 1;
         self.place += 1;
         self.past = self.past.without(at);
+        keep_calm(&mut self.calm, &self.transactions[at], committed);
         turn(&mut self.transactions, at, committed);
         doom_around(&mut self.transactions, self.past, causes, self.place);
     }

@@ -12,6 +12,7 @@ ghost use Rattle.plain.specs.Ledger.{after_owned, turned_at, txn_at, world_on};
 ghost use Rattle.plain.specs.Versions.{HasSameCommits};
 
 use crate::answered::Answered;
+use crate::calm::keep_calm;
 use crate::course::Course;
 use crate::snapshots::ExportedSnapshot;
 use crate::transaction::Transaction;
@@ -61,6 +62,7 @@ impl<A: Allocator> World<A> {
     {
         self.exports.push(exported)?;
         self.past = self.past.without(at);
+        keep_calm(&mut self.calm, &self.transactions[at], course);
         turn(&mut self.transactions, at, course);
         self.place += 1;
         Ok(())

@@ -4,11 +4,12 @@ ghost use Rattle.std.specs.Prelude.{◌≡◌, ◌≤◌, ◌<◌, ◌^◌, ◌&
 ghost use Rattle.std.specs.List.{filter, list_any};
 ghost use Rattle.history.specs.Needed as spec;
 ghost use Rattle.history.specs.Transactions.{edge, is_living as spec_living};
-ghost use Rattle.plain.specs.Forgetting.{IsThinned, is_left, is_needed_among, least_of_recent, oldest};
+ghost use Rattle.plain.specs.Forgetting.{IsThinned, is_left, is_needed_among, least_of_recent, oldest_of};
 ghost use Rattle.plain.specs.Ledger.{AreNumbered, txn_at};
 ghost use Rattle.plain.specs.Stretches.{HoldsStretch};
 ghost use Rattle.plain.specs.Versions.{lowest};
 
+use crate::calm::keep_in_use;
 use crate::isolation::has_edge;
 use crate::least::{Which, is_recent, least_owed, least_snapshot};
 use crate::snapshots::{ExportedSnapshot, is_living};
@@ -102,7 +103,7 @@ fn reach_of<A: Allocator>(transactions: &[Transaction<A>], oldest: u64, from: us
     ensures { result ≤ least_of_recent oldest transactions.now }
 {
     if from == 0 {
-        least_snapshot(transactions, Which::Recent(oldest), u64::MAX)
+        least_snapshot(transactions, Which::Recent(oldest), &[], u64::MAX)
     } else {
         0
     }
@@ -150,6 +151,19 @@ pub(crate) fn keep_living<A: Allocator>(
     exports.truncate(kept);
 }
 
+// The snapshot from which on questions are asked, where these places are calm.
+fn oldest_of<A: Allocator>(
+    transactions: &[Transaction<A>],
+    past: Stretch,
+    calm: &[u64],
+    commits: u64,
+) -> u64
+    requires { HoldsStretch past transactions.now }
+    ensures { result ≡ oldest_of calm.now commits transactions.now }
+{
+    least_owed(transactions, past, Which::HoldingBack, calm, commits)
+}
+
 impl<A: Allocator> World<A> {
     /// The least snapshot that may still be read: that of all commits where no session has a
     /// transaction. It takes no memory.
@@ -160,18 +174,7 @@ impl<A: Allocator> World<A> {
             self.transactions.as_slice(),
             self.past,
             Which::Owed,
-            self.base.commits,
-        )
-    }
-
-    // The snapshot from which on questions are asked.
-    fn oldest(&self) -> u64
-        ensures { result ≡ oldest self.now }
-    {
-        least_owed(
-            self.transactions.as_slice(),
-            self.past,
-            Which::HoldingBack,
+            &[],
             self.base.commits,
         )
     }
@@ -193,7 +196,12 @@ impl<A: Allocator> World<A> {
     pub fn forget(&mut self)
         ensures { IsThinned self.old self.new }
     {
-        let oldest = self.oldest();
+        let oldest = oldest_of(
+            self.transactions.as_slice(),
+            self.past,
+            self.calm.as_slice(),
+            self.base.commits,
+        );
         let past = self.looked_at(oldest);
         let transactions = self.base.transactions + self.transactions.len() as u64;
         let identifiers = self.base.identifiers + self.exports.len() as u64;
@@ -202,6 +210,7 @@ impl<A: Allocator> World<A> {
         self.base.transactions = transactions - self.transactions.len() as u64;
         self.base.identifiers = identifiers - self.exports.len() as u64;
         self.past = grown(self.transactions.as_slice(), past, self.place);
+        keep_in_use(&mut self.calm, self.transactions.as_slice(), self.past);
         self.reached = oldest;
     }
 }

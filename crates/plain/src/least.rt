@@ -1,7 +1,9 @@
 //! The least snapshot of some transactions.
 
-ghost use Rattle.std.specs.Prelude.{◌≡◌, ◌&&◌, if◌then◌else◌, min, true};
+ghost use Rattle.std.specs.Prelude.{◌≡◌, ◌==◌, ◌&&◌, if◌then◌else◌, min, true};
+ghost use Rattle.std.specs.List.{list_any};
 ghost use Rattle.history.specs.Needed as spec;
+ghost use Rattle.plain.specs.Calm.{is_safe_from};
 ghost use Rattle.plain.specs.Forgetting.{holds_back, is_looked_at};
 ghost use Rattle.history.specs.Transactions.{Txn as AnyTxn, is_owed};
 ghost use Rattle.plain.specs.Stretches.{HoldsStretch};
@@ -16,24 +18,33 @@ use std::alloc::Allocator;
 pub enum Which {
     /// Those that their session has still to end.
     Owed,
-    /// The open ones, but for those that only read and whose snapshot is known to be safe.
+    /// The open ones, but for those that only read and whose snapshot is safe: it is known to be, or
+    /// was taken at a calm place.
     HoldingBack,
     /// The committed read-write ones whose number is above this one.
     Recent(u64),
 }
 
-// Whether a transaction only reads, and from a snapshot that is known to be safe.
-fn is_safe_reader<A: Allocator>(transaction: &Transaction<A>) -> bool
-    ensures { result ≡ spec.is_safe_reader transaction.now }
+// Whether it is one of these places.
+fn is_among(places: &[u64], place: u64) -> bool
+    ensures { result ≡ list_any (λ p. p == place) places.now }
 {
-    !is_read_write(transaction.mode) && transaction.known
+    places.iter().any(|other| *other == place)
 }
 
-// Whether a transaction is open, and no safe reader.
-fn holds_back<A: Allocator>(transaction: &Transaction<A>) -> bool
-    ensures { result ≡ holds_back transaction.now }
+// Whether a transaction only reads, and from a snapshot that is known to be safe or was taken at a calm
+// place.
+fn is_safe_reader<A: Allocator>(transaction: &Transaction<A>, calm: &[u64]) -> bool
+    ensures { result ≡ is_safe_from calm.now transaction.now }
 {
-    transaction.standing.is_open() && !is_safe_reader(transaction)
+    !is_read_write(transaction.mode) && (transaction.known || is_among(calm, transaction.taken))
+}
+
+// Whether a transaction is open, and no such reader.
+fn holds_back<A: Allocator>(transaction: &Transaction<A>, calm: &[u64]) -> bool
+    ensures { result ≡ holds_back calm.now transaction.now }
+{
+    transaction.standing.is_open() && !is_safe_reader(transaction, calm)
 }
 
 /// Whether a transaction is read-write and has committed as a number above this one.
@@ -44,36 +55,47 @@ pub fn is_recent<A: Allocator>(transaction: &Transaction<A>, oldest: u64) -> boo
 }
 
 // Whether a transaction's snapshot is looked at.
-fn is_looked_at<A: Allocator>(transaction: &Transaction<A>, which: Which) -> bool
-    ensures { result ≡ is_looked_at which transaction.now }
+fn is_looked_at<A: Allocator>(transaction: &Transaction<A>, which: Which, calm: &[u64]) -> bool
+    ensures { result ≡ is_looked_at calm.now which transaction.now }
 {
     match which {
         Which::Owed => transaction.standing.is_owed(),
-        Which::HoldingBack => holds_back(transaction),
+        Which::HoldingBack => holds_back(transaction, calm),
         Which::Recent(oldest) => is_recent(transaction, oldest),
     }
 }
 
 // The lesser of a number and of a transaction's snapshot, where that is looked at.
-fn lesser_snapshot<A: Allocator>(least: u64, transaction: &Transaction<A>, which: Which) -> u64
-    ensures { result ≡ (if is_looked_at which transaction.now then min transaction.now.snapshot least else least) }
+fn lesser_snapshot<A: Allocator>(
+    least: u64,
+    transaction: &Transaction<A>,
+    which: Which,
+    calm: &[u64],
+) -> u64
+    ensures { result ≡
+        (if is_looked_at calm.now which transaction.now then min transaction.now.snapshot least else least) }
 {
-    if is_looked_at(transaction, which) {
+    if is_looked_at(transaction, which, calm) {
         transaction.snapshot.min(least)
     } else {
         least
     }
 }
 
-/// The least snapshot of those of these transactions that are looked at, a number where none is below
-/// it. It takes no memory.
-pub fn least_snapshot<A: Allocator>(transactions: &[Transaction<A>], which: Which, most: u64) -> u64
-    ensures { result ≡ least_snapshot (is_looked_at which) most transactions.now }
+/// The least snapshot of those of these transactions that are looked at, with these places calm; a
+/// number where none is below it. It takes no memory.
+pub fn least_snapshot<A: Allocator>(
+    transactions: &[Transaction<A>],
+    which: Which,
+    calm: &[u64],
+    most: u64,
+) -> u64
+    ensures { result ≡ least_snapshot (is_looked_at calm.now which) most transactions.now }
 {
     let mut least = most;
     let mut left = transactions;
     while let [transaction, rest @ ..] = left {
-        least = lesser_snapshot(least, transaction, which);
+        least = lesser_snapshot(least, transaction, which, calm);
         left = rest;
     }
     least
@@ -85,12 +107,13 @@ pub fn least_owed<A: Allocator>(
     transactions: &[Transaction<A>],
     past: Stretch,
     which: Which,
+    calm: &[u64],
     most: u64,
 ) -> u64
     requires past { HoldsStretch past transactions.now }
-    requires owed { (u : AnyTxn A) → is_looked_at which u ≡ true → is_owed u.standing ≡ true }
-    ensures { result ≡ least_snapshot (is_looked_at which) most transactions.now }
+    requires owed { (u : AnyTxn A) → is_looked_at calm.now which u ≡ true → is_owed u.standing ≡ true }
+    ensures { result ≡ least_snapshot (is_looked_at calm.now which) most transactions.now }
 {
     let (front, back) = around(transactions, past, u64::MAX, u64::MAX);
-    least_snapshot(front, which, least_snapshot(back, which, most))
+    least_snapshot(front, which, calm, least_snapshot(back, which, calm, most))
 }

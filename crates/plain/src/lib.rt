@@ -5,6 +5,7 @@
 
 pub mod added;
 pub mod answered;
+mod calm;
 mod cause;
 mod commit;
 pub mod course;

@@ -13,6 +13,7 @@ ghost use Rattle.plain.specs.Standings.{begun_at};
 ghost use Rattle.plain.specs.Versions.{HasSameCommits};
 
 use crate::answered::{Answered, twin};
+use crate::calm::{add_calm, begins_calm};
 use crate::reply;
 use crate::transaction::Transaction;
 use crate::world::World;
@@ -63,10 +64,13 @@ impl<A: Allocator> World<A> {
         let place = self.place + 1;
         let number = self.base.transactions + self.transactions.len() as u64 + 1;
         let commits = self.commits();
+        let calm = begins_calm(self.transactions.as_slice(), self.past, mode, place);
+        self.calm.reserve(1)?;
         self.transactions.reserve(1)?;
         self.transactions.push_reserved(Transaction::begun(
             alloc, session, mode, number, place, commits,
         ));
+        add_calm(&mut self.calm, calm, place);
         self.place = place;
         Ok(())
     }

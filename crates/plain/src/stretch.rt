@@ -146,7 +146,7 @@ pub(crate) fn grown<A: Allocator>(
 {
     let mut stretch = placed(transactions, stretch);
     let (_, behind) = transactions.split_at(stretch.to);
-    let snapshot = least_snapshot(behind, Which::Owed, u64::MAX);
+    let snapshot = least_snapshot(behind, Which::Owed, &[], u64::MAX);
     for transaction in behind {
         if !is_past(transaction, snapshot, place) {
             return stretch;

@@ -53,7 +53,7 @@ module _ {A : Type 0} where
   moved_points Q w t x log exports q ex (Learns a b d) y j = ex y j
   moved_points Q w t x log exports q ex (Imports n v a b e) y j = ex y j
 
-  ends_step : (w v : World A) → IsGood w → EndsSeen w → Step w v → EndsSeen v
+  pub ends_step : (w v : World A) → IsGood w → EndsSeen w → Step w v → EndsSeen v
   ends_step w v g h Nothing = record { txns = h.txns; exports = h.exports }
   ends_step w v g h (Begins s m) = record { txns = λ t i. go t (In-append (λ (_ : Txn A). (0, 0, 0)) t w.txns (begun w s m ∷ []) i); exports = h.exports }
     where

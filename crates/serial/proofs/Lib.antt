@@ -29,7 +29,9 @@ pub mod Promised
 pub mod ViewSafe
 pub mod Elsewhere
 pub mod NeededStructures
+pub mod SafeReaders
 pub mod NeededCause
+pub mod SafeCommits
 pub mod EndsSeen
 pub mod NeededQuestions
 pub mod NeededLater

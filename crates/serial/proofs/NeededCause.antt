@@ -12,10 +12,11 @@ use Rattle.history.specs.Opening.{Opening}
 use Rattle.history.specs.Transactions.{Open, Done, Txn, World, node, edge, commits, current, is_open, is_done, is_owed, is_read_write}
 use Rattle.history.specs.Events.{ended, numbered, replaced, world_of}
 use Rattle.history.specs.Answer.{Legal, cause_of, committing}
-use Rattle.history.specs.Needed.{is_recent, is_late_reader, is_needed, is_safe_reader, Keeps, kept_of, IsOpenOf, HoldCommitter}
+use Rattle.history.specs.Needed.{is_recent, is_late_reader, is_needed, is_safe_reader, is_settled, Keeps, kept_of, IsOpenOf, HoldCommitter}
 use Rattle.serial.proofs.Legal.{current_in}
 use Rattle.serial.proofs.Numbers.{In-replaced, not_done}
 use Rattle.serial.proofs.Stamps.{Stamp, Stands, stamp}
+use Rattle.serial.proofs.SafeReaders.{safe_stands, sure}
 use Rattle.serial.proofs.SafePrefix.{all_by, by_all}
 use Rattle.serial.proofs.SerialTheorem.{IsGood, edge_parts, good_world}
 use Rattle.serial.proofs.NeededStructures.{Suits, all_kept}
@@ -168,14 +169,11 @@ module _ {A : Type 0} where
     begun_when : (m n : ℕ) → (m ≤ n) ⊎ (n < m)
     begun_when m n = grind arith
 
-    pub safe_first : (a b d : Txn A) → In a ts → In b ts → In d ts → is_read_write a.mode ≡ false → a.known ≡ true → is_dangerous node edge a b d ≡ true → ⊥
-    safe_first a b d ia ib id r known e = go (split b ib) (split d id)
+    pub safe_first : (a b d : Txn A) → In b ts → In d ts → is_read_write a.mode ≡ false → (s : Stamp) → s.snapshot ≡ a.snapshot → s.known ≡ true → Stands w s → is_dangerous node edge a b d ≡ true → ⊥
+    safe_first a b d ib id r s shows known stands e = go (split b ib) (split d id)
       where
         p : Danger node edge a b d
         p = parts node edge a b d e
-
-        s : (p : Stamp) × (p.snapshot ≡ a.snapshot) × (p.known ≡ a.known) × Stands w p
-        s = stamp_is a (split a ia)
 
         within : d.commit ≤ a.snapshot
         within = subst (λ q. d.commit ≤ cond q a.commit a.snapshot) r (is_least d.commit (bound node edge a) p.within)
@@ -191,8 +189,8 @@ module _ {A : Type 0} where
 
         go : (b ≡ x) ⊎ Old b → (d ≡ x) ⊎ Old d → ⊥
         go j (inl q) = let n = (new_number d q last).1 in omega (arith, n, before, up_to_new b ib)
-        go (inr j) (inr k) = s.3.safe (s.2 ∙ known) b d (in_log b j.0 (omega (arith, above))) (in_log d k.0 last) (omega (arith, s.1, above)) (omega (arith, s.1, within)) p.out
-        go (inl q) (inr k) = side (begun_when s.0.taken t.begin)
+        go (inr j) (inr k) = stands.safe known b d (in_log b j.0 (omega (arith, above))) (in_log d k.0 last) (omega (arith, shows, above)) (omega (arith, shows, within)) p.out
+        go (inl q) (inr k) = side (begun_when s.taken t.begin)
           where
             rw_t : is_read_write t.mode ≡ true
             rw_t = sym (ap (λ (y : Txn A). is_read_write y.mode) q ∙ ap is_read_write c.mode) ∙ writer b ib (omega (arith, above))
@@ -200,9 +198,20 @@ module _ {A : Type 0} where
             out : t.snapshot < d.commit
             out = let m : b.snapshot ≡ t.snapshot = ap (λ (y : Txn A). y.snapshot) q ∙ c.snapshot in omega (arith, m, (edge_parts b d p.out).1)
 
-            side : (s.0.taken ≤ t.begin) ⊎ (t.begin < s.0.taken) → ⊥
-            side (inl l) = omega (arith, s.3.behind t i rw_t l, s.1, within, out)
-            side (inr l) = s.3.none_open (s.2 ∙ known) t i rw_t o l
+            side : (s.taken ≤ t.begin) ⊎ (t.begin < s.taken) → ⊥
+            side (inl l) = omega (arith, stands.behind t i rw_t l, shows, within, out)
+            side (inr l) = stands.none_open known t i rw_t o l
+
+    -- a safe reader's commit makes no structure
+    pub safe_commit : is_safe_reader w.txns t ≡ true → (a b d : Txn A) → In a ts → In b ts → In d ts → is_dangerous node edge a b d ≡ true → ⊥
+    safe_commit e a b d ia ib id q = go (holds a b d ia ib id q)
+      where
+        reads : is_read_write t.mode ≡ false
+        reads = was_not (is_read_write t.mode) (both_true (not (is_read_write t.mode)) (t.known || is_settled w.txns t) e).0
+
+        go : (a ≡ x) ⊎ (b ≡ x) → ⊥
+        go (inl p) = safe_first a b d ib id (ap (λ (y : Txn A). is_read_write y.mode) p ∙ ap is_read_write c.mode ∙ reads) (sure t) (sym (ap (λ (y : Txn A). y.snapshot) p ∙ c.snapshot)) refl (safe_stands w g t i e) q
+        go (inr p) = clash (is_read_write b.mode) (writer b ib (meets_number a b (parts node edge a b d q).into)) (ap (λ (y : Txn A). is_read_write y.mode) p ∙ ap is_read_write c.mode ∙ reads)
 
     -- ---- what is kept
 
@@ -256,7 +265,7 @@ module _ {A : Type 0} where
           reader a b d ia ib id e r l (inr p) = go a.known refl
             where
               go : (q : Bool) → a.known ≡ q → k a ≡ true
-              go true q = absurd (safe_first a b d ia ib id r q e)
+              go true q = let s = stamp_is a (split a ia) in absurd (safe_first a b d ib id r s.0 s.1 (s.2 ∙ q) s.3 e)
               go false q = late_kept a p.0 (parts node edge a b d e).first r q l
 
           met : (u v : Txn A) → In u ts → In v ts → is_done u.standing ≡ true → is_done v.standing ≡ true → is_read_write u.mode ≡ true → n < u.commit → edge u v ≡ true
@@ -266,28 +275,14 @@ module _ {A : Type 0} where
           met u v j m d q r l e (inl y) (inr z) = let s : u.snapshot ≡ t.snapshot = ap (λ (a : Txn A). a.snapshot) y ∙ c.snapshot in
               recent_kept v z.0 q (writer v m (meets_number u v e)) (omega (arith, s, from, (edge_parts u v e).1))
 
-      pub oldest_is : is_safe_reader t ≡ false → n ≤ t.snapshot
-      oldest_is e = by_all (λ u. is_open u.standing ≡ true → is_safe_reader u ≡ false → n ≤ u.snapshot) w.txns t h.oldest i o e
-
-      -- a safe reader's commit makes no structure
-      pub safe_commit : is_safe_reader t ≡ true → (a b d : Txn A) → In a ts → In b ts → In d ts → is_dangerous node edge a b d ≡ true → ⊥
-      safe_commit e a b d ia ib id q = go (holds a b d ia ib id q)
-        where
-          both : (not (is_read_write t.mode) ≡ true) × (t.known ≡ true)
-          both = both_true (not (is_read_write t.mode)) t.known e
-
-          reads : is_read_write t.mode ≡ false
-          reads = was_not (is_read_write t.mode) both.0
-
-          go : (a ≡ x) ⊎ (b ≡ x) → ⊥
-          go (inl p) = safe_first a b d ia ib id (ap (λ (y : Txn A). is_read_write y.mode) p ∙ ap is_read_write c.mode ∙ reads) (ap (λ (y : Txn A). y.known) p ∙ c.known ∙ both.1) q
-          go (inr p) = clash (is_read_write b.mode) (writer b ib (meets_number a b (parts node edge a b d q).into)) (ap (λ (y : Txn A). is_read_write y.mode) p ∙ ap is_read_write c.mode ∙ reads)
+      pub oldest_is : is_safe_reader w.txns t ≡ false → n ≤ t.snapshot
+      oldest_is e = by_all (λ u. is_open u.standing ≡ true → is_safe_reader w.txns u ≡ false → n ≤ u.snapshot) w.txns t h.oldest i o e
 
       -- (2) The same structure is named of those that are kept.
       pub cause_of_kept : first_cause node edge (replaced x (kept_of keep w.txns)) ≡ cause_of w t
-      cause_of_kept = ap (first_cause node edge) (sym (kept_replaced keep x w.txns)) ∙ cause-kept node edge k ts (λ a b d ia ib id e. go (is_safe_reader t) refl a b d ia ib id e)
+      cause_of_kept = ap (first_cause node edge) (sym (kept_replaced keep x w.txns)) ∙ cause-kept node edge k ts (λ a b d ia ib id e. go (is_safe_reader w.txns t) refl a b d ia ib id e)
         where
-          go : (q : Bool) → is_safe_reader t ≡ q → (a b d : Txn A) → In a ts → In b ts → In d ts → is_dangerous node edge a b d ≡ true → (k a ≡ true) × (k b ≡ true) × (k d ≡ true)
+          go : (q : Bool) → is_safe_reader w.txns t ≡ q → (a b d : Txn A) → In a ts → In b ts → In d ts → is_dangerous node edge a b d ≡ true → (k a ≡ true) × (k b ≡ true) × (k d ≡ true)
           go true q a b d ia ib id e = absurd (safe_commit q a b d ia ib id e)
           go false q a b d ia ib id e = all_kept node edge ts x n k (suits (oldest_is q)) a b d ia ib id e
 

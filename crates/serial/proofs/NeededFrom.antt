@@ -12,6 +12,7 @@ use Rattle.serial.proofs.Legal.{Step, Nothing, Begins, Moves, Settles, Dooms, St
 use Rattle.serial.proofs.Numbers.{adds, no_commit}
 use Rattle.serial.proofs.SafePrefix.{all_by, by_all}
 use Rattle.serial.proofs.SerialTheorem.{IsGood, good_start, good_step, good_steps, good_world, sound_proper}
+use Rattle.serial.proofs.EndsSeen.{EndsSeen, ends_seen, ends_step}
 use Rattle.serial.proofs.NeededOldest.{Exporting, Oldest, exporting_step, oldest_step}
 
 module _ {A : Type 0} where
@@ -38,9 +39,16 @@ module _ {A : Type 0} where
   exporting_steps w v g h (One v' s) = exporting_step w v g h s
   exporting_steps w v g h (Two u v' s r) = exporting_step u v (good_step w u g s) (exporting_step w u g h s) r
 
-  oldest_steps : (w v : World A) (n : ℕ) → IsGood w → Exporting w → Oldest n w.txns → n ≤ commits w → Steps w v → Oldest n v.txns
-  oldest_steps w v n g h old most (One v' s) = oldest_step w v n h old most s
-  oldest_steps w v n g h old most (Two u v' s r) = oldest_step u v n (exporting_step w u g h s) (oldest_step w u n h old most s) (let m = commits_step w u g s in omega (arith, m, most)) r
+  oldest_steps : (w v : World A) (n : ℕ) → IsGood w → EndsSeen w → Exporting w → Oldest n w.txns → n ≤ commits w → Steps w v → Oldest n v.txns
+  oldest_steps w v n g ends h old most (One v' s) = oldest_step w v n g (good_step w v g s) (ends_step w v g ends s) h old most s
+  oldest_steps w v n g ends h old most (Two u v' s r) =
+      oldest_step u v n middle (good_step u v middle r) (ends_step u v middle seen r) (exporting_step w u g h s) (oldest_step w u n g middle seen h old most s) (let m = commits_step w u g s in omega (arith, m, most)) r
+    where
+      middle : IsGood u
+      middle = good_step w u g s
+
+      seen : EndsSeen u
+      seen = ends_step w u g ends s
 
   exporting_run : (w : World A) (es : List (Record A)) → IsGood w → Exporting w → IsAnswered w es → Exporting (run w es)
   exporting_run w [] g h l = h
@@ -62,8 +70,8 @@ module _ {A : Type 0} where
 
   pub oldest_later : (o : Opening A) (es : List (Record A)) → Legal o es → (s : ℕ) (a : Action A) (n : ℕ) → Allowed (world_of o es).catalog a → IsOldest (world_of o es) n → n ≤ commits (world_of o es)
       → IsOldest (follows (world_of o es) (record { session = s; action = a; reply = reply_in (world_of o es) s a })) n
-  oldest_later o es l s a n fits old most = all_by (λ (t : Txn A). is_open t.standing ≡ true → is_safe_reader t ≡ false → n ≤ t.snapshot) v.txns
-      (oldest_steps w v n (good_world o es l) (exporting o es l) (λ t i q r. by_all (λ u. is_open u.standing ≡ true → is_safe_reader u ≡ false → n ≤ u.snapshot) w.txns t old i q r) most (legal_steps w s a fits))
+  oldest_later o es l s a n fits old most = all_by (λ (t : Txn A). is_open t.standing ≡ true → is_safe_reader v.txns t ≡ false → n ≤ t.snapshot) v.txns
+      (oldest_steps w v n (good_world o es l) (ends_seen o es l) (exporting o es l) (λ t i q r. by_all (λ u. is_open u.standing ≡ true → is_safe_reader w.txns u ≡ false → n ≤ u.snapshot) w.txns t old i q r) most (legal_steps w s a fits))
     where
       w : World A
       w = world_of o es

@@ -21,6 +21,7 @@ use Rattle.serial.proofs.SafePrefix.{by_all}
 use Rattle.serial.proofs.SerialTheorem.{IsGood, edge_parts, good_steps, good_world}
 use Rattle.serial.proofs.NeededCause.{Committed, committed_as, oldest_is, open_owed}
 use Rattle.serial.proofs.NeededLater.{moved_done}
+use Rattle.serial.proofs.SafeReaders.{writer_unsafe}
 use Rattle.serial.proofs.NeededReplies.{owed_stays}
 use Rattle.serial.proofs.NeededQuestions.{first_part-kept}
 
@@ -90,7 +91,7 @@ module _ {A : Type 0} where
             none (inr k) = k.0
 
         from : is_read_write (numbered w t).mode ≡ true → n ≤ (numbered w t).snapshot
-        from q = let m = oldest_is w g t i o n keep h (ap (λ b. not b && t.known) (sym (ap is_read_write c.mode) ∙ q)) in omega (arith, m, c.snapshot)
+        from q = let m = oldest_is w g t i o n keep h (writer_unsafe w.txns t (sym (ap is_read_write c.mode) ∙ q)) in omega (arith, m, c.snapshot)
     own_last t e (Doomed c) p d = clash (is_done (told a t.standing)) d (told_is a t.standing (ap is_open p) (ap is_done p)).1
     own_last t e Failed p d = clash (is_done (settled a t.standing)) d (settled_is a t.standing (ap is_open p) (ap is_done p)).1
     own_last t e Aborted p d = clash (is_owed t.standing) (both_true (eqb t.session s) (is_owed t.standing) (current_in w s t e).1).1 (ap is_owed p)

@@ -21,6 +21,7 @@ use Rattle.serial.proofs.SafePrefix.{all_by, by_all}
 use Rattle.serial.proofs.SerialTheorem.{IsGood, edge_parts, good_world}
 use Rattle.serial.proofs.NeededCause.{c, in_log, open_owed}
 use Rattle.serial.proofs.NeededQuestions.{any-kept}
+use Rattle.serial.proofs.SafeReaders.{writer_unsafe}
 
 less_so : (a b : ℕ) → a < b → nat_lt a b ≡ true
 less_so a b h = grind (arith, nat_tests)
@@ -135,7 +136,7 @@ module _ {A : Type 0} where
           writes = sym (ap (λ (k : Txn A). is_read_write k.mode) y_is ∙ ap is_read_write (c w g t i o).mode) ∙ r0.1
 
           from : n ≤ t.snapshot
-          from = by_all (λ k. is_open k.standing ≡ true → is_safe_reader k ≡ false → n ≤ k.snapshot) w.txns t old i o (ap (λ b. not b && t.known) writes)
+          from = by_all (λ k. is_open k.standing ≡ true → is_safe_reader w.txns k ≡ false → n ≤ k.snapshot) w.txns t old i o (writer_unsafe w.txns t writes)
 
           snapshot : y.snapshot ≡ t.snapshot
           snapshot = ap (λ (k : Txn A). k.snapshot) y_is ∙ (c w g t i o).snapshot

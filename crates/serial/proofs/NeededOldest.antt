@@ -14,20 +14,19 @@ use Rattle.serial.proofs.Dooms.{Fate, Spared, Over, In-doomed, length-doomed}
 use Rattle.serial.proofs.Faithful.{waits}
 use Rattle.serial.proofs.Numbers.{In-replaced, adds, length-replaced, polled_keeps, no_commit}
 use Rattle.serial.proofs.SerialTheorem.{IsGood}
+use Rattle.serial.proofs.EndsSeen.{EndsSeen}
+use Rattle.serial.proofs.SafeReaders.{safe_stands, stands_safe, sure, writer_unsafe}
+use Rattle.serial.proofs.Stamps.{Stands, stamp_step}
 
 reads : (m : Mode) → is_read_only m ≡ true → is_read_write m ≡ false
 reads ReadWrite e = absurd (true≢false (sym e))
 reads ReadOnly e = refl
 reads Deferrable e = refl
 
-unsafe : (a b : Bool) → b ≡ false → (not a && b) ≡ false
-unsafe true b e = refl
-unsafe false b e = e
-
 module _ {A : Type 0} where
   -- y stands for t's snapshot
   abbrev pub Stood : Exported_snapshot → Txn A → Type 0
-  Stood y t = (t.snapshot ≡ y.snapshot) × (t.known ≡ y.known) × (t.asked ≡ true) × (must_wait t ≡ false)
+  Stood y t = (t.snapshot ≡ y.snapshot) × (t.known ≡ y.known) × (t.asked ≡ true) × (must_wait t ≡ false) × (t.taken ≡ y.taken)
 
   pub record Exporting (w : World A) : Type 0 where
     pub begun_before : (y : Exported_snapshot) → In y w.exports → y.exporter ≤ w.base.transactions + length w.txns
@@ -42,14 +41,14 @@ module _ {A : Type 0} where
       by_mode : (b : Bool) → Stood y (cond b (record (ended w Done t) { commit = commits w + 1 }) (ended w Done t))
       by_mode true = f
       by_mode false = f
-  stood_moved w t x log exports y (Runs q fits a b d) f = (f.0, f.1, refl, f.3)
-  stood_moved w t x log exports y (Asks a) f = (f.0, f.1, refl, f.3)
+  stood_moved w t x log exports y (Runs q fits a b d) f = (f.0, f.1, refl, f.3, f.4)
+  stood_moved w t x log exports y (Asks a) f = (f.0, f.1, refl, f.3, f.4)
   stood_moved w t x log exports y (Polls d k) f = clash (must_wait t) (waits t d k) f.3
   stood_moved w t x log exports y (Learns d k e) f = clash (must_wait t) (waits t d k) f.3
   stood_moved w t x log exports y (Imports n z d a e) f = clash t.asked f.2 a
 
   moved_exports : (w : World A) (t x : Txn A) (log : List (Txn A)) (exports : List Exported_snapshot) (y : Exported_snapshot) → Move w t x log exports → In y exports → In y w.exports ⊎ (y.exporter ≡ t.number) × Stood y x
-  moved_exports w t x log exports y (Asks a) j = elim (In-append (λ (_ : Exported_snapshot). (0, 0, 0)) y w.exports _ j) [ inl k ↦ inl k | inr k ↦ elim k [ inl p ↦ inr (ap (λ (v : Exported_snapshot). v.exporter) p, (sym (ap (λ (v : Exported_snapshot). v.snapshot) p), sym (ap (λ (v : Exported_snapshot). v.known) p), refl, a)) | inr z ↦ absurd z ] ]
+  moved_exports w t x log exports y (Asks a) j = elim (In-append (λ (_ : Exported_snapshot). (0, 0, 0)) y w.exports _ j) [ inl k ↦ inl k | inr k ↦ elim k [ inl p ↦ inr (ap (λ (v : Exported_snapshot). v.exporter) p, (sym (ap (λ (v : Exported_snapshot). v.snapshot) p), sym (ap (λ (v : Exported_snapshot). v.known) p), refl, a, sym (ap (λ (v : Exported_snapshot). v.taken) p))) | inr z ↦ absurd z ] ]
   moved_exports w t x log exports y Stays j = inl j
   moved_exports w t x log exports y Fails j = inl j
   moved_exports w t x log exports y Aborts j = inl j
@@ -113,23 +112,37 @@ module _ {A : Type 0} where
   -- ---- the oldest snapshot
 
   abbrev pub Oldest : ℕ → List (Txn A) → Type 0
-  Oldest n ts = (t : Txn A) → In t ts → is_open t.standing ≡ true → is_safe_reader t ≡ false → n ≤ t.snapshot
+  Oldest n ts = (t : Txn A) → In t ts → is_open t.standing ≡ true → is_safe_reader ts t ≡ false → n ≤ t.snapshot
 
-  moved_oldest : (w : World A) (n : ℕ) (t x : Txn A) (log : List (Txn A)) (exports : List Exported_snapshot) → Exporting w → Oldest n w.txns → n ≤ commits w → In t w.txns → is_open t.standing ≡ true
-      → Move w t x log exports → is_safe_reader x ≡ false → n ≤ x.snapshot
-  moved_oldest w n t x log exports h old most i o Stays s = old t i o s
-  moved_oldest w n t x log exports h old most i o Fails s = old t i o s
-  moved_oldest w n t x log exports h old most i o Aborts s = old t i o s
-  moved_oldest w n t x log exports h old most i o (Commits e) s = by_mode (is_read_write t.mode) s
+  -- x has its snapshot from t, which may write if x may
+  pub record HasFrom (t x : Txn A) : Type 0 where
+    pub snapshot : x.snapshot ≡ t.snapshot
+    pub taken : x.taken ≡ t.taken
+    pub writes : is_read_write x.mode ≡ true → is_read_write t.mode ≡ true
+
+  -- its snapshot isn't below n, or one that was open has it
+  abbrev Origin : World A → ℕ → Txn A → Type 0
+  Origin w n x = (n ≤ x.snapshot) ⊎ ((t : Txn A) × In t w.txns × (is_open t.standing ≡ true) × HasFrom t x)
+
+  has_own : (t : Txn A) → HasFrom t t
+  has_own t = record { snapshot = refl; taken = refl; writes = λ e. e }
+
+  moved_origin : (w : World A) (n : ℕ) (t x : Txn A) (log : List (Txn A)) (exports : List Exported_snapshot) → Exporting w → n ≤ commits w → In t w.txns → is_open t.standing ≡ true
+      → Move w t x log exports → Origin w n x
+  moved_origin w n t x log exports h most i o Stays = inr (t, i, o, has_own t)
+  moved_origin w n t x log exports h most i o Fails = inr (t, i, o, record { snapshot = refl; taken = refl; writes = λ e. e })
+  moved_origin w n t x log exports h most i o Aborts = inr (t, i, o, record { snapshot = refl; taken = refl; writes = λ e. e })
+  moved_origin w n t x log exports h most i o (Commits e) = by_mode (is_read_write t.mode)
     where
-      by_mode : (b : Bool) → is_safe_reader (cond b (record (ended w Done t) { commit = commits w + 1 }) (ended w Done t)) ≡ false → n ≤ (cond b (record (ended w Done t) { commit = commits w + 1 }) (ended w Done t)).snapshot
-      by_mode true s = old t i o s
-      by_mode false s = old t i o s
-  moved_oldest w n t x log exports h old most i o (Runs q fits a b d) s = old t i o s
-  moved_oldest w n t x log exports h old most i o (Asks a) s = old t i o s
-  moved_oldest w n t x log exports h old most i o (Polls d k) s = polled_keeps (λ y. n ≤ y.snapshot) w t (old t i o (unsafe (is_read_write t.mode) t.known k)) most
-  moved_oldest w n t x log exports h old most i o (Learns d k e) s = polled_keeps (λ y. n ≤ y.snapshot) w t (old t i o (unsafe (is_read_write t.mode) t.known k)) most
-  moved_oldest w n t x log exports h old most i o (Imports j y d a e) s = from (any-In (λ u. eqb u.number y.exporter && is_open u.standing) w.txns living)
+      by_mode : (b : Bool) → Origin w n (cond b (record (ended w Done t) { commit = commits w + 1 }) (ended w Done t))
+      by_mode true = inr (t, i, o, record { snapshot = refl; taken = refl; writes = λ e. e })
+      by_mode false = inr (t, i, o, record { snapshot = refl; taken = refl; writes = λ e. e })
+  moved_origin w n t x log exports h most i o (Runs q fits a b d) = inr (t, i, o, record { snapshot = refl; taken = refl; writes = λ e. e })
+  moved_origin w n t x log exports h most i o (Asks a) = inr (t, i, o, record { snapshot = refl; taken = refl; writes = λ e. e })
+  moved_origin w n t x log exports h most i o (Polls d k) = polled_keeps (λ y. Origin w n y) w t (inr (t, i, o, has_own t)) (inl most)
+  moved_origin w n t x log exports h most i o (Learns d k e) = polled_keeps (λ y. Origin w n (record y { known = true })) w t
+      (inr (t, i, o, record { snapshot = refl; taken = refl; writes = λ e. e })) (inl most)
+  moved_origin w n t x log exports h most i o (Imports j y d a e) = from (any-In (λ u. eqb u.number y.exporter && is_open u.standing) w.txns living)
     where
       f : In y w.exports × ((eqb y.id j && is_living w.txns y) ≡ true)
       f = found _ w.exports y e
@@ -137,36 +150,51 @@ module _ {A : Type 0} where
       living : is_living w.txns y ≡ true
       living = (both_true (eqb y.id j) (is_living w.txns y) f.1).1
 
-      known : y.known ≡ false
-      known = ap (λ b. not b && y.known) (sym (reads t.mode d)) ∙ s
-
-      from : (u : Txn A) × In u w.txns × ((eqb u.number y.exporter && is_open u.standing) ≡ true) → n ≤ y.snapshot
+      from : (u : Txn A) × In u w.txns × ((eqb u.number y.exporter && is_open u.standing) ≡ true) → Origin w n x
       from u =
           let q = both_true (eqb u.0.number y.exporter) (is_open u.0.standing) u.2 in
           let p = h.stood y f.0 u.0 u.1 (eqb-true u.0.number y.exporter q.0) q.1 in
-          let m = old u.0 u.1 q.1 (unsafe (is_read_write u.0.mode) u.0.known (p.1 ∙ known)) in omega (arith, m, p.0)
+          inr (u.0, u.1, q.1, record { snapshot = sym p.0; taken = sym p.4; writes = λ r. clash (is_read_write t.mode) r (reads t.mode d) })
 
-  pub oldest_step : (w v : World A) (n : ℕ) → Exporting w → Oldest n w.txns → n ≤ commits w → Step w v → Oldest n v.txns
-  oldest_step w v n h old most Nothing = old
-  oldest_step w v n h old most (Begins s m) = λ t k o r. go t (In-append (λ (_ : Txn A). (0, 0, 0)) t w.txns (begun w s m ∷ []) k) o r
+  origin_step : (w v : World A) (n : ℕ) → Exporting w → n ≤ commits w → Step w v → (x : Txn A) → In x v.txns → is_open x.standing ≡ true → Origin w n x
+  origin_step w v n h most Nothing x k o = inr (x, k, o, has_own x)
+  origin_step w v n h most (Begins s m) x k o = go (In-append (λ (_ : Txn A). (0, 0, 0)) x w.txns (begun w s m ∷ []) k)
     where
-      go : (t : Txn A) → In t w.txns ⊎ ((t ≡ begun w s m) ⊎ ⊥) → is_open t.standing ≡ true → is_safe_reader t ≡ false → n ≤ t.snapshot
-      go t (inl k) o r = old t k o r
-      go t (inr (inl p)) o r = let e : t.snapshot ≡ commits w = ap (λ (y : Txn A). y.snapshot) p in omega (arith, e, most)
-      go t (inr (inr z)) o r = absurd z
-  oldest_step w v n h old most (Moves s t x log exports c o move) = λ u k q r. go u (In-replaced u x w.txns k) q r
+      go : In x w.txns ⊎ ((x ≡ begun w s m) ⊎ ⊥) → Origin w n x
+      go (inl j) = inr (x, j, o, has_own x)
+      go (inr (inl p)) = inl (let e : x.snapshot ≡ commits w = ap (λ (y : Txn A). y.snapshot) p in omega (arith, e, most))
+      go (inr (inr z)) = absurd z
+  origin_step w v n h most (Moves s t x log exports c o move) u k q = go (In-replaced u x w.txns k)
     where
-      go : (u : Txn A) → (u ≡ x) ⊎ In u w.txns × (eqb u.number x.number ≡ false) → is_open u.standing ≡ true → is_safe_reader u ≡ false → n ≤ u.snapshot
-      go u (inl p) q r = let e : u.snapshot ≡ x.snapshot = ap (λ (y : Txn A). y.snapshot) p in
-          let m = moved_oldest w n t x log exports h old most (current_in w s t c).0 o move (sym (ap (λ (y : Txn A). is_safe_reader y) p) ∙ r) in omega (arith, e, m)
-      go u (inr k) q r = old u k.0 q r
-  oldest_step w v n h old most (Settles s t st c o d o' d') = λ u k q r. go u (In-replaced u (record t { standing = st }) w.txns k) q r
+      go : (u ≡ x) ⊎ In u w.txns × (eqb u.number x.number ≡ false) → Origin w n u
+      go (inl p) = subst (Origin w n) (sym p) (moved_origin w n t x log exports h most (current_in w s t c).0 o move)
+      go (inr j) = inr (u, j.0, q, has_own u)
+  origin_step w v n h most (Settles s t st c o d o' d') u k q = go (In-replaced u (record t { standing = st }) w.txns k)
     where
-      go : (u : Txn A) → (u ≡ record t { standing = st }) ⊎ In u w.txns × (eqb u.number t.number ≡ false) → is_open u.standing ≡ true → is_safe_reader u ≡ false → n ≤ u.snapshot
-      go u (inl p) q r = clash (is_open u.standing) q (ap (λ (a : Txn A). is_open a.standing) p ∙ o')
-      go u (inr k) q r = old u k.0 q r
-  oldest_step w v n h old most (Dooms cs) = λ u k q r. let f = In-doomed w.place cs u w.txns k in go f.0 u f.1 f.2 q r
+      go : (u ≡ record t { standing = st }) ⊎ In u w.txns × (eqb u.number t.number ≡ false) → Origin w n u
+      go (inl p) = clash (is_open u.standing) q (ap (λ (a : Txn A). is_open a.standing) p ∙ o')
+      go (inr j) = inr (u, j.0, q, has_own u)
+  origin_step w v n h most (Dooms cs) u k q = let f = In-doomed w.place cs u w.txns k in go f.0 u f.1 f.2 q
     where
-      go : (t u : Txn A) → In t w.txns → Fate w.place t u → is_open u.standing ≡ true → is_safe_reader u ≡ false → n ≤ u.snapshot
-      go t u i Spared q r = old t i q r
-      go t u i (Over c o) q r = absurd (true≢false (sym q))
+      go : (t u : Txn A) → In t w.txns → Fate w.place t u → is_open u.standing ≡ true → Origin w n u
+      go t u i Spared q = inr (t, i, q, has_own t)
+      go t u i (Over c o) q = absurd (true≢false (sym q))
+
+  pub oldest_step : (w v : World A) (n : ℕ) → IsGood w → IsGood v → EndsSeen v → Exporting w → Oldest n w.txns → n ≤ commits w → Step w v → Oldest n v.txns
+  oldest_step w v n g good ends h old most s x k o unsafe = go (origin_step w v n h most s x k o)
+    where
+      go : Origin w n x → n ≤ x.snapshot
+      go (inl l) = l
+      go (inr f) = by_test (is_safe_reader w.txns f.0) refl (is_read_write x.mode) refl
+        where
+          by_test : (b : Bool) → is_safe_reader w.txns f.0 ≡ b → (r : Bool) → is_read_write x.mode ≡ r → n ≤ x.snapshot
+          by_test false e r p = let l = old f.0 f.1 f.2 e in omega (arith, l, f.3.snapshot)
+          by_test true e true p = clash (is_safe_reader w.txns f.0) e (writer_unsafe w.txns f.0 (f.3.writes p))
+          by_test true e false p = clash (is_safe_reader v.txns x) (stands_safe v good x k ends p later) unsafe
+            where
+              was : Stands v (sure f.0)
+              was = stamp_step w v (sure f.0) (safe_stands w g f.0 f.1 e) s
+
+              later : Stands v (sure x)
+              later = subst (λ m. Stands v (record { snapshot = m; taken = x.taken; known = true })) (sym f.3.snapshot)
+                  (subst (λ m. Stands v (record { snapshot = f.0.snapshot; taken = m; known = true })) (sym f.3.taken) was)

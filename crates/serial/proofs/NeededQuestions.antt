@@ -1,28 +1,23 @@
 -- Serial keys and the questions of a POLL, from the transactions that matter alone.
-use Rattle.std.proofs.Common.{◌≡◌, refl, sym, ap, ◌∙◌, ℕ, ◌<◌, ◌≤◌, min, Bool, true, false, cond, not, ◌&&◌, ◌||◌, ◌⊎◌, inl, inr, List, [], ◌∷◌, eqb, nat_lt, nat_le, arith}
+use Rattle.std.proofs.Common.{◌≡◌, refl, sym, ap, ◌∙◌, ℕ, ◌<◌, ◌≤◌, min, Bool, true, false, true≢false, cond, not, ◌&&◌, ◌||◌, ◌⊎◌, inl, inr, List, [], ◌∷◌, eqb, nat_lt, nat_le, arith}
 use Rattle.std.proofs.lemmas.Bool.Decides.{nat_tests}
 use Rattle.std.specs.List.{filter, list_any}
 use Rattle.value.specs.Isolation.{Node, first_part, serial_key, write_key}
 use Rattle.value.proofs.IsolationLemmas.{In}
-use Rattle.conflict.proofs.Lists.{In-filter, both_true, clash, either, filter-filter, is_false, or_left}
+use Rattle.conflict.proofs.Lists.{In-any, In-filter, and_true, any-In, both_true, clash, filter-In, filter-filter, is_false, or_left}
 use Rattle.history.specs.declared.event.Record.{Record}
 use Rattle.history.specs.Opening.{Opening}
 use Rattle.history.specs.Transactions.{Standing, Txn, World, node, edge, is_open, is_done, is_pending, is_read_write, is_spoilt, spoils, was_active}
 use Rattle.history.specs.Events.{numbered, replaced, world_of}
 use Rattle.history.specs.Answer.{Legal, committing}
-use Rattle.history.specs.Needed.{is_safe_reader, Keeps, kept_of, IsOpenOf, is_needed}
+use Rattle.history.specs.Needed.{is_safe_reader, is_settled, IsOldest, Keeps, kept_of, IsOpenOf, is_needed, thin}
 use Rattle.serial.proofs.EndsSeen.{EndsSeen, ends_seen}
 use Rattle.serial.proofs.Legal.{current_in}
 use Rattle.serial.proofs.Numbers.{not_done}
-use Rattle.serial.proofs.SafePrefix.{by_all}
+use Rattle.serial.proofs.SafePrefix.{all_by, by_all}
+use Rattle.serial.proofs.SafeReaders.{active_above, writer_unsafe}
 use Rattle.serial.proofs.SerialTheorem.{IsGood, edge_parts, good_world}
-use Rattle.serial.proofs.NeededCause.{c, in_log, kept_replaced, meets_number, met_kept, oldest_is, open_owed, recent_kept, self, split, writer}
-
-compared : (a b : ℕ) → (a ≤ b) ⊎ (b < a)
-compared a b = grind arith
-
-is_less : (a b : ℕ) → nat_lt a b ≡ true → a < b
-is_less a b e = grind (arith, nat_tests)
+use Rattle.serial.proofs.NeededCause.{c, in_log, kept_replaced, meets_number, met_kept, oldest_is, open_owed, owed_kept, recent_kept, self, split, writer}
 
 module _ {X : Type 0} where
   pub any-kept : (p k : X → Bool) (xs : List X) → ((x : X) → In x xs → p x ≡ true → k x ≡ true) → list_any p (filter k xs) ≡ list_any p xs
@@ -81,7 +76,7 @@ module _ {A : Type 0} where
           kept u j e = go (split w g t i o u j.0)
             where
               from : n ≤ t.snapshot
-              from = oldest_is w g t i o n keep h (ap (λ b. not b && t.known) (sym (ap is_read_write (c w g t i o).mode) ∙ r))
+              from = oldest_is w g t i o n keep h (writer_unsafe w.txns t (sym (ap is_read_write (c w g t i o).mode) ∙ r))
 
               go : (u ≡ x) ⊎ In u w.txns × (eqb u.number x.number ≡ false) → keep u.number ≡ true
               go (inl p) = ap (λ (y : Txn A). keep y.number) p ∙ self w g t i o n keep h
@@ -98,28 +93,7 @@ module _ {A : Type 0} where
   module _ (w : World A) (g : IsGood w) (ends : EndsSeen w) (t : Txn A) (i : In t w.txns) (o : is_open t.standing ≡ true) (n : ℕ) (keep : ℕ → Bool) (h : Keeps w n keep) (from : n ≤ t.snapshot) where
     -- who was active at the snapshot and has committed has a number above it
     recent_active : (u : Txn A) → In u w.txns → was_active t u ≡ true → is_done u.standing ≡ true → (is_read_write u.mode ≡ true) × (n < u.commit)
-    recent_active u j e d = (p.0, go (g.numbered.kind u j))
-      where
-        q : ((is_read_write u.mode && nat_lt u.begin t.taken) ≡ true) × ((is_open u.standing || nat_lt t.taken u.end) ≡ true)
-        q = both_true (is_read_write u.mode && nat_lt u.begin t.taken) (is_open u.standing || nat_lt t.taken u.end) e
-
-        p : (is_read_write u.mode ≡ true) × (nat_lt u.begin t.taken ≡ true)
-        p = both_true (is_read_write u.mode) (nat_lt u.begin t.taken) q.0
-
-        ended : t.taken < u.end
-        ended = side (either (is_open u.standing) (nat_lt t.taken u.end) q.1)
-          where
-            side : (is_open u.standing ≡ true) ⊎ (nat_lt t.taken u.end ≡ true) → t.taken < u.end
-            side (inl r) = absurd (not_done u.standing r d)
-            side (inr r) = is_less t.taken u.end r
-
-        go : In u w.log ⊎ (u.commit ≡ 0) × (is_done u.standing ≡ true → is_read_write u.mode ≡ false) → n < u.commit
-        go (inr k) = clash (is_read_write u.mode) p.0 (k.1 d)
-        go (inl k) = side (compared u.commit t.snapshot)
-          where
-            side : (u.commit ≤ t.snapshot) ⊎ (t.snapshot < u.commit) → n < u.commit
-            side (inl l) = absurd (let m = ends.txns t i u k l in omega (arith, m, ended))
-            side (inr l) = omega (arith, l, from)
+    recent_active u j e d = let p = active_above w g t i ends u j e d in (p.1, omega (arith, p.2, from))
 
     pub spoilt_of_kept : is_spoilt (kept_of keep w.txns) t ≡ is_spoilt w.txns t
     spoilt_of_kept =
@@ -149,6 +123,58 @@ module _ {A : Type 0} where
                 (λ v m e. let s = both_true (edge u v) (nat_le v.commit t.snapshot) e in let r = recent_active u j p q in
                 met_kept w g t i o n keep h u v j m q (g.numbered.logged v (in_log w g t i o v m (meets_number w g t i o u v s.0))).1 r.0 r.1 s.0)
 
+    settled_of_kept : is_settled (kept_of keep w.txns) t ≡ is_settled w.txns t
+    settled_of_kept = ap (λ b. not b && not (is_spoilt (kept_of keep w.txns) t)) (pending_of_kept w n keep h t) ∙ ap (λ b. not (is_pending w.txns t) && not b) spoilt_of_kept
+
+    pub safe_of_kept : is_safe_reader (kept_of keep w.txns) t ≡ is_safe_reader w.txns t
+    safe_of_kept = ap (λ b. not (is_read_write t.mode) && (t.known || b)) settled_of_kept
+
+  -- what isn't spoilt by all isn't spoilt by those that are kept
+  unspoilt_kept : (k : Txn A → Bool) (ts : List (Txn A)) (t : Txn A) → is_spoilt ts t ≡ false → is_spoilt (filter k ts) t ≡ false
+  unspoilt_kept k ts t e = is_false (is_spoilt (filter k ts) t) (λ f. go (any-In (λ u. was_active t u && spoils (filter k ts) t u) (filter k ts) f))
+    where
+      go : (u : Txn A) × In u (filter k ts) × ((was_active t u && spoils (filter k ts) t u) ≡ true) → ⊥
+      go u = last (any-In (λ v. edge u.0 v && nat_le v.commit t.snapshot) (filter k ts) q.1)
+        where
+          p : (was_active t u.0 ≡ true) × (spoils (filter k ts) t u.0 ≡ true)
+          p = both_true (was_active t u.0) (spoils (filter k ts) t u.0) u.2
+
+          q : (is_done u.0.standing ≡ true) × (list_any (λ v. edge u.0 v && nat_le v.commit t.snapshot) (filter k ts) ≡ true)
+          q = both_true (is_done u.0.standing) (list_any (λ v. edge u.0 v && nat_le v.commit t.snapshot) (filter k ts)) p.1
+
+          last : (v : Txn A) × In v (filter k ts) × ((edge u.0 v && nat_le v.commit t.snapshot) ≡ true) → ⊥
+          last v = clash (is_spoilt ts t)
+              (In-any (λ y. was_active t y && spoils ts t y) ts u.0 (In-filter k u.0 ts u.1).0
+              (and_true _ _ p.0 (and_true _ _ q.0 (In-any (λ y. edge u.0 y && nat_le y.commit t.snapshot) ts v.0 (In-filter k v.0 ts v.1).0 v.2)))) e
+
+  module _ (w : World A) (g : IsGood w) (ends : EndsSeen w) (n : ℕ) (keep : ℕ → Bool) (h : Keeps w n keep) where
+    -- so a POLL finds the same of a snapshot that isn't known to be safe
+    pub poll_of_kept : (t : Txn A) → In t w.txns → is_open t.standing ≡ true → (not (is_read_write t.mode) && t.known) ≡ false → is_spoilt (kept_of keep w.txns) t ≡ is_spoilt w.txns t
+    poll_of_kept t i o unknown = go (is_safe_reader w.txns t) refl
+      where
+        settled : (a b d : Bool) → (not a && b) ≡ false → (not a && (b || d)) ≡ true → d ≡ true
+        settled true b d e f = absurd (true≢false (sym f))
+        settled false true d e f = absurd (true≢false e)
+        settled false false d e f = f
+
+        unspoilt : (a b : Bool) → (not a && not b) ≡ true → b ≡ false
+        unspoilt true b e = absurd (true≢false (sym e))
+        unspoilt false true e = sym e
+        unspoilt false false e = refl
+
+        go : (b : Bool) → is_safe_reader w.txns t ≡ b → is_spoilt (kept_of keep w.txns) t ≡ is_spoilt w.txns t
+        go false e = spoilt_of_kept w g ends t i o n keep h (oldest_is w g t i o n keep h e)
+        go true e =
+            let none = unspoilt (is_pending w.txns t) (is_spoilt w.txns t) (settled (is_read_write t.mode) t.known (is_settled w.txns t) unknown e) in
+            unspoilt_kept (λ u. keep u.number) w.txns t none ∙ sym none
+
+    -- A number that no open transaction of those kept has a snapshot below, but safe readers, is such a one for all.
+    pub oldest_of_kept : (m : ℕ) → IsOldest (thin keep w) m → IsOldest w m
+    oldest_of_kept m old = all_by (λ (t : Txn A). is_open t.standing ≡ true → is_safe_reader w.txns t ≡ false → m ≤ t.snapshot) w.txns (λ t i o e.
+        by_all (λ u. is_open u.standing ≡ true → is_safe_reader (kept_of keep w.txns) u ≡ false → m ≤ u.snapshot) (kept_of keep w.txns) t old
+        (filter-In (λ u. keep u.number) t w.txns i (owed_kept w g t i o n keep h t i (open_owed t.standing o))) o
+        (safe_of_kept w g ends t i o n keep h (oldest_is w g t i o n keep h e) ∙ e))
+
   -- ---- the laws
 
   pub key_kept : (o : Opening A) (es : List (Record A)) → Legal o es → (s : ℕ) (t : Txn A) (n : ℕ) (keep : ℕ → Bool) → IsOpenOf (world_of o es) s t → Keeps (world_of o es) n keep
@@ -160,15 +186,9 @@ module _ {A : Type 0} where
       → is_pending (kept_of keep (world_of o es).txns) t ≡ is_pending (world_of o es).txns t
   pending_kept o es l n keep h t = pending_of_kept (world_of o es) n keep h t
 
-  pub spoilt_kept : (o : Opening A) (es : List (Record A)) → Legal o es → (s : ℕ) (t : Txn A) (n : ℕ) (keep : ℕ → Bool) → IsOpenOf (world_of o es) s t → Keeps (world_of o es) n keep → is_safe_reader t ≡ false
+  pub spoilt_kept : (o : Opening A) (es : List (Record A)) → Legal o es → (s : ℕ) (t : Txn A) (n : ℕ) (keep : ℕ → Bool) → IsOpenOf (world_of o es) s t → Keeps (world_of o es) n keep → (not (is_read_write t.mode) && t.known) ≡ false
       → is_spoilt (kept_of keep (world_of o es).txns) t ≡ is_spoilt (world_of o es).txns t
-  spoilt_kept o es l s t n keep p h k = spoilt_of_kept w g (ends_seen o es l) t i p.1 n keep h (oldest_is w g t i p.1 n keep h k)
-    where
-      w : World A
-      w = world_of o es
+  spoilt_kept o es l s t n keep p h k = poll_of_kept (world_of o es) (good_world o es l) (ends_seen o es l) n keep h t (current_in (world_of o es) s t p.0).0 p.1 k
 
-      g : IsGood w
-      g = good_world o es l
-
-      i : In t w.txns
-      i = (current_in w s t p.0).0
+  pub oldest_told : (o : Opening A) (es : List (Record A)) → Legal o es → (n m : ℕ) (keep : ℕ → Bool) → Keeps (world_of o es) n keep → IsOldest (thin keep (world_of o es)) m → IsOldest (world_of o es) m
+  oldest_told o es l n m keep h old = oldest_of_kept (world_of o es) (good_world o es l) (ends_seen o es l) n keep h m old

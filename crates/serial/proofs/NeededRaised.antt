@@ -26,7 +26,7 @@ module _ {A : Type 0} where
   recent_too : (n m : ℕ) (u : Txn A) → n ≤ m → is_recent m u ≡ true → is_recent n u ≡ true
   recent_too n m u l e = let p = both_true (is_done u.standing && is_read_write u.mode) (nat_lt m u.commit) e in and_true _ _ p.0 (later_too n m u.commit l p.1)
 
-  needed_too : (n m : ℕ) (ts : List (Txn A)) (u : Txn A) → n ≤ m → is_needed m ts u ≡ true → is_needed n ts u ≡ true
+  pub needed_too : (n m : ℕ) (ts : List (Txn A)) (u : Txn A) → n ≤ m → is_needed m ts u ≡ true → is_needed n ts u ≡ true
   needed_too n m ts u l e = last (either (is_owed u.standing || is_recent m u || is_late_reader m u) (is_met m ts u) e)
     where
       first : (is_owed u.standing ≡ true) ⊎ (is_recent m u ≡ true) → is_needed n ts u ≡ true

@@ -65,7 +65,7 @@ module _ {A : Type 0} (w : World A) (n : ℕ) (keep : ℕ → Bool) (h : Keeps w
       firsts : (causes : List Cause) (b : Txn A) → find (is_first node reads_from c causes b) (kept_of keep w.txns) ≡ find (is_first node reads_from c causes b) w.txns
       firsts causes b = find-alike (is_first node reads_from c causes b) (λ u. keep u.number) w.txns (λ u j e. is_false (is_first node reads_from c causes b u) (λ q. clash (keep u.number) (stays causes b u j q) e))
 
-  module _ (g : IsGood w) (t : Txn A) (i : In t w.txns) (o : is_open t.standing ≡ true) (writes : is_safe_reader t ≡ false) where
+  module _ (g : IsGood w) (t : Txn A) (i : In t w.txns) (o : is_open t.standing ≡ true) (writes : is_safe_reader w.txns t ≡ false) where
     pub taken_of_kept : (xs : List (Change A)) → list_any (λ x. list_any (λ u. is_taken t u x) (kept_of keep w.txns)) xs ≡ meets_another w t xs
     taken_of_kept xs = any-alike (λ x. list_any (λ u. is_taken t u x) (kept_of keep w.txns)) (λ x. list_any (λ u. is_taken t u x) w.txns) xs
         (λ x _. any-kept (λ u. is_taken t u x) (λ u. keep u.number) w.txns (λ u j e. stays x u j e))
@@ -92,7 +92,7 @@ module _ {A : Type 0} where
       w : World A
       w = world_of o es
 
-  pub taken_kept : (o : Opening A) (es : List (Record A)) → Legal o es → (s : ℕ) (t : Txn A) (n : ℕ) (keep : ℕ → Bool) → IsOpenOf (world_of o es) s t → Keeps (world_of o es) n keep → is_safe_reader t ≡ false
+  pub taken_kept : (o : Opening A) (es : List (Record A)) → Legal o es → (s : ℕ) (t : Txn A) (n : ℕ) (keep : ℕ → Bool) → IsOpenOf (world_of o es) s t → Keeps (world_of o es) n keep → is_safe_reader (world_of o es).txns t ≡ false
       → (xs : List (Change A)) → list_any (λ x. list_any (λ u. is_taken t u x) (kept_of keep (world_of o es).txns)) xs ≡ meets_another (world_of o es) t xs
   taken_kept o es l s t n keep p h r = taken_of_kept w n keep h (good_world o es l) t (current_in w s t p.0).0 p.1 r
     where

@@ -1,5 +1,5 @@
 -- The world of what is kept answers as the world of the whole history does, and an event makes of it what is kept of what it makes of the whole.
-use Rattle.std.proofs.Common.{◌≡◌, refl, sym, ap, ◌∙◌, ℕ, ◌+◌, Bool, true, false, true≢false, cond, not, ◌&&◌, List, [], ◌∷◌, map, Option, Some, None, is_some, eqb}
+use Rattle.std.proofs.Common.{◌≡◌, refl, sym, ap, ◌∙◌, ℕ, ◌+◌, Bool, true, false, true≢false, cond, not, ◌&&◌, ◌||◌, List, [], ◌∷◌, map, Option, Some, None, is_some, eqb}
 use Rattle.std.specs.List.{find, list_any}
 use Rattle.value.specs.declared.refusal.Cause.{Cause}
 use Rattle.value.specs.declared.refusal.Code.TheVariants as code
@@ -20,13 +20,13 @@ use Rattle.history.specs.Opening.{Opening}
 use Rattle.history.specs.Transactions.{Standing, Open, Doomed, Failed, Aborted, Done, Txn, World, commits, current, exported, is_deferrable, is_living, is_open, is_pending, is_read_only, is_read_write, must_wait}
 use Rattle.history.specs.Events.{doomed_by, polled, with_snapshot, world_of}
 use Rattle.history.specs.Answer.{Legal, commit_reply, is_refused, is_taken, meets_another, open_reply, poll_reply, refuses, refuses_row, reply_from, reply_in, reply_of, run_reply}
-use Rattle.history.specs.Needed.{Keeps, is_safe_reader, kept_of, thin}
+use Rattle.history.specs.Needed.{Keeps, is_safe_reader, is_settled, kept_of, thin}
 use Rattle.serial.proofs.Legal.{current_in}
 use Rattle.serial.proofs.Dooms.{number-doomed}
 use Rattle.serial.proofs.EndsSeen.{EndsSeen, ends_seen}
 use Rattle.serial.proofs.SerialTheorem.{IsGood, good_world}
 use Rattle.serial.proofs.NeededCause.{cause_of_kept, oldest_is}
-use Rattle.serial.proofs.NeededQuestions.{pending_of_kept, spoilt_of_kept}
+use Rattle.serial.proofs.NeededQuestions.{pending_of_kept, poll_of_kept}
 use Rattle.serial.proofs.NeededReplies.{current_of_kept, living_of_kept, taken_of_kept}
 
 find_same : {X : Type 0} (p q : X → Bool) (xs : List X) → ((x : X) → p x ≡ q x) → find p xs ≡ find q xs
@@ -47,11 +47,11 @@ module _ {A : Type 0} where
 
     module _ (t : Txn A) (i : In t w.txns) (o : is_open t.standing ≡ true) where
       pub polled_alike : t.known ≡ false → polled (thin keep w) t ≡ polled w t
-      polled_alike k = ap (λ b. cond (not t.known && b) (with_snapshot w (commits w) (w.place + 1) t) t) (spoilt_of_kept w g ends t i o n keep h (oldest_is w g t i o n keep h (not_safe (is_read_write t.mode) t.known k)))
+      polled_alike k = ap (λ b. cond (not t.known && b) (with_snapshot w (commits w) (w.place + 1) t) t) (poll_of_kept w g ends n keep h t i o (unknown (is_read_write t.mode) t.known k))
         where
-          not_safe : (a b : Bool) → b ≡ false → (not a && b) ≡ false
-          not_safe true b e = refl
-          not_safe false b e = e
+          unknown : (a b : Bool) → b ≡ false → (not a && b) ≡ false
+          unknown true b e = refl
+          unknown false b e = e
 
       poll_alike : poll_reply (thin keep w) t ≡ poll_reply w t
       poll_alike = go t.known refl
@@ -69,7 +69,7 @@ module _ {A : Type 0} where
               ∙ ap (λ (y : Txn A). cond (is_pending w.txns y) Wait (Safe y.snapshot)) (polled_alike k))
 
       run_alike : (q : Statement A) → run_reply (thin keep w) t q ≡ run_reply w t q
-      run_alike q = go (is_safe_reader t) refl
+      run_alike q = go (is_safe_reader w.txns t) refl
         where
           r : Reply A
           r = (outcome w.catalog q t.own).reply
@@ -83,14 +83,14 @@ module _ {A : Type 0} where
           whole : Bool → Bool → Reply A
           whole b m = cond (must_wait t) (refuses code.ObjectNotInPrerequisiteState) (cond b (refuses code.ReadOnlySqlTransaction) (cond (is_refused r) r (cond m refuses_row r)))
 
-          by_writes : is_safe_reader t ≡ true → (b : Bool) → writes q ≡ b → whole (writes q && not (is_read_write t.mode)) (met (thin keep w)) ≡ whole (writes q && not (is_read_write t.mode)) (met w)
+          by_writes : is_safe_reader w.txns t ≡ true → (b : Bool) → writes q ≡ b → whole (writes q && not (is_read_write t.mode)) (met (thin keep w)) ≡ whole (writes q && not (is_read_write t.mode)) (met w)
           by_writes s true e = ap (λ b. whole b (met (thin keep w))) refused ∙ sym (ap (λ b. whole b (met w)) refused)
             where
               refused : (writes q && not (is_read_write t.mode)) ≡ true
-              refused = ap (λ b. b && not (is_read_write t.mode)) e ∙ (both_true (not (is_read_write t.mode)) t.known s).0
+              refused = ap (λ b. b && not (is_read_write t.mode)) e ∙ (both_true (not (is_read_write t.mode)) (t.known || is_settled w.txns t) s).0
           by_writes s false e = ap (whole (writes q && not (is_read_write t.mode))) (none_taken (kept_of keep w.txns) w.txns t xs (reads_only w.catalog q t.own e))
 
-          go : (s : Bool) → is_safe_reader t ≡ s → whole (writes q && not (is_read_write t.mode)) (met (thin keep w)) ≡ whole (writes q && not (is_read_write t.mode)) (met w)
+          go : (s : Bool) → is_safe_reader w.txns t ≡ s → whole (writes q && not (is_read_write t.mode)) (met (thin keep w)) ≡ whole (writes q && not (is_read_write t.mode)) (met w)
           go true s = by_writes s (writes q) refl
           go false s = ap (whole (writes q && not (is_read_write t.mode))) (taken_of_kept w n keep h g t i o s xs)
 

@@ -227,11 +227,11 @@ module _ {A : Type 0} where
   active : (t u : Txn A) → is_read_write u.mode ≡ true → is_open u.standing ≡ true → u.begin < t.taken → (was_active t u && is_open u.standing) ≡ true
   active t u r o l = both_so _ _ (both_so _ _ (both_so _ _ r (less_so u.begin t.taken l)) (left_so _ _ o)) o
 
-  -- The candidate stays, and is answered to be safe.
-  stands_learned : (w : World A) (t : Txn A) → IsNumbered w → AllStand w → In t w.txns → is_deferrable t.mode ≡ true
+  -- The snapshot isn't spoilt, and nobody is awaited: it is safe.
+  pub stands_settled : (w : World A) (t : Txn A) → IsNumbered w → AllStand w → In t w.txns
       → is_spoilt w.txns t ≡ false → list_any (λ u. was_active t u && is_open u.standing) w.txns ≡ false
       → Stands w (stamp (record t { known = true }))
-  stands_learned w t num all i d unspoilt ended = record {
+  stands_settled w t num all i unspoilt ended = record {
     taken_by = h.taken_by;
     shown = h.shown;
     behind = h.behind;
@@ -290,7 +290,7 @@ module _ {A : Type 0} where
           retaken : again spoilt ≡ with_snapshot w (commits w) (w.place + 1) t
           retaken = ap again q ∙ ap (λ n. cond (not n && true) (with_snapshot w (commits w) (w.place + 1) t) t) k
       by_test false q = subst (λ y. Stands (Moved w x log exports) (stamp (record y { known = true }))) (sym stayed)
-          (kept 0 (stamp (record t { known = true })) (stands_learned w t num all i d q (subst (λ y. list_any (λ v. was_active y v && is_open v.standing) w.txns ≡ false) stayed e)))
+          (kept 0 (stamp (record t { known = true })) (stands_settled w t num all i q (subst (λ y. list_any (λ v. was_active y v && is_open v.standing) w.txns ≡ false) stayed e)))
         where
           stayed : again spoilt ≡ t
           stayed = ap again q ∙ ap (λ n. cond (not n && false) (with_snapshot w (commits w) (w.place + 1) t) t) k

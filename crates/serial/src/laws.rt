@@ -1,22 +1,23 @@
 //! What holds of every history in which each reply is the answer.
 
-ghost use Rattle.std.specs.Prelude.{◌≡◌, ◌≤◌, ◌==◌, [], ◌∷◌, ◌++◌, ℕ, ◌+◌, Bool, true, false, length, IsTrue, List, Ok, Some, if◌then◌else◌};
+ghost use Rattle.std.specs.Prelude.{◌≡◌, ◌≤◌, ◌==◌, [], ◌∷◌, ◌++◌, ℕ, ◌+◌, Bool, true, false, not, ◌&&◌, length, IsTrue, List, None, Ok, Some, if◌then◌else◌};
 ghost use Rattle.schema.specs.Plain.{is_sound};
 ghost use Rattle.schema.specs.declared.tables.Tables.{Tables as AnyTables};
 ghost use Rattle.statement.specs.declared.reply.Reply.{Reply as AnyReply};
 ghost use Rattle.history.specs.declared.event.Action.{Action as AnyAction};
 ghost use Rattle.history.specs.declared.event.Record.{Record as AnyRecord};
 ghost use Rattle.history.specs.Opening.{Opening};
+ghost use Rattle.value.specs.declared.refusal.Mode.{Mode};
 ghost use Rattle.value.specs.Isolation.{dooms, first_cause, serial_key};
 ghost use Rattle.schema.specs.declared.changes.Change.{Change};
 ghost use Rattle.std.specs.List.{filter, find, list_any, AllByRecursion};
-ghost use Rattle.history.specs.Transactions.{Exported_snapshot, Txn, World, commits, current, edge, is_done, is_living, is_of, is_pending, is_spoilt, node, reads_from, tables_at};
+ghost use Rattle.history.specs.Transactions.{Exported_snapshot, Txn, World, commits, current, edge, is_done, is_living, is_of, is_open, is_pending, is_read_write, is_spoilt, node, reads_from, tables_at};
 ghost use Rattle.history.specs.Checkpoint.{opening_after};
-ghost use Rattle.history.specs.Events.{follows, numbered, replaced, world_of};
+ghost use Rattle.history.specs.Events.{begun, follows, numbered, replaced, world_of};
 ghost use Rattle.history.specs.Serial.{AllDoneFromSnapshots, ContinuesOn, IsSafeReply, IsSerial, SafeAreSafe, Stays, serial_order};
 ghost use Rattle.history.specs.Answer.{Allowed, Legal, answer, cause_of, committing, is_taken, meets_another, reply_in, of_session, reader_answer, view_answer};
 ghost use Rattle.serial.specs.Backups.{IsBackup};
-ghost use Rattle.history.specs.Needed.{HoldCommitter, IsOldest, IsOpenOf, Keeps, needed_numbers, is_needed, is_safe_reader, kept_of, thin};
+ghost use Rattle.history.specs.Needed.{HoldCommitter, IsOldest, IsOpenOf, Keeps, needed_numbers, is_needed, is_safe_reader, is_settled, kept_of, thin};
 ghost use Rattle.serial.specs.Laws.{AfterCheckpoint, AfterLegal, AfterMore, AfterSafe};
 ghost use Rattle.serial.specs.Serializable.{IsSerializable};
 
@@ -136,6 +137,16 @@ pub fn structures_hold_the_committer<A: Allocator>()
     ensures { AfterLegal (λ (w : World A). (s : ℕ) (t : Txn A) → IsOpenOf w s t → HoldCommitter w t) }
 {}
 
+/// A COMMIT is never refused of a transaction that only reads from a safe snapshot. And a snapshot is
+/// safe from the BEGIN on that takes it while no read-write transaction is open.
+pub fn safe_readers<A: Allocator>()
+    ensures commit { AfterLegal (λ (w : World A). (s : ℕ) (t : Txn A) → IsOpenOf w s t →
+        is_safe_reader w.txns t ≡ true → cause_of w t ≡ None) }
+    ensures alone { AfterLegal (λ (w : World A). AllByRecursion (λ u. is_read_write u.mode ≡ true →
+        is_open u.standing ≡ true → ⊥) w.txns
+        → (s : ℕ) (m : Mode) → is_settled (w.txns ++ begun w s m ∷ []) (begun w s m) ≡ true) }
+{}
+
 /// What is kept of a history's transactions, where it is all that matters, answers as all of them do.
 pub fn what_is_kept_answers_alike<A: Allocator>()
     ensures reply { AfterLegal (λ (w : World A). (n : ℕ) (keep : ℕ → Bool) → Keeps w n keep →
@@ -150,7 +161,7 @@ pub fn what_is_kept_answers_alike<A: Allocator>()
         (numbered w t)
         ≡ serial_key node edge (filter (λ u. is_done u.standing) (committing w t)) (numbered w t)) }
     ensures spoilt { AfterLegal (λ (w : World A). (s : ℕ) (t : Txn A) (n : ℕ) (keep : ℕ → Bool) → IsOpenOf w s t →
-        Keeps w n keep → is_safe_reader t ≡ false
+        Keeps w n keep → (not (is_read_write t.mode) && t.known) ≡ false
         → is_spoilt (kept_of keep w.txns) t ≡ is_spoilt w.txns t) }
     ensures pending { AfterLegal (λ (w : World A). (n : ℕ) (keep : ℕ → Bool) → Keeps w n keep → (t : Txn A) →
         is_pending (kept_of keep w.txns) t ≡ is_pending w.txns t) }
@@ -158,7 +169,7 @@ pub fn what_is_kept_answers_alike<A: Allocator>()
         Keeps w n keep
         → dooms node reads_from (kept_of keep w.txns) t ≡ dooms node reads_from w.txns t) }
     ensures taken { AfterLegal (λ (w : World A). (s : ℕ) (t : Txn A) (n : ℕ) (keep : ℕ → Bool) → IsOpenOf w s t →
-        Keeps w n keep → is_safe_reader t ≡ false
+        Keeps w n keep → is_safe_reader w.txns t ≡ false
         → (xs : List (Change A)) → list_any (λ x. list_any (λ u. is_taken t u x) (kept_of keep w.txns)) xs ≡
         meets_another w t xs) }
     ensures session { AfterLegal (λ (w : World A). (n : ℕ) (keep : ℕ → Bool) → Keeps w n keep → (s : ℕ) →
@@ -189,6 +200,8 @@ pub fn what_is_dropped_never_matters_again<A: Allocator>()
     ensures least { AfterLegal (λ (w : World A). (n : ℕ) → IsOldest w n → Keeps w n (needed_numbers n w.txns)) }
     ensures these { AfterLegal (λ (w : World A). (n : ℕ) → kept_of (needed_numbers n w.txns) w.txns ≡
         filter (is_needed n w.txns) w.txns) }
+    ensures told { AfterLegal (λ (w : World A). (n m : ℕ) (keep : ℕ → Bool) → Keeps w n keep → IsOldest (thin keep w) m
+        → IsOldest w m) }
     ensures raised { AfterLegal (λ (w : World A). (n m : ℕ) (keep : ℕ → Bool) → Keeps w n keep → n ≤ m → IsOldest w m →
         Keeps w m keep) }
 {}

@@ -1,18 +1,20 @@
 -- What is left after forgetting represents the same world.
-use Rattle.std.proofs.Common.{◌≡◌, sym, ap, subst, refl, ◌∙◌, ℕ, ◌+◌, ◌≤◌, Bool, true, false, cond, not, ◌&&◌, ◌||◌, List, [], ◌∷◌, length, map, eqb, nat_le, arith}
+use Rattle.std.proofs.Common.{◌≡◌, sym, ap, subst, refl, ◌∙◌, ℕ, ◌+◌, ◌≤◌, max, Bool, true, false, true≢false, cond, not, ◌&&◌, ◌||◌, ◌⊎◌, inl, inr, List, [], ◌∷◌, length, map, eqb, nat_le, arith}
 use Rattle.std.specs.List.{filter, list_any}
 use Rattle.std.proofs.lemmas.Bool.{eqb-true, eq-eqb}
 use Rattle.value.proofs.IsolationLemmas.{In}
-use Rattle.conflict.proofs.Lists.{In-any, In-filter, and_true, any-In, both_true, filter-kept, filter_alike, or_left, or_right}
+use Rattle.conflict.proofs.Lists.{In-any, In-filter, and_true, any-In, both_true, clash, either, filter-In, filter-kept, filter_alike, is_false, or_left, or_right}
 use Rattle.history.specs.Opening.{Recorded}
-use Rattle.history.specs.Transactions.{Txn, World, Exported_snapshot, edge, is_done, is_living, is_open, is_owed}
-use Rattle.history.specs.Needed.{IsOldest, Keeps, is_late_reader, is_needed, is_recent, is_safe_reader, kept_of, needed_numbers}
-use Rattle.serial.proofs.NeededCause.{open_owed}
-use Rattle.serial.proofs.NeededQuestions.{any-kept}
-use Rattle.serial.proofs.NeededRaised.{raised}
+use Rattle.history.specs.Transactions.{Txn, World, Exported_snapshot, edge, is_done, is_living, is_open, is_owed, is_pending, is_read_write, is_spoilt, spoils, was_active}
+use Rattle.history.specs.Needed.{IsOldest, Keeps, is_late_reader, is_needed, is_recent, is_safe_reader, is_settled, kept_of, needed_numbers}
+use Rattle.serial.proofs.EndsSeen.{ends_seen}
+use Rattle.serial.proofs.NeededCause.{oldest_is, open_owed}
+use Rattle.serial.proofs.NeededQuestions.{any-kept, safe_of_kept}
+use Rattle.serial.proofs.NeededRaised.{needed_too, raised}
 use Rattle.serial.proofs.SafePrefix.{all_by, by_all}
 use Rattle.serial.proofs.SerialTheorem.{good_world}
 use Rattle.mvrows.specs.Versions.{VersionedRows, TablesAreBelow}
+use Rattle.plain.specs.Calm.{AreCalm, is_active_at, is_safe_from, was_taken_at}
 use Rattle.plain.specs.Forgetting.{IsThinned, holds_back, is_left, number_before, oldest}
 use Rattle.plain.specs.Ledger.{Ledger, kept}
 use Rattle.plain.specs.Versions.{is_owed_at, may_be_read}
@@ -20,7 +22,7 @@ use Rattle.plain.proofs.InstallLemmas.{owed-is_read, read-is_owed}
 use Rattle.session.specs.Core.{HoldsRows, IsKept}
 use Rattle.session.specs.Kept.{Represents}
 use Rattle.session.proofs.Kept.{any_map, filter_map}
-use Rattle.session.proofs.Least.{least_from, least_most, least_of}
+use Rattle.session.proofs.Least.{least_most, least_of}
 use Rattle.session.proofs.Lent.{living_is, owed_in, r, w}
 
 same_test : (a b : Bool) → (a ≡ true → b ≡ true) → (b ≡ true → a ≡ true) → a ≡ b
@@ -37,14 +39,48 @@ filter-both {X} p q (x ∷ xs) = go (p x) (filter-both p q xs)
     go true e = ap (λ ys. cond (q x) (x ∷ ys) ys) e
     go false e = e
 
+max_left : (a b : ℕ) → a ≤ max a b
+max_left a b = grind arith
+
+max_right : (a b : ℕ) → b ≤ max a b
+max_right a b = grind arith
+
+max_below : (a b c : ℕ) → a ≤ c → b ≤ c → max a b ≤ c
+max_below a b c l m = grind arith
+
 module _ {A : Type 0} where
+  -- nobody was active at a calm place, so not at a snapshot that was taken there
+  calm_at : (places : List ℕ) (last : ℕ) (ts : List (Txn A)) (u : Txn A) → AreCalm places last ts → was_taken_at places u ≡ true → list_any (is_active_at u.taken) ts ≡ false
+  calm_at [] last ts u h e = absurd (true≢false (sym e))
+  calm_at (p ∷ ps) last ts u h e = go (eqb p u.taken) refl (calm_at ps last ts u h.1) e
+    where
+      go : (b : Bool) → eqb p u.taken ≡ b → (was_taken_at ps u ≡ true → list_any (is_active_at u.taken) ts ≡ false) → (b || was_taken_at ps u) ≡ true → list_any (is_active_at u.taken) ts ≡ false
+      go true q rest f = subst (λ n. list_any (is_active_at n) ts ≡ false) (eqb-true p u.taken q) h.0.1
+      go false q rest f = rest f
+
+  -- so that snapshot is safe
+  calm_settled : (ts : List (Txn A)) (u : Txn A) → list_any (was_active u) ts ≡ false → is_settled ts u ≡ true
+  calm_settled ts u e = and_true _ _ (ap not (is_false (is_pending ts u) pending)) (ap not (is_false (is_spoilt ts u) spoilt))
+    where
+      pending : is_pending ts u ≡ true → ⊥
+      pending f = go (any-In (λ v. was_active u v && is_open v.standing) ts f)
+        where
+          go : (v : Txn A) × In v ts × ((was_active u v && is_open v.standing) ≡ true) → ⊥
+          go v = clash (list_any (was_active u) ts) (In-any (was_active u) ts v.0 v.1 (both_true (was_active u v.0) (is_open v.0.standing) v.2).0) e
+
+      spoilt : is_spoilt ts u ≡ true → ⊥
+      spoilt f = go (any-In (λ v. was_active u v && spoils ts u v) ts f)
+        where
+          go : (v : Txn A) × In v ts × ((was_active u v && spoils ts u v) ≡ true) → ⊥
+          go v = clash (list_any (was_active u) ts) (In-any (was_active u) ts v.0 v.1 (both_true (was_active u v.0) (spoils ts u v.0) v.2).0) e
+
   -- what matters of transactions doesn't depend on what is left out of them
   needed_kept : (n : ℕ) (ts : List (Txn A)) (u : Txn A) → is_needed n (map kept ts) (kept u) ≡ is_needed n ts u
   needed_kept n ts u = ap (λ b. is_owed u.standing || is_recent n u || is_late_reader n u || (is_done u.standing && b)) (any_map kept (λ v. is_recent n v && edge v (kept u)) ts)
 
   module _ (h : Recorded A) (l : Ledger A) (k : IsKept h l) (m : Ledger A) (t : IsThinned l m) where
     abbrev n : ℕ
-    n = oldest l
+    n = oldest t.calm l
 
     abbrev old : World A
     old = w h l k
@@ -52,28 +88,42 @@ module _ {A : Type 0} where
     abbrev ts : List (Txn A)
     ts = kept_of (r h l k).keep old.txns
 
-    is_oldest : IsOldest old n
-    is_oldest = all_by _ old.txns (λ u i o s. least_of holds_back l.base.commits l.txns (kept u) (owed_in h l k u i (open_owed u.standing o)) (and_true (is_open u.standing) (not (is_safe_reader u)) o (ap not s)))
+    -- who doesn't hold back is a safe reader
+    calm_safe : (u : Txn A) → is_read_write u.mode ≡ false → was_taken_at t.calm u ≡ true → is_safe_reader ts u ≡ true
+    calm_safe u reads e = and_true _ _ (ap not reads) (or_right u.known _ (calm_settled ts u
+        (sym (ap (list_any (is_active_at u.taken)) (r h l k).txns ∙ any_map kept (is_active_at u.taken) ts) ∙ calm_at t.calm l.place l.txns u t.are_calm e)))
 
-    older : (r h l k).oldest ≤ n
-    older = least_from holds_back l.base.commits l.txns (r h l k).oldest (let p = (r h l k).seen in let q = (r h l k).commits in omega (arith, p, q)) (λ u i e. from u (subst (In u) (r h l k).txns i) e)
+    from_computed : (u : Txn A) → In u old.txns → is_open u.standing ≡ true → is_safe_reader old.txns u ≡ false → n ≤ u.snapshot
+    from_computed u i o s = by_test (is_safe_from t.calm u) refl
       where
-        from : (u : Txn A) → In u (map kept ts) → holds_back u ≡ true → (r h l k).oldest ≤ u.snapshot
-        from u i e = go (Rattle.session.proofs.Lent.map-In kept ts u i)
+        by_test : (b : Bool) → is_safe_from t.calm u ≡ b → n ≤ u.snapshot
+        by_test false e = least_of (holds_back t.calm) l.base.commits l.txns (kept u) (owed_in h l k u i (open_owed u.standing o)) (and_true (is_open u.standing) (not (is_safe_from t.calm u)) o (ap not e))
+        by_test true e = clash (is_safe_reader old.txns u) (safe (either u.known (was_taken_at t.calm u) p.1)) s
           where
-            both : (is_open u.standing ≡ true) × (not (is_safe_reader u) ≡ true)
-            both = Rattle.conflict.proofs.Lists.both_true (is_open u.standing) (not (is_safe_reader u)) e
+            p : (not (is_read_write u.mode) ≡ true) × ((u.known || was_taken_at t.calm u) ≡ true)
+            p = both_true (not (is_read_write u.mode)) (u.known || was_taken_at t.calm u) e
 
-            go : (y : Txn A) × In y ts × (u ≡ kept y) → (r h l k).oldest ≤ u.snapshot
-            go y =
-                let p = In-filter (λ (x : Txn A). (r h l k).keep x.number) y.0 old.txns y.1 in
-                let o : is_open y.0.standing ≡ true = sym (ap (λ (x : Txn A). is_open x.standing) y.2) ∙ both.0 in
-                let s : is_safe_reader y.0 ≡ false = sym (ap (λ (x : Txn A). is_safe_reader x) y.2) ∙ Rattle.serial.proofs.NeededCause.was_not (is_safe_reader u) both.1 in
-                let q = by_all (λ (x : Txn A). is_open x.standing ≡ true → is_safe_reader x ≡ false → (r h l k).oldest ≤ x.snapshot) old.txns y.0 (r h l k).keeps.oldest p.0 o s in
-                let e : u.snapshot ≡ y.0.snapshot = ap (λ (x : Txn A). x.snapshot) y.2 in omega (arith, q, e)
+            reads : is_read_write u.mode ≡ false
+            reads = Rattle.serial.proofs.NeededCause.was_not (is_read_write u.mode) p.0
 
-    still : Keeps old n (r h l k).keep
-    still = raised old (r h l k).oldest n (r h l k).keep (r h l k).keeps older is_oldest
+            from : (r h l k).oldest ≤ u.snapshot
+            from = oldest_is old (good_world h.opening h.records k.legal) u i o (r h l k).oldest (r h l k).keep (r h l k).keeps s
+
+            safe : (u.known ≡ true) ⊎ (was_taken_at t.calm u ≡ true) → is_safe_reader old.txns u ≡ true
+            safe (inl q) = and_true _ _ p.0 (or_left u.known _ q)
+            safe (inr q) =
+                sym (safe_of_kept old (good_world h.opening h.records k.legal) (ends_seen h.opening h.records k.legal) u i o (r h l k).oldest (r h l k).keep (r h l k).keeps from) ∙ calm_safe u reads q
+
+    -- the oldest snapshot never falls
+    abbrev top : ℕ
+    top = max (r h l k).oldest n
+
+    is_oldest : IsOldest old top
+    is_oldest = all_by _ old.txns (λ u i o s. max_below (r h l k).oldest n u.snapshot
+        (oldest_is old (good_world h.opening h.records k.legal) u i o (r h l k).oldest (r h l k).keep (r h l k).keeps s) (from_computed u i o s))
+
+    still : Keeps old top (r h l k).keep
+    still = raised old (r h l k).oldest top (r h l k).keep (r h l k).keeps (max_left (r h l k).oldest n) is_oldest
 
     -- ---- those that are left: of those that were kept the ones that matter, and some from the front
 
@@ -81,45 +131,52 @@ module _ {A : Type 0} where
     last = number_before t.passed (map kept ts)
 
     abbrev left : ℕ → Bool
-    left i = nat_le i last || needed_numbers n old.txns i
+    left i = nat_le i last || needed_numbers n ts i
 
     abbrev stays : ℕ → Bool
     stays i = (r h l k).keep i && left i
 
-    matters : (u : Txn A) → In u old.txns → is_needed n old.txns u ≡ true → needed_numbers n old.txns u.number ≡ true
-    matters u j e = In-any (λ v. eqb v.number u.number && is_needed n old.txns v) old.txns u j (and_true _ _ (eq-eqb u.number u.number refl) e)
+    kept_in : (u : Txn A) → In u ts → In u old.txns
+    kept_in u i = (In-filter (λ (x : Txn A). (r h l k).keep x.number) u old.txns i).0
 
-    told : (u : Txn A) → In u old.txns → needed_numbers n old.txns u.number ≡ is_needed n old.txns u
-    told u j = same_test _ _ (λ e. found (any-In (λ v. eqb v.number u.number && is_needed n old.txns v) old.txns e)) (matters u j)
+    matters : (u : Txn A) → In u ts → is_needed n ts u ≡ true → needed_numbers n ts u.number ≡ true
+    matters u j e = In-any (λ v. eqb v.number u.number && is_needed n ts v) ts u j (and_true _ _ (eq-eqb u.number u.number refl) e)
+
+    told : (u : Txn A) → In u ts → needed_numbers n ts u.number ≡ is_needed n ts u
+    told u j = same_test _ _ (λ e. found (any-In (λ v. eqb v.number u.number && is_needed n ts v) ts e)) (matters u j)
       where
-        found : (y : Txn A) × In y old.txns × ((eqb y.number u.number && is_needed n old.txns y) ≡ true) → is_needed n old.txns u ≡ true
-        found y = let q = both_true (eqb y.0.number u.number) (is_needed n old.txns y.0) y.2 in
-            ap (is_needed n old.txns) ((good_world h.opening h.records k.legal).numbered.unique u y.0 j y.1 (sym (eqb-true y.0.number u.number q.0))) ∙ q.1
+        found : (y : Txn A) × In y ts × ((eqb y.number u.number && is_needed n ts y) ≡ true) → is_needed n ts u ≡ true
+        found y = let q = both_true (eqb y.0.number u.number) (is_needed n ts y.0) y.2 in
+            ap (is_needed n ts) ((good_world h.opening h.records k.legal).numbered.unique u y.0 (kept_in u j) (kept_in y.0 y.1) (sym (eqb-true y.0.number u.number q.0))) ∙ q.1
 
     -- what matters can be told from what is kept
-    met : (u : Txn A) → list_any (λ v. is_recent n v && edge v u) ts ≡ list_any (λ v. is_recent n v && edge v u) old.txns
-    met u = any-kept (λ v. is_recent n v && edge v u) (λ v. (r h l k).keep v.number) old.txns
-        (λ v j e. by_all (λ x. is_needed n old.txns x ≡ true → (r h l k).keep x.number ≡ true) old.txns v still.needed j
-        (or_left _ _ (or_left _ _ (or_right (is_owed v.standing) _ (both_true (is_recent n v) (edge v u) e).0))))
+    met : (u : Txn A) → list_any (λ v. is_recent top v && edge v u) ts ≡ list_any (λ v. is_recent top v && edge v u) old.txns
+    met u = any-kept (λ v. is_recent top v && edge v u) (λ v. (r h l k).keep v.number) old.txns
+        (λ v j e. by_all (λ x. is_needed top old.txns x ≡ true → (r h l k).keep x.number ≡ true) old.txns v still.needed j
+        (or_left _ _ (or_left _ _ (or_right (is_owed v.standing) _ (both_true (is_recent top v) (edge v u) e).0))))
 
     alike : (u : Txn A) → In u ts → is_left t.passed n (map kept ts) (kept u) ≡ left u.number
-    alike u i =
-        ap (λ b. nat_le u.number last || b)
-        (needed_kept n ts u ∙ ap (λ b. is_owed u.standing || is_recent n u || is_late_reader n u || (is_done u.standing && b)) (met u)
-        ∙ sym (told u (In-filter (λ (x : Txn A). (r h l k).keep x.number) u old.txns i).0))
+    alike u i = ap (λ b. nat_le u.number last || b) (needed_kept n ts u ∙ sym (told u i))
 
-    keeps_left : Keeps old n stays
+    -- and what matters from the oldest snapshot on matters among what is kept, from the one that was computed on
+    needed_among : (u : Txn A) → is_needed top old.txns u ≡ true → is_needed n ts u ≡ true
+    needed_among u e = needed_too n top ts u (max_right (r h l k).oldest n)
+        (ap (λ b. is_owed u.standing || is_recent top u || is_late_reader top u || (is_done u.standing && b)) (met u) ∙ e)
+
+    keeps_left : Keeps old top stays
     keeps_left = record {
       oldest = is_oldest;
-      needed = all_by _ old.txns (λ u j e. and_true _ _ (by_all (λ x. is_needed n old.txns x ≡ true → (r h l k).keep x.number ≡ true) old.txns u still.needed j e) (or_right (nat_le u.number last) _ (matters u j e)));
+      needed = all_by _ old.txns (λ u j e.
+          let q = by_all (λ x. is_needed top old.txns x ≡ true → (r h l k).keep x.number ≡ true) old.txns u still.needed j e in
+          and_true _ _ q (or_right (nat_le u.number last) _ (matters u (filter-In (λ (x : Txn A). (r h l k).keep x.number) u old.txns j q) (needed_among u e))));
     }
 
     pub represents_thinned : Represents old m
     represents_thinned = record {
-      oldest = n;
+      oldest = top;
       keep = stays;
       keeps = keeps_left;
-      seen = let p = least_most holds_back l.base.commits l.txns in let q = (r h l k).commits in omega (arith, p, q);
+      seen = max_below (r h l k).oldest n _ (r h l k).seen (let p = least_most (holds_back t.calm) l.base.commits l.txns in let q = (r h l k).commits in omega (arith, p, q));
       txns =
           t.txns ∙ ap (λ us. filter (is_left t.passed n us) us) (r h l k).txns ∙ filter_map kept (is_left t.passed n (map kept ts)) ts
           ∙ ap (map kept) (filter_alike (λ u. is_left t.passed n (map kept ts) (kept u)) (λ u. left u.number) ts alike ∙ filter-both (λ (u : Txn A). (r h l k).keep u.number) (λ u. left u.number) old.txns);

@@ -56,6 +56,52 @@ CREATE TABLE receipt (id bigint PRIMARY KEY, n bigint);
 2 COMMIT: ERROR 40001 cause 4 2 3
 KEYS: 1 key 1 1 1, 3 key 2 1 2, 4 key 2 2 12";
 
+// The reader begins while no read-write transaction is open, so nothing can refuse it; nor what imports its
+// snapshot, though others have written what both read, and were forgotten.
+const READER_BEGUN_ALONE: &str = "
+CREATE TABLE batch (id bigint PRIMARY KEY, n bigint);
+CREATE TABLE receipt (id bigint PRIMARY KEY, n bigint);
+1 BEGIN: BEGIN
+1 INSERT INTO batch VALUES (1, 1): INSERT 0 1
+1 COMMIT: COMMIT
+2 BEGIN READ ONLY: BEGIN
+2 SELECT * FROM receipt: SELECT 0
+2 EXPORT: EXPORT 1
+3 BEGIN: BEGIN
+3 SELECT n FROM batch WHERE id = 1: SELECT 1 1
+4 BEGIN: BEGIN
+4 UPDATE batch SET n = n + 1 WHERE id = 1: UPDATE 1
+4 COMMIT: COMMIT
+3 INSERT INTO receipt VALUES (1, 1): INSERT 0 1
+3 COMMIT: COMMIT
+5 BEGIN READ ONLY: BEGIN
+5 IMPORT 1: IMPORT
+2 COMMIT: COMMIT
+4 BEGIN: BEGIN
+4 UPDATE batch SET n = n + 1 WHERE id = 1: UPDATE 1
+4 COMMIT: COMMIT
+5 SELECT * FROM batch: SELECT 1 1|1
+5 SELECT * FROM receipt: SELECT 0
+5 COMMIT: COMMIT";
+
+// The same, begun to write.
+const WRITER_BEGUN_ALONE: &str = "
+CREATE TABLE batch (id bigint PRIMARY KEY, n bigint);
+CREATE TABLE receipt (id bigint PRIMARY KEY, n bigint);
+1 BEGIN: BEGIN
+1 INSERT INTO batch VALUES (1, 1): INSERT 0 1
+1 COMMIT: COMMIT
+2 BEGIN: BEGIN
+2 SELECT * FROM receipt: SELECT 0
+3 BEGIN: BEGIN
+3 SELECT n FROM batch WHERE id = 1: SELECT 1 1
+4 BEGIN: BEGIN
+4 UPDATE batch SET n = n + 1 WHERE id = 1: UPDATE 1
+4 COMMIT: COMMIT
+3 INSERT INTO receipt VALUES (1, 1): INSERT 0 1
+3 COMMIT: COMMIT
+2 COMMIT: ERROR 40001 cause 2 3 4";
+
 // The reader begins before the batch is closed: a receipt may come after it.
 const READER_BEFORE_THE_CLOSE: &str = "
 CREATE TABLE batch (id bigint PRIMARY KEY, n bigint);
@@ -161,6 +207,8 @@ fn commits_and_their_conflicts(rt: HostRuntime) -> Result<(), Refusal> {
         WRITE_SKEW,
         ONE_CONFLICT,
         READER_AFTER_THE_CLOSE,
+        READER_BEGUN_ALONE,
+        WRITER_BEGUN_ALONE,
         READER_BEFORE_THE_CLOSE,
         ABSENT_ROW,
         COMMITTER_AT_THE_FRONT,

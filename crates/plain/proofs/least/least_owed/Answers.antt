@@ -6,6 +6,6 @@ use Rattle.plain.proofs.least.least_owed.Goals as goal
 
 pub returns : goal.returns
 returns g c =
-    let test = is_looked_at c.args.which in
+    let test = is_looked_at c.args.calm.now c.args.which in
     c.least_snapshot-2.ensures ∙ ap (λ n. least_snapshot test n c.around.result.0.now) c.least_snapshot.ensures
     ∙ least-around test c.args.most _ _ c.requires.owed c.args.transactions.now c.around.result.0.now c.around.result.1.now c.around.ensures

@@ -3,6 +3,7 @@ use Rattle.serial.proofs.NeededLater.{needed_later, shrunk}
 use Rattle.serial.proofs.NeededEvents.{follows_kept}
 use Rattle.serial.proofs.NeededRaised.{least_is, least_kept, raised}
 use Rattle.serial.proofs.NeededFrom.{oldest_later}
+use Rattle.serial.proofs.NeededQuestions.{oldest_told}
 use Rattle.serial.proofs.laws.what_is_dropped_never_matters_again.Goals as goal
 
 pub returns : goal.returns
@@ -13,5 +14,6 @@ returns g c = record {
   alone = λ o es l n keep h. shrunk (world_of o es) n keep h;
   least = λ o es l n old. least_kept (world_of o es) n old;
   these = λ o es l n. least_is o es l n;
+  told = λ o es l n m keep h old. oldest_told o es l n m keep h old;
   raised = λ o es l n m keep h k old. raised (world_of o es) n m keep h k old;
 }

@@ -1,9 +1,11 @@
 use Rattle.std.proofs.Common.{ap, refl, sym, subst, ◌∙◌, ◌≤◌, ◌+◌, ◌-◌, length, arith}
 use Rattle.std.specs.List.{filter}
 use Rattle.history.specs.Transactions.{is_living}
-use Rattle.plain.specs.Forgetting.{IsThinned, is_left, oldest}
+use Rattle.plain.specs.Calm.{AreCalm}
+use Rattle.plain.specs.Forgetting.{IsThinned, is_left, oldest_of}
 use Rattle.plain.specs.Ledger.{Ledger}
 use Rattle.plain.specs.Stretches.{HoldsStretch}
+use Rattle.plain.proofs.CalmLemmas.{calm-fewer, calm-filtered}
 use Rattle.plain.proofs.ForgettingLemmas.{counted-thinned, filter-shorter, left_whole}
 use Rattle.plain.proofs.LedgerLemmas.{numbered-more}
 use Rattle.plain.proofs.StretchLemmas.{held-rest}
@@ -25,9 +27,12 @@ invariant_of-self g c =
     let xs = c.self.inside.exports.items in
     let fewer : length c.keep_needed.new.transactions.items ≤ length ts = rw c.keep_needed.ensures (filter-shorter _ ts) in
     let less : length c.keep_living.new.exports.items ≤ length xs = rw c.keep_living.ensures (filter-shorter _ xs) in (
-      counted-thinned (record { base = c.self.inside.base; txns = ts; exports = xs; place = c.self.inside.place }) _ (is_left c.looked_at-past.result.to c.oldest-oldest.result ts) c.self.invariant.0 c.keep_needed.ensures
+      counted-thinned (record { base = c.self.inside.base; txns = ts; exports = xs; place = c.self.inside.place }) _ (is_left c.looked_at-past.result.to c.oldest_of-oldest.result ts) c.self.invariant.0 c.keep_needed.ensures
           (omega (arith, fewer, c.len.ensures, c.len-3.ensures)) refl (omega (arith, less, c.len-2.ensures, c.len-4.ensures)) refl,
-      subst (HoldsStretch c.grown-self-inside.result) c.as_slice-2.ensures.value c.grown-self-inside.ensures,
+      subst (HoldsStretch c.grown-self-inside.result) c.as_slice-4.ensures.value c.grown-self-inside.ensures,
+      subst (λ ps. AreCalm ps c.self.inside.place c.keep_needed.new.transactions.items) (sym c.keep_in_use.ensures)
+          (calm-fewer _ c.self.inside.calm.items c.self.inside.place c.keep_needed.new.transactions.items
+          (subst (AreCalm c.self.inside.calm.items c.self.inside.place) (sym c.keep_needed.ensures) (calm-filtered _ c.self.inside.calm.items c.self.inside.place ts c.self.invariant.2))),
     )
 
 pub returns : goal.returns
@@ -45,8 +50,11 @@ returns g c =
     } in
     subst (λ (l : Ledger _). IsThinned l thinned) c.self.view_is (record {
       passed = c.looked_at-past.result.to;
-      txns = c.keep_needed.ensures ∙ ap (λ n. filter (is_left c.looked_at-past.result.to n ts) ts) (c.oldest-oldest.ensures ∙ ap oldest (sym c.self.view_is));
-      exports = c.keep_living.ensures ∙ ap (λ us. filter (is_living us) xs) c.as_slice.ensures.value;
+      calm = c.self.inside.calm.items;
+      are_calm = c.self.invariant.2;
+      txns = c.keep_needed.ensures ∙ ap (λ n. filter (is_left c.looked_at-past.result.to n ts) ts)
+          (c.oldest_of-oldest.ensures ∙ ap (λ us. oldest_of c.as_slice-2.result.now base.commits us) c.as_slice.ensures.value ∙ ap (λ ps. oldest_of ps base.commits ts) c.as_slice-2.ensures.value);
+      exports = c.keep_living.ensures ∙ ap (λ us. filter (is_living us) xs) c.as_slice-3.ensures.value;
       transactions = omega (arith, fewer, c.len.ensures, c.len-3.ensures);
       commits = refl;
       identifiers = omega (arith, less, c.len-2.ensures, c.len-4.ensures);
@@ -65,5 +73,5 @@ grown-self-inside-requires g c =
     let past = c.looked_at-past.result in
     let held : HoldsStretch past ts = subst (λ (l : Ledger _). HoldsStretch past l.txns) (sym c.self.view_is) c.looked_at-past.ensures in
     subst (HoldsStretch past)
-    (sym (c.as_slice-2.ensures.value ∙ c.keep_needed.ensures ∙ left_whole _ past.to c.oldest-oldest.result ts c.self.invariant.0.numbered held.within))
+    (sym (c.as_slice-4.ensures.value ∙ c.keep_needed.ensures ∙ left_whole _ past.to c.oldest_of-oldest.result ts c.self.invariant.0.numbered held.within))
     (held-rest past ts _ held)
