@@ -26,7 +26,7 @@ use Rattle.restore.specs.Steps.{◌>>=◌, Gives}
 use Rattle.restore.specs.Reading.{kinds_of, with_row}
 use Rattle.restore.specs.Rows.{row_of_values, row_of_line, is_free, is_behind, IsNext, rise_from, rise, follows}
 use Rattle.restore.proofs.CatalogLemmas.{not_true}
-use Rattle.restore.proofs.LiteralLemmas.{literal_fits}
+use Rattle.schema.proofs.LiteralLemmas.{literal_fits}
 use Rattle.restore.proofs.ReadingLemmas.{done_same}
 use Rattle.restore.proofs.RowLemmas.{row_of, with_row_is}
 use Rattle.restore.proofs.RowsAgain.{kind_is, no_zero, lt_is, no_fault, inserted_by}

@@ -8,7 +8,6 @@ pub mod FirstFaultLemmas
 pub mod KeyLemmas
 pub mod LayoutLemmas
 pub mod LinesAgain
-pub mod LiteralLemmas
 pub mod PieceLemmas
 pub mod PlaceLemmas
 pub mod ReadingLemmas

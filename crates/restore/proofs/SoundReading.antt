@@ -23,7 +23,7 @@ use Rattle.restore.specs.declared.error.RestoreFault.{RestoreFault}
 use Rattle.restore.specs.Steps.{◌>>=◌}
 use Rattle.restore.specs.CreateLine.{behind}
 use Rattle.restore.specs.Reading.{Progress, Start, Created, Before, Within, Behind, Whole, version, copies, ended, kinds_of, lines_of, with_row, with_table, with_values, whole, after, step, read_lines}
-use Rattle.restore.proofs.LiteralLemmas.{literal_fits}
+use Rattle.schema.proofs.LiteralLemmas.{literal_fits}
 use Rattle.restore.proofs.ReadingLemmas.{done_same, empty_is_sound}
 use Rattle.restore.proofs.RowLemmas.{row_of}
 

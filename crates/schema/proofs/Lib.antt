@@ -4,6 +4,7 @@ pub mod ChangingLemmas
 pub mod InsertingLemmas
 mod KeyedLemmas
 mod LevelsLemmas
+pub mod LiteralLemmas
 mod MadeLemmas
 mod NamedLemmas
 mod PageLemmas

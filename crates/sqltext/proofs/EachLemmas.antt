@@ -1,10 +1,8 @@
 -- Making something of each item, as a loop does.
-use Rattle.std.proofs.Common.{◌≡◌, ℕ, ◌^◌, Bool, true, false, cond, nat_le, nat_lt, pos, neg_ℤ, inl, inr, w64, to_z, of_z, ◌+◌, ◌≤◌, ◌<◌, List, [], ◌∷◌, ◌++◌, length, drop, get_or, ℤ, Some, None, Result, Ok, Err, refl, sym, ap, subst, ◌∙◌, append_assoc, arith}
+use Rattle.std.proofs.Common.{◌≡◌, ℕ, w64, to_z, of_z, ◌+◌, ◌≤◌, ◌<◌, List, [], ◌∷◌, ◌++◌, length, drop, get_or, ℤ, Some, None, Result, Ok, Err, refl, sym, ap, subst, ◌∙◌, append_assoc}
 use Rattle.std.proofs.lemmas.List.{append-nil, at_drop_more}
 use Rattle.std.proofs.Math.ListN.{drop_of_length-le}
-use Rattle.std.proofs.lemmas.Bool.{cases_lt}
-use Rattle.std.proofs.lemmas.Bool.Decides.{nat_tests}
-use Rattle.std.proofs.lemmas.Int.{ints, to_z-of_z}
+use Rattle.std.proofs.lemmas.Int.{to_z-of_z}
 use Rattle.std.specs.Prelude.{FitsSigned}
 use Rattle.value.specs.declared.refusal.Refusal.{Refusal}
 use Rattle.sqltext.specs.declared.error.ParseError.{ParseError}
@@ -13,12 +11,11 @@ use Rattle.sqltext.specs.Reading.{◌>>=◌, Fails}
 use Rattle.value.specs.declared.kind.Kind.{Kind}
 use Rattle.value.specs.declared.kind.Kind.TheVariants as of
 use Rattle.value.specs.declared.refusal.Code.{Code}
-use Rattle.value.specs.declared.refusal.Code.TheVariants.{InvalidTextRepresentation}
-use Rattle.std.specs.Str.Parse.{starts_with_minus, without_leading_sign, digits_value}
 use Rattle.value.specs.declared.value.Value.{Value}
 use Rattle.value.specs.declared.value.Value.TheVariants.{Int}
-use Rattle.value.specs.Literal.{is_bigint_form, signed_number, bigint_of, as_int}
+use Rattle.value.specs.Literal.{bigint_of, as_int}
 use Rattle.schema.specs.Definition.{Column}
+use Rattle.schema.proofs.LiteralLemmas.{bigint_fits}
 use Rattle.statement.specs.declared.statement.Assignment.{Assignment}
 use Rattle.sqltext.specs.declared.token.Token.{Token}
 use Rattle.sqltext.specs.declared.tree.Literal.{Literal}
@@ -103,40 +100,6 @@ module _ (A : Type 0) (text : List ℕ) where
 int_of : {A : Type 0} (r : Result ℤ Code) (digits : Token) (v : Value A) → at_token digits (as_int {A = A} r) ≡ Ok v → (n : ℤ) × (v ≡ Int n) × (at_token digits r ≡ Ok n)
 int_of (Ok n) digits v h = (n, cc, refl)
 int_of (Err code) digits v h = absurd cc
-
-abbrev refusing : Code → Result ℤ Code
-refusing code = Err code
-
-abbrev reading : ℤ → Result ℤ Code
-reading k = Ok k
-
-refused_number : (code : Code) (m : ℤ) → refusing code ≡ Ok m → ⊥
-refused_number code m h = cc
-
-read_number : (k m : ℤ) → reading k ≡ Ok m → k ≡ m
-read_number k m h = cc
-
--- a number that was read is one of 64 bits
-signed_fits : (sign : Bool) (n : ℕ) (m : ℤ) → signed_number sign n ≡ Ok m → FitsSigned w64 m
-signed_fits true n m h =
-    elim (cases_lt (2 ^ 63) n) [
-      | inl above ↦ let none : nat_le n (2 ^ 63) ≡ false = grind (arith, nat_tests) in absurd (refused_number _ m (rw none at h))
-      | inr within ↦ let some : nat_le n (2 ^ 63) ≡ true = grind (arith, nat_tests) in
-          let fits : FitsSigned w64 (neg_ℤ (pos n)) = omega (arith, ints) in subst (λ (k : ℤ). FitsSigned w64 k) (read_number _ m (rw some at h)) fits
-    ]
-signed_fits false n m h =
-    elim (cases_lt n (2 ^ 63)) [
-      | inl within ↦ let some : nat_lt n (2 ^ 63) ≡ true = grind (arith, nat_tests) in
-          let fits : FitsSigned w64 (pos n) = omega (arith, ints) in subst (λ (k : ℤ). FitsSigned w64 k) (read_number _ m (rw some at h)) fits
-      | inr above ↦ let none : nat_lt n (2 ^ 63) ≡ false = grind (arith, nat_tests) in absurd (refused_number _ m (rw none at h))
-    ]
-
-pub bigint_fits : (text : List ℕ) (m : ℤ) → bigint_of text ≡ Ok m → FitsSigned w64 m
-bigint_fits text m h = go (is_bigint_form text) h
-  where
-    go : (form : Bool) → cond form (signed_number (starts_with_minus text) (digits_value 10 (without_leading_sign text))) (Err InvalidTextRepresentation) ≡ Ok m → FitsSigned w64 m
-    go true k = signed_fits (starts_with_minus text) (digits_value 10 (without_leading_sign text)) m k
-    go false k = absurd (refused_number InvalidTextRepresentation m k)
 
 int_same : {A : Type 0} (m n : ℤ) (v : Value A) → v ≡ Int m → v ≡ Int n → m ≡ n
 int_same m n v p q = cc

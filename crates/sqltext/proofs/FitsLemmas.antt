@@ -1,27 +1,23 @@
 -- What a text says of a catalog's tables fits the catalog.
-use Rattle.std.proofs.Common.{◌≡◌, ℕ, ◌+◌, ◌*◌, ◌%◌, ◌^◌, drop, codes, nat_eq, ◌<◌, ◌==◌, nat_lt, ℤ, pos, negsuc, Bool, true, false, cond, not, ◌&&◌, ◌||◌, List, [], ◌∷◌, ◌++◌, length, Option, Some, None, Result, Ok, Err, slice_get, refl, sym, ap, subst, ◌∙◌, w64, arith}
-use Rattle.std.specs.Prelude.{FitsSigned}
-use Rattle.std.specs.List.{list_any, list_all, starts_with}
+use Rattle.std.proofs.Common.{◌≡◌, ℕ, ◌+◌, ◌<◌, ◌==◌, nat_lt, pos, Bool, true, false, cond, not, ◌&&◌, ◌||◌, List, [], ◌∷◌, ◌++◌, length, Option, Some, None, Result, Ok, Err, slice_get, refl, sym, ap, subst, ◌∙◌, arith}
+use Rattle.std.specs.List.{list_all}
 use Rattle.std.specs.Option.{option_map_or}
-use Rattle.std.specs.Str.{is_utf8, bytes_eq}
+use Rattle.std.specs.Str.{bytes_eq}
 use Rattle.std.proofs.lemmas.Bool.{eqb-true, true≢false}
 use Rattle.std.proofs.lemmas.Bool.Decides.{nat_tests}
-use Rattle.std.proofs.lemmas.Int.{ints}
 use Rattle.std.proofs.lemmas.List.Folds.{list_any-append}
 use Rattle.std.proofs.lemmas.List.Quantifiers.{position-Some}
-use Rattle.hex.specs.declared.error.FromHexError.{FromHexError}
-use Rattle.hex.specs.declared.error.FromHexError.TheVariants.{OddLength}
-use Rattle.hex.specs.Hex as hex
 use Rattle.value.specs.declared.kind.Kind.{Kind}
 use Rattle.value.specs.declared.kind.Kind.TheVariants as of
 use Rattle.value.specs.declared.refusal.Refusal.{Refusal}
 use Rattle.value.specs.declared.refusal.Code.{Code}
-use Rattle.value.specs.declared.refusal.Code.TheVariants.{SyntaxError, CharacterNotInRepertoire, InvalidTextRepresentation, UndefinedColumn, UndefinedTable, DatatypeMismatch, ProgramLimitExceeded}
+use Rattle.value.specs.declared.refusal.Code.TheVariants.{SyntaxError, UndefinedColumn, UndefinedTable, DatatypeMismatch, ProgramLimitExceeded}
 use Rattle.value.specs.declared.value.Value.{Value}
-use Rattle.value.specs.declared.value.Value.TheVariants.{Null, Int, Text, Bytes}
-use Rattle.value.specs.Literal.{bigint_of, decoded, as_int, as_text, as_bytes, literal_of}
+use Rattle.value.specs.declared.value.Value.TheVariants.{Null, Text}
+use Rattle.value.specs.Literal.{literal_of}
 use Rattle.schema.specs.Definition.{Column, Catalog, TableSchema, columns_of, column_named, table_named}
-use Rattle.schema.specs.Plain.{in_range, has_kind}
+use Rattle.schema.specs.Plain.{has_kind}
+use Rattle.schema.proofs.LiteralLemmas.{literal_fits}
 use Rattle.value.specs.Refusals.{of_code}
 use Rattle.statement.specs.declared.condition.Condition.{Condition}
 use Rattle.statement.specs.declared.condition.Condition.TheVariants as c
@@ -52,7 +48,6 @@ use Rattle.sqltext.specs.Source.{bytes_of, unquoted, in_small_letters}
 use Rattle.sqltext.specs.Reading.{◌>>=◌}
 use Rattle.sqltext.specs.Resolving.{refused, with_kind, column, place_of, table, each, at_token, require_bigint, addend, value_of, number, content, value, condition, projection, values, inserted, target, sum, assignment, assignments, resolved}
 use Rattle.sqltext.specs.Parsed.{parsed, parsed_small}
-use Rattle.sqltext.proofs.EachLemmas.{bigint_fits}
 
 -- ---- steps that did not fail
 
@@ -75,52 +70,6 @@ bind_ok (Err r) f y e = absurd (not_done r y e)
 pub both : {a b : Bool} → a ≡ true → b ≡ true → (a && b) ≡ true
 both p q = rw (p, q) refl
 
--- ---- numbers
-
-in_range_of : (m : ℤ) → FitsSigned w64 m → in_range m ≡ true
-in_range_of (pos n) h = let lt : n < 2 ^ 63 = omega (arith, ints) in grind (arith, nat_tests)
-in_range_of (negsuc n) h = let lt : n < 2 ^ 63 = omega (arith, ints) in grind (arith, nat_tests)
-
--- ---- bytes
-
-abbrev hex_then : {A B : Type 0} → Result A FromHexError → (A → Result B FromHexError) → Result B FromHexError
-hex_then (Ok x) f = f x
-hex_then (Err e) f = Err e
-
-hex_bind : {A B : Type 0} (r : Result A FromHexError) (f : A → Result B FromHexError) (y : B) → hex_then r f ≡ Ok y → (x : A) × (r ≡ Ok x) × (f x ≡ Ok y)
-hex_bind (Ok x) f y e = (x, refl, e)
-hex_bind (Err r) f y e = absurd (not_done r y e)
-
-digit_below : (c v : ℕ) → hex.hex_digit_value c ≡ Some v → v < 16
-digit_below c v h = grind (arith, nat_tests)
-
-value_below : (c i v : ℕ) → hex.value_at c i ≡ Ok v → v < 16
-value_below c i v h = go (hex.hex_digit_value c) refl h
-  where
-    go : (o : Option ℕ) → hex.hex_digit_value c ≡ o → hex.digit_or_error c i o ≡ Ok v → v < 16
-    go (Some w) is e = digit_below c v (is ∙ ap (λ (k : ℕ). Some k) (done_same {E = FromHexError} w v e))
-    go None is e = absurd cc
-
-pair_below : (high low i byte : ℕ) → hex.pair_value high low i ≡ Ok byte → nat_lt byte 256 ≡ true
-pair_below high low i byte h =
-    let a = hex_bind (hex.value_at high i) (λ h. hex_then (hex.value_at low (i + 1)) (λ l. Ok (h * 16 + l))) byte h in
-    let b = hex_bind (hex.value_at low (i + 1)) (λ l. Ok (a.0 * 16 + l)) byte a.2 in
-    let same : a.0 * 16 + b.0 ≡ byte = done_same {E = FromHexError} (a.0 * 16 + b.0) byte b.2 in
-    let x : a.0 < 16 = value_below high i a.0 a.1 in
-    let y : b.0 < 16 = value_below low (i + 1) b.0 b.1 in
-    let lt : byte < 256 = omega arith in
-    grind (arith, nat_tests)
-
-pairs_below : (i : ℕ) (text bytes : List ℕ) → hex.decode_pairs i text ≡ Ok bytes → list_all (λ b. nat_lt b 256) bytes ≡ true
-unfolding hex.decode_pairs
-pairs_below i [] bytes h = subst (λ (bs : List ℕ). list_all (λ b. nat_lt b 256) bs ≡ true) (done_same {E = FromHexError} [] bytes h) refl
-pairs_below i (x ∷ []) bytes h = absurd cc
-pairs_below i (high ∷ low ∷ rest) bytes h =
-    let a = hex_bind (hex.pair_value high low i) (λ byte. hex_then (hex.decode_pairs (i + 2) rest) (λ more. Ok (byte ∷ more))) bytes h in
-    let b = hex_bind (hex.decode_pairs (i + 2) rest) (λ more. Ok (a.0 ∷ more)) bytes a.2 in
-    subst (λ (bs : List ℕ). list_all (λ b. nat_lt b 256) bs ≡ true) (done_same {E = FromHexError} (a.0 ∷ b.0) bytes b.2)
-    (both (pair_below high low i a.0 a.1) (pairs_below (i + 2) rest b.0 b.1))
-
 -- ---- values
 
 null_fits : (A : Type 0) (k : Kind) → has_kind {A = A} k Null ≡ true
@@ -129,30 +78,6 @@ null_fits A of.Text = refl
 null_fits A of.Bytea = refl
 
 module _ {A : Type 0} where
-  int_fits : (r : Result ℤ Code) (bytes : List ℕ) (v : Value A) → bigint_of bytes ≡ r → as_int r ≡ Ok v → has_kind of.Bigint v ≡ true
-  int_fits (Ok n) bytes v is h = subst (λ (w : Value A). has_kind of.Bigint w ≡ true) (done_same {E = Code} (Int n) v h) (in_range_of n (bigint_fits bytes n is))
-  int_fits (Err code) bytes v is h = absurd (not_done {A = Value A} code v h)
-
-  text_fits : (good : Bool) (bytes : List ℕ) (v : Value A) → (is_utf8 bytes && not (list_any (λ b. b == 0) bytes)) ≡ good
-      → as_text (cond good (Ok bytes) (Err CharacterNotInRepertoire)) ≡ Ok v → has_kind of.Text v ≡ true
-  text_fits true bytes v is h = subst (λ (w : Value A). has_kind of.Text w ≡ true) (done_same {E = Code} (Text bytes) v h) is
-  text_fits false bytes v is h = absurd (not_done {A = Value A} CharacterNotInRepertoire v h)
-
-  decoded_fits : (r : Result (List ℕ) FromHexError) (digits : List ℕ) (v : Value A) → hex.decode_pairs 0 digits ≡ r → as_bytes (decoded r) ≡ Ok v → has_kind of.Bytea v ≡ true
-  decoded_fits (Ok bytes) digits v is h = subst (λ (w : Value A). has_kind of.Bytea w ≡ true) (done_same {E = Code} (Bytes bytes) v h) (pairs_below 0 digits bytes is)
-  decoded_fits (Err e) digits v is h = absurd (not_done {A = Value A} InvalidTextRepresentation v h)
-
-  bytea_fits : (prefix odd : Bool) (digits : List ℕ) (v : Value A)
-      → as_bytes (cond prefix (decoded (cond odd (Err OddLength) (hex.decode_pairs 0 digits))) (Err InvalidTextRepresentation)) ≡ Ok v → has_kind of.Bytea v ≡ true
-  bytea_fits true true digits v h = absurd (not_done {A = Value A} InvalidTextRepresentation v h)
-  bytea_fits true false digits v h = decoded_fits (hex.decode_pairs 0 digits) digits v refl h
-  bytea_fits false odd digits v h = absurd (not_done {A = Value A} InvalidTextRepresentation v h)
-
-  literal_fits : (k : Kind) (bytes : List ℕ) (v : Value A) → literal_of k bytes ≡ Ok v → has_kind k v ≡ true
-  literal_fits of.Bigint bytes v h = int_fits (bigint_of bytes) bytes v refl h
-  literal_fits of.Text bytes v h = text_fits (is_utf8 bytes && not (list_any (λ b. b == 0) bytes)) bytes v refl h
-  literal_fits of.Bytea bytes v h = bytea_fits (starts_with nat_eq bytes (codes "\\x")) (length (drop 2 bytes) % 2 == 1) (drop 2 bytes) v h
-
   at_token_ok : (t : Token) (r : Result (Value A) Code) (v : Value A) → at_token t r ≡ Ok v → r ≡ Ok v
   at_token_ok t (Ok w) v h = ap (λ (x : Value A). done {E = Code} x) (done_same {E = Refusal} w v h)
   at_token_ok t (Err code) v h = absurd (not_done {A = Value A} (refused code t) v h)

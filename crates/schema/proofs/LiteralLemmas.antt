@@ -18,10 +18,15 @@ use Rattle.value.specs.declared.value.Value.{Value}
 use Rattle.value.specs.declared.value.Value.TheVariants.{Int, Text, Bytes}
 use Rattle.value.specs.Literal.{is_bigint_form, signed_number, bigint_of, decoded, as_int, as_text, as_bytes, literal_of}
 use Rattle.schema.specs.Plain.{in_range, has_kind}
-use Rattle.restore.proofs.ReadingLemmas.{done_same}
+
+abbrev done : {A E : Type 0} → A → Result A E
+done x = Ok x
 
 abbrev failed : {A E : Type 0} → E → Result A E
 failed e = Err e
+
+done_same : {A E : Type 0} (x y : A) → done {A = A} {E = E} x ≡ done y → x ≡ y
+done_same x y e = cc
 
 not_done : {A E : Type 0} (e : E) (y : A) → failed {A = A} {E = E} e ≡ Ok y → ⊥
 not_done e y h = cc
@@ -58,7 +63,7 @@ signed_fits false n m h =
       | inr above ↦ let none : nat_lt n (2 ^ 63) ≡ false = grind (arith, nat_tests) in absurd (refused_number _ m (rw none at h))
     ]
 
-bigint_fits : (text : List ℕ) (m : ℤ) → bigint_of text ≡ Ok m → FitsSigned w64 m
+pub bigint_fits : (text : List ℕ) (m : ℤ) → bigint_of text ≡ Ok m → FitsSigned w64 m
 bigint_fits text m h = go (is_bigint_form text) h
   where
     go : (form : Bool) → cond form (signed_number (starts_with_minus text) (digits_value 10 (without_leading_sign text))) (Err InvalidTextRepresentation) ≡ Ok m → FitsSigned w64 m
