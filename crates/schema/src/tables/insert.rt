@@ -170,8 +170,8 @@ impl<A: Allocator> Tables<A> {
             .any(|(column, value)| !self.is_there(column, value))
     }
 
-    // Whether a row has a reference that names no row.
-    fn row_dangles(&self, columns: &[Column<A>], row: &Row<A>) -> bool
+    /// Whether a row of the columns has a reference that names no row.
+    pub fn row_dangles(&self, columns: &[Column<A>], row: &Row<A>) -> bool
         ensures { result ≡ dangles self.now columns.now (cells row.now) }
     {
         match columns {
