@@ -1,6 +1,7 @@
 use Rattle.std.proofs.Common.{◌≡◌, ◌∙◌, true, refl, ap, subst, inl, inr}
 use Rattle.statement.specs.declared.reply.Reply.TheVariants.{Refused}
 use Rattle.schema.specs.Definition.{Catalog}
+use Rattle.history.specs.Answer.{Allowed}
 use Rattle.history.specs.declared.event.Action.{Action}
 use Rattle.request.specs.Requests.{asked}
 use Rattle.server.specs.Calls.{IsCall}
@@ -15,3 +16,6 @@ pub returns-in-Err-clause-call : goal.returns-in-Err-clause-call
 returns-in-Err-clause-call g c =
     let taken = texts_take g.J.Naming.opening.catalog c.args.request.now c.in-Err.ensures.text in
     (refl, inr (record { reason = inl (taken, ap Refused c.in-Err.ensures.memory); mine = refl }))
+
+pub act_gated-requires-after_bounds : goal.act_gated-requires-after_bounds
+act_gated-requires-after_bounds g c κs within = subst (λ (d : Catalog). Allowed d c.in-Ok.action) c.args.self.now.catalog_is c.in-Ok.ensures.allowed
