@@ -3,7 +3,7 @@ use Rattle.std.proofs.Common.{◌≡◌, ℕ, ◌==◌, Bool, true, false, cond,
 use Rattle.std.specs.List.{list_any, list_all}
 use Rattle.std.specs.FinMap.{find as entry_at}
 use Rattle.std.specs.Option.{option_copied, option_map_or}
-use Rattle.std.specs.Ordering.{is_le, is_lt, ordering_reverse}
+use Rattle.std.specs.Ordering.{is_le, ordering_reverse}
 use Rattle.std.specs.declared.cmp.Ordering.{Ordering}
 use Rattle.std.specs.declared.cmp.Ordering.TheVariants.{Less, Equal, Greater}
 use Rattle.std.proofs.lemmas.Bool.{and_parts, eqb-true}
@@ -24,12 +24,12 @@ use Rattle.copytext.specs.RoundTrip.{fit_kinds}
 use Rattle.restore.specs.declared.error.LineError.{LineError}
 use Rattle.restore.specs.Steps.{◌>>=◌, Gives}
 use Rattle.restore.specs.Reading.{kinds_of, with_row}
-use Rattle.restore.specs.Rows.{row_of_values, row_of_line, is_free, is_behind, IsNext, rise_from, rise, follows}
+use Rattle.restore.specs.Rows.{row_of_values, row_of_line, is_behind, IsNext}
 use Rattle.restore.proofs.CatalogLemmas.{not_true}
 use Rattle.schema.proofs.LiteralLemmas.{literal_fits}
 use Rattle.restore.proofs.ReadingLemmas.{done_same}
 use Rattle.restore.proofs.RowLemmas.{row_of, with_row_is}
-use Rattle.restore.proofs.RowsAgain.{kind_is, no_zero, lt_is, no_fault, inserted_by}
+use Rattle.restore.proofs.RowsAgain.{kind_is, no_zero, no_fault, inserted_by}
 use Rattle.restore.proofs.SoundReading.{bind_ok, row_kept}
 use Rattle.restore.proofs.SpellingLemmas.{neither, nor}
 
@@ -116,7 +116,7 @@ module _ {A : Type 0} where
   is_there_so X None v h = or_true (is_null v)
   is_there_so X (Some u) v h = absurd cc
 
-  none_dangles : (X : Tables A) (ds : List Column) (vs : List (Value A)) → list_any (λ d. is_some d.references) ds ≡ false → dangles X ds vs ≡ false
+  pub none_dangles : (X : Tables A) (ds : List Column) (vs : List (Value A)) → list_any (λ d. is_some d.references) ds ≡ false → dangles X ds vs ≡ false
   none_dangles X [] [] h = refl
   none_dangles X [] (v ∷ vs) h = refl
   none_dangles X (d ∷ ds) [] h = refl
@@ -146,7 +146,7 @@ module _ {A : Type 0} where
   turned k l less = value_cmp-total.antisymm l k ∙ ap ordering_reverse less
 
   -- a key after a row that is put behind a table is behind the table with it
-  still_behind : (rows : Rows A) (row : Row A) (l : Value A) → is_behind rows row.0 ≡ true → value_cmp row.0 l ≡ Less → is_behind (put_row rows row) l ≡ true
+  pub still_behind : (rows : Rows A) (row : Row A) (l : Value A) → is_behind rows row.0 ≡ true → value_cmp row.0 l ≡ Less → is_behind (put_row rows row) l ≡ true
   still_behind [] row l h less = behind-more l row [] (turned row.0 l less) refl
   still_behind (first ∷ rows) row l h less =
       let p = behind-first row.0 first rows h in
@@ -155,46 +155,22 @@ module _ {A : Type 0} where
 
   -- ---- the row of a line, put behind its table
 
-  pub put_is : (c : Catalog) (X : Tables A) (t : ℕ) (text : List ℕ) (row : Row A) → row_of_line (kinds_of c t) text ≡ Ok row → IsNext (columns_of c t) (rows_of X t) row
+  pub put_is : (c : Catalog) (X : Tables A) (t : ℕ) (text : List ℕ) (row : Row A) → row_of_line (kinds_of c t) text ≡ Ok row → IsNext X (columns_of c t) (rows_of X t) row
       → with_row c X t text ≡ Ok (slice_set X t (put_row (rows_of X t) row))
   put_is c X t text row is next =
       let fits = row_fits (kinds_of c t) text row is in
-      let free = and_parts (not (list_any (λ d. is_some d.references) (columns_of c t))) (not (lacks_value (columns_of c t) (cells row))) next.0 in
+      let free = and_parts (not (dangles X (columns_of c t) (cells row))) (not (lacks_value (columns_of c t) (cells row))) next.0 in
       with_row_is c X t text ∙ ap (λ (r : Result (Row A) Code). r >>= λ x. inserted c X t x) is
       ∙ inserted_by c X t row (no_fault c X t row (columns_of c t) refl (of_their_kinds (columns_of c t) (cells row) fits) (without_zeros (kinds_of c t) (cells row) fits) (not_true (lacks_value (columns_of c t) (cells row)) free.1)
-      (absent row.0 (rows_of X t) next.1) (none_dangles X (columns_of c t) (cells row) (not_true (list_any (λ d. is_some d.references) (columns_of c t)) free.0)))
+      (absent row.0 (rows_of X t) next.1) (not_true (dangles X (columns_of c t) (cells row)) free.0))
 
   -- and sound tables stay sound
   pub put_sound : (c : Catalog) (X Y : Tables A) (t : ℕ) (text : List ℕ) → length X ≡ length c → is_sound c X ≡ true → with_row c X t text ≡ Ok Y → is_sound c Y ≡ true
   put_sound c X Y t text count sound h = (row_kept c X Y t text (record { count = count; sound = sound }) h).sound
 
   pub put_gives : (c : Catalog) (X Y : Tables A) (t : ℕ) (text : List ℕ) (read : Result (Row A) LineError) (row : Row A) → read ≡ Ok row → Y ≡ slice_set X t (put_row (rows_of X t) row)
-      → IfOk read (λ r. IsNext (columns_of c t) (rows_of X t) r) → Gives (λ r. r) read (row_of_line (kinds_of c t) text) → with_row c X t text ≡ Ok Y
+      → IfOk read (λ r. IsNext X (columns_of c t) (rows_of X t) r) → Gives (λ r. r) read (row_of_line (kinds_of c t) text) → with_row c X t text ≡ Ok Y
   put_gives c X Y t text read row was made next given =
       let is : row_of_line (kinds_of c t) text ≡ Ok row = subst (λ (r : Result (Row A) LineError). Gives (λ x. x) r (row_of_line (kinds_of c t) text)) was given in
-      let free : IsNext (columns_of c t) (rows_of X t) row = subst (λ (r : Result (Row A) LineError). IfOk r (λ x. IsNext (columns_of c t) (rows_of X t) x)) was next in
+      let free : IsNext X (columns_of c t) (rows_of X t) row = subst (λ (r : Result (Row A) LineError). IfOk r (λ x. IsNext X (columns_of c t) (rows_of X t) x)) was next in
       put_is c X t text row is free ∙ ap (λ (Z : Tables A). Ok Z) (sym made)
-
-  -- ---- rows that rise, one after another
-
-  -- the next of some rows may be put behind a table, and those behind it rise from its key
-  abbrev pub IsFollowed : List Column → Rows A → List (Result (Row A) LineError) → Type 0
-  IsFollowed ds table [] = Unit {0}
-  IsFollowed ds table (Ok row ∷ rows) = IsNext ds table row × (rise_from ds row.0 rows ≡ true)
-  IsFollowed ds table (Err e ∷ rows) = ⊥
-
-  pub followed-first : (ds : List Column) (table : Rows A) (rows left : List (Result (Row A) LineError)) → left ≡ rows → rise ds rows ≡ true → follows table rows ≡ true → IsFollowed ds table left
-  followed-first ds table rows left same rises behind = subst (IsFollowed ds table) (sym same) (go rows rises behind)
-    where
-      go : (all : List (Result (Row A) LineError)) → rise ds all ≡ true → follows table all ≡ true → IsFollowed ds table all
-      go [] h k = tt
-      go (Ok row ∷ more) h k = let p = and_parts (is_free ds row) (rise_from ds row.0 more) h in ((p.0, k), p.1)
-      go (Err e ∷ more) h k = absurd cc
-
-  pub followed-next : (ds : List Column) (table : Rows A) (row : Row A) (rows : List (Result (Row A) LineError)) → IsNext ds table row → rise_from ds row.0 rows ≡ true → IsFollowed ds (put_row table row) rows
-  followed-next ds table row [] next rises = tt
-  followed-next ds table row (Ok more ∷ rows) next rises =
-      let p = and_parts (is_lt (value_cmp row.0 more.0) && is_free ds more) (rise_from ds more.0 rows) rises in
-      let q = and_parts (is_lt (value_cmp row.0 more.0)) (is_free ds more) p.0 in
-      ((q.1, still_behind table row more.0 next.1 (lt_is (value_cmp row.0 more.0) q.0)), p.1)
-  followed-next ds table row (Err e ∷ rows) next rises = absurd cc

@@ -5,6 +5,7 @@ pub mod CatalogLemmas
 pub mod CreateLemmas
 pub mod DumpAgain
 pub mod FirstFaultLemmas
+pub mod FollowedLemmas
 pub mod KeyLemmas
 pub mod LayoutLemmas
 pub mod LinesAgain
@@ -18,6 +19,7 @@ pub mod RowsAgain
 pub mod SoundReading
 pub mod SpellingLemmas
 pub mod StepLemmas
+pub mod StillThere
 pub mod TablesAgain
 pub mod TakingLemmas
 pub mod TextLemmas

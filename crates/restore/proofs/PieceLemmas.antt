@@ -1,6 +1,6 @@
 -- Lines of rows, read by pieces and inserted one after another.
-use Rattle.std.proofs.Common.{◌≡◌, ℕ, suc, ◌+◌, ◌*◌, ◌<◌, ◌≤◌, Bool, true, false, not, ◌&&◌, Bor, List, [], ◌∷◌, ◌++◌, length, map, take, drop, get_or, Some, Result, Ok, Err, IfOk, refl, sym, ap, subst, ◌∙◌, arith, append_assoc}
-use Rattle.std.specs.List.{AllByRecursion, list_all}
+use Rattle.std.proofs.Common.{◌≡◌, ℕ, suc, ◌+◌, ◌*◌, ◌<◌, ◌≤◌, Bool, true, false, not, ◌&&◌, Bor, List, [], ◌∷◌, ◌++◌, length, map, take, drop, get_or, Option, Some, Result, Ok, Err, IfOk, refl, sym, ap, subst, ◌∙◌, arith, append_assoc}
+use Rattle.std.specs.List.{list_all}
 use Rattle.std.specs.Str.{bytes_eq}
 use Rattle.std.proofs.lemmas.Bool.{and_parts}
 use Rattle.std.proofs.lemmas.List.{take_more, take-map, drop-map, drop-drop, map-append, length-append, length-map, length-drop}
@@ -17,7 +17,7 @@ use Rattle.restore.specs.CreateLine.{parted}
 use Rattle.restore.specs.Lines.{AreRowLines, is_row_line}
 use Rattle.restore.specs.Reading.{Within, lines_of, kinds_of, with_row, read_lines}
 use Rattle.restore.specs.declared.rows.ReadPiece.{ReadPiece}
-use Rattle.restore.specs.Rows.{row_of_line, rise, AreRead, IsPiece, ArePieces}
+use Rattle.restore.specs.Rows.{row_of_line, rise, AreRead, IsPiece, ArePieces, AreKnown}
 use Rattle.restore.specs.Steps.{◌>>=◌, Gives, Fails, Stops, read_error}
 use Rattle.restore.proofs.StepLemmas.{stops}
 use Rattle.restore.proofs.ReadingLemmas.{row_is, stops_at, stepped_on, refused_on}
@@ -99,29 +99,44 @@ none_left : (lines : List (List ℕ)) → length lines ≤ 0 → lines ≡ []
 none_left [] h = refl
 none_left (l ∷ ls) h = absurd (omega arith)
 
-module _ {A E : Type 0} (columns : List Column) (kinds : List Kind) (size : ℕ) where
-  ok_same : (piece : Result (ReadPiece A) E) (ls ms : List (List ℕ)) → ls ≡ ms → IfOk piece (λ p. IsPiece columns kinds p ls) → IfOk piece (λ p. IsPiece columns kinds p ms)
-  ok_same piece ls ms e h = subst (λ (xs : List (List ℕ)). IfOk piece (λ p. IsPiece columns kinds p xs)) e h
+module _ {A E : Type 0} (known : Option (Tables A)) (columns : List Column) (kinds : List Kind) (size : ℕ) where
+  read_of : (piece : Result (ReadPiece A) E) (ls ms : List (List ℕ)) → ls ≡ ms → IfOk piece (λ p. IsPiece known columns kinds p ls) → IfOk piece (λ p. AreRead kinds p.rows.items ms)
+  read_of (Ok piece) ls ms e h = subst (AreRead kinds piece.rows.items) e h.0
+  read_of (Err e) ls ms same h = tt
 
-  pub are_pieces : (pieces : List (Result (ReadPiece A) E)) (lines : List (Bor (List ℕ))) → length lines ≤ length pieces * size
-      → ((n : ℕ) (d : Result (ReadPiece A) E) → n < length pieces → IfOk (get_or pieces n d) (λ p. IsPiece columns kinds p (map (λ l. l.now) (take size (drop (n * size) lines)))))
-      → ArePieces size columns kinds pieces (map (λ l. l.now) lines)
+  known_of : (piece : Result (ReadPiece A) E) (ls : List (List ℕ)) → IfOk piece (λ p. IsPiece known columns kinds p ls) → IfOk piece (λ p. p.rise ≡ rise known columns p.rows.items)
+  known_of (Ok piece) ls h = h.1
+  known_of (Err e) ls h = tt
+
+  ok_same : (piece : Result (ReadPiece A) E) (ls ms : List (List ℕ)) → ls ≡ ms → IfOk piece (λ p. IsPiece known columns kinds p ls) → IfOk piece (λ p. IsPiece known columns kinds p ms)
+  ok_same piece ls ms e h = subst (λ (xs : List (List ℕ)). IfOk piece (λ p. IsPiece known columns kinds p xs)) e h
+
+  -- each piece is that of its lines
+  abbrev pub EachIs : List (Result (ReadPiece A) E) → List (Bor (List ℕ)) → Type 0
+  EachIs pieces lines = (n : ℕ) (d : Result (ReadPiece A) E) → n < length pieces → IfOk (get_or pieces n d) (λ p. IsPiece known columns kinds p (map (λ l. l.now) (take size (drop (n * size) lines))))
+
+  each_behind : (piece : Result (ReadPiece A) E) (pieces : List (Result (ReadPiece A) E)) (lines : List (Bor (List ℕ))) → EachIs (piece ∷ pieces) lines → EachIs pieces (drop size lines)
+  each_behind piece pieces lines each n d lt =
+      let now : Bor (List ℕ) → List ℕ = λ l. l.now in
+      ok_same (get_or pieces n d) (map now (take size (drop (suc n * size) lines))) (map now (take size (drop (n * size) (drop size lines))))
+      (ap (λ m. map now (take size (drop m lines))) (suc_times n size) ∙ ap (λ ls. map now (take size ls)) (sym (drop-drop (n * size) size lines)))
+      (each (suc n) d (omega arith))
+
+  pub are_pieces : (pieces : List (Result (ReadPiece A) E)) (lines : List (Bor (List ℕ))) → length lines ≤ length pieces * size → EachIs pieces lines → ArePieces size kinds pieces (map (λ l. l.now) lines)
   are_pieces [] lines few each = none_left (map (λ l. l.now) lines) (omega (arith, length-map lines (λ l. l.now)))
   are_pieces (piece ∷ pieces) lines few each =
       let now : Bor (List ℕ) → List ℕ = λ l. l.now in (
-        ok_same piece (map now (take size (drop (0 * size) lines))) (take size (map now lines)) (ap (λ n. map now (take size (drop n lines))) (zero-mul size) ∙ sym (take-map now size lines)) (each 0 piece (omega arith)),
-        subst (ArePieces size columns kinds pieces) (sym (drop-map now size lines))
+        read_of piece (map now (take size (drop (0 * size) lines))) (take size (map now lines)) (ap (λ n. map now (take size (drop n lines))) (zero-mul size) ∙ sym (take-map now size lines)) (each 0 piece (omega arith)),
+        subst (ArePieces size kinds pieces) (sym (drop-map now size lines))
             (are_pieces pieces (drop size lines) (let count = length-drop size lines in let more : suc (length pieces) * size ≡ size + length pieces * size = suc_times (length pieces) size in omega (arith, few, count, more))
-            (λ n d lt. ok_same (get_or pieces n d) (map now (take size (drop (suc n * size) lines))) (map now (take size (drop (n * size) (drop size lines))))
-            (ap (λ m. map now (take size (drop m lines))) (suc_times n size) ∙ ap (λ ls. map now (take size ls)) (sym (drop-drop (n * size) size lines)))
-            (each (suc n) d (omega arith)))),
+            (each_behind piece pieces lines each)),
       )
 
   -- of each piece it is known whether its rows rise
-  pub rise_known : (pieces : List (Result (ReadPiece A) E)) (lines : List (List ℕ)) → ArePieces size columns kinds pieces lines → AllByRecursion (λ p. IfOk p (λ piece. piece.rise ≡ rise columns piece.rows.items)) pieces
-  rise_known [] lines h = tt
-  rise_known (Ok piece ∷ pieces) lines h = (h.0.1, rise_known pieces (drop size lines) h.1)
-  rise_known (Err e ∷ pieces) lines h = (tt, rise_known pieces (drop size lines) h.1)
+  pub are_known : (pieces : List (Result (ReadPiece A) E)) (lines : List (Bor (List ℕ))) → EachIs pieces lines → AreKnown known columns pieces
+  are_known [] lines each = tt
+  are_known (piece ∷ pieces) lines each =
+      (known_of piece (map (λ l. l.now) (take size (drop (0 * size) lines))) (each 0 piece (omega arith)), are_known pieces (drop size lines) (each_behind piece pieces lines each))
 
 -- ---- inserted one after another
 

@@ -6,7 +6,7 @@ use Rattle.std.proofs.lemmas.List.{take-append-drop, drop-drop, map-append, leng
 use Rattle.std.proofs.lemmas.Nat.{div-add-mod'}
 use Rattle.std.proofs.lemmas.Slice.Eq.{bytes_eq-Decides}
 use Rattle.value.specs.declared.kind.Kind.{Kind}
-use Rattle.schema.specs.Definition.{Catalog, columns_of}
+use Rattle.schema.specs.Definition.{Catalog}
 use Rattle.schema.specs.declared.row.Row.{Row}
 use Rattle.schema.specs.declared.tables.Tables.{Tables}
 use Rattle.dumpplan.specs.Lines.{end_of_rows}
@@ -116,7 +116,7 @@ module _ {A E : Type 0} (c : Catalog) (t : ℕ) (X : Tables A) (told : Told A) w
   waiting-first number next pieces left same e answer = record {
     lines = [];
     size = 0;
-    read = subst (λ (ps : List (Result (ReadPiece A) E)). ArePieces 0 (columns_of c t) (kinds_of c t) ps []) (sym e) refl;
+    read = subst (λ (ps : List (Result (ReadPiece A) E)). ArePieces 0 (kinds_of c t) ps []) (sym e) refl;
     alone = refl;
     numbers = omega (arith, same);
     answer = λ counted. ap (λ n. read_lines n (Within counted c X t) left) same ∙ answer counted;
@@ -125,7 +125,7 @@ module _ {A E : Type 0} (c : Catalog) (t : ℕ) (X : Tables A) (told : Told A) w
 
   -- once the rows that waited are in, those of the next lines wait
   pub waiting-next : (Y : Tables A) (line : Line) (rows : List (Bor (List ℕ))) (left : Lines) (size : ℕ) (pieces : List (Result (ReadPiece A) E)) → line.rest.number ≡ line.number + 1 → AreRowLines line rows left
-      → ArePieces size (columns_of c t) (kinds_of c t) pieces (map (λ l. l.now) rows) → AreIn c t X told line.number (line.bytes.now ∷ lines_of line.rest.text.now) (Ok Y)
+      → ArePieces size (kinds_of c t) pieces (map (λ l. l.now) rows) → AreIn c t X told line.number (line.bytes.now ∷ lines_of line.rest.text.now) (Ok Y)
       → AreWaiting c t X told Y line.number pieces left.number (lines_of left.text.now)
   waiting-next Y line rows left size pieces number are read taken = record {
     lines = map (λ l. l.now) rows;

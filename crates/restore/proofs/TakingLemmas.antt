@@ -1,11 +1,11 @@
 -- Pieces of rows, taken one after another.
 use Rattle.std.proofs.Common.{◌≡◌, ℕ, ◌+◌, ◌<◌, Bool, true, Bor, List, [], ◌∷◌, ◌++◌, length, map, take, drop, slice_set, Result, Ok, Err, IfOk, refl, sym, ap, subst, ◌∙◌, arith, append_assoc}
-use Rattle.std.specs.List.{AllByRecursion, list_all}
+use Rattle.std.specs.List.{list_all}
 use Rattle.std.proofs.lemmas.Bool.{and_parts}
 use Rattle.std.proofs.lemmas.List.{get_or-set_same, take-append-drop, length-append}
 use Rattle.std.proofs.lemmas.List.Folds.{list_all-append}
 use Rattle.value.specs.declared.kind.Kind.{Kind}
-use Rattle.schema.specs.Definition.{Column, Catalog, columns_of}
+use Rattle.schema.specs.Definition.{Column, Catalog}
 use Rattle.schema.specs.declared.row.Row.{Row}
 use Rattle.schema.specs.declared.tables.Tables.{Tables}
 use Rattle.schema.specs.Plain.{is_sound, rows_of}
@@ -15,9 +15,9 @@ use Rattle.restore.specs.declared.error.ReadError.{ReadError}
 use Rattle.restore.specs.declared.rows.ReadPiece.{ReadPiece}
 use Rattle.restore.specs.Lines.{is_row_line}
 use Rattle.restore.specs.Reading.{Within, kinds_of, read_lines}
-use Rattle.restore.specs.Rows.{row_of_line, IsNext, rise, AreRead, ArePieces}
+use Rattle.restore.specs.Rows.{row_of_line, IsNext, AreRead, AreStillThere, ArePieces}
 use Rattle.restore.specs.Steps.{Gives, Stops}
-use Rattle.restore.proofs.BehindLemmas.{IsFollowed, followed-next}
+use Rattle.restore.proofs.FollowedLemmas.{IsFollowed, followed-next}
 use Rattle.restore.proofs.PieceLemmas.{read-length, some_more}
 use Rattle.restore.proofs.ReadingLemmas.{stops_at}
 
@@ -39,19 +39,20 @@ module _ {A : Type 0} where
       (ap (λ (Z : Tables A). rows_of Z t) made ∙ get_or-set_same X t (put_row (rows_of X t) row) [] within)
 
   -- the first of rows that may be put behind a table
-  pub next_is : (ds : List Column) (table : Rows A) (left rest : List (Result (Row A) LineError)) (read : Result (Row A) LineError) → left ≡ read ∷ rest → IsFollowed ds table left → IfOk read (λ r. IsNext ds table r)
-  next_is ds table left rest read e f = go read (subst (IsFollowed ds table) e f)
+  pub next_is : (X : Tables A) (ds : List Column) (table : Rows A) (left rest : List (Result (Row A) LineError)) (read : Result (Row A) LineError) → left ≡ read ∷ rest → IsFollowed X ds table left → IfOk read (λ r. IsNext X ds table r)
+  next_is X ds table left rest read e f = go read (subst (IsFollowed X ds table) e f)
     where
-      go : (r : Result (Row A) LineError) → IsFollowed ds table (r ∷ rest) → IfOk r (λ x. IsNext ds table x)
+      go : (r : Result (Row A) LineError) → IsFollowed X ds table (r ∷ rest) → IfOk r (λ x. IsNext X ds table x)
       go (Ok row) f = f.0
       go (Err e) f = absurd f
 
   -- and those behind it
-  pub followed-on : (ds : List Column) (table new : Rows A) (left rest : List (Result (Row A) LineError)) (read : Result (Row A) LineError) → left ≡ read ∷ rest → IsFollowed ds table left → IfOk read (λ r. new ≡ put_row table r) → IsFollowed ds new rest
-  followed-on ds table new left rest read e f put = go read (subst (IsFollowed ds table) e f) put
+  pub followed-on : (X Y : Tables A) (ds : List Column) (table new : Rows A) (left rest : List (Result (Row A) LineError)) (read : Result (Row A) LineError) → left ≡ read ∷ rest → AreStillThere X Y → IsFollowed X ds table left → IfOk read (λ r. new ≡ put_row table r)
+      → IsFollowed Y ds new rest
+  followed-on X Y ds table new left rest read e still f put = go read (subst (IsFollowed X ds table) e f) put
     where
-      go : (r : Result (Row A) LineError) → IsFollowed ds table (r ∷ rest) → IfOk r (λ x. new ≡ put_row table x) → IsFollowed ds new rest
-      go (Ok row) f p = subst (λ (rows : Rows A). IsFollowed ds rows rest) (sym p) (followed-next ds table row rest f.0 f.1)
+      go : (r : Result (Row A) LineError) → IsFollowed X ds table (r ∷ rest) → IfOk r (λ x. new ≡ put_row table x) → IsFollowed Y ds new rest
+      go (Ok row) f p = subst (λ (rows : Rows A). IsFollowed Y ds rows rest) (sym p) (followed-next X Y ds table row rest still f.0 f.1)
       go (Err e) f p = absurd f
 
   -- rows that are left, of lines, and sound tables
@@ -74,33 +75,25 @@ module _ {A : Type 0} where
 -- ---- pieces
 
 module _ {A E : Type 0} where
-  -- the same columns, kinds and lines
-  pub pieces_same : (size : ℕ) (ds es : List Column) (kinds others : List Kind) (pieces : List (Result (ReadPiece A) E)) (shown lines : List (Bor (List ℕ))) → ds ≡ es → kinds ≡ others → shown ≡ lines
-      → ArePieces size ds kinds pieces (map (λ l. l.now) shown) → ArePieces size es others pieces (map (λ l. l.now) lines)
-  pieces_same size ds es kinds others pieces shown lines d e f h =
-      subst (λ (cs : List Column). ArePieces size cs others pieces (map (λ l. l.now) lines)) d
-      (subst (λ (ks : List Kind). ArePieces size ds ks pieces (map (λ l. l.now) lines)) e (subst (λ (ls : List (Bor (List ℕ))). ArePieces size ds kinds pieces (map (λ l. l.now) ls)) f h))
-
-  -- of the pieces that are left it is known whether their rows rise
-  pub rises_first : (ds : List Column) (left rest : List (Result (ReadPiece A) E)) (piece : ReadPiece A) → left ≡ Ok piece ∷ rest → AllByRecursion (λ p. IfOk p (λ x. x.rise ≡ rise ds x.rows.items)) left → piece.rise ≡ rise ds piece.rows.items
-  rises_first ds left rest piece e h = (subst (λ (ps : List (Result (ReadPiece A) E)). AllByRecursion (λ p. IfOk p (λ x. x.rise ≡ rise ds x.rows.items)) ps) e h).0
-
-  pub rises_rest : (ds : List Column) (left rest : List (Result (ReadPiece A) E)) (piece : ReadPiece A) → left ≡ Ok piece ∷ rest → AllByRecursion (λ p. IfOk p (λ x. x.rise ≡ rise ds x.rows.items)) left → AllByRecursion (λ p. IfOk p (λ x. x.rise ≡ rise ds x.rows.items)) rest
-  rises_rest ds left rest piece e h = (subst (λ (ps : List (Result (ReadPiece A) E)). AllByRecursion (λ p. IfOk p (λ x. x.rise ≡ rise ds x.rows.items)) ps) e h).1
+  -- the same kinds and lines
+  pub pieces_same : (size : ℕ) (kinds others : List Kind) (pieces : List (Result (ReadPiece A) E)) (shown lines : List (Bor (List ℕ))) → kinds ≡ others → shown ≡ lines
+      → ArePieces size kinds pieces (map (λ l. l.now) shown) → ArePieces size others pieces (map (λ l. l.now) lines)
+  pieces_same size kinds others pieces shown lines e f h =
+      subst (λ (ks : List Kind). ArePieces size ks pieces (map (λ l. l.now) lines)) e (subst (λ (ls : List (Bor (List ℕ))). ArePieces size kinds pieces (map (λ l. l.now) ls)) f h)
 
   -- what is left to take, from a line's number on: the answer from here is the answer from there
   pub record IsTaking (counted : Bool) (size : ℕ) (c : Catalog) (t : ℕ) (more : List (List ℕ)) (start : ℕ) (lines : List (List ℕ)) (X : Tables A) (number : ℕ) (left : List (Result (ReadPiece A) E)) (Y : Tables A) : Type 0 where
     pub last : List (List ℕ)
-    pub pieces : ArePieces size (columns_of c t) (kinds_of c t) left last
+    pub pieces : ArePieces size (kinds_of c t) left last
     pub rows : list_all is_row_line last ≡ true
     pub numbers : number + length last ≡ start + length lines
     pub answer : read_lines number (Within counted c Y t) (last ++ more) ≡ read_lines start (Within counted c X t) (lines ++ more)
 
-  pub taking-first : (counted : Bool) (size : ℕ) (c : Catalog) (t : ℕ) (more : List (List ℕ)) (start : ℕ) (lines : List (List ℕ)) (X : Tables A) (left pieces : List (Result (ReadPiece A) E)) → left ≡ pieces → ArePieces size (columns_of c t) (kinds_of c t) pieces lines
+  pub taking-first : (counted : Bool) (size : ℕ) (c : Catalog) (t : ℕ) (more : List (List ℕ)) (start : ℕ) (lines : List (List ℕ)) (X : Tables A) (left pieces : List (Result (ReadPiece A) E)) → left ≡ pieces → ArePieces size (kinds_of c t) pieces lines
       → list_all is_row_line lines ≡ true → IsTaking counted size c t more start lines X start left X
   taking-first counted size c t more start lines X left pieces same are rows = record {
     last = lines;
-    pieces = subst (λ (ps : List (Result (ReadPiece A) E)). ArePieces size (columns_of c t) (kinds_of c t) ps lines) (sym same) are;
+    pieces = subst (λ (ps : List (Result (ReadPiece A) E)). ArePieces size (kinds_of c t) ps lines) (sym same) are;
     rows = rows;
     numbers = refl;
     answer = refl;
@@ -111,11 +104,11 @@ module _ {A E : Type 0} where
       → ((front behind : List (List ℕ)) → AreRead (kinds_of c t) piece.rows.items front → list_all is_row_line front ≡ true → (behind ≡ [] → ⊥) → read_lines n (Within counted c Y t) (front ++ behind) ≡ read_lines (n + length front) (Within counted c Z t) behind)
       → IsTaking counted size c t more start lines X n left Y → IsTaking counted size c t more start lines X next rest Z
   taking-next counted size c t more start lines X n next left rest Y Z piece some e same taken j =
-      let h : ArePieces size (columns_of c t) (kinds_of c t) (Ok piece ∷ rest) j.last = subst (λ (ps : List (Result (ReadPiece A) E)). ArePieces size (columns_of c t) (kinds_of c t) ps j.last) e j.pieces in
+      let h : ArePieces size (kinds_of c t) (Ok piece ∷ rest) j.last = subst (λ (ps : List (Result (ReadPiece A) E)). ArePieces size (kinds_of c t) ps j.last) e j.pieces in
       let front : List (List ℕ) = take size j.last in
       let back : List (List ℕ) = drop size j.last in
       let r = alone size j.last j.rows in
-      let count : length piece.rows.items ≡ length front = read-length (kinds_of c t) piece.rows.items front h.0.0 in
+      let count : length piece.rows.items ≡ length front = read-length (kinds_of c t) piece.rows.items front h.0 in
       let parts : length front + length back ≡ length j.last = sym (length-append front back) ∙ ap length (take-append-drop size j.last) in
       record {
         last = back;
@@ -124,7 +117,7 @@ module _ {A E : Type 0} where
         numbers = omega (arith, same, count, parts, j.numbers);
         answer =
             ap (λ k. read_lines k (Within counted c Z t) (back ++ more)) (same ∙ ap (λ k. n + k) count)
-            ∙ sym (taken front (back ++ more) h.0.0 r.0 (some_more back more some))
+            ∙ sym (taken front (back ++ more) h.0 r.0 (some_more back more some))
             ∙ ap (read_lines n (Within counted c Y t)) (sym (halves size j.last more))
             ∙ j.answer;
       }
@@ -134,28 +127,28 @@ module _ {A E : Type 0} where
       → ((front behind : List (List ℕ)) → AreRead (kinds_of c t) piece.rows.items front → list_all is_row_line front ≡ true → (behind ≡ [] → ⊥) → Stops e (read_lines n (Within counted c Y t) (front ++ behind)))
       → IsTaking counted size c t more start lines X n left Y → Stops e (read_lines start (Within counted c X t) (lines ++ more))
   taking-stops counted size c t more start lines X n left rest Y piece e some is fails j =
-      let h : ArePieces size (columns_of c t) (kinds_of c t) (Ok piece ∷ rest) j.last = subst (λ (ps : List (Result (ReadPiece A) E)). ArePieces size (columns_of c t) (kinds_of c t) ps j.last) is j.pieces in
+      let h : ArePieces size (kinds_of c t) (Ok piece ∷ rest) j.last = subst (λ (ps : List (Result (ReadPiece A) E)). ArePieces size (kinds_of c t) ps j.last) is j.pieces in
       let r = alone size j.last j.rows in
-      stops_at e _ _ (fails (take size j.last) (drop size j.last ++ more) h.0.0 r.0 (some_more (drop size j.last) more some)) (ap (read_lines n (Within counted c Y t)) (sym (halves size j.last more)) ∙ j.answer)
+      stops_at e _ _ (fails (take size j.last) (drop size j.last ++ more) h.0 r.0 (some_more (drop size j.last) more some)) (ap (read_lines n (Within counted c Y t)) (sym (halves size j.last more)) ∙ j.answer)
 
   pub taking-all : (counted : Bool) (size : ℕ) (c : Catalog) (t : ℕ) (more : List (List ℕ)) (start : ℕ) (lines : List (List ℕ)) (X : Tables A) (n : ℕ) (left : List (Result (ReadPiece A) E)) (Y : Tables A) → left ≡ []
       → IsTaking counted size c t more start lines X n left Y → read_lines start (Within counted c X t) (lines ++ more) ≡ read_lines (start + length lines) (Within counted c Y t) more
   taking-all counted size c t more start lines X n left Y e j =
-      let none : j.last ≡ [] = subst (λ (ps : List (Result (ReadPiece A) E)). ArePieces size (columns_of c t) (kinds_of c t) ps j.last) e j.pieces in
+      let none : j.last ≡ [] = subst (λ (ps : List (Result (ReadPiece A) E)). ArePieces size (kinds_of c t) ps j.last) e j.pieces in
       let same : n ≡ start + length lines = omega (arith, ap length none, j.numbers) in
       sym j.answer ∙ ap (λ (ls : List (List ℕ)). read_lines n (Within counted c Y t) (ls ++ more)) none ∙ ap (λ k. read_lines k (Within counted c Y t) more) same
 
   -- pieces that are left, of lines, and sound tables
   pub record IsKeeping (size : ℕ) (c : Catalog) (t : ℕ) (left : List (Result (ReadPiece A) E)) (Y : Tables A) : Type 0 where
     pub last : List (List ℕ)
-    pub pieces : ArePieces size (columns_of c t) (kinds_of c t) left last
+    pub pieces : ArePieces size (kinds_of c t) left last
     pub sound : is_sound c Y ≡ true
 
-  pub keeping-first : (size : ℕ) (c : Catalog) (t : ℕ) (left pieces : List (Result (ReadPiece A) E)) (lines : List (List ℕ)) (X : Tables A) → left ≡ pieces → ArePieces size (columns_of c t) (kinds_of c t) pieces lines → is_sound c X ≡ true → IsKeeping size c t left X
-  keeping-first size c t left pieces lines X same are sound = record { last = lines; pieces = subst (λ (ps : List (Result (ReadPiece A) E)). ArePieces size (columns_of c t) (kinds_of c t) ps lines) (sym same) are; sound = sound }
+  pub keeping-first : (size : ℕ) (c : Catalog) (t : ℕ) (left pieces : List (Result (ReadPiece A) E)) (lines : List (List ℕ)) (X : Tables A) → left ≡ pieces → ArePieces size (kinds_of c t) pieces lines → is_sound c X ≡ true → IsKeeping size c t left X
+  keeping-first size c t left pieces lines X same are sound = record { last = lines; pieces = subst (λ (ps : List (Result (ReadPiece A) E)). ArePieces size (kinds_of c t) ps lines) (sym same) are; sound = sound }
 
   pub keeping-next : (size : ℕ) (c : Catalog) (t : ℕ) (left rest : List (Result (ReadPiece A) E)) (Y Z : Tables A) (piece : ReadPiece A) → left ≡ Ok piece ∷ rest
       → ((front : List (List ℕ)) → AreRead (kinds_of c t) piece.rows.items front → is_sound c Y ≡ true → is_sound c Z ≡ true) → IsKeeping size c t left Y → IsKeeping size c t rest Z
   keeping-next size c t left rest Y Z piece e still k =
-      let h : ArePieces size (columns_of c t) (kinds_of c t) (Ok piece ∷ rest) k.last = subst (λ (ps : List (Result (ReadPiece A) E)). ArePieces size (columns_of c t) (kinds_of c t) ps k.last) e k.pieces in
-      record { last = drop size k.last; pieces = h.1; sound = still (take size k.last) h.0.0 k.sound }
+      let h : ArePieces size (kinds_of c t) (Ok piece ∷ rest) k.last = subst (λ (ps : List (Result (ReadPiece A) E)). ArePieces size (kinds_of c t) ps k.last) e k.pieces in
+      record { last = drop size k.last; pieces = h.1; sound = still (take size k.last) h.0 k.sound }

@@ -1,6 +1,6 @@
 -- What the lines of rows read as, one after another and by pieces, and which rows may be put behind those of a table.
-use Rattle.std.specs.Prelude.{◌≡◌, ℕ, Bool, true, false, not, ◌&&◌, is_some, List, [], ◌∷◌, find, take, drop, Result, Ok, Err, IfOk}
-use Rattle.std.specs.List.{list_any}
+use Rattle.std.specs.Prelude.{◌≡◌, ℕ, Bool, true, false, not, ◌&&◌, Option, Some, None, is_some, List, [], ◌∷◌, find, take, drop, Result, Ok, Err, IfOk}
+use Rattle.std.specs.List.{AllByRecursion, list_any}
 use Rattle.std.specs.Ordering.{is_le, is_lt}
 use Rattle.value.specs.declared.kind.Kind.{Kind}
 use Rattle.value.specs.declared.refusal.Code.{Code}
@@ -10,8 +10,9 @@ use Rattle.value.specs.declared.value.Value.TheVariants.{Null}
 use Rattle.value.specs.Order.{value_cmp}
 use Rattle.schema.specs.Definition.{Column}
 use Rattle.schema.specs.declared.row.Row.{Row}
-use Rattle.schema.specs.Inserting.{lacks_value}
-use Rattle.schema.specs.Plain.{cells}
+use Rattle.schema.specs.declared.tables.Tables.{Tables}
+use Rattle.schema.specs.Inserting.{dangles, lacks_value}
+use Rattle.schema.specs.Plain.{cells, row_at}
 use Rattle.schema.specs.Rows.{Rows}
 use Rattle.copytext.specs.Reading.{line_values}
 use Rattle.restore.specs.declared.error.LineError.{LineError}
@@ -31,35 +32,44 @@ module _ {A : Type 0} where
 
   -- ---- rows that may be put behind those of a table
 
-  -- nothing but a key that is there stands against a row: no column references a table, and no value is null that mustn't be
-  abbrev pub is_free : List Column → Row A → Bool
-  is_free columns row = not (list_any (λ d. is_some d.references) columns) && not (lacks_value columns (cells row))
+  -- The references of a row are looked up in tables: each names a row of these. Or they are looked up nowhere: there are none.
+  abbrev pub are_found : Option (Tables A) → List Column → List (Value A) → Bool
+  are_found None columns values = not (list_any (λ d. is_some d.references) columns)
+  are_found (Some X) columns values = not (dangles X columns values)
+
+  -- nothing but a key that is there stands against a row: its references are found, and no value is null that mustn't be
+  abbrev pub is_free : Option (Tables A) → List Column → Row A → Bool
+  is_free known columns row = are_found known columns (cells row) && not (lacks_value columns (cells row))
 
   -- each row of a table comes before a key
   abbrev pub is_behind : Rows A → Value A → Bool
   is_behind table key = not (is_some (find (λ row. is_le (value_cmp key row.0)) table))
 
-  -- a row may be put behind those of a table
-  abbrev pub IsNext : List Column → Rows A → Row A → Type 0
-  IsNext columns table row = (is_free columns row ≡ true) × (is_behind table row.0 ≡ true)
+  -- a row may be put behind those of a table among tables
+  abbrev pub IsNext : Tables A → List Column → Rows A → Row A → Type 0
+  IsNext X columns table row = (is_free (Some X) columns row ≡ true) × (is_behind table row.0 ≡ true)
 
   -- each of some lines was read, their keys rise from one on, and nothing else stands against their rows
-  abbrev pub rise_from : List Column → Value A → List (Result (Row A) LineError) → Bool
-  rise_from columns key [] = true
-  rise_from columns key (Ok row ∷ rows) = is_lt (value_cmp key row.0) && is_free columns row && rise_from columns row.0 rows
-  rise_from columns key (Err e ∷ rows) = false
+  abbrev pub rise_from : Option (Tables A) → List Column → Value A → List (Result (Row A) LineError) → Bool
+  rise_from known columns key [] = true
+  rise_from known columns key (Ok row ∷ rows) = is_lt (value_cmp key row.0) && is_free known columns row && rise_from known columns row.0 rows
+  rise_from known columns key (Err e ∷ rows) = false
 
   -- the same from the key of the first
-  abbrev pub rise : List Column → List (Result (Row A) LineError) → Bool
-  rise columns [] = false
-  rise columns (Ok row ∷ rows) = is_free columns row && rise_from columns row.0 rows
-  rise columns (Err e ∷ rows) = false
+  abbrev pub rise : Option (Tables A) → List Column → List (Result (Row A) LineError) → Bool
+  rise known columns [] = false
+  rise known columns (Ok row ∷ rows) = is_free known columns row && rise_from known columns row.0 rows
+  rise known columns (Err e ∷ rows) = false
 
   -- the first of some rows comes behind a table
   abbrev pub follows : Rows A → List (Result (Row A) LineError) → Bool
   follows table [] = false
   follows table (Ok row ∷ rows) = is_behind table row.0
   follows table (Err e ∷ rows) = false
+
+  -- each row that is there in some tables is there in others
+  abbrev pub AreStillThere : Tables A → Tables A → Type 0
+  AreStillThere X Y = (t : ℕ) (key : Value A) → is_some (row_at X t key) ≡ true → is_some (row_at Y t key) ≡ true
 
   -- ---- lines
 
@@ -70,10 +80,18 @@ module _ {A : Type 0} where
   AreRead kinds _ _ = ⊥
 
   -- the rows of a piece are those of its lines, and it is known whether they rise
-  abbrev pub IsPiece : List Column → List Kind → ReadPiece A → List (List ℕ) → Type 0
-  IsPiece columns kinds piece lines = AreRead kinds piece.rows.items lines × (piece.rise ≡ rise columns piece.rows.items)
+  abbrev pub IsPiece : Option (Tables A) → List Column → List Kind → ReadPiece A → List (List ℕ) → Type 0
+  IsPiece known columns kinds piece lines = AreRead kinds piece.rows.items lines × (piece.rise ≡ rise known columns piece.rows.items)
 
   -- each piece is that of so many lines, the last that of the rest
-  abbrev pub ArePieces : {E : Type 0} → ℕ → List Column → List Kind → List (Result (ReadPiece A) E) → List (List ℕ) → Type 0
-  ArePieces size columns kinds [] lines = lines ≡ []
-  ArePieces size columns kinds (piece ∷ pieces) lines = IfOk piece (λ p. IsPiece columns kinds p (take size lines)) × ArePieces size columns kinds pieces (drop size lines)
+  abbrev pub ArePieces : {E : Type 0} → ℕ → List Kind → List (Result (ReadPiece A) E) → List (List ℕ) → Type 0
+  ArePieces size kinds [] lines = lines ≡ []
+  ArePieces size kinds (piece ∷ pieces) lines = IfOk piece (λ p. AreRead kinds p.rows.items (take size lines)) × ArePieces size kinds pieces (drop size lines)
+
+  -- of each piece it is known whether its rows rise
+  abbrev pub AreKnown : {E : Type 0} → Option (Tables A) → List Column → List (Result (ReadPiece A) E) → Type 0
+  AreKnown known columns pieces = AllByRecursion (λ p. IfOk p (λ piece. piece.rise ≡ rise known columns piece.rows.items)) pieces
+
+  -- where a piece is held to rise, its rows do, and their references are found in some tables
+  abbrev pub MayRise : {E : Type 0} → Tables A → List Column → List (Result (ReadPiece A) E) → Type 0
+  MayRise X columns pieces = AllByRecursion (λ p. IfOk p (λ piece. piece.rise ≡ true → rise (Some X) columns piece.rows.items ≡ true)) pieces

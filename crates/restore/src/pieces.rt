@@ -1,7 +1,8 @@
 //! Rows that are put behind those of a table, a piece of lines after another.
 
-ghost use Rattle.std.specs.Prelude.{◌≡◌, ◌≢◌, ◌+◌, ◌<◌, ◌^◌, ◌++◌, ◌&&◌, ℕ, Bool, List, [], length, vec_len, map, is_some, true, IfOk, IfErr, OnOk};
-ghost use Rattle.std.specs.List.{AllByRecursion, list_any, list_all};
+ghost use Rattle.std.specs.Prelude.{◌≡◌, ◌≢◌, ◌+◌, ◌<◌, ◌^◌, ◌++◌, ◌&&◌, ℕ, Bool, List, [], Some, length, vec_len, map, is_some, true, IfOk, IfErr, OnOk};
+ghost use Rattle.std.specs.List.{list_any, list_all};
+ghost use Rattle.std.specs.Option.{option_copied};
 ghost use Rattle.std.specs.Ordering.{is_lt};
 ghost use Rattle.value.specs.Order.{value_cmp};
 ghost use Rattle.schema.specs.Definition.{columns_of};
@@ -10,7 +11,7 @@ ghost use Rattle.schema.specs.Plain.{is_null, cells, is_sound, rows_of};
 ghost use Rattle.schema.specs.Rows.{put_row};
 ghost use Rattle.restore.specs.Lines.{is_row_line};
 ghost use Rattle.restore.specs.Reading.{Within, kinds_of, with_row, read_lines};
-ghost use Rattle.restore.specs.Rows.{row_of_line, is_free, is_behind, rise_from, rise, follows, AreRead, IsNext, ArePieces};
+ghost use Rattle.restore.specs.Rows.{row_of_line, are_found, is_free, is_behind, rise_from, rise, follows, AreStillThere, AreRead, IsNext, ArePieces, MayRise};
 ghost use Rattle.restore.specs.Steps.{Gives, Reads};
 ghost use Rattle.restore.specs.declared.error.ReadError.TheVariants as error;
 
@@ -24,8 +25,8 @@ use std::alloc::{AllocError, Allocator};
 use value::key::Key;
 use value::value::Value;
 
-// Whether a column references a table.
-fn have_references<A: Allocator>(columns: &[Column<A>]) -> bool
+/// Whether a column references a table.
+pub fn have_references<A: Allocator>(columns: &[Column<A>]) -> bool
     ensures { result ≡ list_any (λ d. is_some d.references) columns.now }
 {
     columns.iter().any(|column| column.references().is_some())
@@ -60,52 +61,80 @@ fn row_lacks_value<A: Allocator>(columns: &[Column<A>], row: &Row<A>) -> bool
     }
 }
 
-// Whether nothing but a key that is there stands against a row.
-fn is_free<A: Allocator>(columns: &[Column<A>], row: &Row<A>) -> bool
-    ensures { result ≡ is_free columns.now row.now }
+// Whether each reference of a row names a row of the tables where it is looked up; or where it is looked up nowhere,
+// there is none.
+fn are_found<A: Allocator>(known: Option<&Tables<A>>, columns: &[Column<A>], row: &Row<A>) -> bool
+    ensures { result ≡ are_found (option_copied known.entry) columns.now (cells row.now) }
 {
-    !have_references(columns) && !row_lacks_value(columns, row)
+    match known {
+        Some(tables) => !tables.row_dangles(columns, row),
+        None => !have_references(columns),
+    }
+}
+
+// Whether nothing but a key that is there stands against a row.
+fn is_free<A: Allocator>(known: Option<&Tables<A>>, columns: &[Column<A>], row: &Row<A>) -> bool
+    ensures { result ≡ is_free (option_copied known.entry) columns.now row.now }
+{
+    are_found(known, columns, row) && !row_lacks_value(columns, row)
 }
 
 // Whether nothing stands against a row behind a key.
-fn rises<A: Allocator>(columns: &[Column<A>], key: &Key<A>, row: &Row<A>) -> bool
-    ensures { result ≡ (is_lt (value_cmp key.now row.now.0) && is_free columns.now row.now) }
+fn rises<A: Allocator>(
+    known: Option<&Tables<A>>,
+    columns: &[Column<A>],
+    key: &Key<A>,
+    row: &Row<A>,
+) -> bool
+    ensures { result ≡ (is_lt (value_cmp key.now row.now.0) && is_free (option_copied known.entry) columns.now row.now) }
 {
-    key.cmp(row.key()).is_lt() && is_free(columns, row)
+    key.cmp(row.key()).is_lt() && is_free(known, columns, row)
 }
 
 // Whether rows rise from a key on.
-fn rise_from<A: Allocator>(columns: &[Column<A>], key: &Key<A>, rows: &[ReadRow<A>]) -> bool
-    ensures { result ≡ rise_from columns.now key.now rows.now }
+fn rise_from<A: Allocator>(
+    known: Option<&Tables<A>>,
+    columns: &[Column<A>],
+    key: &Key<A>,
+    rows: &[ReadRow<A>],
+) -> bool
+    ensures { result ≡ rise_from (option_copied known.entry) columns.now key.now rows.now }
 {
     match rows {
         [] => true,
         [row, rows @ ..] => match row {
-            Ok(row) => rises(columns, key, row) && rise_from(columns, row.key(), rows),
+            Ok(row) => {
+                rises(known, columns, key, row) && rise_from(known, columns, row.key(), rows)
+            }
             Err(_) => false,
         },
     }
 }
 
 // Whether rows rise.
-fn rise<A: Allocator>(columns: &[Column<A>], rows: &[ReadRow<A>]) -> bool
-    ensures { result ≡ rise columns.now rows.now }
+fn rise<A: Allocator>(known: Option<&Tables<A>>, columns: &[Column<A>], rows: &[ReadRow<A>]) -> bool
+    ensures { result ≡ rise (option_copied known.entry) columns.now rows.now }
 {
     match rows {
         [] => false,
         [row, rows @ ..] => match row {
-            Ok(row) => is_free(columns, row) && rise_from(columns, row.key(), rows),
+            Ok(row) => is_free(known, columns, row) && rise_from(known, columns, row.key(), rows),
             Err(_) => false,
         },
     }
 }
 
-/// The piece of some lines whose rows, of a table with these columns, are these.
-pub fn piece_of<A: Allocator>(columns: &[Column<A>], rows: Vec<ReadRow<A>, A>) -> ReadPiece<A>
+/// The piece of some lines whose rows, of a table with these columns, are these. Their references are looked up in the
+/// tables that are known.
+pub fn piece_of<A: Allocator>(
+    known: Option<&Tables<A>>,
+    columns: &[Column<A>],
+    rows: Vec<ReadRow<A>, A>,
+) -> ReadPiece<A>
     ensures rows { result.rows ≡ rows }
-    ensures rise { result.rise ≡ rise columns.now rows.items }
+    ensures rise { result.rise ≡ rise (option_copied known.entry) columns.now rows.items }
 {
-    let rise = rise(columns, rows.as_slice());
+    let rise = rise(known, columns, rows.as_slice());
     ReadPiece { rows, rise }
 }
 
@@ -141,10 +170,11 @@ fn put_read<A: Allocator + Copy>(
 ) -> Result<(), LineError>
     requires has { table < length _catalog.now }
     requires same_tables { length tables.old ≡ length _catalog.now }
-    requires next { IfOk row (λ r. IsNext (columns_of _catalog.now table) (rows_of tables.old table) r) }
+    requires next { IfOk row (λ r. IsNext tables.old (columns_of _catalog.now table) (rows_of tables.old table) r) }
     ensures row { (line : List ℕ) → Gives (λ r. r) row (row_of_line (kinds_of _catalog.now table) line) →
         Gives (λ _. tables.new) result (with_row _catalog.now tables.old table line) }
     ensures put { IfOk row (λ r. OnOk result (rows_of tables.new table ≡ put_row (rows_of tables.old table) r)) }
+    ensures stay { AreStillThere tables.old tables.new }
     ensures same_tables { length tables.new ≡ length _catalog.now }
     ensures sound { (line : List ℕ) → Gives (λ r. r) row (row_of_line (kinds_of _catalog.now table) line) →
         is_sound _catalog.now tables.old ≡ true → is_sound _catalog.now tables.new ≡ true }
@@ -167,12 +197,13 @@ fn put_rows<A: Allocator + Copy>(
     requires has { table < length catalog.now }
     requires same_tables { length tables.old ≡ length catalog.now }
     requires numbers { number + vec_len rows < 2 ^ 64 }
-    requires rise { rise (columns_of catalog.now table) rows.items ≡ true }
+    requires rise { rise (Some tables.old) (columns_of catalog.now table) rows.items ≡ true }
     requires follows { follows (rows_of tables.old table) rows.items ≡ true }
     ensures rows { (counted : Bool) (lines more : List (List ℕ)) →
         AreRead (kinds_of catalog.now table) rows.items lines → list_all is_row_line lines ≡ true → more ≢ [] →
         Reads (λ _. read_lines (number + length lines) (Within counted catalog.now tables.new table) more) result
         (read_lines number (Within counted catalog.now tables.old table) (lines ++ more)) }
+    ensures stay { AreStillThere tables.old tables.new }
     ensures same_tables { length tables.new ≡ length catalog.now }
     ensures sound { (lines : List (List ℕ)) → AreRead (kinds_of catalog.now table) rows.items lines →
         is_sound catalog.now tables.old ≡ true → is_sound catalog.now tables.new ≡ true }
@@ -199,11 +230,12 @@ fn take_rows<A: Allocator + Copy>(
     requires has { table < length catalog.now }
     requires same_tables { length tables.old ≡ length catalog.now }
     requires numbers { number + vec_len piece.rows < 2 ^ 64 }
-    requires rise { piece.rise ≡ rise (columns_of catalog.now table) piece.rows.items }
+    requires rise { piece.rise ≡ true → rise (Some tables.old) (columns_of catalog.now table) piece.rows.items ≡ true }
     ensures rows { (counted : Bool) (lines more : List (List ℕ)) →
         AreRead (kinds_of catalog.now table) piece.rows.items lines → list_all is_row_line lines ≡ true → more ≢ [] →
         Reads (λ _. read_lines (number + length lines) (Within counted catalog.now tables.new table) more) result
         (read_lines number (Within counted catalog.now tables.old table) (lines ++ more)) }
+    ensures stay { AreStillThere tables.old tables.new }
     ensures same_tables { length tables.new ≡ length catalog.now }
     ensures sound { (lines : List (List ℕ)) → AreRead (kinds_of catalog.now table) piece.rows.items lines →
         is_sound catalog.now tables.old ≡ true → is_sound catalog.now tables.new ≡ true }
@@ -240,16 +272,15 @@ pub fn take_pieces<A: Allocator + Copy>(
 ) -> Result<(), ReadError>
     requires has { table < length catalog.now }
     requires same_tables { length tables.old ≡ length catalog.now }
-    requires rise { AllByRecursion (λ p. IfOk p (λ piece. piece.rise ≡
-        rise (columns_of catalog.now table) piece.rows.items)) pieces.items }
+    requires rise { MayRise tables.old (columns_of catalog.now table) pieces.items }
     ensures rows { (counted : Bool) (size : ℕ) (lines more : List (List ℕ)) →
-        ArePieces size (columns_of catalog.now table) (kinds_of catalog.now table) pieces.items lines →
+        ArePieces size (kinds_of catalog.now table) pieces.items lines →
         list_all is_row_line lines ≡ true → more ≢ [] →
         Reads (λ _. read_lines (number + length lines) (Within counted catalog.now tables.new table) more) result
         (read_lines number (Within counted catalog.now tables.old table) (lines ++ more)) }
     ensures same_tables { length tables.new ≡ length catalog.now }
     ensures sound { (size : ℕ) (lines : List (List ℕ)) →
-        ArePieces size (columns_of catalog.now table) (kinds_of catalog.now table) pieces.items lines →
+        ArePieces size (kinds_of catalog.now table) pieces.items lines →
         is_sound catalog.now tables.old ≡ true → is_sound catalog.now tables.new ≡ true }
 {
     let mut line = number;

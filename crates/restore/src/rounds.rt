@@ -1,9 +1,10 @@
 //! Lines of rows read by several threads, while the rows of lines before them are taken.
 
-ghost use Rattle.std.specs.Prelude.{◌≡◌, ◌<◌, ◌≤◌, ◌-◌, [], map, take, drop, length, IfOk};
+ghost use Rattle.std.specs.Prelude.{◌≡◌, ◌<◌, ◌≤◌, ◌-◌, [], None, map, take, drop, length, IfOk};
 ghost use Rattle.schema.specs.Definition.{columns_of};
-ghost use Rattle.restore.specs.Rounds.{RisesKnown, AreTaken};
-ghost use Rattle.restore.specs.Rows.{AreRead, IsPiece, ArePieces};
+ghost use Rattle.std.specs.Option.{option_copied};
+ghost use Rattle.restore.specs.Rounds.{AreTaken};
+ghost use Rattle.restore.specs.Rows.{AreRead, IsPiece, ArePieces, AreKnown, MayRise};
 
 use crate::error::ReadError;
 use crate::pieces::{piece_of, take_pieces};
@@ -108,25 +109,29 @@ fn read_rows<A: Allocator + Copy, G: Gate>(
     Ok(rows)
 }
 
-// The piece of some lines, where so many stretches come before.
+// The piece of some lines, where so many stretches come before. References are looked up in the tables that are known.
 fn read_piece<A: Allocator + Copy, G: Gate>(
     alloc: A,
+    known: Option<&Tables<A>>,
     columns: &[Column<A>],
     kinds: &[Kind],
     lines: &[&[u8]],
     gate: &G,
     before: u64,
 ) -> Result<ReadPiece<A>, AllocError>
-    ensures { IfOk result (λ piece. IsPiece columns.now kinds.now piece (map (λ line. line.now) lines.now)) }
+    ensures { IfOk result (λ piece. IsPiece (option_copied known.entry) columns.now kinds.now piece
+        (map (λ line. line.now) lines.now)) }
 {
     let rows = read_rows(alloc, kinds, lines, gate, before)?;
-    Ok(piece_of(columns, rows))
+    Ok(piece_of(known, columns, rows))
 }
 
-/// The pieces of a round's lines, of so many lines each, each read in a thread of its own.
+/// The pieces of a round's lines, of so many lines each, each read in a thread of its own. References are looked up in
+/// the tables that are known.
 pub fn read_round<R: Threads + Sync, G: Gate, A: Allocator + Copy + Send + Sync>(
     rt: &R,
     alloc: A,
+    known: Option<&Tables<A>>,
     columns: &[Column<A>],
     kinds: &[Kind],
     lines: &[&[u8]],
@@ -135,8 +140,9 @@ pub fn read_round<R: Threads + Sync, G: Gate, A: Allocator + Copy + Send + Sync>
     before: u64,
 ) -> Result<ReadPieces<A>, AllocError>
     requires { 0 < piece_lines }
-    ensures { IfOk result (λ pieces. ArePieces piece_lines columns.now kinds.now pieces.items
+    ensures read { IfOk result (λ pieces. ArePieces piece_lines kinds.now pieces.items
         (map (λ line. line.now) lines.now)) }
+    ensures known { IfOk result (λ pieces. AreKnown (option_copied known.entry) columns.now pieces.items) }
 {
     let pieces = thread::map_chunks(
         rt,
@@ -144,11 +150,12 @@ pub fn read_round<R: Threads + Sync, G: Gate, A: Allocator + Copy + Send + Sync>
         lines,
         piece_lines,
         &|start, lines| -> Result<ReadPiece<A>, AllocError>
-            ensures { IfOk result (λ piece. IsPiece columns.entry.now kinds.entry.now piece
+            ensures { IfOk result (λ piece. IsPiece (option_copied known.entry) columns.entry.now kinds.entry.now piece
                 (map (λ line. line.now) lines.entry.now)) }
         {
             read_piece(
                 alloc,
+                known,
                 columns,
                 kinds,
                 lines,
@@ -158,6 +165,36 @@ pub fn read_round<R: Threads + Sync, G: Gate, A: Allocator + Copy + Send + Sync>
         },
     )?;
     Ok(pieces)
+}
+
+/// The pieces of a round's lines, as `read_round` reads them where no tables are known.
+pub fn read_round_alone<'c, R: Threads + Sync, G: Gate, A: Allocator + Copy + Send + Sync>(
+    rt: &R,
+    alloc: A,
+    columns: &'c [Column<A>],
+    kinds: &[Kind],
+    lines: &[&[u8]],
+    piece_lines: usize,
+    gate: &G,
+    before: u64,
+) -> Result<ReadPieces<A>, AllocError>
+    requires { 0 < piece_lines }
+    ensures read { IfOk result (λ pieces. ArePieces piece_lines kinds.now pieces.items
+        (map (λ line. line.now) lines.now)) }
+    ensures known { IfOk result (λ pieces. AreKnown None columns.now pieces.items) }
+{
+    let nowhere: Option<&'c Tables<A>> = None;
+    read_round(
+        rt,
+        alloc,
+        nowhere,
+        columns,
+        kinds,
+        lines,
+        piece_lines,
+        gate,
+        before,
+    )
 }
 
 /// The tables with the rows of a round, up to the first that isn't taken.
@@ -170,7 +207,7 @@ pub fn take_round<A: Allocator + Copy>(
 ) -> Result<Tables<A>, ReadError>
     requires has { table < length catalog.now }
     requires same_tables { length tables ≡ length catalog.now }
-    requires rise { RisesKnown catalog.now table round.pieces.items }
+    requires rise { MayRise tables (columns_of catalog.now table) round.pieces.items }
     ensures taken { AreTaken catalog.now table tables round.number round.pieces.items result }
     ensures same_tables { IfOk result (λ X. length X ≡ length catalog.now) }
 {

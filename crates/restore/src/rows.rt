@@ -5,7 +5,7 @@ ghost use Rattle.schema.specs.Plain.{is_sound};
 ghost use Rattle.schema.specs.Inserting.{inserted};
 ghost use Rattle.restore.specs.Reading.{Within, kinds_of, with_row, read_lines};
 ghost use Rattle.restore.specs.Lines.{is_row_line};
-ghost use Rattle.restore.specs.Rows.{row_of_values, row_of_line, AreRead};
+ghost use Rattle.restore.specs.Rows.{row_of_values, row_of_line, AreRead, AreStillThere};
 ghost use Rattle.std.specs.List.{list_all};
 ghost use Rattle.restore.specs.Steps.{Gives, Reads};
 ghost use Rattle.restore.specs.declared.error.ReadError.TheVariants as error;
@@ -116,6 +116,7 @@ fn insert_row<A: Allocator + Copy>(
     requires same_tables { length tables.old ≡ length catalog.now }
     ensures row { Gives (λ _. tables.new) result (inserted catalog.now tables.old table row) }
     ensures err { OnErr result (tables.new ≡ tables.old) }
+    ensures stay { AreStillThere tables.old tables.new }
     ensures same_tables { length tables.new ≡ length catalog.now }
     ensures sound { is_sound catalog.now tables.old ≡ true → is_sound catalog.now tables.new ≡ true }
 {
@@ -138,6 +139,7 @@ fn insert_read<A: Allocator + Copy>(
     ensures row { (line : List ℕ) → Gives (λ r. r) row (row_of_line (kinds_of catalog.now table) line) →
         Gives (λ _. tables.new) result (with_row catalog.now tables.old table line) }
     ensures err { OnErr result (tables.new ≡ tables.old) }
+    ensures stay { AreStillThere tables.old tables.new }
     ensures same_tables { length tables.new ≡ length catalog.now }
     ensures sound { is_sound catalog.now tables.old ≡ true → is_sound catalog.now tables.new ≡ true }
 {
@@ -183,6 +185,7 @@ pub fn insert_rows<A: Allocator + Copy>(
         AreRead (kinds_of catalog.now table) rows.items lines → list_all is_row_line lines ≡ true → more ≢ [] →
         Reads (λ _. read_lines (number + length lines) (Within counted catalog.now tables.new table) more) result
         (read_lines number (Within counted catalog.now tables.old table) (lines ++ more)) }
+    ensures stay { AreStillThere tables.old tables.new }
     ensures same_tables { length tables.new ≡ length catalog.now }
     ensures sound { is_sound catalog.now tables.old ≡ true → is_sound catalog.now tables.new ≡ true }
 {

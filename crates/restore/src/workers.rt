@@ -1,6 +1,6 @@
 //! Lines of rows read by several threads.
 
-ghost use Rattle.std.specs.Prelude.{◌≡◌, ◌⊎◌, ◌+◌, ◌<◌, ◌≤◌, ◌∷◌, Bool, true, false, map, length, IfOk};
+ghost use Rattle.std.specs.Prelude.{◌≡◌, ◌⊎◌, ◌+◌, ◌<◌, ◌≤◌, ◌∷◌, Bool, true, false, None, Ok, Err, map, length, IfOk, IfErr};
 ghost use denote.Param.Send.{IsSend, IsSync, Frees};
 ghost use Rattle.std.specs.Str.{bytes_eq};
 ghost use Rattle.schema.specs.Definition.{columns_of};
@@ -8,16 +8,19 @@ ghost use Rattle.schema.specs.Plain.{is_sound};
 ghost use Rattle.dumpplan.specs.Lines.{end_of_rows};
 ghost use Rattle.restore.specs.Progress.{read_in_steps};
 ghost use Rattle.restore.specs.Reading.{Before, Within, ended, kinds_of, lines_of, read_lines, read_dump};
-ghost use Rattle.restore.specs.Rounds.{RisesKnown, AreTaken, IsNextRound};
-ghost use Rattle.restore.specs.Rows.{ArePieces};
+ghost use Rattle.restore.specs.Rounds.{AreTaken, IsNextRound};
+ghost use Rattle.restore.specs.Rows.{ArePieces, AreKnown, MayRise};
 ghost use Rattle.restore.specs.Steps.{Reads, no_memory};
 
 use crate::error::{ReadError, RestoreFault};
 use crate::lines::{Line, Lines, next_row_line, row_lines};
+use crate::pieces::have_references;
 use crate::reading::{
     empty_tables, read_copy_line, read_count, read_end, read_end_of_rows, read_head,
 };
-use crate::rounds::{ReadPieces, Round, STRETCH_LINES, columns_of, read_round, take_round};
+use crate::rounds::{
+    ReadPieces, Round, STRETCH_LINES, columns_of, read_round, read_round_alone, take_round,
+};
 use crate::rows::kinds_of;
 use dumpplan::{Gate, Jobs};
 use schema::catalog::{Catalog, TableNo};
@@ -83,8 +86,8 @@ impl<'w, R: Threads + Sync, G: Gate, A: Allocator + Copy + Send + Sync> Workers<
         self.share = self.share.saturating_mul(2).min(PIECE_STRETCHES);
     }
 
-    // What a round's lines read as, in pieces of so many lines, and the tables with the rows of the round before, which
-    // this thread takes while others read.
+    // The tables with the rows of the round before, which this thread takes while others read lines, in pieces of so
+    // many. None of the rows has references: the tables where these would be looked up change meanwhile.
     fn read_beside(
         &self,
         catalog: &Catalog<A>,
@@ -94,40 +97,42 @@ impl<'w, R: Threads + Sync, G: Gate, A: Allocator + Copy + Send + Sync> Workers<
         size: usize,
         tables: Tables<A>,
         round: Round<A>,
-    ) -> (
-        Result<ReadPieces<A>, AllocError>,
-        Result<Tables<A>, ReadError>,
-    )
+    ) -> Result<(Tables<A>, ReadPieces<A>), ReadError>
         requires size { 0 < size }
         requires has { table < length catalog.now }
         requires same_tables { length tables ≡ length catalog.now }
-        requires rise { RisesKnown catalog.now table round.pieces.items }
-        ensures read { IfOk result.0 (λ pieces. ArePieces size (columns_of catalog.now table) kinds.now pieces.items
-            (map (λ line. line.now) lines.now)) }
-        ensures taken { AreTaken catalog.now table tables round.number round.pieces.items result.1 }
-        ensures same_tables { IfOk result.1 (λ X. length X ≡ length catalog.now) }
+        requires rise { MayRise tables (columns_of catalog.now table) round.pieces.items }
+        ensures read { IfOk result (λ x. ArePieces size kinds.now x.1.items (map (λ line. line.now) lines.now)) }
+        ensures rise { IfOk result (λ x. MayRise x.0 (columns_of catalog.now table) x.1.items) }
+        ensures taken { IfOk result (λ x. AreTaken catalog.now table tables round.number round.pieces.items (Ok x.0)) }
+        ensures stopped { IfErr result (λ e. AreTaken catalog.now table tables round.number round.pieces.items (Err e)) }
+        ensures same_tables { IfOk result (λ x. length x.0 ≡ length catalog.now) }
     {
         let (rt, alloc, gate, before) = (self.rt, self.alloc, self.gate, self.stretches);
         let columns = columns_of(catalog, table);
-        thread::join(
+        let (read, taken) = thread::join(
             rt,
             || -> Result<ReadPieces<A>, AllocError>
                 requires bounds { IsSend A.row × IsSync A.row × Frees A.Allocator A.dealloc_token × IsSync R.row ×
                     IsSync G.row }
                 requires size { 0 < size }
-                ensures { IfOk result (λ pieces. ArePieces size columns.entry.now kinds.entry.now pieces.items
-                    (map (λ line. line.now) lines.entry.now)) }
-            { read_round(rt, alloc, columns, kinds, lines, size, gate, before) },
+                ensures { IfOk result (λ pieces. ArePieces size kinds.entry.now pieces.items
+                    (map (λ line. line.now) lines.entry.now) × AreKnown None columns.entry.now pieces.items) }
+            { read_round_alone(rt, alloc, columns, kinds, lines, size, gate, before) },
             move || -> Result<Tables<A>, ReadError>
                 requires { (table < length catalog.now) × (length tables ≡ length catalog.now) ×
-                    RisesKnown catalog.now table round.pieces.items }
+                    MayRise tables (columns_of catalog.now table) round.pieces.items }
                 ensures { AreTaken catalog.entry.now table tables round.number round.pieces.items result ×
                     IfOk result (λ X. length X ≡ length catalog.entry.now) }
             { take_round(alloc, catalog, table, tables, round) },
-        )
+        );
+        let tables = taken?;
+        let pieces = read?;
+        Ok((tables, pieces))
     }
 
-    // The same by this thread alone.
+    // The tables with the rows of the round before; then lines are read, in pieces of so many, and what their rows
+    // reference is looked up there.
     fn read_behind(
         &self,
         catalog: &Catalog<A>,
@@ -137,27 +142,26 @@ impl<'w, R: Threads + Sync, G: Gate, A: Allocator + Copy + Send + Sync> Workers<
         size: usize,
         tables: Tables<A>,
         round: Round<A>,
-    ) -> (
-        Result<ReadPieces<A>, AllocError>,
-        Result<Tables<A>, ReadError>,
-    )
+    ) -> Result<(Tables<A>, ReadPieces<A>), ReadError>
         requires size { 0 < size }
         requires has { table < length catalog.now }
         requires same_tables { length tables ≡ length catalog.now }
-        requires rise { RisesKnown catalog.now table round.pieces.items }
-        ensures read { IfOk result.0 (λ pieces. ArePieces size (columns_of catalog.now table) kinds.now pieces.items
-            (map (λ line. line.now) lines.now)) }
-        ensures taken { AreTaken catalog.now table tables round.number round.pieces.items result.1 }
-        ensures same_tables { IfOk result.1 (λ X. length X ≡ length catalog.now) }
+        requires rise { MayRise tables (columns_of catalog.now table) round.pieces.items }
+        ensures read { IfOk result (λ x. ArePieces size kinds.now x.1.items (map (λ line. line.now) lines.now)) }
+        ensures rise { IfOk result (λ x. MayRise x.0 (columns_of catalog.now table) x.1.items) }
+        ensures taken { IfOk result (λ x. AreTaken catalog.now table tables round.number round.pieces.items (Ok x.0)) }
+        ensures stopped { IfErr result (λ e. AreTaken catalog.now table tables round.number round.pieces.items (Err e)) }
+        ensures same_tables { IfOk result (λ x. length x.0 ≡ length catalog.now) }
     {
         let (rt, alloc, gate, before) = (self.rt, self.alloc, self.gate, self.stretches);
         let columns = columns_of(catalog, table);
-        let taken = take_round(alloc, catalog, table, tables, round);
-        let read = read_round(rt, alloc, columns, kinds, lines, size, gate, before);
-        (read, taken)
+        let tables = take_round(alloc, catalog, table, tables, round)?;
+        let known = Some(&tables);
+        let pieces = read_round(rt, alloc, known, columns, kinds, lines, size, gate, before)?;
+        Ok((tables, pieces))
     }
 
-    // The same, by as many threads as there are jobs.
+    // The tables with the rows of the round before, and lines that are read, in pieces of so many.
     fn read_and_take(
         &self,
         catalog: &Catalog<A>,
@@ -167,20 +171,18 @@ impl<'w, R: Threads + Sync, G: Gate, A: Allocator + Copy + Send + Sync> Workers<
         size: usize,
         tables: Tables<A>,
         round: Round<A>,
-    ) -> (
-        Result<ReadPieces<A>, AllocError>,
-        Result<Tables<A>, ReadError>,
-    )
+    ) -> Result<(Tables<A>, ReadPieces<A>), ReadError>
         requires size { 0 < size }
         requires has { table < length catalog.now }
         requires same_tables { length tables ≡ length catalog.now }
-        requires rise { RisesKnown catalog.now table round.pieces.items }
-        ensures read { IfOk result.0 (λ pieces. ArePieces size (columns_of catalog.now table) kinds.now pieces.items
-            (map (λ line. line.now) lines.now)) }
-        ensures taken { AreTaken catalog.now table tables round.number round.pieces.items result.1 }
-        ensures same_tables { IfOk result.1 (λ X. length X ≡ length catalog.now) }
+        requires rise { MayRise tables (columns_of catalog.now table) round.pieces.items }
+        ensures read { IfOk result (λ x. ArePieces size kinds.now x.1.items (map (λ line. line.now) lines.now)) }
+        ensures rise { IfOk result (λ x. MayRise x.0 (columns_of catalog.now table) x.1.items) }
+        ensures taken { IfOk result (λ x. AreTaken catalog.now table tables round.number round.pieces.items (Ok x.0)) }
+        ensures stopped { IfErr result (λ e. AreTaken catalog.now table tables round.number round.pieces.items (Err e)) }
+        ensures same_tables { IfOk result (λ x. length x.0 ≡ length catalog.now) }
     {
-        if self.jobs.get() == 1 {
+        if self.jobs.get() == 1 || have_references(columns_of(catalog, table)) {
             self.read_behind(catalog, table, kinds, lines, size, tables, round)
         } else {
             self.read_beside(catalog, table, kinds, lines, size, tables, round)
@@ -203,15 +205,15 @@ impl<'w, R: Threads + Sync, G: Gate, A: Allocator + Copy + Send + Sync> Workers<
         requires kinds { kinds.now ≡ kinds_of catalog.now table }
         requires number { line.rest.number ≡ line.number + 1 }
         requires row { bytes_eq line.bytes.now end_of_rows ≡ false }
-        requires rise { RisesKnown catalog.now table round.pieces.items }
+        requires rise { MayRise tables (columns_of catalog.now table) round.pieces.items }
         ensures begun { IsNextRound catalog.now table tables round line.entry result }
         ensures same_tables { IfOk result (λ x. length x.1 ≡ length catalog.now) }
-        ensures rise { IfOk result (λ x. RisesKnown catalog.now table x.2.pieces.items) }
+        ensures rise { IfOk result (λ x. MayRise x.1 (columns_of catalog.now table) x.2.pieces.items) }
         ensures shorter { IfOk result (λ x. length x.0.text.now ≤ length line.entry.rest.text.now) }
     {
         let (lines, left) = row_lines(self.alloc, line, self.most_lines())?;
         let size = piece_lines(lines.len(), self.jobs);
-        let (read, taken) = self.read_and_take(
+        let (tables, pieces) = self.read_and_take(
             catalog,
             table,
             kinds,
@@ -219,9 +221,7 @@ impl<'w, R: Threads + Sync, G: Gate, A: Allocator + Copy + Send + Sync> Workers<
             size,
             tables,
             round,
-        );
-        let tables = taken?;
-        let pieces = read?;
+        )?;
         self.count_round(lines.len());
         let number = line.number;
         Ok((left, tables, Round { number, pieces }))

@@ -4,8 +4,8 @@ use Rattle.schema.specs.Definition.{columns_of}
 use Rattle.schema.specs.Plain.{is_sound, rows_of}
 use Rattle.restore.specs.Lines.{is_row_line}
 use Rattle.restore.specs.Reading.{kinds_of}
-use Rattle.restore.specs.Rows.{AreRead}
-use Rattle.restore.proofs.BehindLemmas.{IsFollowed}
+use Rattle.restore.specs.Rows.{AreRead, AreStillThere}
+use Rattle.restore.proofs.FollowedLemmas.{IsFollowed}
 use Rattle.restore.proofs.PieceLemmas.{IsInserting}
 use Rattle.restore.proofs.TakingLemmas.{IsKept}
 use Rattle.restore.proofs.pieces.put_rows.Given as goal
@@ -16,7 +16,8 @@ invariant-loop-row g l = record {
   rows : (counted : Bool) (lines more : List (List ℕ)) → AreRead (kinds_of l.catalog l.table) l.fn.rows.items lines → list_all is_row_line lines ≡ true → more ≢ []
       → IsInserting counted l.catalog l.table more l.number lines l.fn.tables l.line l.row-iterator.rest.items l.tables;
   room : l.line + length l.row-iterator.rest.items ≡ l.number + vec_len l.fn.rows;
-  followed : IsFollowed (columns_of l.catalog l.table) (rows_of l.tables l.table) l.row-iterator.rest.items;
+  followed : IsFollowed l.tables (columns_of l.catalog l.table) (rows_of l.tables l.table) l.row-iterator.rest.items;
+  stay : AreStillThere l.fn.tables l.tables;
   same_tables : length l.tables ≡ length l.catalog;
   sound : (lines : List (List ℕ)) → AreRead (kinds_of l.catalog l.table) l.fn.rows.items lines → is_sound l.catalog l.fn.tables ≡ true → IsKept l.catalog l.table l.row-iterator.rest.items l.tables;
 }

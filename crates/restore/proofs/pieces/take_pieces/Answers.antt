@@ -1,24 +1,24 @@
-use Rattle.std.proofs.Common.{IfOk, ◌≡◌, ◌+◌, ◌∷◌, ◌∙◌, ap, sym, subst, length, arith}
-use Rattle.std.specs.List.{AllByRecursion}
+use Rattle.std.proofs.Common.{◌≡◌, ◌+◌, ◌∷◌, ◌∙◌, ap, sym, subst, length, arith}
 use Rattle.std.proofs.lemmas.List.{nil_from_length}
 use Rattle.std.proofs.lemmas.Result.{err_from_is_err_and}
 use Rattle.schema.specs.Definition.{columns_of}
-use Rattle.restore.specs.Rows.{rise}
-use Rattle.restore.proofs.TakingLemmas.{rises_first, rises_rest, taking-first, taking-next, taking-stops, taking-all, keeping-first, keeping-next}
+use Rattle.restore.specs.Rows.{MayRise}
+use Rattle.restore.proofs.StillThere.{may_first, may_rest, may_still}
+use Rattle.restore.proofs.TakingLemmas.{taking-first, taking-next, taking-stops, taking-all, keeping-first, keeping-next}
 use Rattle.restore.proofs.pieces.take_pieces.Goals as goal
 
 pub loop-piece-init : goal.loop-piece-init
 loop-piece-init g c = record {
   rows = λ counted size lines more are alone some.
       taking-first counted size c.args.catalog.now c.args.table more c.args.number lines c.args.tables.now c.into_iter-piece-iterator.result.rest.items c.args.pieces.items c.into_iter-piece-iterator.ensures.into_iter_gives.0 are alone;
-  rise = subst (AllByRecursion (λ p. IfOk p (λ piece. piece.rise ≡ rise (columns_of c.args.catalog.now c.args.table) piece.rows.items))) (sym c.into_iter-piece-iterator.ensures.into_iter_gives.0) c.requires.rise;
+  rise = subst (MayRise c.args.tables.now (columns_of c.args.catalog.now c.args.table)) (sym c.into_iter-piece-iterator.ensures.into_iter_gives.0) c.requires.rise;
   same_tables = c.requires.same_tables;
   sound = λ size lines are h. keeping-first size c.args.catalog.now c.args.table c.into_iter-piece-iterator.result.rest.items c.args.pieces.items lines c.args.tables.now c.into_iter-piece-iterator.ensures.into_iter_gives.0 are h;
 }
 
 pub take_rows-requires-clause-rise : goal.take_rows-requires-clause-rise
 take_rows-requires-clause-rise g c =
-    rises_first (columns_of c.args.catalog.now c.args.table) c.loop-piece.piece-iterator.rest.items c.next.new.self.rest.items c.in_ok-piece.piece (c.in-Some.ensures.steps.0 ∙ ap (λ p. p ∷ c.next.new.self.rest.items) c.in_ok-piece.was) c.loop-piece.invariant.rise
+    may_first c.loop-piece.tables (columns_of c.args.catalog.now c.args.table) c.loop-piece.piece-iterator.rest.items c.next.new.self.rest.items c.in_ok-piece.piece (c.in-Some.ensures.steps.0 ∙ ap (λ p. p ∷ c.next.new.self.rest.items) c.in_ok-piece.was) c.loop-piece.invariant.rise
 
 pub loop-piece-preserved : goal.loop-piece-preserved
 loop-piece-preserved g c =
@@ -28,7 +28,9 @@ loop-piece-preserved g c =
       rows = λ counted size lines more are alone some.
           taking-next counted size c.args.catalog.now c.args.table more c.args.number lines c.args.tables.now c.loop-piece.line c.in_ok-next.next c.loop-piece.piece-iterator.rest.items c.next.new.self.rest.items c.loop-piece.tables c.take_rows.new.tables c.in_ok-piece.piece
           some e same (λ front behind read rows some_behind. c.in_ok-take_rows.ensures.rows counted front behind read rows some_behind) (c.loop-piece.invariant.rows counted size lines more are alone some);
-      rise = rises_rest (columns_of c.args.catalog.now c.args.table) c.loop-piece.piece-iterator.rest.items c.next.new.self.rest.items c.in_ok-piece.piece e c.loop-piece.invariant.rise;
+      rise =
+          may_still c.loop-piece.tables c.take_rows.new.tables (columns_of c.args.catalog.now c.args.table) c.next.new.self.rest.items c.take_rows.ensures.stay
+          (may_rest c.loop-piece.tables (columns_of c.args.catalog.now c.args.table) c.loop-piece.piece-iterator.rest.items c.next.new.self.rest.items c.in_ok-piece.piece e c.loop-piece.invariant.rise);
       same_tables = c.take_rows.ensures.same_tables;
       sound = λ size lines are h.
           keeping-next size c.args.catalog.now c.args.table c.loop-piece.piece-iterator.rest.items c.next.new.self.rest.items c.loop-piece.tables c.take_rows.new.tables c.in_ok-piece.piece e c.take_rows.ensures.sound (c.loop-piece.invariant.sound size lines are h);

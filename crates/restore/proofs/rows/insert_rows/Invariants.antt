@@ -3,7 +3,7 @@ use Rattle.std.specs.List.{list_all}
 use Rattle.schema.specs.Plain.{is_sound}
 use Rattle.restore.specs.Lines.{is_row_line}
 use Rattle.restore.specs.Reading.{kinds_of}
-use Rattle.restore.specs.Rows.{AreRead}
+use Rattle.restore.specs.Rows.{AreRead, AreStillThere}
 use Rattle.restore.proofs.PieceLemmas.{IsInserting}
 use Rattle.restore.proofs.rows.insert_rows.Given as goal
 
@@ -13,6 +13,7 @@ invariant-loop-row g l = record {
   rows : (counted : Bool) (lines more : List (List ℕ)) → AreRead (kinds_of l.catalog l.table) l.fn.rows.items lines → list_all is_row_line lines ≡ true → more ≢ []
       → IsInserting counted l.catalog l.table more l.number lines l.fn.tables l.line l.row-iterator.rest.items l.tables;
   room : l.line + length l.row-iterator.rest.items ≡ l.number + vec_len l.fn.rows;
+  stay : AreStillThere l.fn.tables l.tables;
   same_tables : length l.tables ≡ length l.catalog;
   sound : is_sound l.catalog l.fn.tables ≡ true → is_sound l.catalog l.tables ≡ true;
 }

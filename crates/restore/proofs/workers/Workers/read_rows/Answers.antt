@@ -1,7 +1,9 @@
 use Rattle.std.proofs.Common.{refl, sym, subst, ◌∙◌}
 use Rattle.std.proofs.lemmas.Result.{err_from_is_err_and}
 use Rattle.restore.specs.Reading.{Within, lines_of, read_lines}
-use Rattle.restore.specs.Rounds.{Told, RisesKnown}
+use Rattle.schema.specs.Definition.{columns_of}
+use Rattle.restore.specs.Rounds.{Told}
+use Rattle.restore.specs.Rows.{MayRise}
 use Rattle.restore.proofs.ReadingLemmas.{split_some, stops_at}
 use Rattle.restore.proofs.RoundLemmas.{waiting-first, waiting-line}
 use Rattle.restore.proofs.workers.Workers.read_rows.Goals as goal
@@ -12,7 +14,7 @@ loop-round-init g c =
     record {
       rows = waiting-first c.args.catalog.now c.args.table c.args.tables told c.new-round.result.number c.args.lines.number c.new-round.result.pieces.items (lines_of c.args.lines.text.now) c.new-round.ensures.number c.new-round.ensures.pieces (λ counted. refl);
       same_tables = c.requires.same_tables;
-      rise = subst (RisesKnown c.args.catalog.now c.args.table) (sym c.new-round.ensures.pieces) tt;
+      rise = subst (MayRise c.args.tables (columns_of c.args.catalog.now c.args.table)) (sym c.new-round.ensures.pieces) tt;
     }
 
 pub returns-in_err-tables-clause-rows : goal.returns-in_err-tables-clause-rows
