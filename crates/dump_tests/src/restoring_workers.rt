@@ -139,6 +139,40 @@ fn a_key_of_another_piece_is_met_again(rt: HostRuntime) -> Result<(), Fail> {
     Ok(())
 }
 
+// A dump of two tables of so many rows. Each row of the second references the first table's row of its key.
+fn pairs(alloc: Global, count: u32) -> Result<String, Fail> {
+    let mut rows = String::new(alloc);
+    let mut text = String::from_str(
+        alloc,
+        "-- dump 1\nCREATE TABLE p (id bigint PRIMARY KEY);\n",
+    )?;
+    text.push_str("CREATE TABLE c (id bigint PRIMARY KEY, p bigint REFERENCES p);\n")?;
+    text.push_str("COPY p (id) FROM stdin;\n")?;
+    for key in 0..count {
+        let line = format!(in alloc; "{key}\n")?;
+        text.push_str(line.as_str())?;
+        let line = format!(in alloc; "{key}\t{key}\n")?;
+        rows.push_str(line.as_str())?;
+    }
+    text.push_str("\\.\nCOPY c (id, p) FROM stdin;\n")?;
+    text.push_str(rows.as_str())?;
+    text.push_str("\\.\n-- end\n")?;
+    Ok(text)
+}
+
+#[test]
+fn what_later_pieces_reference_is_looked_up(rt: HostRuntime) -> Result<(), Fail> {
+    let alloc = rt.alloc();
+    let dump = pairs(alloc, 2500)?;
+    assert_eq!(rt; fault_of(&rt, alloc, dump.as_str())?, None);
+    // Row 2100 of the second table is on line 4 + 2500 + 2 + 2101.
+    let (start, rest) = dump.split_once("2100\t2100\n").ok_or("it has the row")?;
+    let dangles = format!(in alloc; "{start}2100\t2500\n{rest}")?;
+    let found = fault_of(&rt, alloc, dangles.as_str())?;
+    assert_eq!(rt; found, Some((4607, Code::ForeignKeyViolation)));
+    Ok(())
+}
+
 #[test]
 fn workers_read_what_one_thread_reads(rt: HostRuntime) -> Result<(), Fail> {
     let alloc = rt.alloc();
