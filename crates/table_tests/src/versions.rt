@@ -5,6 +5,7 @@ ghost use Rattle.schema.specs.Rows.{HasTable};
 ghost use Rattle.mvrows.specs.Versions.{TablesAreBelow};
 
 mod pages;
+mod prunings;
 
 use crate::batches::walked;
 use mvrows::rows::Rows;
