@@ -3,7 +3,7 @@ use Rattle.std.proofs.Common.{◌≡◌, ◌⊎◌, ◌^◌, ◌<◌, ◌≤◌,
 use Rattle.std.specs.Str.Parse.{ParsesUnsigned}
 use Rattle.clap.specs.Words.{ReadsOne, Row, Text, subcommand_of}
 use Rattle.program.specs.CommandLine.{pgserial}
-use Rattle.program.specs.Asked.{AsksFor, IsFlag, IsNumber, Writes, command_of, number_of}
+use Rattle.program.specs.Asked.{AsksFor, IsFlag, IsNumber, MayWork, Writes, command_of, number_of}
 use Rattle.program.specs.declared.task.Task.{Task}
 
 -- what a number of 32 bits is read as
@@ -20,13 +20,9 @@ writes usual None r none some = ap (λ x. unwrap_or x usual) (none refl)
 writes usual (Some t) (Some n) none some = inl (some t refl)
 writes usual (Some t) None none some = inr (some t refl, refl)
 
--- how many workers there may be
-abbrev pub MayWork : ℕ → Type 0
-MayWork n = (1 ≤ n) × (n ≤ 64)
-
-pub chosen : (o : Option Text) (n k : ℕ) → (o ≡ None → Some n ≡ None) → ((t : Text) → o ≡ Some t → IsRead (Some n) t) → ((1 ≤ n) × (n ≤ 64) × (k ≡ n)) ⊎ ((MayWork n → ⊥) × (k ≡ 1)) → Writes MayWork 1 o k
+pub chosen : (o : Option Text) (n k : ℕ) → (o ≡ None → Some n ≡ None) → ((t : Text) → o ≡ Some t → IsRead (Some n) t) → MayWork n × (k ≡ n) ⊎ ((MayWork n → ⊥) × (k ≡ 1)) → Writes MayWork 1 o k
 chosen None n k none some which = absurd (true≢false (ap is_some (none refl)))
-chosen (Some t) n k none some (inl within) = let is = some t refl in inl ((is.0.0, subst MayWork is.1 (within.0, within.1)), within.2 ∙ is.1)
+chosen (Some t) n k none some (inl within) = let is = some t refl in inl ((is.0.0, subst MayWork is.1 within.0), within.1 ∙ is.1)
 chosen (Some t) n k none some (inr out) = let is = some t refl in inr (λ may. out.0 (subst MayWork (sym is.1) may.1), out.1)
 
 pub not_chosen : (o : Option Text) (k : ℕ) → ((t : Text) → o ≡ Some t → IsRead None t) → k ≡ 1 → Writes MayWork 1 o k

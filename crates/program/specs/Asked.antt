@@ -30,9 +30,13 @@ Writes may usual (Some text) n = (IsNumber may text × (n ≡ number_of text)) �
 abbrev pub WritesEvents : List Row → ℕ → Type 0
 WritesEvents rows = Writes (λ n. n < 2 ^ 32) 100000 (one_of (codes "events") rows)
 
+-- there may be so many workers
+abbrev pub MayWork : ℕ → Type 0
+MayWork n = (1 ≤ n) × (n ≤ 64)
+
 -- how many workers there are to be
 abbrev pub WritesJobs : List Row → ℕ → Type 0
-WritesJobs rows = Writes (λ n. (1 ≤ n) × (n ≤ 64)) 1 (one_of (codes "jobs") rows)
+WritesJobs rows = Writes MayWork 1 (one_of (codes "jobs") rows)
 
 -- whether a flag is among the words
 abbrev pub IsFlag : Option Text → Bool → Type 0

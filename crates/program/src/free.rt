@@ -26,7 +26,8 @@ const NO_MEMORY: Fault<'static> = Fault::Script { line: 0 };
 
 // What the sessions of a script begin with: the tables of its dump, or those that it creates, without
 // rows.
-fn begin<'p, F: Files<Global>>(
+fn begin<'p, F: Files<Global>, T: Threads + Sync>(
+    rt: &T,
     alloc: Global,
     files: &F,
     catalog: Catalog,
@@ -34,7 +35,7 @@ fn begin<'p, F: Files<Global>>(
     lines: &'p [Line],
     most_events: u32,
 ) -> Result<Beginning<'p>, Fault<'p>> {
-    let (catalog, tables) = open_tables(alloc, files, opens, catalog)?;
+    let (catalog, tables) = open_tables(rt, alloc, files, opens, catalog)?;
     Ok(Beginning {
         catalog,
         tables,
@@ -86,6 +87,7 @@ where
 {
     let (catalog, opens, lines) = script.into_parts();
     let begun = begin(
+        rt,
         alloc,
         files,
         catalog,

@@ -17,3 +17,4 @@ mod sessions;
 mod steps;
 mod task;
 pub mod words;
+mod workers;

@@ -83,7 +83,7 @@ pub enum Progress<'r> {
 
 impl<'r> Progress<'r> {
     /// A line on standard error where that is a terminal, and nothing elsewhere.
-    pub fn on_terminal(rt: &'r HostRuntime, stage: Stage) -> Progress<'r> {
+    pub(crate) fn on_terminal(rt: &'r HostRuntime, stage: Stage) -> Progress<'r> {
         if !rt.stderr().is_terminal() {
             return Progress::Hidden;
         }
@@ -100,7 +100,7 @@ impl<'r> Progress<'r> {
     }
 
     /// Takes away what was shown, when the work has ended.
-    pub fn clear(&self) {
+    pub(crate) fn clear(&self) {
         match self {
             Progress::Hidden => {}
             Progress::Shown(line) => line.clear(),

@@ -18,7 +18,7 @@ use crate::progress::Stage;
 use crate::run::read_path;
 use dumpplan::{Gate, Jobs, PieceRows};
 use dumpworker::{DumpFault, dump};
-use restore::{restore, restore_one};
+use restore::restore;
 use schema::catalog::{Catalog, TableNo};
 use schema::tables::Tables;
 use std::alloc::Allocator;
@@ -80,26 +80,9 @@ fn sound_tables_are_counted<A: Allocator>(_catalog: &Catalog<A>, _tables: &Table
     ensures { length _tables.now ≡ length _catalog.now }
 {}
 
-/// The catalog and the tables that a dump reads as, or the dump's first faulty line; read by the
-/// calling thread.
-pub(crate) fn read_dump<'p, A: Allocator + Copy>(
-    alloc: A,
-    dump: &[u8],
-) -> Result<(Catalog<A>, Tables<A>), Fault<'p>>
-    ensures read { (result ≡ loaded (read_dump dump.now)) ⊎ (result ≡ loaded (Err no_memory)) }
-    ensures sound { IfOk result (λ x. is_sound x.0 x.1 ≡ true) }
-{
-    match restore_one(alloc, dump) {
-        Ok(found) => Ok(found),
-        Err(fault) => Err(Fault::Dump {
-            line: fault.line,
-            code: fault.code,
-        }),
-    }
-}
-
-// The same, with the lines of its rows read by workers.
-fn read_by_workers<'p, A, T, G>(
+/// The catalog and the tables that a dump reads as, or the dump's first faulty line; the lines of its
+/// rows are read by workers.
+pub(crate) fn read_dump<'p, A, T, G>(
     rt: &T,
     alloc: A,
     dump: &[u8],
@@ -138,7 +121,7 @@ where
     ensures sound { IfOk result (λ x. is_sound x.0 x.1 ≡ true) }
 {
     let shown = files.watch(Stage::Reading);
-    let read = read_by_workers(rt, alloc, dump, jobs, &shown);
+    let read = read_dump(rt, alloc, dump, jobs, &shown);
     shown.clear();
     read
 }

@@ -17,6 +17,8 @@ use crate::files::{Files, ReadError};
 use crate::output::{Printer, fault_of_print};
 use crate::restoring::{NO_MEMORY, read_dump};
 use crate::steps::{do_step, order_of};
+use crate::workers::as_many_as_processors;
+use dumpplan::NoGate;
 use schema::catalog::Catalog;
 use schema::tables::Tables;
 use script::schedule::Schedule;
@@ -79,22 +81,27 @@ where
     }
 }
 
-// The tables of a dump that a script opens.
-fn open_dump<'p, A, F>(
+// The tables of a dump that a script opens, read by a worker for each processor.
+fn open_dump<'p, A, F, T>(
+    rt: &T,
     alloc: A,
     files: &F,
     path: &'p str,
 ) -> Result<(Catalog<A>, Tables<A>), Fault<'p>>
 where
-    A: Allocator + Copy,
+    A: Allocator + Copy + Send + Sync,
     F: Files<A>,
+    T: Threads + Sync,
     ensures read { IfOk result (λ x. (bytes : List ℕ) × IsAllOf (F.held files.now path.now) bytes ×
         (dump_read bytes ≡ Ok x)) }
     ensures sound { IfOk result (λ x. is_sound x.0 x.1 ≡ true) }
     ensures fault { IfErr result (λ f. IsUnread A (F.held files.now path.now) path.now f) }
 {
     match files.read(alloc, path) {
-        Ok(dump) => read_dump(alloc, dump.as_slice()),
+        Ok(dump) => {
+            let jobs = as_many_as_processors(rt);
+            read_dump(rt, alloc, dump.as_slice(), jobs, &NoGate)
+        }
         Err(error) => Err(fault_of_read(error, path, NO_MEMORY)),
     }
 }
@@ -116,27 +123,30 @@ fn empty_tables<'p, A: Allocator + Copy>(
 
 /// The tables that a script begins with: those of the dump that it opens, or those that it creates,
 /// without rows.
-pub(crate) fn open_tables<'p, A, F>(
+pub(crate) fn open_tables<'p, A, F, T>(
+    rt: &T,
     alloc: A,
     files: &F,
     opens: Option<&'p Text<A>>,
     catalog: Catalog<A>,
 ) -> Result<(Catalog<A>, Tables<A>), Fault<'p>>
 where
-    A: Allocator + Copy,
+    A: Allocator + Copy + Send + Sync,
     F: Files<A>,
+    T: Threads + Sync,
     ensures begins { IfOk result (λ x. BeginsWith (F.held files.now) (option_copied opens.entry) catalog x.0 x.1) }
     ensures sound { IfOk result (λ x. is_sound x.0 x.1 ≡ true) }
     ensures fault { IfErr result (λ f. IsUnopened A (F.held files.now) (option_copied opens.entry) f) }
 {
     match opens {
-        Some(path) => open_dump(alloc, files, path.as_str()),
+        Some(path) => open_dump(rt, alloc, files, path.as_str()),
         None => empty_tables(alloc, catalog),
     }
 }
 
 // The core that a script begins with.
-fn open_core<'p, A, F>(
+fn open_core<'p, A, F, T>(
+    rt: &T,
     alloc: A,
     files: &F,
     opens: Option<&'p Text<A>>,
@@ -144,13 +154,14 @@ fn open_core<'p, A, F>(
     most_events: u32,
 ) -> Result<Core<A>, Fault<'p>>
 where
-    A: Allocator + Copy,
+    A: Allocator + Copy + Send + Sync,
     F: Files<A>,
+    T: Threads + Sync,
     ensures begun { IfOk result (λ core. (c : AnyCatalog) × (X : AnyTables A) ×
         BeginsWith (F.held files.now) (option_copied opens.entry) catalog c X × (core ≡ begun c X most_events)) }
     ensures fault { IfErr result (λ f. IsUnbegun A (F.held files.now) (option_copied opens.entry) catalog f) }
 {
-    let (catalog, tables) = open_tables(alloc, files, opens, catalog)?;
+    let (catalog, tables) = open_tables(rt, alloc, files, opens, catalog)?;
     match Core::open(alloc, catalog, tables, most_events) {
         Ok(core) => Ok(core),
         Err(_) => Err(Fault::Script { line: 0 }),
@@ -248,7 +259,7 @@ where
         (record { catalog = catalog; opens = option_copied opens.entry; lines = lines.entry.now }) f printer.old
         printer.new) }
 {
-    let core = open_core(alloc, files, opens, catalog, way.most_events)?;
+    let core = open_core(rt, alloc, files, opens, catalog, way.most_events)?;
     do_all_lines(rt, alloc, files, core, lines, way, printer)
 }
 

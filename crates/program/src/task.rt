@@ -1,11 +1,12 @@
 //! What the words of the command line ask for.
 
-ghost use Rattle.std.specs.Prelude.{◌≡◌, ◌⊎◌, ◌≤◌, IfOk, false, map, codes};
+ghost use Rattle.std.specs.Prelude.{◌≡◌, ◌⊎◌, IfOk, false, map, codes};
 ghost use Rattle.clap.specs.Words.{FailsBy, app_of, fault_of, found_of, one_of, rows_of, rule_of, subcommand_of, subcommand_rows_of};
 ghost use Rattle.program.specs.Asked as asked;
 ghost use Rattle.program.specs.CommandLine as spec;
 
 use crate::run::{Shown, Way};
+use crate::workers::{one_job, so_many};
 use clap::builder::ValueParser;
 use clap::{Arg, ArgAction, ArgMatches, Command, Error};
 use dumpplan::Jobs;
@@ -128,7 +129,9 @@ fn pgserial<'w>(alloc: Global) -> Result<Command<'w>, AllocError>
         .arg(script(alloc))?
         .arg(events(alloc))?;
     let restore_command = Command::new(alloc, "restore")
-        .about("Load a dump, write its text to a file, and tell its tables and rows")
+        .about(
+            "Load a dump, write its text to a file, and tell its tables and rows; show how far it is, where standard error is a terminal",
+        )
         .arg(dump(alloc))?
         .arg(jobs(alloc))?
         .arg(out(alloc))?;
@@ -154,31 +157,11 @@ fn matches_of<'w>(alloc: Global, words: &'w [&'w str]) -> Result<ArgMatches<'w>,
     program.try_get_matches_from(words)
 }
 
-// One worker.
-fn one_job() -> Jobs
-    ensures { result ≡ 1 }
-{
-    let Some(jobs) = Jobs::new(1) else {
-        unreachable!()
-    };
-    jobs
-}
-
 // A path that is given, or standard input's.
 fn path_of<'w>(command: &ArgMatches<'w>, id: &str) -> &'w str
     ensures { result.now ≡ asked.path_of id.now (rows_of (found_of command.now)) }
 {
     command.get_str(id).unwrap_or("-")
-}
-
-// So many workers, or one where there can't be so many.
-fn so_many(count: u32) -> Jobs
-    ensures { ((1 ≤ count) × (count ≤ 64) × (result ≡ count)) ⊎ (((1 ≤ count) × (count ≤ 64) → ⊥) × (result ≡ 1)) }
-{
-    match Jobs::new(count) {
-        Some(jobs) => jobs,
-        None => one_job(),
-    }
 }
 
 // How many workers are asked for; one where nothing is said.

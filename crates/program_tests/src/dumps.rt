@@ -1,6 +1,8 @@
 //! Dumps that are written, opened and restored.
 
 use crate::driver::{Given, assert_ends, lines_of};
+use std::alloc::Global;
+use std::fmt::Write;
 use std::test::Fail;
 
 // A dump of four rows, as version 1 has it.
@@ -107,6 +109,11 @@ fn faulty_dumps(rt: HostRuntime) -> Result<(), Fail> {
         let told = format!(in rt.alloc(); "dump line {fault}\n")?;
         let words = "restore - --out o --jobs 2";
         assert_ends(&rt, Given::of(words, dump.as_str()), (1, "", told.as_str()))?;
+        let opened = Given {
+            files: &[("d", dump.as_bytes())],
+            ..Given::of("run -", "OPEN d;\n")
+        };
+        assert_ends(&rt, opened, (1, "", told.as_str()))?;
     }
     Ok(())
 }
@@ -200,6 +207,46 @@ fn a_dump_is_opened(rt: HostRuntime) -> Result<(), Fail> {
     };
     let replies = "1 BEGIN\n1 SELECT 1\n1 | 1\t2\n1 SELECT 1\n1 | 1\t1\n";
     assert_ends(&rt, given, (0, replies, ""))
+}
+
+// The dump of a table of the rows 1 to 2500, of which the last stands first where that is asked for.
+fn dump_of_many(alloc: Global, last_first: bool) -> Result<String, Fail> {
+    let head = "-- dump 2\nCREATE TABLE t (id bigint PRIMARY KEY);\nCOPY t (id) FROM stdin;\n";
+    let mut text = String::from_str(alloc, head)?;
+    if last_first {
+        text.push_str("2500\n")?;
+    }
+    for row in 1..2501u32 {
+        writeln!(text, "{row}")?;
+    }
+    text.push_str("\\.\n-- rows 2500\n-- end\n")?;
+    Ok(text)
+}
+
+const COUNTED: &str = "\
+OPEN many;
+1 BEGIN READ ONLY;
+1 SELECT count(*) FROM t;
+1 SELECT * FROM t WHERE id > 2499;
+";
+
+// The lines of its rows are read by several workers where there are several processors. Its first faulty line is the
+// one behind 3 lines and 2500 rows.
+#[test]
+fn many_rows_are_opened(rt: HostRuntime) -> Result<(), Fail> {
+    let replies = "1 BEGIN\n1 SELECT 1\n1 | 2500\n1 SELECT 1\n1 | 2500\n";
+    for (last_first, end) in [
+        (false, (0, replies, "")),
+        (true, (1, "", "dump line 2504: 23505\n")),
+    ] {
+        let dump = dump_of_many(rt.alloc(), last_first)?;
+        let given = Given {
+            files: &[("many", dump.as_bytes())],
+            ..Given::of("run -", COUNTED)
+        };
+        assert_ends(&rt, given, end)?;
+    }
+    Ok(())
 }
 
 // Snapshots that were imported are dumped where their exporter is safe.

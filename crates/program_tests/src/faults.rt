@@ -170,6 +170,22 @@ fn help(rt: HostRuntime) -> Result<(), Fail> {
     Ok(())
 }
 
+// That a restore shows how far it is on a terminal, and nowhere else, is told of the command.
+#[test]
+fn help_of_a_restore(rt: HostRuntime) -> Result<(), Fail> {
+    for words in ["--help", "restore --help"] {
+        let mut out = Vec::new(rt.alloc());
+        let mut err = Vec::new(rt.alloc());
+        status_of(&rt, Given::of(words, ""), &mut out, &mut err)?;
+        let told = String::from_utf8(out)?;
+        assert!(rt;
+            told.contains("where standard error is a terminal"),
+            "{told}"
+        );
+    }
+    Ok(())
+}
+
 #[test]
 fn version(rt: HostRuntime) -> Result<(), Fail> {
     assert_ends(&rt, Given::of("--version", ""), (0, "pgserial 0.1.0\n", ""))?;

@@ -2,8 +2,8 @@ use Rattle.std.proofs.Common.{Some, None, codes, subst}
 use Rattle.std.specs.Str.Parse.{ExplainsUnsignedError, HasUnsignedDigitsIfOk}
 use Rattle.clap.specs.Words.{found_of, one_text}
 use Rattle.clap.proofs.WalkLemmas.{one_text-rows}
-use Rattle.program.specs.Asked.{Writes}
-use Rattle.program.proofs.AskedLemmas.{MayWork, chosen, is_read, not_chosen}
+use Rattle.program.specs.Asked.{MayWork, Writes}
+use Rattle.program.proofs.AskedLemmas.{chosen, is_read, not_chosen}
 use Rattle.program.proofs.task.jobs_of.Goals as goal
 
 pub returns-in-Some : goal.returns-in-Some
