@@ -23,6 +23,7 @@ use schema::catalog::{Catalog, TableNo};
 use schema::tables::Tables;
 use std::alloc::Allocator;
 use std::io::Write;
+use std::mem::forget;
 use std::sync::Wait;
 use std::thread::Threads;
 use value::refusal::{Code, Refusal};
@@ -211,5 +212,8 @@ where
 {
     let bytes = read_path(alloc, files, path, NO_MEMORY)?;
     let (catalog, tables) = read_shown(rt, alloc, files, bytes.as_slice(), jobs)?;
-    write_and_tell(rt, alloc, files, &catalog, &tables, jobs, out, printer)
+    let told = write_and_tell(rt, alloc, files, &catalog, &tables, jobs, out, printer);
+    // The program ends next, and its memory with it. A drop would give the rows back one by one.
+    forget(tables);
+    told
 }

@@ -6,7 +6,7 @@ use Rattle.program.proofs.restoring.restore_file.Goals as goal
 
 pub returns-clause-done : goal.returns-clause-done
 returns-clause-done g c =
-    on_ok c.write_and_tell.result _ _ _ _
+    on_ok c.write_and_tell-told.result _ _ _ _
     (λ written printed flushed. (
       c.in_ok-bytes.bytes.items,
       c.in_ok-catalog.catalog,
@@ -17,4 +17,4 @@ returns-clause-done g c =
       printed,
       flushed,
     ))
-    c.write_and_tell.ensures.written c.write_and_tell.ensures.printed c.write_and_tell.ensures.flushed
+    c.write_and_tell-told.ensures.written c.write_and_tell-told.ensures.printed c.write_and_tell-told.ensures.flushed
