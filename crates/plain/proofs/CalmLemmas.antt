@@ -1,11 +1,11 @@
 -- Calm places stay calm: nobody becomes active at a place that is past.
 use Rattle.std.proofs.Common.{◌≡◌, refl, sym, ap, subst, ◌∙◌, ℕ, zero, suc, ◌+◌, ◌<◌, ◌≤◌, Bool, true, false, true≢false, cond, not, ◌&&◌, ◌||◌, List, [], ◌∷◌, ◌++◌, length, map, eqb, get_or, nat_lt, arith}
-use Rattle.std.specs.List.{AllByRecursion, filter, list_any}
+use Rattle.std.specs.List.{filter, list_any}
 use Rattle.std.proofs.lemmas.Bool.Decides.{nat_tests}
 use Rattle.value.specs.declared.refusal.Cause.{Cause}
 use Rattle.history.specs.Transactions.{Standing, Open, Txn, is_open, is_owed, is_read_write}
 use Rattle.history.specs.Events.{doomed_by}
-use Rattle.plain.specs.Calm.{AreCalm, is_active_at, is_in_use}
+use Rattle.plain.specs.Calm.{AreCalm, is_active_at}
 use Rattle.plain.specs.Ledger.{turned_at, txn_at}
 use Rattle.plain.specs.Stretches.{IsPast}
 use Rattle.plain.proofs.LedgerLemmas.{txn_at-is}

@@ -91,13 +91,6 @@ fn is_active_on<A: Allocator>(transaction: &Transaction<A>, course: Course, plac
         && (course.standing.is_open() || place < course.end)
 }
 
-// Whether it wasn't.
-fn stays_calm<A: Allocator>(transaction: &Transaction<A>, course: Course, place: u64) -> bool
-    ensures { result ≡ not (is_active_at place (on_course course transaction.now)) }
-{
-    !is_active_on(transaction, course, place)
-}
-
 /// Leaves the places at which a transaction that takes a course wasn't active.
 pub(crate) fn keep_calm<A: Allocator>(
     places: &mut Vec<u64, A>,
@@ -107,15 +100,7 @@ pub(crate) fn keep_calm<A: Allocator>(
     ensures { places.new.items ≡
         filter (λ p. not (is_active_at p (on_course course transaction.now))) places.old.items }
 {
-    let mut kept = 0;
-    for at in 0..places.len() {
-        let place = places[at];
-        if stays_calm(transaction, course, place) {
-            places[kept] = place;
-            kept += 1;
-        }
-    }
-    places.truncate(kept);
+    places.retain(|place| !is_active_on(transaction, course, *place));
 }
 
 // Whether a transaction has its snapshot from a place, and its session has still to end it.

@@ -140,15 +140,7 @@ pub(crate) fn keep_living<A: Allocator>(
 )
     ensures { exports.new.items ≡ filter (spec_living transactions.now) exports.old.items }
 {
-    let mut kept = 0;
-    for at in 0..exports.len() {
-        let exported = exports[at];
-        if is_living(transactions, exported) {
-            exports[kept] = exported;
-            kept += 1;
-        }
-    }
-    exports.truncate(kept);
+    exports.retain(|exported| is_living(transactions, *exported));
 }
 
 // The snapshot from which on questions are asked, where these places are calm.

@@ -12,8 +12,8 @@ use Rattle.history.specs.declared.event.Action.{Action}
 use Rattle.history.specs.declared.event.Action.TheVariants.{Begin}
 use Rattle.history.specs.declared.event.Record.{Record}
 use Rattle.history.specs.Opening.{Opening}
-use Rattle.history.specs.Transactions.{Standing, Open, Doomed, Failed, Aborted, Done, Txn, World, Exported_snapshot, current, is_of, is_open, is_owed, must_wait}
-use Rattle.history.specs.Events.{begun, causes, doomed_by, follows, followed, numbered, polled, replaced, run, start, turned, turned_from, with_snapshot, without_transaction, world_of}
+use Rattle.history.specs.Transactions.{Standing, Open, Doomed, Failed, Aborted, Done, Txn, World, Exported_snapshot, current, is_of, is_open, is_owed}
+use Rattle.history.specs.Events.{begun, causes, doomed_by, follows, followed, numbered, polled, replaced, run, start, turned, turned_from, without_transaction, world_of}
 use Rattle.history.specs.Answer.{Allowed, IsAnswered, Legal, of_cause, of_session, reader_answer, reader_from, reader_of, reply_from, reply_in, reply_of}
 use Rattle.serial.proofs.Dooms.{Fate, Spared, Over, fate}
 use Rattle.serial.proofs.Legal.{Move, Stays, Fails, Aborts, Commits, Runs, Asks, Polls, Learns, Imports, current_in, legal_steps, open_move}

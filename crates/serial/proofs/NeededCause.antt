@@ -9,7 +9,7 @@ use Rattle.conflict.proofs.Lists.{In-any, and_true, both_true, clash, or_left, o
 use Rattle.conflict.proofs.Structures.{Danger, parts, cause-kept}
 use Rattle.history.specs.declared.event.Record.{Record}
 use Rattle.history.specs.Opening.{Opening}
-use Rattle.history.specs.Transactions.{Open, Done, Txn, World, node, edge, commits, current, is_open, is_done, is_owed, is_read_write}
+use Rattle.history.specs.Transactions.{Open, Done, Txn, World, node, edge, commits, is_open, is_done, is_owed, is_read_write}
 use Rattle.history.specs.Events.{ended, numbered, replaced, world_of}
 use Rattle.history.specs.Answer.{Legal, cause_of, committing}
 use Rattle.history.specs.Needed.{is_recent, is_late_reader, is_needed, is_safe_reader, is_settled, Keeps, kept_of, IsOpenOf, HoldCommitter}

@@ -1,6 +1,5 @@
 -- Serial keys and the questions of a POLL, from the transactions that matter alone.
 use Rattle.std.proofs.Common.{◌≡◌, refl, sym, ap, ◌∙◌, ℕ, ◌<◌, ◌≤◌, min, Bool, true, false, true≢false, cond, not, ◌&&◌, ◌||◌, ◌⊎◌, inl, inr, List, [], ◌∷◌, eqb, nat_lt, nat_le, arith}
-use Rattle.std.proofs.lemmas.Bool.Decides.{nat_tests}
 use Rattle.std.specs.List.{filter, list_any}
 use Rattle.value.specs.Isolation.{Node, first_part, serial_key, write_key}
 use Rattle.value.proofs.IsolationLemmas.{In}

@@ -25,7 +25,7 @@ use Rattle.serial.proofs.Legal.{current_in}
 use Rattle.serial.proofs.Dooms.{number-doomed}
 use Rattle.serial.proofs.EndsSeen.{EndsSeen, ends_seen}
 use Rattle.serial.proofs.SerialTheorem.{IsGood, good_world}
-use Rattle.serial.proofs.NeededCause.{cause_of_kept, oldest_is}
+use Rattle.serial.proofs.NeededCause.{cause_of_kept}
 use Rattle.serial.proofs.NeededQuestions.{pending_of_kept, poll_of_kept}
 use Rattle.serial.proofs.NeededReplies.{current_of_kept, living_of_kept, taken_of_kept}
 

@@ -7,7 +7,7 @@ use Rattle.std.specs.Option.{option_to_list}
 use Rattle.value.specs.declared.refusal.Cause.{Cause}
 use Rattle.value.specs.Isolation.{is_dangerous, bound, earliest, caused, first_some, first_cause, dooms, with_doom, doom_of, is_live, is_first, cause_from}
 use Rattle.value.proofs.IsolationLemmas.{In}
-use Rattle.value.proofs.SerialLemmas.{NumberedFrom, In-left, In-right}
+use Rattle.value.proofs.SerialLemmas.{NumberedFrom}
 use Rattle.schema.specs.declared.changes.Change.{Change}
 use Rattle.schema.specs.declared.tables.Tables.{Tables}
 use Rattle.history.specs.declared.base.Base.{Base}

@@ -1,15 +1,15 @@
 -- Readers of safe snapshots: what is told of such a snapshot stands for good, whether it was asked for or not.
-use Rattle.std.proofs.Common.{◌≡◌, refl, sym, ap, subst, ◌∙◌, ℕ, ◌<◌, ◌≤◌, Bool, true, false, cond, not, ◌&&◌, ◌||◌, ◌⊎◌, inl, inr, List, nat_lt, nat_le, arith}
+use Rattle.std.proofs.Common.{◌≡◌, refl, sym, ap, subst, ℕ, ◌<◌, ◌≤◌, Bool, true, false, not, ◌&&◌, ◌||◌, ◌⊎◌, inl, inr, List, nat_lt, nat_le, arith}
 use Rattle.std.proofs.lemmas.Bool.Decides.{nat_tests}
 use Rattle.std.specs.List.{list_any}
 use Rattle.value.proofs.IsolationLemmas.{In}
-use Rattle.conflict.proofs.Lists.{any-In, and_true, both_true, clash, either, is_false, or_left, or_right}
+use Rattle.conflict.proofs.Lists.{any-In, and_true, both_true, clash, either, is_false, or_right}
 use Rattle.history.specs.Transactions.{Txn, World, edge, is_open, is_done, is_pending, is_read_write, is_spoilt, spoils, was_active}
 use Rattle.history.specs.Needed.{is_safe_reader, is_settled}
 use Rattle.serial.proofs.EndsSeen.{EndsSeen}
 use Rattle.serial.proofs.Numbers.{not_done}
 use Rattle.serial.proofs.SerialTheorem.{IsGood, edge_parts}
-use Rattle.serial.proofs.Stamps.{Stamp, Stands, stamp, stands_settled}
+use Rattle.serial.proofs.Stamps.{Stamp, Stands, stands_settled}
 
 compared : (a b : ℕ) → (a ≤ b) ⊎ (b < a)
 compared a b = grind arith
