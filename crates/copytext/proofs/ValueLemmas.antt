@@ -93,6 +93,22 @@ module _ {A : Type 0} where
       inr (stopped values (field_value kind raw) (field_values (drop (i + 1) kinds) more) total e (sym read) (sym (ap (in_front values) (first_values kinds fields more i kind d raw lt at parts)) ∙ so_far))
   values_stop values total kinds fields more i kind d raw e lt at parts (inr memory) so_far = inl cc
 
+  -- the first value apart: it is refused, it is read and another is refused, or all are read
+  pub first_stops : (kind : Kind) (kinds : List Kind) (fields more : List (List ℕ)) (raw : List ℕ) (e : Refusal) → fields ≡ raw ∷ more → AnswersOrNoMemory (Err e) (pointing_nowhere (field_value {A = A} kind raw))
+      → (e ≡ out_of_memory) ⊎ (pointing_nowhere (field_values {A = A} (kind ∷ kinds) fields) ≡ Err e)
+  first_stops kind kinds fields more raw e parts (inl read) =
+      inr (stopped [] (field_value kind raw) (field_values kinds more) (field_values (kind ∷ kinds) fields) e (sym read)
+      (in_front_of_all (onto_values (field_value kind raw) (field_values kinds more)) ∙ ap (λ (fs : List (List ℕ)). field_values (kind ∷ kinds) fs) (sym parts)))
+  first_stops kind kinds fields more raw e parts (inr memory) = inl cc
+
+  first_and : (kind : Kind) (kinds : List Kind) (fields more : List (List ℕ)) (raw : List ℕ) (v : Value A) → fields ≡ raw ∷ more → field_value kind raw ≡ Ok v
+      → field_values (kind ∷ kinds) fields ≡ onto_values (Ok v) (field_values kinds more)
+  first_and kind kinds fields more raw v parts read = ap (λ (fs : List (List ℕ)). field_values (kind ∷ kinds) fs) parts ∙ ap (λ r. onto_values r (field_values kinds more)) read
+
+  pub all_read : (kind : Kind) (kinds : List Kind) (fields more : List (List ℕ)) (raw : List ℕ) (v : Value A) (values : List (Value A)) → fields ≡ raw ∷ more → field_value kind raw ≡ Ok v → field_values kinds more ≡ Ok values
+      → field_values (kind ∷ kinds) fields ≡ Ok (v ∷ values)
+  all_read kind kinds fields more raw v values parts read rest = first_and kind kinds fields more raw v parts read ∙ ap (onto_values (Ok v)) rest
+
   -- no kind is left, or no field
   pub values_end : (values : List (Value A)) (total : Result (List (Value A)) Code) (kinds : List Kind) (fields : List (List ℕ)) (i : ℕ) → length kinds ≤ i → in_front values (field_values (drop i kinds) fields) ≡ total → total ≡ Ok values
   values_end values total kinds fields i le so_far =

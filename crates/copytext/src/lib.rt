@@ -9,5 +9,5 @@ mod reading;
 mod writing;
 
 pub use law::reads_what_is_written;
-pub use reading::read_row;
+pub use reading::{read_key_row, read_row};
 pub use writing::{write_field, write_row, write_values};

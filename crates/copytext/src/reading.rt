@@ -1,10 +1,10 @@
 //! What a line reads as.
 
-ghost use Rattle.std.specs.Prelude.{◌≡◌, ◌⊎◌, ◌==◌, Ok, Err, IfOk, IfErr, Some, None};
+ghost use Rattle.std.specs.Prelude.{◌≡◌, ◌⊎◌, ◌==◌, ◌∷◌, Ok, Err, IfOk, IfErr, Some, None};
 ghost use Rattle.std.specs.List.{list_any};
-ghost use Rattle.std.specs.Option.{option_map};
+ghost use Rattle.std.specs.Option.{option_copied, option_map};
 ghost use Rattle.value.specs.Refusals.{AnswersOrNoMemory, pointing_nowhere, out_of_memory};
-ghost use Rattle.copytext.specs.Reading.{cut, content, is_null_mark, field_value, field_values, line_values};
+ghost use Rattle.copytext.specs.Reading.{cut, cut_more, content, is_null_mark, field_value, field_values, line_values};
 
 use crate::fields::{first_field, has_form, next_byte};
 use std::alloc::Allocator;
@@ -57,18 +57,18 @@ fn read_field<A: Allocator + Copy>(alloc: A, kind: Kind, raw: &[u8]) -> Result<V
     }
 }
 
-// The values of a line's fields, as far as there are kinds and fields.
+// The values of fields, as far as there are kinds and fields.
 fn read_values<A: Allocator + Copy>(
     alloc: A,
     kinds: &[Kind],
-    line: &[u8],
+    fields: Option<&[u8]>,
 ) -> Result<Vec<Value<A>, A>, Refusal>
-    ensures ok { IfOk result (λ values. field_values kinds.now (cut line.now) ≡ Ok values.items) }
+    ensures ok { IfOk result (λ values. field_values kinds.now (cut_more (option_copied fields.entry)) ≡ Ok values.items) }
     ensures err { IfErr result (λ e. (e ≡ out_of_memory) ⊎
-        (pointing_nowhere (field_values {A = A} kinds.now (cut line.now)) ≡ Err e)) }
+        (pointing_nowhere (field_values {A = A} kinds.now (cut_more (option_copied fields.entry))) ≡ Err e)) }
 {
     let mut values = Vec::with_capacity(alloc, kinds.len())?;
-    let mut rest = Some(line);
+    let mut rest = fields;
     for kind in kinds {
         let Some(text) = rest else {
             return Ok(values);
@@ -94,5 +94,39 @@ pub fn read_row<A: Allocator + Copy>(
     if !has_form(line, kinds.len()) {
         return Err(Refusal::of_code(Code::BadCopyFileFormat));
     }
-    read_values(alloc, kinds, line)
+    read_values(alloc, kinds, Some(line))
+}
+
+// The first value of a line of right form, and the others.
+fn read_first<A: Allocator + Copy>(
+    alloc: A,
+    first: Kind,
+    others: &[Kind],
+    line: &[u8],
+) -> Result<(Value<A>, Vec<Value<A>, A>), Refusal>
+    ensures ok { IfOk result (λ r. field_values (first ∷ others.now) (cut line.now) ≡ Ok (r.0 ∷ r.1.items)) }
+    ensures err { IfErr result (λ e. (e ≡ out_of_memory) ⊎
+        (pointing_nowhere (field_values {A = A} (first ∷ others.now) (cut line.now)) ≡ Err e)) }
+{
+    let (raw, more) = first_field(line);
+    let value = read_field(alloc, first, raw)?;
+    let values = read_values(alloc, others, more)?;
+    Ok((value, values))
+}
+
+/// Reads the line of a row as `read_row` does, with the key's value apart from the others.
+pub fn read_key_row<A: Allocator + Copy>(
+    alloc: A,
+    key: Kind,
+    others: &[Kind],
+    line: &[u8],
+) -> Result<(Value<A>, Vec<Value<A>, A>), Refusal>
+    ensures ok { IfOk result (λ r. line_values (key ∷ others.now) line.now ≡ Ok (r.0 ∷ r.1.items)) }
+    ensures err { IfErr result (λ e. (e ≡ out_of_memory) ⊎
+        (pointing_nowhere (line_values {A = A} (key ∷ others.now) line.now) ≡ Err e)) }
+{
+    if !has_form(line, others.len() + 1) {
+        return Err(Refusal::of_code(Code::BadCopyFileFormat));
+    }
+    read_first(alloc, key, others, line)
 }

@@ -12,7 +12,7 @@ ghost use Rattle.restore.specs.declared.error.ReadError.TheVariants as error;
 ghost use Rattle.copytext.specs.Reading.{line_values};
 
 use crate::error::{LineError, ReadError};
-use copytext::read_row;
+use copytext::read_key_row;
 use schema::catalog::{Catalog, Column, TableNo};
 use schema::row::Row;
 use schema::tables::Tables;
@@ -34,6 +34,9 @@ pub fn kinds_of<A: Allocator>(alloc: A, columns: &[Column<A>]) -> Result<Vec<Kin
     Ok(kinds)
 }
 
+// About how much memory a row's field takes: its value, and of its text what most take.
+const FIELD_BYTES: usize = 40;
+
 /// The row of a line, or why it isn't taken.
 pub type ReadRow<A> = Result<Row<A>, LineError>;
 
@@ -45,48 +48,58 @@ pub struct ReadPiece<A: Allocator> {
     pub rise: bool,
 }
 
-// The values of a line.
+// The value of a line's key, and the others.
 fn values_of<A: Allocator + Copy>(
     alloc: A,
-    kinds: &[Kind],
+    key: Kind,
+    others: &[Kind],
     line: &[u8],
-) -> Result<Vec<Value<A>, A>, LineError>
-    ensures { Gives (λ values. values.items) result (line_values kinds.now line.now) }
+) -> Result<(Value<A>, Vec<Value<A>, A>), LineError>
+    ensures { Gives (λ r. r.0 ∷ r.1.items) result (line_values (key ∷ others.now) line.now) }
 {
-    Ok(read_row(alloc, kinds, line)?)
+    Ok(read_key_row(alloc, key, others, line)?)
 }
 
-// The first of some values, and the others.
-fn first_value<A: Allocator>(mut values: Vec<Value<A>, A>) -> Option<(Value<A>, Vec<Value<A>, A>)>
-    ensures { MatchOption result (values.items ≡ []) (λ p. values.items ≡ p.0 ∷ p.1.items) }
+// The row of a key's value and others.
+fn row_of_values<A: Allocator>(first: Value<A>, fields: Vec<Value<A>, A>) -> ReadRow<A>
+    ensures { Gives (λ row. row) result (row_of_values (first ∷ fields.items)) }
 {
-    if values.is_empty() {
-        return None;
-    }
-    let first = values.remove(0);
-    values.shrink_to_fit();
-    Some((first, values))
-}
-
-// The row of some values, of which the first is the key.
-fn row_of_values<A: Allocator>(values: Vec<Value<A>, A>) -> ReadRow<A>
-    ensures { Gives (λ row. row) result (row_of_values values.items) }
-{
-    let Some((first, fields)) = first_value(values) else {
-        return Err(LineError::Refused(Code::BadCopyFileFormat));
-    };
     match Key::new(first) {
         Some(key) => Ok(Row::new(key, fields)),
         None => Err(LineError::Refused(Code::NotNullViolation)),
     }
 }
 
+// The row of a line of a key and others.
+fn row_of_key_line<A: Allocator + Copy>(
+    alloc: A,
+    key: Kind,
+    others: &[Kind],
+    line: &[u8],
+) -> ReadRow<A>
+    ensures { Gives (λ row. row) result (row_of_line (key ∷ others.now) line.now) }
+{
+    let (first, fields) = values_of(alloc, key, others, line)?;
+    row_of_values(first, fields)
+}
+
 // The row of a line.
 fn row_of_line<A: Allocator + Copy>(alloc: A, kinds: &[Kind], line: &[u8]) -> ReadRow<A>
     ensures { Gives (λ row. row) result (row_of_line kinds.now line.now) }
 {
-    let values = values_of(alloc, kinds, line)?;
-    row_of_values(values)
+    match kinds {
+        [key, others @ ..] => row_of_key_line(alloc, *key, others, line),
+        [] => Err(LineError::Refused(Code::BadCopyFileFormat)),
+    }
+}
+
+// Asks for about as much memory as the rows of so many lines take, and gives it back at once. The allocator of a thread
+// that isn't the first gets its memory from the system as it is asked for it, so a page at a time for rows, and each time
+// the other threads wait. Nothing rests on it: where it is refused, the rows are asked for one by one all the same.
+fn make_room<A: Allocator>(alloc: A, kinds: usize, lines: usize) {
+    let bytes = lines.saturating_mul(kinds).saturating_mul(FIELD_BYTES);
+    let mut room: Vec<u8, A> = Vec::new(alloc);
+    let _ = room.reserve(bytes);
 }
 
 /// What each of some lines of rows reads as.
@@ -98,6 +111,7 @@ pub fn read_each<A: Allocator + Copy>(
     ensures { IfOk result (λ rows. AreRead kinds.now rows.items (map (λ line. line.now) lines.now)) }
 {
     let mut rows = Vec::with_capacity(alloc, lines.len())?;
+    make_room(alloc, kinds.len(), lines.len());
     for line in lines {
         rows.push(row_of_line(alloc, kinds, line))?;
     }
