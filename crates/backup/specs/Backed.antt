@@ -1,6 +1,6 @@
 -- What a dump of a session's safe snapshot is.
 -- PostgreSQL manual, pg_dump (--serializable-deferrable); Ports and Grittner, "Serializable Snapshot Isolation in PostgreSQL" (VLDB 2012), section 4.3.
-use Rattle.std.specs.Prelude.{◌≡◌, ℕ, List, ◌++◌, Result, Ok, Err}
+use Rattle.std.specs.Prelude.{◌≡◌, ℕ, List, ◌++◌, length, Result, Ok, Err}
 use Rattle.value.specs.declared.refusal.Refusal.{Refusal}
 use Rattle.value.specs.Refusals.{AnswersOrNoMemory}
 use Rattle.schema.specs.declared.tables.Tables.{Tables}
@@ -22,6 +22,12 @@ module _ {A : Type 0} where
   -- the tables that the session may view after the history
   abbrev pub viewed : Recorded A → ℕ → Result (Tables A) Refusal
   viewed h session = view_answer h.opening h.records session
+
+  -- Tables that a dump may be made of: they are a state of the serial order of the history, and of each legal one that goes on from it, as many as the catalog's, and their dump text reads as them.
+  pub record IsDumpable (h : Recorded A) (session : ℕ) (X : Tables A) : Type 0 where
+    pub backup : IsBackup h.opening h.records session X
+    pub counted : length X ≡ length h.opening.catalog
+    pub reads_back : read_dump (dump_text h.opening.catalog X) ≡ Ok (h.opening.catalog, X)
 
   -- What was written is the dump text of tables that are a state of the serial order of the history, and of each legal one that goes on from it; and it reads as these tables.
   pub record IsWhole (h : Recorded A) (session : ℕ) (taken taken_now : List ℕ) : Type 0 where

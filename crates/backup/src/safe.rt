@@ -1,13 +1,9 @@
 //! Dumps of a server's safe snapshots.
 
-ghost use Rattle.std.specs.Prelude.{◌≡◌, ◌++◌, length, Ok, Err, IfOk, IfErr, OnOk};
-ghost use mathlib.Core.List.{IsPrefix};
+ghost use Rattle.std.specs.Prelude.{◌≡◌, IfOk, IfErr, OnOk};
 ghost use Rattle.value.specs.Refusals.{AnswersOrNoMemory};
-ghost use Rattle.history.specs.Answer.{Legal, of_session};
-ghost use Rattle.dumpplan.specs.Lines.{dump_text};
-ghost use Rattle.restore.specs.Reading.{read_dump};
-ghost use Rattle.serial.specs.Backups.{IsBackup};
-ghost use Rattle.backup.specs.Backed.{IsNone, IsWhole, seen_by, viewed};
+ghost use Rattle.pass.specs.Knowing.{HasLooked};
+ghost use Rattle.backup.specs.Backed.{IsDumpable, IsNone, IsWhole, seen_by, viewed};
 
 use crate::fault::BackupFault;
 use collector::Device;
@@ -24,8 +20,7 @@ use std::sync::Wait;
 use std::thread::Threads;
 use value::refusal::Refusal;
 
-// The tables that a pass's session may view: as many as the catalog's, a state of the serial order,
-// and dumped so that they are read back.
+// The tables that a pass's session may view, of which a dump may be made.
 fn view_pass<'w, J, A, T>(
     rt: &T,
     alloc: A,
@@ -36,15 +31,9 @@ where
     J: Naming<A>,
     A: Allocator + Copy,
     T: Wait,
-    ensures legal { Legal J.opening pass.new.seen }
-    ensures begins { IsPrefix pass.old.seen pass.new.seen }
-    ensures session { pass.new.session ≡ pass.old.session }
-    ensures mine { pass.new.mine ≡ pass.old.mine }
+    ensures looked { HasLooked J.opening pass.old pass.new }
     ensures answer { AnswersOrNoMemory result (viewed (seen_by J.opening J.most pass.new) pass.new.session) }
-    ensures backup { IfOk result (λ view. IsBackup J.opening pass.new.seen pass.new.session view) }
-    ensures counted { IfOk result (λ view. length view ≡ length J.opening.catalog) }
-    ensures reads_back { IfOk result
-        (λ view. read_dump (dump_text J.opening.catalog view) ≡ Ok (J.opening.catalog, view)) }
+    ensures dumpable { IfOk result (IsDumpable (seen_by J.opening J.most pass.new) pass.new.session) }
 {
     server.catalog().well_formed();
     views_are_backups::<A>();
@@ -78,10 +67,7 @@ where
     ensures same { OnOk result (W.failures device.new ≡ W.failures device.old) }
     ensures none { IfErr result (λ fault. IsNone (seen_by J.opening J.most pass.new) pass.new.session
         (W.taken device.old) (W.failures device.old) fault (W.taken device.new) (W.failures device.new)) }
-    ensures legal { Legal J.opening pass.new.seen }
-    ensures begins { IsPrefix pass.old.seen pass.new.seen }
-    ensures session { pass.new.session ≡ pass.old.session }
-    ensures mine { pass.new.mine ≡ pass.old.mine }
+    ensures looked { HasLooked J.opening pass.old pass.new }
 {
     let view = match view_pass(rt, alloc, server, pass) {
         Ok(view) => view,

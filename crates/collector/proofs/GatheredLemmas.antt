@@ -1,11 +1,11 @@
 -- Pieces that are written one after another.
-use Rattle.std.proofs.Common.{◌≡◌, ◌≢◌, ◌⊎◌, ◌==◌, ℕ, zero, suc, ◌+◌, ◌-◌, ◌≤◌, ◌<◌, nat_lt, Bool, true, false, ◌||◌, List, [], ◌∷◌, ◌++◌, length, take, set, get_or, Option, Some, None, refl, sym, ap, ◌∙◌, subst, inl, inr, ⊎_elim, arith, append_assoc, length-set, length-append, get_or-set_other}
+use Rattle.std.proofs.Common.{◌≡◌, ◌⊎◌, ℕ, zero, suc, ◌+◌, ◌-◌, ◌≤◌, ◌<◌, nat_lt, Bool, true, false, ◌||◌, List, [], ◌∷◌, ◌++◌, length, take, set, get_or, Option, Some, None, refl, sym, ap, ◌∙◌, subst, inl, inr, ⊎_elim, arith, append_assoc, length-set, length-append}
 use Rattle.std.specs.Prelude.{slice_index_or, slice_set, is_some}
 use Rattle.std.proofs.lemmas.Bool.Decides.{nat_tests}
-use Rattle.std.proofs.lemmas.List.{append-nil, get_or-set_same}
+use Rattle.std.proofs.lemmas.List.{append-nil}
 use Rattle.dumpplan.specs.Pieces.{joined}
 use Rattle.collector.specs.Written.{BeginsWith, Began, WroteAll}
-use Rattle.collector.specs.Gathered.{Gathering, IsInTurn, NoneWaits, LacksNext, IsGoing, HasStopped, is_given}
+use Rattle.collector.specs.Gathered.{Gathering, IsInTurn, NoneWaits, LacksNext, is_given}
 use Rattle.collector.specs.Offers.{IsLeastMissing}
 
 -- ---- the texts of the first pieces

@@ -1,7 +1,7 @@
 -- The pieces of a dump, written in their order though they come in any.
-use Rattle.std.specs.Prelude.{ℕ, ◌+◌, ◌-◌, ◌≤◌, ◌<◌, ◌≡◌, ◌⊎◌, ◌==◌, nat_lt, Bool, true, false, ◌||◌, List, [], ◌++◌, length, take, Option, Some, None, is_some, Result, Ok, Err, slice_index_or}
+use Rattle.std.specs.Prelude.{ℕ, ◌+◌, ◌-◌, ◌≤◌, ◌≡◌, ◌==◌, nat_lt, Bool, true, false, ◌||◌, List, [], ◌++◌, length, take, Option, Some, None, is_some, slice_index_or}
 use Rattle.dumpplan.specs.Pieces.{joined}
-use Rattle.collector.specs.Written.{Began, WroteSome}
+use Rattle.collector.specs.Written.{WroteSome}
 
 -- A collector's work so far: `texts` are those of all pieces, of which `waiting` has, place by place, the ones that were given and not yet written, and `next` counts those written.
 -- The device is the one of this `name`; it had taken the bytes `before` and failed `failures_before` times when the work began, and has now taken `taken` and failed `failures` times. Once it has `failed` nothing more is written.

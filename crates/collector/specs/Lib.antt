@@ -1,3 +1,4 @@
 pub mod Gathered
 pub mod Offers
+pub mod Sequenced
 pub mod Written

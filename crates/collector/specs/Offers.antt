@@ -1,5 +1,5 @@
 -- What is answered to an offered piece, and at the end.
-use Rattle.std.specs.Prelude.{ℕ, ◌+◌, ◌-◌, ◌≤◌, ◌<◌, ◌≡◌, ◌⊎◌, ◌==◌, Bool, true, false, ◌||◌, List, ◌++◌, length, Result, Ok, Err}
+use Rattle.std.specs.Prelude.{ℕ, ◌+◌, ◌-◌, ◌≤◌, ◌<◌, ◌≡◌, ◌⊎◌, ◌==◌, true, false, ◌||◌, length, Result, Ok, Err}
 use Rattle.dumpplan.specs.Pieces.{joined}
 use Rattle.collector.specs.declared.answers.OfferFault.{OfferFault}
 use Rattle.collector.specs.declared.answers.OfferFault.TheVariants.{Stranger, Repeat, Device, Closed}

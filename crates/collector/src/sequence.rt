@@ -29,34 +29,15 @@ pub(crate) struct Sequence<'a, R: SnapshotReader<A>, W: Device, A: Allocator> {
 }
 
 impl<'a, R: SnapshotReader<A>, W: Device, A: Allocator> Model for Sequence<'a, R, W, A> {
-    ghost use Rattle.dumpplan.specs.Pieces.{piece_texts};
     ghost use Rattle.collector.specs.Gathered.{Gathering, IsInTurn};
 
     ghost Value = { Gathering };
 
-    ghost view = { λ c. record {
-      texts = piece_texts c.catalog.now (R.tables c.reader.now) c.plan.now;
-      name = c.device.ghost_name;
-      before = W.taken c.start.value;
-      failures_before = W.failures c.start.value;
-      taken = W.taken c.device.now;
-      failures = W.failures c.device.now;
-      waiting = c.waiting.items;
-      next = c.next;
-      failed = c.failed;
-    } };
+    ghost use Rattle.collector.specs.Sequenced.{gathering};
 
-    ghost invariant = { λ c. IsInTurn record {
-      texts = piece_texts c.catalog.now (R.tables c.reader.now) c.plan.now;
-      name = c.device.ghost_name;
-      before = W.taken c.start.value;
-      failures_before = W.failures c.start.value;
-      taken = W.taken c.device.now;
-      failures = W.failures c.device.now;
-      waiting = c.waiting.items;
-      next = c.next;
-      failed = c.failed;
-    } };
+    ghost view = { gathering R.tables W.taken W.failures };
+
+    ghost invariant = { λ c. IsInTurn (gathering R.tables W.taken W.failures c) };
 }
 
 impl<'a, R: SnapshotReader<A>, W: Device, A: Allocator> Sequence<'a, R, W, A> {

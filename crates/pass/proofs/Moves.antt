@@ -90,10 +90,15 @@ apart_snoc {A} views w apart alone i j x y ei ej hx hy s =
     (at_end views w y j ej))
     (at_end views w x i ei)
 
+-- a seat beside one whose view was changed knows what it knew
+beside : {A : Type 0} (views : List (Knowledge A)) (id other : ℕ) (b w : Knowledge A) → ¬ (other ≡ id) → get_elem? (set views id b) other ≡ some w → get_elem? views other ≡ some w
+beside {A} views id other b w ne there =
+    ⊎_elim (λ (t : (other ≡ id) × (b ≡ w)). absurd (ne t.0)) (λ (t : (other ≢ id) × (get_elem? views other ≡ some w)). t.1) (at_set views id other b w there)
+
 -- a right goes over from one seat to another, whose own is given up
 apart_over : {A : Type 0} (views : List (Knowledge A)) (id other : ℕ) (v b w : Knowledge A) → AreApart views → get_elem? views id ≡ some v → ¬ (other ≡ id) → get_elem? (set views id b) other ≡ some w → (b.holds ≡ true → (w.holds ≡ true) × (b.session ≡ w.session)) → AreApart (set (set views id b) other nobody)
 apart_over {A} views id other v b w apart at ne there same i j x y ei ej hx hy s =
-    let was : get_elem? views other ≡ some w = ⊎_elim (λ (t : (other ≡ id) × (b ≡ w)). absurd (ne t.0)) (λ (t : (other ≢ id) × (get_elem? views other ≡ some w)). t.1) (at_set views id other b w there) in
+    let was = beside views id other b w ne there in
     let none : (k : ℕ) (u : Knowledge A) → (k ≡ other) × (nobody ≡ u) → u.holds ≡ true → ⊥ = λ k u t h. off (ap (λ (q : Knowledge A). q.holds) t.1 ∙ h) in
     let case : (k : ℕ) (u : Knowledge A) → get_elem? (set (set views id b) other nobody) k ≡ some u → u.holds ≡ true → ((k ≡ id) × (b ≡ u)) ⊎ ((k ≢ other) × (get_elem? views k ≡ some u)) =
     λ k u e h. ⊎_elim
@@ -129,6 +134,36 @@ begins {A} opening = ([], 0, 0, record { words = refl; legal = λ e. legal_none 
     apart zero j v w ei ej hv hw s = absurd (off (ap (λ (u : Knowledge A). u.holds) (some-injective _ _ ei) ∙ hv))
     apart (suc i) j v w ei ej hv hw s = absurd (some-ne-none v (sym ei))
 
+-- ---- the rule is kept
+
+module _ {A : Type 0} {opening : Opening A} {log : List (Record A)} {keeper made : ℕ} {ws : List ℕ} {views : List (Knowledge A)} (id : ℕ) (v : Knowledge A) (k : IsKeptBy opening log keeper made ws views) (at : get_elem? views id ≡ some v) where
+  -- one seat knows something else of the same history, and its right stays what it was, or goes
+  still_kept : {after : List ℕ} (w : Knowledge A) → after ≡ length log ∷ [] → Fits log keeper made id w → (w.holds ≡ true → (v.holds ≡ true) × (w.session ≡ v.session)) → IsKeptBy opening log keeper made after (set views id w)
+  still_kept w words mine same = record {
+    words = words;
+    legal = k.legal;
+    fits = fits_set log keeper made views id w (λ j u _ e. k.fits j u e) mine;
+    apart = apart_set views id v w k.apart at same;
+  }
+
+  -- and a new seat knows of it too
+  split_kept : (b w : Knowledge A) → Fits log keeper made id b → ((j : ℕ) → Fits log keeper made j w) → AreApart (set views id b ++ w ∷ []) → IsKeptBy opening log keeper made ws (set views id b ++ w ∷ [])
+  split_kept b w mine theirs apart = record {
+    words = k.words;
+    legal = k.legal;
+    fits = fits_snoc log keeper made (set views id b) w (fits_set log keeper made views id b (λ j u _ e. k.fits j u e) mine) theirs;
+    apart = apart;
+  }
+
+  -- and another seat is given up
+  join_kept : (other : ℕ) (b : Knowledge A) → Fits log keeper made id b → AreApart (set (set views id b) other nobody) → IsKeptBy opening log keeper made ws (set (set views id b) other nobody)
+  join_kept other b mine apart = record {
+    words = k.words;
+    legal = k.legal;
+    fits = fits_set log keeper made (set views id b) other nobody (λ j u _ e. fits_set log keeper made views id b (λ i y _ e'. k.fits i y e') mine j u e) record { seen = (log, refl); told = (log, refl); keeps = λ t. absurd (off t); holds = λ t. absurd (off t) };
+    apart = apart;
+  }
+
 module _ {A : Type 0} (opening : Opening A) (slots id : ℕ) (v : Knowledge A) (c : List (ℕ × Record A)) where
   -- a pass looks
   pub looks : v.keeps ≡ false → Allows (IsKept opening) slots id (v, c) 0 (λ n. n) (λ n w. Looked opening v n w.0 × (w.1 ≡ c))
@@ -145,12 +180,9 @@ module _ {A : Type 0} (opening : Opening A) (slots id : ℕ) (v : Knowledge A) (
           log,
           h.1,
           h.2,
-          record {
-            words = word_same s.words (length log) k.words;
-            legal = k.legal;
-            fits = fits_set log h.1 h.2 s.views id w (λ j u _ e. k.fits j u e) record { seen = prefix_self log; told = mine.told; keeps = λ t. absurd (true≢false (sym t ∙ alone)); holds = mine.holds };
-            apart = apart_set s.views id v w k.apart at (λ t. (t, refl));
-          },
+          still_kept id v k at w (word_same s.words (length log) k.words)
+              record { seen = prefix_self log; told = mine.told; keeps = λ t. absurd (true≢false (sym t ∙ alone)); holds = mine.holds }
+              (λ t. (t, refl)),
         ),
         (record { same = refl; begins = mine.seen; length_is = n; legal = λ l. k.legal (legal_sound opening v.seen l); mine = λ t. (mine.holds t).0 }, refl),
       )
@@ -173,12 +205,9 @@ module _ {A : Type 0} (opening : Opening A) (slots id : ℕ) (v : Knowledge A) (
           log,
           h.1,
           h.2,
-          record {
-            words = word_same s.words (length log) k.words;
-            legal = k.legal;
-            fits = fits_set log h.1 h.2 s.views id w (λ j u _ e. k.fits j u e) record { seen = inside; told = mine.told; keeps = λ t. absurd (true≢false (sym t ∙ alone)); holds = mine.holds };
-            apart = apart_set s.views id v w k.apart at (λ t. (t, refl));
-          },
+          still_kept id v k at w (word_same s.words (length log) k.words)
+              record { seen = inside; told = mine.told; keeps = λ t. absurd (true≢false (sym t ∙ alone)); holds = mine.holds }
+              (λ t. (t, refl)),
         ),
         (record { same = refl; seen = up; told = other; mine = λ t e. e ∙ squeeze v.session v.seen best log up inside (sym e ∙ (mine.holds t).0) }, refl),
       )
@@ -193,17 +222,7 @@ module _ {A : Type 0} (opening : Opening A) (slots id : ℕ) (v : Knowledge A) (
         v,
         keeps,
         tt,
-        (
-          log,
-          h.1,
-          h.2,
-          record {
-            words = word_same s.words (length log) k.words;
-            legal = k.legal;
-            fits = fits_set log h.1 h.2 s.views id v (λ j u _ e. k.fits j u e) mine;
-            apart = apart_set s.views id v v k.apart at (λ t. (t, refl));
-          },
-        ),
+        (log, h.1, h.2, still_kept id v k at v (word_same s.words (length log) k.words) mine (λ t. (t, refl))),
         ((refl, subst (λ l. IsPrefix v.told l) (sym all) mine.told, subst (λ l. v.mine ≡ of_session v.session l) (sym all) (mine.holds has).0), refl),
       )
 
@@ -221,12 +240,10 @@ module _ {A : Type 0} (opening : Opening A) (slots id : ℕ) (v : Knowledge A) (
           log,
           h.1,
           h.2,
-          record {
-            words = ap (λ (n : ℕ). slice_set s.words 0 n) (stays (slice_index s.words 0)) ∙ word_same s.words (length log) k.words;
-            legal = k.legal;
-            fits = fits_set log h.1 h.2 s.views id w (λ j u _ f. k.fits j u f) record { seen = mine.seen; told = mine.told; keeps = mine.keeps; holds = mine.holds };
-            apart = apart_set s.views id v w k.apart at (λ t. (t, refl));
-          },
+          still_kept id v k at w
+              (ap (λ (n : ℕ). slice_set s.words 0 n) (stays (slice_index s.words 0)) ∙ word_same s.words (length log) k.words)
+              record { seen = mine.seen; told = mine.told; keeps = mine.keeps; holds = mine.holds }
+              (λ t. (t, refl)),
         ),
         (refl, refl),
       )
@@ -277,18 +294,15 @@ module _ {A : Type 0} (opening : Opening A) (id : ℕ) (v : Knowledge A) where
         log,
         h.1,
         h.2,
-        record {
-          words = k.words;
-          legal = k.legal;
-          fits = fits_snoc log h.1 h.2 (set s.views id (bare v)) (part v) (fits_set log h.1 h.2 s.views id (bare v) (λ j u _ e. k.fits j u e) record { seen = mine.seen; told = mine.told; keeps = mine.keeps; holds = λ t. absurd (off t) })
-              (λ j. record { seen = mine.seen; told = mine.told; keeps = λ t. absurd (off t); holds = mine.holds });
-          apart = apart_snoc (set s.views id (bare v)) (part v) (apart_set s.views id v (bare v) k.apart at (λ t. absurd (off t)))
-              (λ j u e hu hv same.
-              ⊎_elim
-              (λ (x : (j ≡ id) × (bare v ≡ u)). off (ap (λ (q : Knowledge A). q.holds) x.1 ∙ hu))
-              (λ (x : (j ≢ id) × (get_elem? s.views j ≡ some u)). x.0 (k.apart j id u v x.1 at hu hv same))
-              (at_set s.views id j (bare v) u e));
-        },
+        split_kept id v k at (bare v) (part v)
+            record { seen = mine.seen; told = mine.told; keeps = mine.keeps; holds = λ t. absurd (off t) }
+            (λ j. record { seen = mine.seen; told = mine.told; keeps = λ t. absurd (off t); holds = mine.holds })
+            (apart_snoc (set s.views id (bare v)) (part v) (apart_set s.views id v (bare v) k.apart at (λ t. absurd (off t)))
+            (λ j u e hu hv same.
+            ⊎_elim
+            (λ (x : (j ≡ id) × (bare v ≡ u)). off (ap (λ (q : Knowledge A). q.holds) x.1 ∙ hu))
+            (λ (x : (j ≢ id) × (get_elem? s.views j ≡ some u)). x.0 (k.apart j id u v x.1 at hu hv same))
+            (at_set s.views id j (bare v) u e))),
       )
 
   pub nexts : v.keeps ≡ true → Splits (IsKept opening) id v (one_more v) (next_one v)
@@ -325,12 +339,9 @@ module _ {A : Type 0} (opening : Opening A) (id : ℕ) (v : Knowledge A) where
         log,
         h.1,
         h.2,
-        record {
-          words = k.words;
-          legal = k.legal;
-          fits = fits_snoc log h.1 h.2 (set s.views id v) (note v) (fits_set log h.1 h.2 s.views id v (λ j u _ e. k.fits j u e) mine) (λ j. record { seen = mine.seen; told = mine.told; keeps = λ t. absurd (off t); holds = λ t. absurd (off t) });
-          apart = apart_snoc (set s.views id v) (note v) (apart_set s.views id v v k.apart at (λ t. (t, refl))) (λ j u e hu hv same. off hv);
-        },
+        split_kept id v k at v (note v) mine
+            (λ j. record { seen = mine.seen; told = mine.told; keeps = λ t. absurd (off t); holds = λ t. absurd (off t) })
+            (apart_snoc (set s.views id v) (note v) (apart_set s.views id v v k.apart at (λ t. (t, refl))) (λ j u e hu hv same. off hv)),
       )
 
 module _ {A : Type 0} (opening : Opening A) (id : ℕ) (v : Knowledge A) (other : ℕ) (w : Knowledge A) where
@@ -339,40 +350,23 @@ module _ {A : Type 0} (opening : Opening A) (id : ℕ) (v : Knowledge A) (other 
       let log = h.0 in
       let k = h.3 in
       let mine = k.fits id v at in
-      let was : get_elem? s.views other ≡ some w = ⊎_elim (λ (t : (other ≡ id) × (united v w ≡ w)). absurd (ne t.0)) (λ (t : (other ≢ id) × (get_elem? s.views other ≡ some w)). t.1) (at_set s.views id other (united v w) w there) in
+      let was = beside s.views id other (united v w) w ne there in
       let theirs = k.fits other w was in
       let both : Fits log h.1 h.2 id (united v w) = record {
         seen = pick_either (λ l. IsPrefix l log) v.keeps v.seen w.seen mine.seen theirs.seen;
         told = pick_either (λ l. IsPrefix l log) v.keeps w.seen v.seen theirs.seen mine.seen;
         keeps = λ t. ((mine.keeps t).0, ap (λ b. pick b v.seen w.seen) t ∙ (mine.keeps t).1, (mine.keeps t).2);
         holds = theirs.holds;
-      } in (
-        log,
-        h.1,
-        h.2,
-        record {
-          words = k.words;
-          legal = k.legal;
-          fits = fits_set log h.1 h.2 (set s.views id (united v w)) other nobody (λ j u _ e. fits_set log h.1 h.2 s.views id (united v w) (λ i y _ e'. k.fits i y e') both j u e) record { seen = (log, refl); told = (log, refl); keeps = λ t. absurd (off t); holds = λ t. absurd (off t) };
-          apart = apart_over s.views id other v (united v w) w k.apart at ne there (λ t. (t, refl));
-        },
-      )
+      } in
+      (log, h.1, h.2, join_kept id v k at other (united v w) both (apart_over s.views id other v (united v w) w k.apart at ne there (λ t. (t, refl))))
 
   pub hears : Joins (IsKept opening) id v other w (heard v w) nobody
   hears s h at ne there =
       let log = h.0 in
       let k = h.3 in
       let mine = k.fits id v at in
-      let was : get_elem? s.views other ≡ some w = ⊎_elim (λ (t : (other ≡ id) × (heard v w ≡ w)). absurd (ne t.0)) (λ (t : (other ≢ id) × (get_elem? s.views other ≡ some w)). t.1) (at_set s.views id other (heard v w) w there) in
+      let was = beside s.views id other (heard v w) w ne there in
       let theirs = k.fits other w was in
-      let both : Fits log h.1 h.2 id (heard v w) = record { seen = mine.seen; told = theirs.seen; keeps = mine.keeps; holds = mine.holds } in (
-        log,
-        h.1,
-        h.2,
-        record {
-          words = k.words;
-          legal = k.legal;
-          fits = fits_set log h.1 h.2 (set s.views id (heard v w)) other nobody (λ j u _ e. fits_set log h.1 h.2 s.views id (heard v w) (λ i y _ e'. k.fits i y e') both j u e) record { seen = (log, refl); told = (log, refl); keeps = λ t. absurd (off t); holds = λ t. absurd (off t) };
-          apart = apart_set (set s.views id (heard v w)) other w nobody (apart_set s.views id v (heard v w) k.apart at (λ t. (t, refl))) there (λ t. absurd (off t));
-        },
-      )
+      let both : Fits log h.1 h.2 id (heard v w) = record { seen = mine.seen; told = theirs.seen; keeps = mine.keeps; holds = mine.holds } in
+      let kept = apart_set s.views id v (heard v w) k.apart at (λ t. (t, refl)) in
+      (log, h.1, h.2, join_kept id v k at other (heard v w) both (apart_set (set s.views id (heard v w)) other w nobody kept there (λ t. absurd (off t))))

@@ -34,6 +34,12 @@ module _ {A : Type 0} where
   abbrev pub longer : List (Record A) → List (Record A) → List (Record A)
   longer xs ys = pick (nat_lt (length xs) (length ys)) ys xs
 
+  -- A call has shown the history to a pass that knew p, which knows q now: what it has seen is legal, what it had seen begins that, and its session has done just what the history has of it.
+  pub record HasSeen (o : Opening A) (p q : Known A) : Type 0 where
+    pub legal : Legal o q.seen
+    pub begins : IsPrefix p.seen q.seen
+    pub mine : q.mine ≡ of_session q.session q.seen
+
   -- A look that is no event has shown the history to a pass that knew p, which knows q now: what it has seen is legal, what it had seen begins that, and its session, which has done no more, has done just what the history has of it.
   pub record HasLooked (o : Opening A) (p q : Known A) : Type 0 where
     pub legal : Legal o q.seen

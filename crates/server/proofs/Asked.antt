@@ -1,5 +1,5 @@
 -- What texts ask for.
-use Rattle.std.proofs.Common.{◌≡◌, Bool, true, false, true≢false, sym, refl, Result, Ok, Err}
+use Rattle.std.proofs.Common.{◌≡◌, true, false, true≢false, sym, refl, Result, Ok, Err}
 use Rattle.schema.specs.Definition.{Catalog}
 use Rattle.value.specs.declared.refusal.Refusal.{Refusal}
 use Rattle.statement.specs.declared.statement.Statement.{Statement}

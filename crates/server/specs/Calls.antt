@@ -1,5 +1,5 @@
 -- What calls of a server leave in a pass.
-use Rattle.std.specs.Prelude.{ℕ, suc, ◌≡◌, ◌≢◌, ◌⊎◌, ◌==◌, nat_lt, Bool, true, false, ◌||◌, List, [], ◌∷◌, ◌++◌, length, replicate, slice_get, Some}
+use Rattle.std.specs.Prelude.{ℕ, suc, ◌≡◌, ◌≢◌, ◌⊎◌, ◌==◌, nat_lt, Bool, true, false, ◌||◌, List, [], ◌∷◌, ◌++◌, length, replicate, slice_get, Some, All}
 use mathlib.Core.List.{IsPrefix}
 use Rattle.value.specs.declared.refusal.Code.TheVariants.{ProgramLimitExceeded}
 use Rattle.value.specs.Refusals.{of_code, out_of_memory}
@@ -8,7 +8,8 @@ use Rattle.statement.specs.declared.reply.Reply.TheVariants.{Committed, RolledBa
 use Rattle.history.specs.declared.event.Action.{Action}
 use Rattle.history.specs.declared.event.Action.TheVariants.{Poll}
 use Rattle.history.specs.declared.event.Record.{Record}
-use Rattle.history.specs.Answer.{of_session}
+use Rattle.history.specs.Opening.{Opening, Recorded}
+use Rattle.history.specs.Answer.{IsLegal, of_session}
 use Rattle.plain.specs.Courses.{takes_memory}
 use Rattle.pass.specs.Knowing.{Known}
 
@@ -20,6 +21,11 @@ module _ {A : Type 0} where
   -- the passes of sessions 1, 2, .., which have seen and done nothing
   abbrev pub AreFresh : List (Known A) → Type 0
   AreFresh passes = (k : ℕ) (p : Known A) → slice_get passes k ≡ Some p → p ≡ record { session = suc k; seen = []; mine = [] }
+
+  -- They are the passes of sessions 1 to n, which have seen and done nothing.
+  pub record AreOpened (n : ℕ) (opened : List (Known A)) : Type 0 where
+    pub passes : AreFresh opened
+    pub count : length opened ≡ n
 
   -- The reply says committed, rolled back or refused: its event may have ended a transaction.
   abbrev pub may_end : Reply A → Bool
@@ -55,3 +61,10 @@ module _ {A : Type 0} where
   -- What the pass had seen begins the history, which has of its session just what it did.
   abbrev pub HasClosed : Known A → List (Record A) → Type 0
   HasClosed p records = IsPrefix p.seen records × (p.mine ≡ of_session p.session records)
+
+  -- The history that a server of these passes leaves behind: it is legal, has this opening and room for so many events, begins with what each pass has seen, and has of its session just what it did.
+  pub record IsClosed (o : Opening A) (room : ℕ) (closed : List (Known A)) (h : Recorded A) : Type 0 where
+    pub opening : h.opening ≡ o
+    pub most : h.most ≡ room
+    pub legal : IsLegal h
+    pub passes : All (λ pass. HasClosed pass h.records) closed

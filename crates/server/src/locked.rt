@@ -1,12 +1,12 @@
 //! What lies under the lock.
 
 ghost use Rattle.std.specs.Prelude.{◌≡◌, false, [], All};
-ghost use mathlib.Core.List.{IsPrefix};
 ghost use Rattle.value.specs.Refusals.{AnswersOrNoMemory};
 ghost use Rattle.statement.specs.Evaluation.{writes};
 ghost use Rattle.statement.specs.Fits.{Fits};
-ghost use Rattle.history.specs.Answer.{Allowed, IsLegal, Legal, of_session, reader_answer, view_answer};
-ghost use Rattle.server.specs.Calls.{HasClosed, IsCall};
+ghost use Rattle.history.specs.Answer.{Allowed, reader_answer, view_answer};
+ghost use Rattle.pass.specs.Knowing.{HasLooked, HasSeen};
+ghost use Rattle.server.specs.Calls.{IsCall, IsClosed};
 ghost use Rattle.server.specs.Doings.{IsAllowedFor, IsFoundSince, action_of};
 ghost use Rattle.server.specs.Holds.{IsFirstHold};
 
@@ -59,9 +59,7 @@ impl<'w, J: Naming<A>, A: Allocator> Locked<'w, J, A> {
     where
         A: Copy,
         requires { IsAllowedFor J.opening self.old.records pass.old.session doing }
-        ensures legal { Legal J.opening pass.new.seen }
-        ensures begins { IsPrefix pass.old.seen pass.new.seen }
-        ensures mine { pass.new.mine ≡ of_session pass.new.session pass.new.seen }
+        ensures seen { HasSeen J.opening pass.old pass.new }
         ensures call { IsCall J.most pass.old (action_of doing) result pass.new }
     {
         let before = self.core.history().records().len();
@@ -90,9 +88,7 @@ impl<'w, J: Naming<A>, A: Allocator> Locked<'w, J, A> {
     where
         A: Copy,
         requires { Allowed J.opening.catalog action }
-        ensures legal { Legal J.opening pass.new.seen }
-        ensures begins { IsPrefix pass.old.seen pass.new.seen }
-        ensures mine { pass.new.mine ≡ of_session pass.new.session pass.new.seen }
+        ensures seen { HasSeen J.opening pass.old pass.new }
         ensures call { IsCall J.most pass.old action result pass.new }
     {
         self.advance(alloc, pass, Doing::Act(action))
@@ -103,11 +99,7 @@ impl<'w, J: Naming<A>, A: Allocator> Locked<'w, J, A> {
     fn reader(&mut self, alloc: A, pass: &mut Pass<'w, J, A>) -> Result<SessionReader<A>, Refusal>
     where
         A: Copy,
-        ensures legal { Legal J.opening pass.new.seen }
-        ensures begins { IsPrefix pass.old.seen pass.new.seen }
-        ensures session { pass.new.session ≡ pass.old.session }
-        ensures mine { pass.new.mine ≡ pass.old.mine }
-        ensures exact { pass.new.mine ≡ of_session pass.new.session pass.new.seen }
+        ensures looked { HasLooked J.opening pass.old pass.new }
         ensures reader { AnswersOrNoMemory result (reader_answer J.opening pass.new.seen pass.new.session) }
     {
         self.keeper.show(pass);
@@ -126,9 +118,7 @@ impl<'w, J: Naming<A>, A: Allocator> Locked<'w, J, A> {
     where
         A: Copy,
         requires { Fits J.opening.catalog statement }
-        ensures legal { Legal J.opening pass.new.seen }
-        ensures begins { IsPrefix pass.old.seen pass.new.seen }
-        ensures mine { pass.new.mine ≡ of_session pass.new.session pass.new.seen }
+        ensures seen { HasSeen J.opening pass.old pass.new }
         ensures hold { IsFirstHold J.opening J.most pass.old statement result pass.new }
     {
         match self.reader(alloc, pass) {
@@ -153,9 +143,7 @@ impl<'w, J: Naming<A>, A: Allocator> Locked<'w, J, A> {
         requires fits { Fits J.opening.catalog statement }
         requires reads { writes statement ≡ false }
         requires found { IsFoundSince J.opening pass.old.seen pass.old.session statement found }
-        ensures legal { Legal J.opening pass.new.seen }
-        ensures begins { IsPrefix pass.old.seen pass.new.seen }
-        ensures mine { pass.new.mine ≡ of_session pass.new.session pass.new.seen }
+        ensures seen { HasSeen J.opening pass.old pass.new }
         ensures call { IsCall J.most pass.old (Action.Run statement) result pass.new }
     {
         // The call tells what every pass keeps true.
@@ -170,11 +158,7 @@ impl<'w, J: Naming<A>, A: Allocator> Locked<'w, J, A> {
     pub(crate) fn view(&mut self, alloc: A, pass: &mut Pass<'w, J, A>) -> Result<View<A>, Refusal>
     where
         A: Copy,
-        ensures legal { Legal J.opening pass.new.seen }
-        ensures begins { IsPrefix pass.old.seen pass.new.seen }
-        ensures session { pass.new.session ≡ pass.old.session }
-        ensures mine { pass.new.mine ≡ pass.old.mine }
-        ensures exact { pass.new.mine ≡ of_session pass.new.session pass.new.seen }
+        ensures looked { HasLooked J.opening pass.old pass.new }
         ensures view { AnswersOrNoMemory result (view_answer J.opening pass.new.seen pass.new.session) }
     {
         self.keeper.show(pass);
@@ -185,10 +169,7 @@ impl<'w, J: Naming<A>, A: Allocator> Locked<'w, J, A> {
     // The core, whose history has what each pass has seen and done.
     pub(crate) fn close(self, passes: Vec<Pass<'w, J, A>, A>) -> Core<A>
         ensures core { result ≡ self.entry }
-        ensures opening { result.opening ≡ J.opening }
-        ensures most { result.most ≡ J.most }
-        ensures legal { IsLegal result }
-        ensures passes { All (λ pass. HasClosed pass result.records) passes.entry.items }
+        ensures closed { IsClosed J.opening J.most passes.entry.items result }
     {
         let Locked { core, mut keeper } = self;
         for mut pass in passes {

@@ -1,12 +1,12 @@
 //! SELECTs, which are evaluated while the lock is free.
 
 ghost use Rattle.std.specs.Prelude.{◌≡◌, true, false, Ok, IfOk, IfErr};
-ghost use mathlib.Core.List.{IsPrefix};
 ghost use Rattle.value.specs.Refusals.{out_of_memory};
 ghost use Rattle.schema.specs.Plain.{is_sound};
 ghost use Rattle.statement.specs.Evaluation.{outcome, writes};
 ghost use Rattle.statement.specs.Fits.{Fits};
-ghost use Rattle.history.specs.Answer.{Allowed, Legal, of_session, reader_answer};
+ghost use Rattle.history.specs.Answer.{Allowed, reader_answer};
+ghost use Rattle.pass.specs.Knowing.{HasSeen};
 ghost use Rattle.request.specs.Requests.{asked};
 ghost use Rattle.server.specs.Calls.{IsCall};
 
@@ -76,9 +76,7 @@ impl<'w, J: Naming<A>, A: Allocator> Server<'w, J, A> {
     ) -> Reply<A>
     where
         A: Copy,
-        ensures legal { Legal J.opening pass.new.seen }
-        ensures begins { IsPrefix pass.old.seen pass.new.seen }
-        ensures mine { pass.new.mine ≡ of_session pass.new.session pass.new.seen }
+        ensures seen { HasSeen J.opening pass.old pass.new }
         ensures call { IsCall J.most pass.old (asked J.opening.catalog request.now) result pass.new }
     {
         match request.action(alloc, &self.catalog) {
@@ -103,9 +101,7 @@ impl<'w, J: Naming<A>, A: Allocator> Server<'w, J, A> {
     where
         A: Copy,
         requires { Allowed J.opening.catalog action }
-        ensures legal { Legal J.opening pass.new.seen }
-        ensures begins { IsPrefix pass.old.seen pass.new.seen }
-        ensures mine { pass.new.mine ≡ of_session pass.new.session pass.new.seen }
+        ensures seen { HasSeen J.opening pass.old pass.new }
         ensures call { IsCall J.most pass.old action result pass.new }
     {
         match reading_of(action) {
@@ -128,9 +124,7 @@ impl<'w, J: Naming<A>, A: Allocator> Server<'w, J, A> {
         A: Copy,
         requires fits { Fits J.opening.catalog statement }
         requires reads { writes statement ≡ false }
-        ensures legal { Legal J.opening pass.new.seen }
-        ensures begins { IsPrefix pass.old.seen pass.new.seen }
-        ensures mine { pass.new.mine ≡ of_session pass.new.session pass.new.seen }
+        ensures seen { HasSeen J.opening pass.old pass.new }
         ensures call { IsCall J.most pass.old (Action.Run statement) result pass.new }
     {
         // The first hold ends with this line. A `match` on the call itself would hold the lock to the
@@ -159,9 +153,7 @@ impl<'w, J: Naming<A>, A: Allocator> Server<'w, J, A> {
         requires fits { Fits J.opening.catalog statement }
         requires reads { writes statement ≡ false }
         requires read { reader_answer J.opening pass.old.seen pass.old.session ≡ Ok reader.now }
-        ensures legal { Legal J.opening pass.new.seen }
-        ensures begins { IsPrefix pass.old.seen pass.new.seen }
-        ensures mine { pass.new.mine ≡ of_session pass.new.session pass.new.seen }
+        ensures seen { HasSeen J.opening pass.old pass.new }
         ensures call { IsCall J.most pass.old (Action.Run statement) result pass.new }
     {
         // The call tells what every pass keeps true.

@@ -1,13 +1,13 @@
 //! The server.
 
 ghost use Rattle.std.specs.Prelude.{◌≡◌, ◌≢◌, ◌≤◌, ◌==◌, ◌||◌, true, false, [], length, All, IsTrue, IfOk, IfErr};
-ghost use mathlib.Core.List.{IsPrefix};
 ghost use Rattle.value.specs.Refusals.{AnswersOrNoMemory, out_of_memory};
 ghost use Rattle.schema.specs.Plain.{is_sound};
 ghost use Rattle.history.specs.Opening.{opening_refusal, zero_base};
-ghost use Rattle.history.specs.Answer.{Allowed, IsLegal, Legal, of_session, view_answer};
+ghost use Rattle.history.specs.Answer.{Allowed, view_answer};
+ghost use Rattle.pass.specs.Knowing.{HasLooked, HasSeen};
 ghost use Rattle.request.specs.Requests.{asked};
-ghost use Rattle.server.specs.Calls.{AreFresh, HasClosed, HasPolled, IsCall, is_no_count, may_end};
+ghost use Rattle.server.specs.Calls.{AreOpened, HasPolled, IsCall, IsClosed, is_no_count, may_end};
 
 use crate::locked::Locked;
 use dumpplan::NoGate;
@@ -53,8 +53,7 @@ fn passes_of<'w, J: Naming<A>, A: Allocator>(
 ) -> Result<Vec<Pass<'w, J, A>, A>, AllocError>
     requires sessions { sessions ≤ 64 }
     requires keeper { (keeper.old.made ≡ 0) × (keeper.old.records ≡ []) }
-    ensures passes { IfOk result (λ v. AreFresh v.items) }
-    ensures count { IfOk result (λ v. length v.items ≡ sessions) }
+    ensures opened { IfOk result (λ v. AreOpened sessions v.items) }
     ensures keeper { keeper.new.records ≡ keeper.old.records }
 {
     let mut passes = Vec::new(alloc);
@@ -102,8 +101,7 @@ impl<'w, J: Naming<A>, A: Allocator> Server<'w, J, A> {
         requires opening { J.opening ≡ record { catalog = catalog; tables = tables; base = zero_base } }
         requires most { J.most ≡ max_events }
         requires sound { IsTrue (is_sound catalog tables) }
-        ensures passes { IfOk result (λ opened. AreFresh opened.1.items) }
-        ensures count { IfOk result (λ opened. length opened.1.items ≡ sessions) }
+        ensures opened { IfOk result (λ opened. AreOpened sessions opened.1.items) }
         ensures within { IfOk result (λ opened. (max_events == 0 || is_no_count sessions) ≡ false) }
         ensures refused { IfErr result (λ e. e ≡ opening_refusal (max_events == 0 || is_no_count sessions)) }
     {
@@ -132,8 +130,7 @@ impl<'w, J: Naming<A>, A: Allocator> Server<'w, J, A> {
         requires word { word.now ≡ record { table = J.table; opening = J.opening } }
         requires first { first ≡ J.table }
         requires core { core ≡ record { opening = J.opening; records = []; most = J.most } }
-        ensures passes { IfOk result (λ opened. AreFresh opened.1.items) }
-        ensures count { IfOk result (λ opened. length opened.1.items ≡ sessions) }
+        ensures opened { IfOk result (λ opened. AreOpened sessions opened.1.items) }
         ensures within { IfOk result (λ opened. is_no_count sessions ≡ false) }
         ensures back { IfErr result (λ e. e.0 ≡ core) }
         ensures refused { IfErr result (λ e. e.1 ≡ opening_refusal (is_no_count sessions)) }
@@ -158,8 +155,7 @@ impl<'w, J: Naming<A>, A: Allocator> Server<'w, J, A> {
         requires first { first ≡ J.table }
         requires core { core ≡ record { opening = J.opening; records = []; most = J.most } }
         requires sessions { is_no_count sessions ≡ false }
-        ensures passes { IfOk result (λ opened. AreFresh opened.1.items) }
-        ensures count { IfOk result (λ opened. length opened.1.items ≡ sessions) }
+        ensures opened { IfOk result (λ opened. AreOpened sessions opened.1.items) }
         ensures back { IfErr result (λ e. e ≡ (core, out_of_memory)) }
     {
         let Ok(catalog) = core.history().catalog().copy(alloc) else {
@@ -190,9 +186,7 @@ impl<'w, J: Naming<A>, A: Allocator> Server<'w, J, A> {
     ) -> Reply<A>
     where
         A: Copy,
-        ensures legal { Legal J.opening pass.new.seen }
-        ensures begins { IsPrefix pass.old.seen pass.new.seen }
-        ensures mine { pass.new.mine ≡ of_session pass.new.session pass.new.seen }
+        ensures seen { HasSeen J.opening pass.old pass.new }
         ensures call { IsCall J.most pass.old (asked J.opening.catalog request.now) result pass.new }
     {
         self.call_gated(rt, alloc, pass, request, &NoGate)
@@ -209,9 +203,7 @@ impl<'w, J: Naming<A>, A: Allocator> Server<'w, J, A> {
     where
         A: Copy,
         requires { Allowed J.opening.catalog action }
-        ensures legal { Legal J.opening pass.new.seen }
-        ensures begins { IsPrefix pass.old.seen pass.new.seen }
-        ensures mine { pass.new.mine ≡ of_session pass.new.session pass.new.seen }
+        ensures seen { HasSeen J.opening pass.old pass.new }
         ensures call { IsCall J.most pass.old action result pass.new }
     {
         // The hold ends with this line: a session that is woken finds the lock free. A `match` on the
@@ -229,9 +221,7 @@ impl<'w, J: Naming<A>, A: Allocator> Server<'w, J, A> {
     pub fn wait_safe<R: Wait>(&self, rt: &R, alloc: A, pass: &mut Pass<'w, J, A>) -> Reply<A>
     where
         A: Copy,
-        ensures legal { Legal J.opening pass.new.seen }
-        ensures begins { IsPrefix pass.old.seen pass.new.seen }
-        ensures mine { pass.new.mine ≡ of_session pass.new.session pass.new.seen }
+        ensures seen { HasSeen J.opening pass.old pass.new }
         ensures polls { HasPolled J.most pass.old result pass.new }
     {
         // Held from poll to poll, but for the sleep between, so that no event is missed. A call of the
@@ -258,11 +248,7 @@ impl<'w, J: Naming<A>, A: Allocator> Server<'w, J, A> {
     ) -> Result<View<A>, Refusal>
     where
         A: Copy,
-        ensures legal { Legal J.opening pass.new.seen }
-        ensures begins { IsPrefix pass.old.seen pass.new.seen }
-        ensures session { pass.new.session ≡ pass.old.session }
-        ensures mine { pass.new.mine ≡ pass.old.mine }
-        ensures exact { pass.new.mine ≡ of_session pass.new.session pass.new.seen }
+        ensures looked { HasLooked J.opening pass.old pass.new }
         ensures view { AnswersOrNoMemory result (view_answer J.opening pass.new.seen pass.new.session) }
     {
         // The hold ends with the call. Under it another would wait for ever.
@@ -279,10 +265,7 @@ impl<'w, J: Naming<A>, A: Allocator> Server<'w, J, A> {
     /// The core, once no session calls any more. Its history begins with what each of the passes
     /// has seen, and has of its session just what it did.
     pub fn close(self, passes: Vec<Pass<'w, J, A>, A>) -> Core<A>
-        ensures opening { result.opening ≡ J.opening }
-        ensures most { result.most ≡ J.most }
-        ensures legal { IsLegal result }
-        ensures passes { All (λ pass. HasClosed pass result.records) passes.entry.items }
+        ensures { IsClosed J.opening J.most passes.entry.items result }
     {
         let Server {
             locked,

@@ -9,4 +9,4 @@ returns g c =
     let o = g.J.Naming.opening in
     let p = c.view.new.pass in
     viewed_so (λ X. length X ≡ length o.catalog) c.view.result (view_answer o p.seen p.session) c.view.ensures.view
-    (λ X e. held_length o.catalog X (held_sound o.catalog X (c.views_are_sound.ensures o p.seen p.session X c.view.ensures.legal e)))
+    (λ X e. held_length o.catalog X (held_sound o.catalog X (c.views_are_sound.ensures o p.seen p.session X c.view.ensures.looked.legal e)))

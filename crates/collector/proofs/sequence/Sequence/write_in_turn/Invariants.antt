@@ -1,4 +1,4 @@
-use Rattle.std.proofs.Common.{◌≡◌, ◌-◌, length, false}
+use Rattle.std.proofs.Common.{◌-◌, length}
 use Rattle.collector.specs.Gathered.{IsSameJob, GoesOn}
 use Rattle.collector.proofs.sequence.Sequence.write_in_turn.Given as goal
 

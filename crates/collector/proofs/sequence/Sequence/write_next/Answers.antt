@@ -1,15 +1,15 @@
-use Rattle.std.proofs.Common.{◌≡◌, ◌∙◌, ◌++◌, ◌<◌, length, sym, ap, take, rules, subst, true, false, Some, None, Option, List, ℕ, arith, refl, ◌+◌}
+use Rattle.std.proofs.Common.{◌≡◌, ◌∙◌, ◌++◌, ◌<◌, length, sym, ap, subst, true, false, Some, None, Option, List, ℕ, arith, ◌+◌}
 use Rattle.std.specs.Prelude.{slice_index_or, slice_set}
-use Rattle.dumpplan.specs.Pieces.{piece_texts}
 use Rattle.collector.specs.Written.{BeginsWith}
 use Rattle.collector.specs.Gathered.{IsInTurn, Gathering}
+use Rattle.collector.specs.Sequenced.{gathering}
 use Rattle.collector.proofs.GatheredLemmas.{wrote_piece, failed_piece, read_here}
 use Rattle.collector.proofs.sequence.Sequence.write_next.Goals as goal
 
 pub invariant_of-self-in-Ok : goal.invariant_of-self-in-Ok
 invariant_of-self-in-Ok g c =
     let i = c.self.inside in
-    let j : Gathering = record { texts = piece_texts i.catalog.now (g.R.SnapshotReader.tables i.reader.now) i.plan.now; name = i.device.ghost_name; before = g.W.Device.taken i.start.value; failures_before = g.W.Device.failures i.start.value; taken = g.W.Device.taken i.device.now; failures = g.W.Device.failures i.device.now; waiting = i.waiting.items; next = i.next; failed = i.failed } in
+    let j : Gathering = gathering g.R.SnapshotReader.tables g.W.Device.taken g.W.Device.failures i in
     let going : i.failed ≡ false = ap (λ (v : Gathering). v.failed) c.self.view_is ∙ c.requires.open in
     let more : i.next < length j.texts = subst (λ (v : Gathering). v.next < length v.texts) (sym c.self.view_is) c.requires.more in
     let place : i.next < length i.waiting.items = omega (arith, c.self.invariant.places) in
@@ -21,7 +21,7 @@ invariant_of-self-in-Ok g c =
 pub invariant_of-self-in-Err : goal.invariant_of-self-in-Err
 invariant_of-self-in-Err g c =
     let i = c.self.inside in
-    let j : Gathering = record { texts = piece_texts i.catalog.now (g.R.SnapshotReader.tables i.reader.now) i.plan.now; name = i.device.ghost_name; before = g.W.Device.taken i.start.value; failures_before = g.W.Device.failures i.start.value; taken = g.W.Device.taken i.device.now; failures = g.W.Device.failures i.device.now; waiting = i.waiting.items; next = i.next; failed = i.failed } in
+    let j : Gathering = gathering g.R.SnapshotReader.tables g.W.Device.taken g.W.Device.failures i in
     let going : i.failed ≡ false = ap (λ (v : Gathering). v.failed) c.self.view_is ∙ c.requires.open in
     let more : i.next < length j.texts = subst (λ (v : Gathering). v.next < length v.texts) (sym c.self.view_is) c.requires.more in
     let place : i.next < length i.waiting.items = omega (arith, c.self.invariant.places) in

@@ -36,13 +36,17 @@ invariant_of-self-else-records-before g c =
     let left = step_left h k c.session-session.result (action_of c.args.doing) c.do_event-reply.result c.do_event-reply.ensures stayed in
     (ap (λ (x : Recorded _). x.opening) left.0 ∙ c.self.invariant.0, ap (λ (x : Recorded _). x.most) left.0 ∙ c.self.invariant.1, ap (λ (x : Whole _). x.records) c.show.ensures.keeper ∙ (c.self.invariant.2 ∙ sym (ap (λ (x : Recorded _). x.records) left.0)))
 
-pub returns-clause-begins : goal.returns-clause-begins
-returns-clause-begins g c =
+pub returns-clause-seen : goal.returns-clause-seen
+returns-clause-seen g c =
     let old = c.args.pass.now.seen in
-    elim c.if-records-before.branch [
-      | then-records-before+in-Some w ↦ subst (λ (p : Known _). IsPrefix old p.seen) (sym (w.pass-is ∙ w.record.ensures.pass)) (prefix_more _ _ _ w.record.ensures.begins)
-      | else-records-before w ↦ subst (λ (p : Known _). IsPrefix old p.seen) (sym (w.pass-is ∙ w.show.ensures.pass)) w.show.ensures.begins
-    ]
+    record {
+      legal = c.session-session-2.ensures.legal;
+      begins = elim c.if-records-before.branch [
+        | then-records-before+in-Some w ↦ subst (λ (p : Known _). IsPrefix old p.seen) (sym (w.pass-is ∙ w.record.ensures.pass)) (prefix_more _ _ _ w.record.ensures.begins)
+        | else-records-before w ↦ subst (λ (p : Known _). IsPrefix old p.seen) (sym (w.pass-is ∙ w.show.ensures.pass)) w.show.ensures.begins
+      ];
+      mine = c.session-session-2.ensures.exact;
+    }
 
 pub returns-clause-call : goal.returns-clause-call
 returns-clause-call g c =

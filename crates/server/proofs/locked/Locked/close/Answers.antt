@@ -22,7 +22,12 @@ loop-pass-preserved g c =
       closed_push records c.loop-pass.yielded p i.3 (subst (λ l. HasClosed p l) i.0 (sh.begins, sh.mine)),
     )
 
-pub returns-clause-passes : goal.returns-clause-passes
-returns-clause-passes g c =
+pub returns-clause-closed : goal.returns-clause-closed
+returns-clause-closed g c =
     let i = c.loop-pass.invariant in
-    subst (λ l. All (λ q. HasClosed q c.self.inside.core.records) l) (sym (append-nil c.loop-pass.yielded) ∙ ap (λ l. c.loop-pass.yielded ++ l) (sym (nil c.loop-pass.pass-iterator.rest.items (let o = c.loop-pass.pass-iterator.rest.ok in search rules))) ∙ i.2) i.3
+    record {
+      opening = c.self.invariant.0;
+      most = c.self.invariant.1;
+      legal = c.is_legal.ensures;
+      passes = subst (λ l. All (λ q. HasClosed q c.self.inside.core.records) l) (sym (append-nil c.loop-pass.yielded) ∙ ap (λ l. c.loop-pass.yielded ++ l) (sym (nil c.loop-pass.pass-iterator.rest.items (let o = c.loop-pass.pass-iterator.rest.ok in search rules))) ∙ i.2) i.3;
+    }

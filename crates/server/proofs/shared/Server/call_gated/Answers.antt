@@ -6,6 +6,7 @@ use Rattle.history.specs.declared.event.Action.{Action}
 use Rattle.request.specs.Requests.{asked}
 use Rattle.server.specs.Calls.{IsCall}
 use Rattle.server.proofs.Asked.{texts_take}
+use Rattle.pass.proofs.Prefixes.{prefix_self}
 use Rattle.server.proofs.shared.Server.call_gated.Goals as goal
 
 pub returns-in-Ok-clause-call : goal.returns-in-Ok-clause-call
@@ -19,3 +20,6 @@ returns-in-Err-clause-call g c =
 
 pub act_gated-requires-after_bounds : goal.act_gated-requires-after_bounds
 act_gated-requires-after_bounds g c κs within = subst (λ (d : Catalog). Allowed d c.in-Ok.action) c.args.self.now.catalog_is c.in-Ok.ensures.allowed
+
+pub returns-in-Err-clause-seen : goal.returns-in-Err-clause-seen
+returns-in-Err-clause-seen g c = record { legal = c.session-session.ensures.legal; begins = prefix_self c.args.pass.now.seen; mine = c.session-session.ensures.exact }

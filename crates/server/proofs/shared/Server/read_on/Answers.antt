@@ -3,6 +3,7 @@ use Rattle.schema.specs.Definition.{Catalog}
 use Rattle.schema.specs.declared.tables.Tables.{Tables}
 use Rattle.statement.specs.declared.reply.Reply.TheVariants.{Refused}
 use Rattle.statement.specs.Evaluation.{outcome}
+use Rattle.pass.proofs.Prefixes.{prefix_self}
 use Rattle.server.proofs.shared.Server.read_on.Goals as goal
 
 -- the tables are those that were read
@@ -14,3 +15,6 @@ finish_read-requires-clause-found g c = λ more X legal none e.
 
 pub returns-in-Err-clause-call : goal.returns-in-Err-clause-call
 returns-in-Err-clause-call g c = (refl, inr (record { reason = inl (refl, ap Refused c.in-Err.ensures.memory); mine = refl }))
+
+pub returns-in-Err-clause-seen : goal.returns-in-Err-clause-seen
+returns-in-Err-clause-seen g c = record { legal = c.session-session.ensures.legal; begins = prefix_self c.args.pass.now.seen; mine = c.session-session.ensures.exact }
