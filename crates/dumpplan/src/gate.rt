@@ -7,11 +7,11 @@ pub trait Gate: Sync {
     /// Asked when a thread has drawn the piece, before it works on it.
     fn before(&self, piece: u64);
 
-    /// Asked when the piece's result was handed over.
+    /// Asked when the work on the piece is done.
     fn after(&self, piece: u64);
 }
 
-/// A gate that holds nobody: all programs have this one.
+/// A gate that does nothing.
 #[derive(Clone, Copy, Debug)]
 pub struct NoGate;
 

@@ -37,7 +37,7 @@ pub(crate) const NO_MEMORY: Fault<'static> = Fault::Dump {
     code: Code::OutOfMemory,
 };
 
-// The same, as a dump is asked for it.
+// So many, as a dump is asked for it.
 fn piece_rows() -> PieceRows
     ensures { result ≡ 1000 }
 {

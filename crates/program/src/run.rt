@@ -45,7 +45,7 @@ pub(crate) struct Way {
     pub(crate) most_events: u32,
 }
 
-// How it is told that a path's file wasn't read; `memory` tells that memory was wanting for it.
+// The fault where a path's file wasn't read; `memory` is the one for want of memory.
 fn fault_of_read<'p>(error: ReadError, path: &'p str, memory: Fault<'p>) -> Fault<'p>
     ensures device { error ≡ ReadError.Device → IsFileFault path.now result }
     ensures memory { error ≡ ReadError.Memory → result ≡ memory.entry }
@@ -168,7 +168,7 @@ where
     }
 }
 
-// Prints a text, whatever else is shown.
+// Prints a text behind what was printed before.
 fn show<'p, A, W>(text: &[u8], printer: &mut Printer<'_, W, A>) -> Result<(), Fault<'p>>
 where
     A: Allocator,

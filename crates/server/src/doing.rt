@@ -15,7 +15,7 @@ use std::alloc::{Allocator, Global};
 #[derive(Drop)]
 pub(crate) enum Doing<A: Allocator = Global> {
     Act(Action<A>),
-    /// A SELECT, whose reply was found before the lock was taken.
+    /// A SELECT, whose reply was found while the lock was free, between two holds.
     Note(Statement<A>, Reply<A>),
 }
 

@@ -53,7 +53,7 @@ impl<'w, J: Naming<A>, A: Allocator> Locked<'w, J, A> {
         Locked { core, keeper }
     }
 
-    // One event of the pass's session.
+    // One event of the pass's session, whose reply may have been found before, and which the pass is shown.
     #[tactic(auto, using(pass::proofs::Prefixes::snoc_last))]
     fn advance(&mut self, alloc: A, pass: &mut Pass<'w, J, A>, doing: Doing<A>) -> Reply<A>
     where
@@ -73,12 +73,12 @@ impl<'w, J: Naming<A>, A: Allocator> Locked<'w, J, A> {
         } else {
             self.keeper.show(pass);
         }
-        // The call tells what every pass keeps true.
+        // Nothing happens here: the call tells the prover what every pass keeps true.
         let _session = pass.session();
         reply
     }
 
-    // One event of the pass's session.
+    // The event of an action of the pass's session.
     pub(crate) fn call(
         &mut self,
         alloc: A,
@@ -146,7 +146,7 @@ impl<'w, J: Naming<A>, A: Allocator> Locked<'w, J, A> {
         ensures seen { HasSeen J.opening pass.old pass.new }
         ensures call { IsCall J.most pass.old (Action.Run statement) result pass.new }
     {
-        // The call tells what every pass keeps true.
+        // Nothing happens here: the call tells the prover what every pass keeps true.
         let _session = pass.session();
         self.keeper.show(pass);
         self.core.is_legal();

@@ -82,7 +82,7 @@ impl<'w, J: Naming<A>, A: Allocator> Server<'w, J, A> {
         match request.action(alloc, &self.catalog) {
             Ok(action) => self.act_gated(rt, alloc, pass, action, gate),
             Err(refusal) => {
-                // The call tells what every pass keeps true.
+                // Nothing happens here: the call tells the prover what every pass keeps true.
                 let _session = pass.session();
                 Reply::Refused(refusal)
             }
@@ -156,7 +156,7 @@ impl<'w, J: Naming<A>, A: Allocator> Server<'w, J, A> {
         ensures seen { HasSeen J.opening pass.old pass.new }
         ensures call { IsCall J.most pass.old (Action.Run statement) result pass.new }
     {
-        // The call tells what every pass keeps true.
+        // Nothing happens here: the call tells the prover what every pass keeps true.
         let _session = pass.session();
         readers_are_sound::<A>();
         readers_stay::<A>();

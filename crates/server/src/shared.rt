@@ -215,8 +215,8 @@ impl<'w, J: Naming<A>, A: Allocator> Server<'w, J, A> {
         reply
     }
 
-    /// Polls until the answer isn't to wait, and sleeps between until another transaction has
-    /// ended. It may never return.
+    /// Polls until the answer isn't to wait. Between two polls it sleeps until a reply that may have
+    /// ended a transaction. It may never return.
     #[tactic(auto, using(pass::proofs::Prefixes::prefix_trans))]
     pub fn wait_safe<R: Wait>(&self, rt: &R, alloc: A, pass: &mut Pass<'w, J, A>) -> Reply<A>
     where

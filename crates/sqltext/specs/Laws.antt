@@ -3,8 +3,6 @@ use Rattle.std.specs.Prelude.{◌≡◌, ◌≤◌, ◌↔◌, ℕ, true, false,
 use Rattle.value.specs.declared.refusal.Refusal.{Refusal}
 use Rattle.schema.specs.Definition.{Catalog}
 use Rattle.schema.specs.Names.{reserved_words}
-use Rattle.statement.specs.declared.statement.Statement.{Statement}
-use Rattle.statement.specs.Fits.{fits}
 use Rattle.sqltext.specs.declared.token.TheConstants.{RESERVED_WORDS}
 use Rattle.sqltext.specs.declared.token.Token.{Token}
 use Rattle.sqltext.specs.declared.tree.Tree.{Tree}
@@ -18,8 +16,7 @@ use Rattle.sqltext.specs.Tokens.{tokens}
 use Rattle.sqltext.specs.Resolving.{resolved}
 use Rattle.sqltext.specs.Parsed.{parsed}
 
--- what a text says of a catalog's tables fits the catalog
-abbrev pub ParsedFits : Type 0 → Type 0
+-- what a text says of a catalog's tables fits the catalogabbrev pub ParsedFits : Type 0 → Type 0
 ParsedFits A = (catalog : Catalog) (text : List ℕ) (q : Statement A) → parsed catalog text ≡ Ok q → fits catalog q ≡ true
 
 -- the words that name nothing are those that tables and columns may not be called
