@@ -16,9 +16,6 @@ use Rattle.sqltext.specs.Tokens.{tokens}
 use Rattle.sqltext.specs.Resolving.{resolved}
 use Rattle.sqltext.specs.Parsed.{parsed}
 
--- what a text says of a catalog's tables fits the catalogabbrev pub ParsedFits : Type 0 → Type 0
-ParsedFits A = (catalog : Catalog) (text : List ℕ) (q : Statement A) → parsed catalog text ≡ Ok q → fits catalog q ≡ true
-
 -- the words that name nothing are those that tables and columns may not be called
 abbrev pub SameReservedWords : Type 0
 SameReservedWords = map (λ entry. entry.0.now) RESERVED_WORDS ≡ reserved_words
