@@ -1,5 +1,7 @@
 -- The row of a line.
-use Rattle.std.proofs.Common.{◌≡◌, ℕ, List, [], ◌∷◌, Result, Ok, Err, refl, ap, sym, subst, ◌∙◌}
+use Rattle.std.proofs.Common.{◌≡◌, ℕ, ◌-◌, ◌≤◌, List, [], ◌∷◌, length, take, drop, get_or, Result, Ok, Err, refl, ap, sym, subst, ◌∙◌, arith}
+use Rattle.std.proofs.lemmas.List.{take_rest}
+use Rattle.value.specs.declared.kind.Kind.{Kind}
 use Rattle.value.specs.declared.refusal.Code.{Code}
 use Rattle.value.specs.declared.value.Value.{Value}
 use Rattle.value.specs.declared.value.Value.TheVariants.{Null, Int, Text, Bytes}
@@ -13,6 +15,11 @@ use Rattle.restore.specs.Reading.{kinds_of, with_values, with_row}
 use Rattle.restore.specs.Rows.{row_of_values, row_of_line}
 use Rattle.restore.specs.Steps.{◌>>=◌, Gives, Fails}
 use Rattle.restore.proofs.StepLemmas.{stops}
+
+-- the first of some kinds, and the others
+pub first_and_rest : (ks : List Kind) (d : Kind) → 1 ≤ length ks → get_or ks 0 d ∷ take (length ks - 1) (drop 1 ks) ≡ ks
+first_and_rest [] d some = absurd (omega arith)
+first_and_rest (k ∷ ks) d some = ap (λ rest. k ∷ rest) (take_rest (k ∷ ks) 1)
 
 module _ {A : Type 0} where
   -- the row of a key and the other fields

@@ -1,5 +1,5 @@
 -- Refusals of the crates below as errors of a line.
-use Rattle.std.proofs.Common.{◌≡◌, List, [], ◌∷◌, ◌++◌, Result, Ok, Err, refl, sym, ap, subst, ◌∙◌, inl, inr, append_assoc}
+use Rattle.std.proofs.Common.{◌≡◌, List, [], ◌∷◌, ◌++◌, Result, Ok, Err, refl, sym, ap, subst, ◌∙◌, ◌⊎◌, inl, inr, append_assoc}
 use Rattle.std.proofs.lemmas.List.{append-nil}
 use Rattle.value.specs.declared.refusal.Code.{Code}
 use Rattle.value.specs.declared.refusal.Code.TheVariants.{OutOfMemory}
@@ -25,6 +25,11 @@ refused (Ok x) r (inl e) = absurd cc
 refused {T} (Ok x) r (inr e) = subst (λ (s : Refusal). Fails {Y = T} (line_error s) (Ok x)) (sym (same_refusal r out_of_memory e)) tt
 refused {T} (Err code) r (inl e) = subst (λ (s : Refusal). Fails {Y = T} (line_error s) (Err code)) (sym (same_refusal r (of_code code) e)) (code_fails T code)
 refused {T} (Err code) r (inr e) = subst (λ (s : Refusal). Fails {Y = T} (line_error s) (Err code)) (sym (same_refusal r out_of_memory e)) tt
+
+-- the same, where want of memory is told apart
+pub refused_or_memory : {T : Type 0} (answer : Result T Code) (r : Refusal) → (r ≡ out_of_memory) ⊎ (pointing_nowhere answer ≡ Err r) → Fails (line_error r) answer
+refused_or_memory answer r (inl memory) = refused answer r (inr (ap failed memory))
+refused_or_memory answer r (inr fault) = refused answer r (inl (sym fault))
 
 abbrev given : {T : Type 0} → T → Result T Refusal
 given x = Ok x

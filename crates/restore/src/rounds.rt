@@ -1,4 +1,4 @@
-//! Lines of rows read by several threads, while the rows of lines before them are taken.
+//! Rounds of lines: they are read by several threads, and later their rows are taken into a table.
 
 ghost use Rattle.std.specs.Prelude.{◌≡◌, ◌<◌, ◌≤◌, ◌-◌, [], None, map, take, drop, length, IfOk};
 ghost use Rattle.schema.specs.Definition.{columns_of};
@@ -167,7 +167,9 @@ pub fn read_round<R: Threads + Sync, G: Gate, A: Allocator + Copy + Send + Sync>
     Ok(pieces)
 }
 
-/// The pieces of a round's lines, as `read_round` reads them where no tables are known.
+/// The pieces of a round's lines, as `read_round` reads them where no tables are known. A call of that one needs a
+/// lifetime for the tables that it is lent, and of this the check wants it shown that it lasts. A bare `None` shows none;
+/// the `None` here has that of the columns, `'c`.
 pub fn read_round_alone<'c, R: Threads + Sync, G: Gate, A: Allocator + Copy + Send + Sync>(
     rt: &R,
     alloc: A,

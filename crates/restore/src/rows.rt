@@ -1,6 +1,6 @@
 //! The rows of a table.
 
-ghost use Rattle.std.specs.Prelude.{◌≡◌, ◌≢◌, ◌+◌, ◌<◌, ◌^◌, ℕ, Bool, List, [], ◌∷◌, ◌++◌, length, vec_len, map, true, MatchOption, IfOk, IfErr, OnErr};
+ghost use Rattle.std.specs.Prelude.{◌≡◌, ◌≢◌, ◌+◌, ◌<◌, ◌^◌, ℕ, Bool, List, [], ◌∷◌, ◌++◌, length, vec_len, map, true, IfOk, IfErr, OnErr};
 ghost use Rattle.schema.specs.Plain.{is_sound};
 ghost use Rattle.schema.specs.Inserting.{inserted};
 ghost use Rattle.restore.specs.Reading.{Within, kinds_of, with_row, read_lines};

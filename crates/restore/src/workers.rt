@@ -36,8 +36,10 @@ const PIECE_STRETCHES: usize = 16;
 /// How many stretches of lines a round has at most.
 const ROUND_STRETCHES: usize = 128;
 
-/// Threads that read a table's lines in rounds, a piece each, while the rows of the round before are taken. The gate is
-/// asked about each stretch of a piece.
+/// Threads that read a table's lines in rounds, a piece each. The rows of the round before are taken meanwhile, where
+/// the table has no references. Where it has some, those rows are taken between the two rounds: what a row references is
+/// looked up in the tables as they are once all rows before its round are in. With one job they are taken between the
+/// rounds too. The gate is asked about each stretch of a piece.
 #[derive(Drop)]
 pub struct Workers<'w, R, G, A: Allocator> {
     rt: &'w R,
@@ -189,8 +191,8 @@ impl<'w, R: Threads + Sync, G: Gate, A: Allocator + Copy + Send + Sync> Workers<
         }
     }
 
-    // The next round of a row's line and those behind it, which is read while the rows of the round before are taken;
-    // the lines that are left, and the tables.
+    // The next round, of a row's line and those behind it; the lines that are left; and the tables with the rows of the
+    // round before.
     fn next_round<'d>(
         &mut self,
         line: Line<'d>,
@@ -342,8 +344,10 @@ impl<'w, R: Threads + Sync, G: Gate, A: Allocator + Copy + Send + Sync> Workers<
 }
 
 /// Reads a dump as `restore_one` does. The lines of a table's rows are read in rounds, by up to `jobs` threads side by
-/// side, while the calling thread takes the rows of the round before. The gate is asked round each 1000 lines, which
-/// are numbered from 1 in the order of the dump.
+/// side. Meanwhile the calling thread takes the rows of the round before, where the table has no references and `jobs`
+/// is more than one. Otherwise it takes them between the two rounds: what a row references is looked up in the tables as
+/// they are once all rows before its round are in. The gate is asked round each 1000 lines; these stretches are numbered
+/// from 1 in the order of the dump.
 pub fn restore<R: Threads + Sync, G: Gate, A: Allocator + Copy + Send + Sync>(
     rt: &R,
     alloc: A,
