@@ -475,6 +475,64 @@ fn levels_of_references(rt: HostRuntime) -> Result<(), Refusal> {
     Ok(())
 }
 
+// A row of a key and two numbers; 0 stands for null.
+fn row_of_numbers(alloc: Global, number: i64, others: [i64; 2]) -> Result<Row, Refusal> {
+    let mut fields = Vec::new(alloc);
+    for other in others {
+        let field = if other == 0 {
+            Value::Null
+        } else {
+            Value::Int(other)
+        };
+        fields.push(field)?;
+    }
+    Ok(Row::new(key(number), fields))
+}
+
+// Rows of these tables: p has 1 and 7, c has 2, e has 3. None references another.
+fn some_referenced(alloc: Global, catalog: &Catalog) -> Result<Tables, Refusal> {
+    let mut tables = Tables::new(alloc, catalog)?;
+    for (place, number) in [(0, 1), (0, 7), (2, 2), (4, 3)] {
+        let table = TableNo::at(place);
+        if tables.has(table) {
+            tables.put(alloc, table, row(alloc, number, "-", 0, 1)?)?;
+        }
+    }
+    Ok(tables)
+}
+
+#[test]
+fn rows_that_dangle(rt: HostRuntime) -> Result<(), Refusal> {
+    let alloc = rt.alloc();
+    let mut catalog = referencing(alloc)?;
+    let last = catalog.add(alloc, of_three(alloc)?)?;
+    let tables = some_referenced(alloc, &catalog)?;
+    assert!(rt; catalog.has(last));
+    let columns = catalog.table(last).columns();
+    // The key references e, the others c and p: a row of another table doesn't count. None references its own table.
+    for (number, others, want) in [
+        (3, [2, 1], false),
+        (3, [2, 7], false),
+        (3, [0, 1], false),
+        (3, [2, 0], false),
+        (3, [0, 0], false),
+        (4, [2, 1], true),
+        (4, [0, 0], true),
+        (3, [1, 1], true),
+        (3, [2, 2], true),
+        (3, [0, 3], true),
+        (3, [7, 0], true),
+    ] {
+        let row = row_of_numbers(alloc, number, others)?;
+        assert_eq!(rt;
+            tables.row_dangles(columns, &row),
+            want,
+            "{number} {others:?}"
+        );
+    }
+    Ok(())
+}
+
 #[test]
 fn a_copied_catalog(rt: HostRuntime) -> Result<(), Refusal> {
     let alloc = rt.alloc();
