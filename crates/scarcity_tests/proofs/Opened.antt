@@ -1,5 +1,6 @@
--- The versions of an opening are below the first commit.
-use Rattle.std.proofs.Common.{◌≡◌, sym, subst, List, [], ◌∷◌, map, arith}
+-- The versions of an opening are below the first commit, in as many tables.
+use Rattle.std.proofs.Common.{◌≡◌, ◌∙◌, sym, ap, subst, List, [], ◌∷◌, length, map, arith}
+use Rattle.std.proofs.lemmas.List.{length-map}
 use Rattle.schema.specs.Rows.{Rows}
 use Rattle.schema.specs.declared.tables.Tables.{Tables}
 use Rattle.mvrows.specs.Versions.{VersionedRows, RowsAreBelow, TablesAreBelow}
@@ -14,5 +15,5 @@ module _ {A : Type 0} where
   opened_are_below [] = tt
   opened_are_below (rows ∷ tables) = (rows_are_below rows, opened_are_below tables)
 
-  pub are_below : (tables : Tables A) (rows : List (VersionedRows A)) → rows ≡ opened tables → TablesAreBelow 1 rows
-  are_below tables rows e = subst (λ r. TablesAreBelow 1 r) (sym e) (opened_are_below tables)
+  pub opened_so : (tables : Tables A) (rows : List (VersionedRows A)) → rows ≡ opened tables → length tables ≡ 3 → TablesAreBelow 1 rows × (length rows ≡ 3)
+  opened_so tables rows e three = (subst (λ r. TablesAreBelow 1 r) (sym e) (opened_are_below tables), ap length e ∙ length-map tables (map opened_row) ∙ three)

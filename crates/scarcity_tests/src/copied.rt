@@ -238,10 +238,22 @@ fn refuse_restore<A: Allocator + Copy + Send + Sync, R: Abort + Threads + Sync>(
 }
 
 #[test]
-fn dumps_restored_by_workers(rt: HostRuntime) -> Result<(), Refusal> {
+fn a_dump_of_many_rows_restored_by_workers(rt: HostRuntime) -> Result<(), Refusal> {
     let memory = Scarce::new(rt.alloc());
-    for case in [(100, 4950, 1, 1), (100, 4950, 2, 1), (1001, 500_500, 2, 50)] {
-        assert!(rt; refuse_restore(&rt, &memory, &memory, case)? >= 20);
+    for jobs in [1, 2] {
+        let case = (200, 19_900, jobs, 1);
+        assert!(rt;
+            refuse_restore(&rt, &memory, &memory, case)? >= 20,
+            "{jobs}"
+        );
     }
+    Ok(())
+}
+
+#[test]
+fn a_dump_of_two_pieces_restored_by_workers(rt: HostRuntime) -> Result<(), Refusal> {
+    let memory = Scarce::new(rt.alloc());
+    let case = (1001, 500_500, 2, 50);
+    assert!(rt; refuse_restore(&rt, &memory, &memory, case)? >= 20);
     Ok(())
 }

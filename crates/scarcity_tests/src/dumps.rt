@@ -77,14 +77,13 @@ fn is_whole<A: Allocator>(database: &Database<A>) -> bool
     database.tables.count() == database.catalog.len()
 }
 
-// The dump text of the tables, by two workers. What is written before a refusal is a beginning of `text`.
+// The dump text of the tables, by so many workers. What is written before a refusal is a beginning of `text`.
 fn dumped<A: Allocator + Copy + Send + Sync, R: Abort + Threads + Wait + Sync>(
     rt: &R,
     (ample, alloc): (Global, A),
-    lent: &Database<A>,
+    (lent, jobs): (&Database<A>, Jobs),
     text: &[u8],
 ) -> Result<Vec<u8>, Refusal> {
-    let jobs = Jobs::new(2).ok_or(not_asked())?;
     let rows = PieceRows::new(7).ok_or(not_asked())?;
     let mut device = Keeping::new(rt, ample);
     if !is_whole(lent) {
@@ -113,13 +112,13 @@ fn dumped<A: Allocator + Copy + Send + Sync, R: Abort + Threads + Wait + Sync>(
 fn refuse_dump<A: Allocator + Copy + Send + Sync, R: Abort + Threads + Wait + Sync>(
     rt: &R,
     (memory, alloc): (&Memory, A),
-    lent: &Database<A>,
+    (lent, jobs): (&Database<A>, Jobs),
     text: &[u8],
     number: u64,
 ) -> Result<bool, Refusal> {
     let start = memory.requests();
     memory.refuse(number);
-    let answer = dumped(rt, (memory.inner, alloc), lent, text);
+    let answer = dumped(rt, (memory.inner, alloc), (lent, jobs), text);
     memory.refuse(0);
     if memory.requests().wrapping_sub(start) < number {
         assert!(rt; answer?.as_slice() == text);
@@ -134,15 +133,16 @@ fn refuse_dumps<A: Allocator + Copy + Send + Sync, R: Abort + Threads + Wait + S
     rt: &R,
     memory: &Memory,
     alloc: A,
-    count: u8,
+    (count, jobs): (u8, u32),
 ) -> Result<u64, Refusal> {
     let lent = with_names(alloc, count)?;
-    let text = dumped(rt, (memory.inner, alloc), &lent, b"")?;
+    let jobs = Jobs::new(jobs).ok_or(not_asked())?;
+    let text = dumped(rt, (memory.inner, alloc), (&lent, jobs), b"")?;
     for number in 1..10_000 {
-        if !refuse_dump(rt, (memory, alloc), &lent, text.as_slice(), number)? {
+        if !refuse_dump(rt, (memory, alloc), (&lent, jobs), text.as_slice(), number)? {
             return Ok(number.wrapping_sub(1));
         }
-        let again = dumped(rt, (memory.inner, alloc), &lent, b"")?;
+        let again = dumped(rt, (memory.inner, alloc), (&lent, jobs), b"")?;
         assert!(rt; again == text, "after request {number}");
     }
     Err(not_asked())
@@ -151,8 +151,8 @@ fn refuse_dumps<A: Allocator + Copy + Send + Sync, R: Abort + Threads + Wait + S
 #[test]
 fn dumps_of_few_and_of_many_rows(rt: HostRuntime) -> Result<(), Refusal> {
     let memory = Scarce::new(rt.alloc());
-    for count in [0, 200] {
-        assert!(rt; refuse_dumps(&rt, &memory, &memory, count)? > 8, "{count}");
+    for way in [(0, 2), (200, 2), (200, 1)] {
+        assert!(rt; refuse_dumps(&rt, &memory, &memory, way)? > 8, "{way:?}");
     }
     Ok(())
 }

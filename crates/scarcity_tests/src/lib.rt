@@ -18,6 +18,8 @@ mod statements;
 #[cfg(test)]
 mod tables;
 #[cfg(test)]
+mod tracked;
+#[cfg(test)]
 mod values;
 #[cfg(test)]
 mod versions;

@@ -6,6 +6,7 @@ use scarce::Scarce;
 use schema::catalog::{Catalog, TableNo};
 use schema::changes::{Change, Changes};
 use schema::definition::{ColumnDef, TableDef};
+use schema::row::Row;
 use schema::tables::Tables;
 use std::alloc::Allocator;
 use std::process::Abort;
@@ -150,6 +151,24 @@ impl<'t, A: Allocator + Copy> Call for InsertRow<'t, A> {
     }
 }
 
+// The copy of the row of an INSERT, whose key is a text.
+#[derive(Drop)]
+struct CopyRow<A>(A);
+
+impl<A: Allocator + Copy> Call for CopyRow<A> {
+    type Lent = Row<A>;
+
+    type Answer = Row<A>;
+
+    fn lend(&self) -> Result<Row<A>, Refusal> {
+        Ok(row(self.0, &catalog(self.0)?, ROWS[3])?.1)
+    }
+
+    fn call(&self, lent: &mut Row<A>) -> Result<Row<A>, Refusal> {
+        lent.copy(self.0)
+    }
+}
+
 // The change to the row of an INSERT, in a list.
 fn changes<A: Allocator + Copy>(
     alloc: A,
@@ -217,7 +236,7 @@ fn rows_put_in(rt: HostRuntime) -> Result<(), Refusal> {
     for text in ROWS {
         assert_takes(&rt, &memory, &Apply { alloc, text }, 3)?;
     }
-    Ok(())
+    assert_takes(&rt, &memory, &CopyRow(alloc), 2)
 }
 
 // A catalog, and changes to rows of its tables.

@@ -1,15 +1,13 @@
 //! Views of versions of rows: what they show beside commits and prunings, and how little memory they take.
 
-ghost use Rattle.std.specs.Prelude.{◌≡◌, length, IfOk, OnOk};
-ghost use Rattle.mvrows.specs.Versions.{TablesAreBelow};
+ghost use Rattle.std.specs.Prelude.{◌≡◌, length, IfOk};
 
 use crate::driver::Memory;
 use crate::dumps::Keeping;
 use crate::fixture::{Database, catalog, not_asked};
+use crate::versions::Versions;
 use dumpplan::{Jobs, NoGate, PieceRows};
 use dumpworker::dump;
-use mvrows::rows::Rows;
-use mvrows::view::View;
 use scarce::Scarce;
 use schema::catalog::{Catalog, TableNo};
 use schema::changes::{Change, Changes};
@@ -28,9 +26,6 @@ use value::value::Value;
 const ROWS: i64 = 1000;
 
 const NAME: &str = "name of twenty bytes";
-
-// The snapshots that may still be read: the opening's.
-const OPEN: [u64; 1] = [0];
 
 // The key of a number.
 fn key<A: Allocator>(number: i64) -> Result<Key<A>, Refusal> {
@@ -58,16 +53,15 @@ fn many_rows<A: Allocator + Copy>(alloc: A) -> Result<Database<A>, Refusal> {
 }
 
 // Their versions, and their catalog.
-fn opening<A: Allocator + Copy>(alloc: A) -> Result<(Rows<A>, Catalog<A>), Refusal>
-    ensures below { IfOk result (λ r. TablesAreBelow 1 r.0) }
-    ensures count { IfOk result (λ r. length r.0 ≡ length r.1) }
+fn opening<A: Allocator + Copy>(alloc: A) -> Result<(Versions<A>, Catalog<A>), Refusal>
+    ensures { IfOk result (λ r. length r.1 ≡ 3) }
 {
     let Database { catalog, tables } = many_rows(alloc)?;
-    if tables.count() != 3 || catalog.len() != 3 {
+    if catalog.len() != 3 {
         return Err(not_asked());
     }
-    let rows = Rows::of(alloc, tables)?;
-    Ok((rows, catalog))
+    let versions = Versions::of(alloc, &tables)?;
+    Ok((versions, catalog))
 }
 
 // What a commit does: a row gets another name, and another row goes.
@@ -79,39 +73,16 @@ fn step<A: Allocator + Copy>(alloc: A, number: i64) -> Result<Vec<Change<A>, A>,
 }
 
 // Two hundred such commits, and a pruning after each.
-fn change_and_prune<A: Allocator + Copy>(alloc: A, rows: &mut Rows<A>) -> Result<(), Refusal>
-    requires { TablesAreBelow 1 rows.old }
-    ensures { OnOk result (length rows.new ≡ length rows.old) }
-{
+fn change_and_prune<A: Allocator + Copy>(
+    alloc: A,
+    versions: &mut Versions<A>,
+) -> Result<(), Refusal> {
     for number in 1..201u64 {
         let changes = step(alloc, number as i64)?;
-        rows.install(alloc, 0, &OPEN, number, changes.as_slice())?;
-        rows.prune(alloc, number)?;
+        versions.commit(alloc, changes.as_slice())?;
+        versions.prune(alloc, number)?;
     }
     Ok(())
-}
-
-// What a snapshot shows, as a view.
-fn viewed<A: Allocator + Copy>(alloc: A, rows: &Rows<A>, snapshot: u64) -> Result<View<A>, Refusal>
-    ensures { IfOk result (λ view. length view ≡ length rows.now) }
-{
-    let _lent = rows.at(snapshot);
-    let view = rows.view(alloc, snapshot)?;
-    Ok(view)
-}
-
-// What the opening's snapshot shows, copied.
-fn copied<A: Allocator + Copy>(
-    alloc: A,
-    rows: &Rows<A>,
-    catalog: &Catalog<A>,
-) -> Result<Tables<A>, Refusal>
-    requires { length rows.now ≡ length catalog.now }
-    ensures { IfOk result (λ tables. length tables ≡ length catalog.now) }
-{
-    let _lent = rows.at(0);
-    let tables = rows.tables(alloc, catalog, 0)?;
-    Ok(tables)
 }
 
 // The dump text of a reader's tables, by two workers.
@@ -135,14 +106,14 @@ fn dumped<T: RowsReader<Global> + Sync, R: Abort + Threads + Wait + Sync>(
 #[test]
 fn a_view_is_dumped_as_a_copy_taken_with_it(rt: HostRuntime) -> Result<(), Refusal> {
     let alloc = rt.alloc();
-    let (mut rows, catalog) = opening(alloc)?;
-    let copy = copied(alloc, &rows, &catalog)?;
-    let view = viewed(alloc, &rows, 0)?;
-    change_and_prune(alloc, &mut rows)?;
+    let (mut versions, catalog) = opening(alloc)?;
+    let copy = versions.tables(alloc, &catalog, 0)?;
+    let view = versions.view(alloc, 0)?;
+    change_and_prune(alloc, &mut versions)?;
     let wanted = dumped(&rt, alloc, &copy, &catalog)?;
     assert!(rt; dumped(&rt, alloc, &view, &catalog)? == wanted);
     // The rows themselves are others by now.
-    let last = viewed(alloc, &rows, 200)?;
+    let last = versions.view(alloc, 200)?;
     assert!(rt; dumped(&rt, alloc, &last, &catalog)? != wanted);
     Ok(())
 }
@@ -151,12 +122,12 @@ fn a_view_is_dumped_as_a_copy_taken_with_it(rt: HostRuntime) -> Result<(), Refus
 fn view_without<A: Allocator + Copy>(
     memory: &Memory,
     alloc: A,
-    rows: &Rows<A>,
+    versions: &Versions<A>,
     number: u64,
 ) -> (bool, u64) {
     let start = memory.requests();
     memory.refuse(number);
-    let view = rows.view(alloc, 0);
+    let view = versions.view(alloc, 0);
     memory.refuse(0);
     (view.is_ok(), memory.requests().wrapping_sub(start))
 }
@@ -165,8 +136,8 @@ fn view_without<A: Allocator + Copy>(
 #[test]
 fn a_view_of_many_rows_makes_few_requests(rt: HostRuntime) -> Result<(), Refusal> {
     let memory = Scarce::new(rt.alloc());
-    let (rows, _catalog) = opening(&memory)?;
-    let (is_made, requests) = view_without(&memory, &memory, &rows, 101);
+    let (versions, _catalog) = opening(&memory)?;
+    let (is_made, requests) = view_without(&memory, &memory, &versions, 101);
     assert!(rt; is_made && requests <= 100, "{requests}");
     Ok(())
 }

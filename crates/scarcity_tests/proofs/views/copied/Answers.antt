@@ -1,5 +1,0 @@
-use Rattle.std.proofs.Common.{ap, length, ◌∙◌}
-use Rattle.scarcity_tests.proofs.views.copied.Goals as goal
-
-pub returns : goal.returns
-returns g c = ap length c.in_ok-tables.ensures.ok ∙ c.at-lent.ensures.count ∙ c.requires
