@@ -19,6 +19,8 @@ mod free;
 #[cfg(test)]
 mod hostile;
 #[cfg(test)]
+mod isolation;
+#[cfg(test)]
 mod machine;
 #[cfg(test)]
 mod memory;
