@@ -133,15 +133,15 @@ fn restored_dumps(rt: HostRuntime) -> Result<(), Refusal> {
     assert_needs(&rt, &memory, &RestoreOne { alloc, dump: DUMP }, 12)
 }
 
-// The dump of so many numbers.
+// The dump of so many numbers, each in a row with itself: a row takes a list of what stands behind its key.
 fn numbers(alloc: Global, count: u32) -> Result<String, Refusal> {
     let head = "-- dump 2
-CREATE TABLE p (id bigint PRIMARY KEY);
-COPY p (id) FROM stdin;
+CREATE TABLE p (id bigint PRIMARY KEY, same bigint);
+COPY p (id, same) FROM stdin;
 ";
     let mut dump = String::from_str(alloc, head)?;
     for number in 0..count {
-        let line = format!(in alloc; "{number}\n")?;
+        let line = format!(in alloc; "{number}\t{number}\n")?;
         dump.push_str(line.as_str())?;
     }
     let end = format!(in alloc; "\\.\n-- rows {count}\n-- end\n")?;

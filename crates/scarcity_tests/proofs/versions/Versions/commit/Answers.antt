@@ -1,4 +1,3 @@
-use Rattle.std.proofs.Common.{◌≡◌}
 use Rattle.mvrows.specs.Settling.{Needed}
 use Rattle.scarcity_tests.proofs.NextCommit.{committed}
 use Rattle.scarcity_tests.proofs.versions.Versions.commit.Goals as goal
