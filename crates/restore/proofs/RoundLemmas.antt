@@ -111,29 +111,34 @@ some_lines line lines e = absurd cc
 
 module _ {A E : Type 0} (c : Catalog) (t : ℕ) (X : Tables A) (told : Told A) where
   -- nothing waits yet
-  pub waiting-first : (number next : ℕ) (pieces : List (Result (ReadPiece A) E)) (left : List (List ℕ)) → number ≡ next → pieces ≡ [] → ((counted : Bool) → read_lines next (Within counted c X t) left ≡ told counted)
-      → AreWaiting c t X told X number pieces next left
-  waiting-first number next pieces left same e answer = record {
-    lines = [];
-    size = 0;
-    read = subst (λ (ps : List (Result (ReadPiece A) E)). ArePieces 0 (kinds_of c t) ps []) (sym e) refl;
-    alone = refl;
-    numbers = omega (arith, same);
-    answer = λ counted. ap (λ n. read_lines n (Within counted c X t) left) same ∙ answer counted;
-    sound = λ h. h;
-  }
+  pub waiting-first : (Y : Tables A) (number next : ℕ) (pieces : List (Result (ReadPiece A) E)) (left : List (List ℕ)) → Y ≡ X → number ≡ next → pieces ≡ [] → ((counted : Bool) → read_lines next (Within counted c X t) left ≡ told counted)
+      → AreWaiting c t X told Y number pieces next left
+  waiting-first Y number next pieces left at same e answer =
+      let first : AreWaiting c t X told X number pieces next left = record {
+        lines = [];
+        size = 0;
+        read = subst (λ (ps : List (Result (ReadPiece A) E)). ArePieces 0 (kinds_of c t) ps []) (sym e) refl;
+        alone = refl;
+        numbers = omega (arith, same);
+        answer = λ counted. ap (λ n. read_lines n (Within counted c X t) left) same ∙ answer counted;
+        sound = λ h. h;
+      } in
+      subst (λ (Z : Tables A). AreWaiting c t X told Z number pieces next left) (sym at) first
 
   -- once the rows that waited are in, those of the next lines wait
-  pub waiting-next : (Y : Tables A) (line : Line) (rows : List (Bor (List ℕ))) (left : Lines) (size : ℕ) (pieces : List (Result (ReadPiece A) E)) → line.rest.number ≡ line.number + 1 → AreRowLines line rows left
+  pub waiting-next : (Y : Tables A) (n : ℕ) (line : Line) (rows : List (Bor (List ℕ))) (left : Lines) (size : ℕ) (pieces : List (Result (ReadPiece A) E)) → n ≡ line.number → line.rest.number ≡ line.number + 1 → AreRowLines line rows left
       → ArePieces size (kinds_of c t) pieces (map (λ l. l.now) rows) → AreIn c t X told line.number (line.bytes.now ∷ lines_of line.rest.text.now) (Ok Y)
-      → AreWaiting c t X told Y line.number pieces left.number (lines_of left.text.now)
-  waiting-next Y line rows left size pieces number are read taken = record {
+      → AreWaiting c t X told Y n pieces left.number (lines_of left.text.now)
+  waiting-next Y n line rows left size pieces same number are read taken = record {
     lines = map (λ l. l.now) rows;
     size = size;
     read = read;
     alone = are.rows_alone;
-    numbers = omega (arith, length-map rows (λ l. l.now), are.number, number);
-    answer = λ counted. ap (read_lines line.number (Within counted c Y t)) (sym are.lines) ∙ taken.0 counted;
+    numbers = omega (arith, same, length-map rows (λ l. l.now), are.number, number);
+    answer = λ counted.
+        ap (λ k. read_lines k (Within counted c Y t) (map (λ l. l.now) rows ++ lines_of left.text.now)) same
+        ∙ ap (read_lines line.number (Within counted c Y t)) (sym are.lines)
+        ∙ taken.0 counted;
     sound = taken.1;
   }
 

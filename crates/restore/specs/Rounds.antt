@@ -1,5 +1,5 @@
 -- Rows of lines that are read and wait to be taken into a table.
-use Rattle.std.specs.Prelude.{◌≡◌, ◌≢◌, ℕ, ◌+◌, Bool, true, List, [], ◌∷◌, ◌++◌, length, Result, Ok, Err}
+use Rattle.std.specs.Prelude.{◌≡◌, ◌≢◌, ℕ, ◌+◌, Bool, true, List, [], ◌∷◌, ◌++◌, length, map, Result, Ok, Err}
 use Rattle.std.specs.List.{list_all}
 use Rattle.schema.specs.Definition.{Catalog, columns_of}
 use Rattle.schema.specs.declared.tables.Tables.{Tables}
@@ -9,6 +9,7 @@ use Rattle.restore.specs.declared.error.RestoreFault.{RestoreFault}
 use Rattle.restore.specs.declared.lines.Line.{Line}
 use Rattle.restore.specs.declared.lines.Lines.{Lines}
 use Rattle.restore.specs.declared.rounds.Round.{Round}
+use Rattle.restore.specs.declared.rounds.RoundLines.{RoundLines}
 use Rattle.restore.specs.declared.rows.ReadPiece.{ReadPiece}
 use Rattle.restore.specs.Lines.{is_row_line}
 use Rattle.restore.specs.Reading.{Within, lines_of, kinds_of, read_lines}
@@ -30,6 +31,11 @@ pub record AreWaiting {A E : Type 0} (c : Catalog) (t : ℕ) (X : Tables A) (tol
   pub answer : (counted : Bool) → read_lines number (Within counted c Y t) (lines ++ left) ≡ told counted
   pub sound : is_sound c X ≡ true → is_sound c Y ≡ true
 
+-- the rows of a round may be taken into its tables
+pub record IsReady {A : Type 0} (c : Catalog) (t : ℕ) (round : Round A) : Type 0 where
+  pub same_tables : length round.tables ≡ length c
+  pub rise : MayRise round.tables (columns_of c t) round.pieces.items
+
 module _ {A : Type 0} (c : Catalog) (t : ℕ) (X : Tables A) (told : Told A) where
   -- the tables with the rows that waited before the lines that are left, or their first fault
   abbrev pub AreIn : ℕ → List (List ℕ) → Result (Tables A) ReadError → Type 0
@@ -37,22 +43,23 @@ module _ {A : Type 0} (c : Catalog) (t : ℕ) (X : Tables A) (told : Told A) whe
   AreIn next left (Err e) = (counted : Bool) → Stops e (told counted)
 
   -- the lines that are left behind a round that waits now, or the first fault of the rows that waited
-  abbrev pub IsBegun : Result (Lines × Tables A × Round A) ReadError → Type 0
-  IsBegun (Ok (left, Y, round)) = AreWaiting c t X told Y round.number round.pieces.items left.number (lines_of left.text.now)
+  abbrev pub IsBegun : Result (Lines × Round A) ReadError → Type 0
+  IsBegun (Ok (left, round)) = AreWaiting c t X told round.tables round.number round.pieces.items left.number (lines_of left.text.now)
   IsBegun (Err e) = (counted : Bool) → Stops e (told counted)
 
--- the rows of pieces that wait are taken
-abbrev pub AreTaken : {A E : Type 0} → Catalog → ℕ → Tables A → ℕ → List (Result (ReadPiece A) E) → Result (Tables A) ReadError → Type 0
-AreTaken {A} {E} c t Y number pieces result =
-    (X : Tables A) (told : Told A) (next : ℕ) (left : List (List ℕ)) → left ≢ [] → AreWaiting c t X told Y number pieces next left → AreIn c t X told next left result
+-- the rows of a round are taken into its tables, up to the first that isn't: these, or its fault
+abbrev pub AreTaken : {A : Type 0} → Catalog → ℕ → Round A → Result (Tables A) ReadError → Type 0
+AreTaken {A} c t round result =
+    (X : Tables A) (told : Told A) (next : ℕ) (left : List (List ℕ)) → left ≢ [] → AreWaiting c t X told round.tables round.number round.pieces.items next left → AreIn c t X told next left result
 
--- the rows of pieces that wait are taken, and lines are read in pieces of a size, which may be put behind them
-abbrev pub AreTakenAndRead : {A E : Type 0} → Catalog → ℕ → Tables A → ℕ → List (Result (ReadPiece A) E) → ℕ → List (List ℕ) → Result (Tables A × List (Result (ReadPiece A) E)) ReadError → Type 0
-AreTakenAndRead c t Y number pieces size lines (Ok (Z, read)) =
-    AreTaken c t Y number pieces (Ok Z) × ArePieces size (kinds_of c t) read lines × MayRise Z (columns_of c t) read
-AreTakenAndRead c t Y number pieces size lines (Err e) = AreTaken c t Y number pieces (Err e)
+-- one turn: the rows of a round are taken into its tables, and lines are read as the next round, whose rows may be taken into these.
+-- Or the first fault of the rows is told, or that memory ran out
+abbrev pub IsTurn : {A : Type 0} → Catalog → ℕ → Round A → RoundLines → Result (Round A) ReadError → Type 0
+IsTurn c t round lines (Ok next) =
+    AreTaken c t round (Ok next.tables) × (next.number ≡ lines.number) × ArePieces lines.piece_lines lines.kinds.now next.pieces.items (map (λ line. line.now) lines.lines.now) × IsReady c t next
+IsTurn c t round lines (Err e) = AreTaken c t round (Err e)
 
 -- a line and those behind it are read as the next round, once the rows of a round that waits before them are taken
-abbrev pub IsNextRound : {A : Type 0} → Catalog → ℕ → Tables A → Round A → Line → Result (Lines × Tables A × Round A) ReadError → Type 0
-IsNextRound {A} c t Y round line result =
-    (X : Tables A) (told : Told A) → AreWaiting c t X told Y round.number round.pieces.items line.number (line.bytes.now ∷ lines_of line.rest.text.now) → IsBegun c t X told result
+abbrev pub IsNextRound : {A : Type 0} → Catalog → ℕ → Round A → Line → Result (Lines × Round A) ReadError → Type 0
+IsNextRound {A} c t round line result =
+    (X : Tables A) (told : Told A) → AreWaiting c t X told round.tables round.number round.pieces.items line.number (line.bytes.now ∷ lines_of line.rest.text.now) → IsBegun c t X told result

@@ -3,8 +3,8 @@
 ghost use Rattle.std.specs.Prelude.{◌≡◌, ◌<◌, ◌≤◌, ◌-◌, [], None, map, take, drop, length, IfOk};
 ghost use Rattle.schema.specs.Definition.{columns_of};
 ghost use Rattle.std.specs.Option.{option_copied};
-ghost use Rattle.restore.specs.Rounds.{AreTaken};
-ghost use Rattle.restore.specs.Rows.{AreRead, IsPiece, ArePieces, AreKnown, MayRise};
+ghost use Rattle.restore.specs.Rounds.{AreTaken, IsReady};
+ghost use Rattle.restore.specs.Rows.{AreRead, IsPiece, ArePieces, AreKnown};
 
 use crate::error::ReadError;
 use crate::pieces::{piece_of, take_pieces};
@@ -23,20 +23,37 @@ pub const STRETCH_LINES: usize = 1000;
 /// What each piece of a round reads as.
 pub type ReadPieces<A> = Vec<Result<ReadPiece<A>, AllocError>, A>;
 
-/// Pieces that are read and not yet taken, and the number of their first line.
+/// The lines of rows that are read as one round.
+#[derive(Clone, Copy)]
+pub struct RoundLines<'l, 'd> {
+    /// The number of the first.
+    pub number: u64,
+    /// How many stretches of the dump come before.
+    pub stretches: u64,
+    pub lines: &'l [&'d [u8]],
+    /// The kinds of their values.
+    pub kinds: &'l [Kind],
+    /// How many lines a piece has.
+    pub piece_lines: usize,
+}
+
+/// Pieces that are read, the number of their first line, and the tables that their rows are taken into next.
 #[derive(Drop)]
 pub struct Round<A: Allocator> {
+    pub tables: Tables<A>,
     pub number: u64,
     pub pieces: ReadPieces<A>,
 }
 
 impl<A: Allocator> Round<A> {
     /// A round of no lines.
-    pub fn new(alloc: A, number: u64) -> Round<A>
+    pub fn new(alloc: A, tables: Tables<A>, number: u64) -> Round<A>
+        ensures tables { result.tables ≡ tables }
         ensures number { result.number ≡ number }
         ensures pieces { result.pieces.items ≡ [] }
     {
         Round {
+            tables,
             number,
             pieces: Vec::new(alloc),
         }
@@ -126,29 +143,27 @@ fn read_piece<A: Allocator + Copy, G: Gate>(
     Ok(piece_of(known, columns, rows))
 }
 
-/// The pieces of a round's lines, of so many lines each, each read in a thread of its own. References are looked up in
-/// the tables that are known.
+/// The pieces of a round's lines, each read in a thread of its own. References are looked up in the tables that are
+/// known.
 pub fn read_round<R: Threads + Sync, G: Gate, A: Allocator + Copy + Send + Sync>(
     rt: &R,
     alloc: A,
     known: Option<&Tables<A>>,
     columns: &[Column<A>],
-    kinds: &[Kind],
-    lines: &[&[u8]],
-    piece_lines: usize,
+    round: RoundLines<'_, '_>,
     gate: &G,
-    before: u64,
 ) -> Result<ReadPieces<A>, AllocError>
-    requires { 0 < piece_lines }
-    ensures read { IfOk result (λ pieces. ArePieces piece_lines kinds.now pieces.items
-        (map (λ line. line.now) lines.now)) }
+    requires { 0 < round.piece_lines }
+    ensures read { IfOk result (λ pieces. ArePieces round.entry.piece_lines round.entry.kinds.now pieces.items
+        (map (λ line. line.now) round.entry.lines.now)) }
     ensures known { IfOk result (λ pieces. AreKnown (option_copied known.entry) columns.now pieces.items) }
 {
+    let (lines, kinds, before) = (round.lines, round.kinds, round.stretches);
     let pieces = thread::map_chunks(
         rt,
         alloc,
         lines,
-        piece_lines,
+        round.piece_lines,
         &|start, lines| -> Result<ReadPiece<A>, AllocError>
             ensures { IfOk result (λ piece. IsPiece (option_copied known.entry) columns.entry.now kinds.entry.now piece
                 (map (λ line. line.now) lines.entry.now)) }
@@ -174,29 +189,16 @@ pub fn read_round_alone<'c, R: Threads + Sync, G: Gate, A: Allocator + Copy + Se
     rt: &R,
     alloc: A,
     columns: &'c [Column<A>],
-    kinds: &[Kind],
-    lines: &[&[u8]],
-    piece_lines: usize,
+    round: RoundLines<'_, '_>,
     gate: &G,
-    before: u64,
 ) -> Result<ReadPieces<A>, AllocError>
-    requires { 0 < piece_lines }
-    ensures read { IfOk result (λ pieces. ArePieces piece_lines kinds.now pieces.items
-        (map (λ line. line.now) lines.now)) }
+    requires { 0 < round.piece_lines }
+    ensures read { IfOk result (λ pieces. ArePieces round.entry.piece_lines round.entry.kinds.now pieces.items
+        (map (λ line. line.now) round.entry.lines.now)) }
     ensures known { IfOk result (λ pieces. AreKnown None columns.now pieces.items) }
 {
     let nowhere: Option<&'c Tables<A>> = None;
-    read_round(
-        rt,
-        alloc,
-        nowhere,
-        columns,
-        kinds,
-        lines,
-        piece_lines,
-        gate,
-        before,
-    )
+    read_round(rt, alloc, nowhere, columns, round, gate)
 }
 
 /// The tables with the rows of a round, up to the first that isn't taken.
@@ -204,16 +206,18 @@ pub fn take_round<A: Allocator + Copy>(
     alloc: A,
     catalog: &Catalog<A>,
     table: TableNo,
-    mut tables: Tables<A>,
     round: Round<A>,
 ) -> Result<Tables<A>, ReadError>
     requires has { table < length catalog.now }
-    requires same_tables { length tables ≡ length catalog.now }
-    requires rise { MayRise tables (columns_of catalog.now table) round.pieces.items }
-    ensures taken { AreTaken catalog.now table tables round.number round.pieces.items result }
+    requires ready { IsReady catalog.now table round }
+    ensures taken { AreTaken catalog.now table round result }
     ensures same_tables { IfOk result (λ X. length X ≡ length catalog.now) }
 {
-    let Round { number, pieces } = round;
+    let Round {
+        mut tables,
+        number,
+        pieces,
+    } = round;
     match take_pieces(alloc, catalog, &mut tables, table, number, pieces) {
         Ok(()) => Ok(tables),
         Err(error) => Err(error),

@@ -1,6 +1,6 @@
 //! Lines of rows read by several threads.
 
-ghost use Rattle.std.specs.Prelude.{◌≡◌, ◌⊎◌, ◌+◌, ◌<◌, ◌≤◌, ◌∷◌, Bool, true, false, None, Ok, Err, map, length, IfOk, IfErr};
+ghost use Rattle.std.specs.Prelude.{◌≡◌, ◌⊎◌, ◌+◌, ◌<◌, ◌≤◌, Bool, true, false, None, Ok, Err, map, length, IfOk};
 ghost use denote.Param.Send.{IsSend, IsSync, Frees};
 ghost use Rattle.std.specs.Str.{bytes_eq};
 ghost use Rattle.schema.specs.Definition.{columns_of};
@@ -8,8 +8,8 @@ ghost use Rattle.schema.specs.Plain.{is_sound};
 ghost use Rattle.dumpplan.specs.Lines.{end_of_rows};
 ghost use Rattle.restore.specs.Progress.{read_in_steps};
 ghost use Rattle.restore.specs.Reading.{Before, Within, ended, kinds_of, lines_of, read_lines, read_dump};
-ghost use Rattle.restore.specs.Rounds.{AreTaken, IsNextRound};
-ghost use Rattle.restore.specs.Rows.{ArePieces, AreKnown, MayRise};
+ghost use Rattle.restore.specs.Rounds.{AreTaken, IsReady, IsTurn, IsNextRound};
+ghost use Rattle.restore.specs.Rows.{ArePieces, AreKnown};
 ghost use Rattle.restore.specs.Steps.{Reads, no_memory};
 
 use crate::error::{ReadError, RestoreFault};
@@ -19,7 +19,8 @@ use crate::reading::{
     empty_tables, read_copy_line, read_count, read_end, read_end_of_rows, read_head,
 };
 use crate::rounds::{
-    ReadPieces, Round, STRETCH_LINES, columns_of, read_round, read_round_alone, take_round,
+    ReadPieces, Round, RoundLines, STRETCH_LINES, columns_of, read_round, read_round_alone,
+    take_round,
 };
 use crate::rows::kinds_of;
 use dumpplan::{Gate, Jobs};
@@ -88,145 +89,140 @@ impl<'w, R: Threads + Sync, G: Gate, A: Allocator + Copy + Send + Sync> Workers<
         self.share = self.share.saturating_mul(2).min(PIECE_STRETCHES);
     }
 
-    // The tables with the rows of the round before, which this thread takes while others read lines, in pieces of so
-    // many. None of the rows has references: the tables where these would be looked up change meanwhile.
+    // The next round, whose lines other threads read while this one takes the rows of the round before. None of the rows
+    // has references: the tables where these would be looked up change meanwhile.
     fn read_beside(
         &self,
         catalog: &Catalog<A>,
         table: TableNo,
-        kinds: &[Kind],
-        lines: &[&[u8]],
-        size: usize,
-        tables: Tables<A>,
+        next: RoundLines<'_, '_>,
         round: Round<A>,
-    ) -> Result<(Tables<A>, ReadPieces<A>), ReadError>
-        requires size { 0 < size }
+    ) -> Result<Round<A>, ReadError>
+        requires size { 0 < next.piece_lines }
         requires has { table < length catalog.now }
-        requires same_tables { length tables ≡ length catalog.now }
-        requires rise { MayRise tables (columns_of catalog.now table) round.pieces.items }
-        ensures read { IfOk result (λ x. ArePieces size kinds.now x.1.items (map (λ line. line.now) lines.now)) }
-        ensures rise { IfOk result (λ x. MayRise x.0 (columns_of catalog.now table) x.1.items) }
-        ensures taken { IfOk result (λ x. AreTaken catalog.now table tables round.number round.pieces.items (Ok x.0)) }
-        ensures stopped { IfErr result (λ e. AreTaken catalog.now table tables round.number round.pieces.items (Err e)) }
-        ensures same_tables { IfOk result (λ x. length x.0 ≡ length catalog.now) }
+        requires ready { IsReady catalog.now table round }
+        ensures { IsTurn catalog.now table round next.entry result }
     {
-        let (rt, alloc, gate, before) = (self.rt, self.alloc, self.gate, self.stretches);
+        let (rt, alloc, gate) = (self.rt, self.alloc, self.gate);
+        // Each part is lent by itself: nothing would be known of what a closure returned that borrowed the whole.
+        let RoundLines {
+            number,
+            stretches,
+            lines,
+            kinds,
+            piece_lines,
+        } = next;
         let columns = columns_of(catalog, table);
         let (read, taken) = thread::join(
             rt,
             || -> Result<ReadPieces<A>, AllocError>
                 requires bounds { IsSend A.row × IsSync A.row × Frees A.Allocator A.dealloc_token × IsSync R.row ×
                     IsSync G.row }
-                requires size { 0 < size }
-                ensures { IfOk result (λ pieces. ArePieces size kinds.entry.now pieces.items
+                requires size { 0 < piece_lines }
+                ensures { IfOk result (λ pieces. ArePieces piece_lines kinds.entry.now pieces.items
                     (map (λ line. line.now) lines.entry.now) × AreKnown None columns.entry.now pieces.items) }
-            { read_round_alone(rt, alloc, columns, kinds, lines, size, gate, before) },
+            {
+                let next = RoundLines {
+                    number,
+                    stretches,
+                    lines,
+                    kinds,
+                    piece_lines,
+                };
+                read_round_alone(rt, alloc, columns, next, gate)
+            },
             move || -> Result<Tables<A>, ReadError>
-                requires { (table < length catalog.now) × (length tables ≡ length catalog.now) ×
-                    MayRise tables (columns_of catalog.now table) round.pieces.items }
-                ensures { AreTaken catalog.entry.now table tables round.number round.pieces.items result ×
+                requires { (table < length catalog.now) × IsReady catalog.now table round }
+                ensures { AreTaken catalog.entry.now table round result ×
                     IfOk result (λ X. length X ≡ length catalog.entry.now) }
-            { take_round(alloc, catalog, table, tables, round) },
+            { take_round(alloc, catalog, table, round) },
         );
         let tables = taken?;
         let pieces = read?;
-        Ok((tables, pieces))
+        Ok(Round {
+            tables,
+            number,
+            pieces,
+        })
     }
 
-    // The tables with the rows of the round before; then lines are read, in pieces of so many, and what their rows
-    // reference is looked up there.
+    // The next round, whose lines are read once the rows of the round before are taken: what its rows reference is looked
+    // up in the tables with these.
     fn read_behind(
         &self,
         catalog: &Catalog<A>,
         table: TableNo,
-        kinds: &[Kind],
-        lines: &[&[u8]],
-        size: usize,
-        tables: Tables<A>,
+        next: RoundLines<'_, '_>,
         round: Round<A>,
-    ) -> Result<(Tables<A>, ReadPieces<A>), ReadError>
-        requires size { 0 < size }
+    ) -> Result<Round<A>, ReadError>
+        requires size { 0 < next.piece_lines }
         requires has { table < length catalog.now }
-        requires same_tables { length tables ≡ length catalog.now }
-        requires rise { MayRise tables (columns_of catalog.now table) round.pieces.items }
-        ensures read { IfOk result (λ x. ArePieces size kinds.now x.1.items (map (λ line. line.now) lines.now)) }
-        ensures rise { IfOk result (λ x. MayRise x.0 (columns_of catalog.now table) x.1.items) }
-        ensures taken { IfOk result (λ x. AreTaken catalog.now table tables round.number round.pieces.items (Ok x.0)) }
-        ensures stopped { IfErr result (λ e. AreTaken catalog.now table tables round.number round.pieces.items (Err e)) }
-        ensures same_tables { IfOk result (λ x. length x.0 ≡ length catalog.now) }
+        requires ready { IsReady catalog.now table round }
+        ensures { IsTurn catalog.now table round next.entry result }
     {
-        let (rt, alloc, gate, before) = (self.rt, self.alloc, self.gate, self.stretches);
+        let (rt, alloc, gate, number) = (self.rt, self.alloc, self.gate, next.number);
         let columns = columns_of(catalog, table);
-        let tables = take_round(alloc, catalog, table, tables, round)?;
-        let known = Some(&tables);
-        let pieces = read_round(rt, alloc, known, columns, kinds, lines, size, gate, before)?;
-        Ok((tables, pieces))
+        let tables = take_round(alloc, catalog, table, round)?;
+        let pieces = read_round(rt, alloc, Some(&tables), columns, next, gate)?;
+        Ok(Round {
+            tables,
+            number,
+            pieces,
+        })
     }
 
-    // The tables with the rows of the round before, and lines that are read, in pieces of so many.
-    fn read_and_take(
+    // The next round: its lines are read, and the rows of the round before are taken.
+    fn turn(
         &self,
         catalog: &Catalog<A>,
         table: TableNo,
-        kinds: &[Kind],
-        lines: &[&[u8]],
-        size: usize,
-        tables: Tables<A>,
+        next: RoundLines<'_, '_>,
         round: Round<A>,
-    ) -> Result<(Tables<A>, ReadPieces<A>), ReadError>
-        requires size { 0 < size }
+    ) -> Result<Round<A>, ReadError>
+        requires size { 0 < next.piece_lines }
         requires has { table < length catalog.now }
-        requires same_tables { length tables ≡ length catalog.now }
-        requires rise { MayRise tables (columns_of catalog.now table) round.pieces.items }
-        ensures read { IfOk result (λ x. ArePieces size kinds.now x.1.items (map (λ line. line.now) lines.now)) }
-        ensures rise { IfOk result (λ x. MayRise x.0 (columns_of catalog.now table) x.1.items) }
-        ensures taken { IfOk result (λ x. AreTaken catalog.now table tables round.number round.pieces.items (Ok x.0)) }
-        ensures stopped { IfErr result (λ e. AreTaken catalog.now table tables round.number round.pieces.items (Err e)) }
-        ensures same_tables { IfOk result (λ x. length x.0 ≡ length catalog.now) }
+        requires ready { IsReady catalog.now table round }
+        ensures { IsTurn catalog.now table round next.entry result }
     {
         if self.jobs.get() == 1 || have_references(columns_of(catalog, table)) {
-            self.read_behind(catalog, table, kinds, lines, size, tables, round)
+            self.read_behind(catalog, table, next, round)
         } else {
-            self.read_beside(catalog, table, kinds, lines, size, tables, round)
+            self.read_beside(catalog, table, next, round)
         }
     }
 
-    // The next round, of a row's line and those behind it; the lines that are left; and the tables with the rows of the
-    // round before.
+    // The next round, of a row's line and those behind it, and the lines that are left. The rows of the round before are
+    // taken.
     fn next_round<'d>(
         &mut self,
         line: Line<'d>,
         catalog: &Catalog<A>,
         table: TableNo,
         kinds: &[Kind],
-        tables: Tables<A>,
         round: Round<A>,
-    ) -> Result<(Lines<'d>, Tables<A>, Round<A>), ReadError>
+    ) -> Result<(Lines<'d>, Round<A>), ReadError>
         requires has { table < length catalog.now }
-        requires same_tables { length tables ≡ length catalog.now }
+        requires ready { IsReady catalog.now table round }
         requires kinds { kinds.now ≡ kinds_of catalog.now table }
         requires number { line.rest.number ≡ line.number + 1 }
         requires row { bytes_eq line.bytes.now end_of_rows ≡ false }
-        requires rise { MayRise tables (columns_of catalog.now table) round.pieces.items }
-        ensures begun { IsNextRound catalog.now table tables round line.entry result }
-        ensures same_tables { IfOk result (λ x. length x.1 ≡ length catalog.now) }
-        ensures rise { IfOk result (λ x. MayRise x.1 (columns_of catalog.now table) x.2.pieces.items) }
+        ensures begun { IsNextRound catalog.now table round line.entry result }
+        ensures ready { IfOk result (λ x. IsReady catalog.now table x.1) }
         ensures shorter { IfOk result (λ x. length x.0.text.now ≤ length line.entry.rest.text.now) }
     {
         let (lines, left) = row_lines(self.alloc, line, self.most_lines())?;
         let size = piece_lines(lines.len(), self.jobs);
-        let (tables, pieces) = self.read_and_take(
-            catalog,
-            table,
+        let rows = lines.as_slice();
+        let next = RoundLines {
+            number: line.number,
+            stretches: self.stretches,
+            lines: rows,
             kinds,
-            lines.as_slice(),
-            size,
-            tables,
-            round,
-        )?;
+            piece_lines: size,
+        };
+        let round = self.turn(catalog, table, next, round)?;
         self.count_round(lines.len());
-        let number = line.number;
-        Ok((left, tables, Round { number, pieces }))
+        Ok((left, round))
     }
 
     // The rows of a table, and the line behind them.
@@ -235,7 +231,7 @@ impl<'w, R: Threads + Sync, G: Gate, A: Allocator + Copy + Send + Sync> Workers<
         mut lines: Lines<'d>,
         catalog: &Catalog<A>,
         table: TableNo,
-        mut tables: Tables<A>,
+        tables: Tables<A>,
     ) -> Result<(Lines<'d>, Tables<A>), ReadError>
         requires has { table < length catalog.now }
         requires same_tables { length tables ≡ length catalog.now }
@@ -247,10 +243,10 @@ impl<'w, R: Threads + Sync, G: Gate, A: Allocator + Copy + Send + Sync> Workers<
         ensures sound { IfOk result (λ x. is_sound catalog.now tables ≡ true → is_sound catalog.now x.1 ≡ true) }
     {
         let kinds = kinds_of(self.alloc, catalog.table(table).columns())?;
-        let mut round = Round::new(self.alloc, lines.number);
+        let mut round = Round::new(self.alloc, tables, lines.number);
         loop {
             let Some((bytes, rest)) = next_row_line(lines)? else {
-                let tables = take_round(self.alloc, catalog, table, tables, round)?;
+                let tables = take_round(self.alloc, catalog, table, round)?;
                 let rest = read_end_of_rows(lines, catalog, &tables, table)?;
                 return Ok((rest, tables));
             };
@@ -260,16 +256,8 @@ impl<'w, R: Threads + Sync, G: Gate, A: Allocator + Copy + Send + Sync> Workers<
                 bytes,
                 rest,
             };
-            let (left, taken, next) = self.next_round(
-                line,
-                catalog,
-                table,
-                kinds.as_slice(),
-                tables,
-                round,
-            )?;
+            let (left, next) = self.next_round(line, catalog, table, kinds.as_slice(), round)?;
             lines = left;
-            tables = taken;
             round = next;
         }
     }

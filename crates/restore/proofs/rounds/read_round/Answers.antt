@@ -9,15 +9,15 @@ pub returns-clause-read : goal.returns-clause-read
 returns-clause-read g c =
     let pieces = c.in_ok-pieces.pieces.items in
     let known = option_copied c.args.known in
-    let few : length c.args.lines.now ≤ length pieces * c.args.piece_lines = covers (length c.args.lines.now) c.args.piece_lines (length pieces) c.requires (omega (arith, c.in_ok-pieces.ensures.len, c.in_ok-pieces.pieces.ok.0)) in
-    let each : EachIs known c.args.columns.now c.args.kinds.now c.args.piece_lines pieces c.args.lines.now =
-    λ n d lt. let h = (c.in_ok-pieces.ensures.each n d lt).1 in subst (λ (ls : List (Bor (List ℕ))). IfOk (get_or pieces n d) (λ piece. IsPiece known c.args.columns.now c.args.kinds.now piece (map (λ line. line.now) ls))) h.argument_is.value h.call in
-    are_pieces known c.args.columns.now c.args.kinds.now c.args.piece_lines pieces c.args.lines.now few each
+    let few : length c.args.round.lines.now ≤ length pieces * c.args.round.piece_lines = covers (length c.args.round.lines.now) c.args.round.piece_lines (length pieces) c.requires (omega (arith, c.in_ok-pieces.ensures.len, c.in_ok-pieces.pieces.ok.0)) in
+    let each : EachIs known c.args.columns.now c.args.round.kinds.now c.args.round.piece_lines pieces c.args.round.lines.now =
+    λ n d lt. let h = (c.in_ok-pieces.ensures.each n d lt).1 in subst (λ (ls : List (Bor (List ℕ))). IfOk (get_or pieces n d) (λ piece. IsPiece known c.args.columns.now c.args.round.kinds.now piece (map (λ line. line.now) ls))) h.argument_is.value h.call in
+    are_pieces known c.args.columns.now c.args.round.kinds.now c.args.round.piece_lines pieces c.args.round.lines.now few each
 
 pub returns-clause-known : goal.returns-clause-known
 returns-clause-known g c =
     let pieces = c.in_ok-pieces.pieces.items in
     let known = option_copied c.args.known in
-    let each : EachIs known c.args.columns.now c.args.kinds.now c.args.piece_lines pieces c.args.lines.now =
-    λ n d lt. let h = (c.in_ok-pieces.ensures.each n d lt).1 in subst (λ (ls : List (Bor (List ℕ))). IfOk (get_or pieces n d) (λ piece. IsPiece known c.args.columns.now c.args.kinds.now piece (map (λ line. line.now) ls))) h.argument_is.value h.call in
-    are_known known c.args.columns.now c.args.kinds.now c.args.piece_lines pieces c.args.lines.now each
+    let each : EachIs known c.args.columns.now c.args.round.kinds.now c.args.round.piece_lines pieces c.args.round.lines.now =
+    λ n d lt. let h = (c.in_ok-pieces.ensures.each n d lt).1 in subst (λ (ls : List (Bor (List ℕ))). IfOk (get_or pieces n d) (λ piece. IsPiece known c.args.columns.now c.args.round.kinds.now piece (map (λ line. line.now) ls))) h.argument_is.value h.call in
+    are_known known c.args.columns.now c.args.round.kinds.now c.args.round.piece_lines pieces c.args.round.lines.now each

@@ -1,4 +1,4 @@
-use Rattle.std.proofs.Common.{refl, sym, subst, ◌∙◌}
+use Rattle.std.proofs.Common.{length, refl, sym, ap, subst, ◌∙◌}
 use Rattle.std.proofs.lemmas.Result.{err_from_is_err_and}
 use Rattle.restore.specs.Reading.{Within, lines_of, read_lines}
 use Rattle.schema.specs.Definition.{columns_of}
@@ -12,9 +12,11 @@ pub loop-round-init : goal.loop-round-init
 loop-round-init g c =
     let told : Told g.row.A.Denot = λ counted. read_lines c.args.lines.number (Within counted c.args.catalog.now c.args.tables c.args.table) (lines_of c.args.lines.text.now) in
     record {
-      rows = waiting-first c.args.catalog.now c.args.table c.args.tables told c.new-round.result.number c.args.lines.number c.new-round.result.pieces.items (lines_of c.args.lines.text.now) c.new-round.ensures.number c.new-round.ensures.pieces (λ counted. refl);
-      same_tables = c.requires.same_tables;
-      rise = subst (MayRise c.args.tables (columns_of c.args.catalog.now c.args.table)) (sym c.new-round.ensures.pieces) tt;
+      rows = waiting-first c.args.catalog.now c.args.table c.args.tables told c.new-round.result.tables c.new-round.result.number c.args.lines.number c.new-round.result.pieces.items (lines_of c.args.lines.text.now) c.new-round.ensures.tables c.new-round.ensures.number c.new-round.ensures.pieces (λ counted. refl);
+      ready = record {
+        same_tables = ap length c.new-round.ensures.tables ∙ c.requires.same_tables;
+        rise = subst (MayRise c.new-round.result.tables (columns_of c.args.catalog.now c.args.table)) (sym c.new-round.ensures.pieces) tt;
+      };
     }
 
 pub returns-in_err-tables-clause-rows : goal.returns-in_err-tables-clause-rows
@@ -52,7 +54,7 @@ returns-in_err-left-clause-rows g c = λ counted.
     let told : Told g.row.A.Denot = λ counted. read_lines c.args.lines.number (Within counted c.args.catalog.now c.args.tables c.args.table) (lines_of c.args.lines.text.now) in
     let left = c.loop-round.lines in
     let at = rw c.in-Some.is at c.in_ok-bytes.ensures.line in
-    let waits = waiting-line c.args.catalog.now c.args.table c.args.tables told c.loop-round.tables c.loop-round.round.number c.loop-round.round.pieces.items left.number left.text.now c.in-Some.bytes.now c.in-Some.rest.text.now at c.loop-round.invariant.rows in
+    let waits = waiting-line c.args.catalog.now c.args.table c.args.tables told c.loop-round.round.tables c.loop-round.round.number c.loop-round.round.pieces.items left.number left.text.now c.in-Some.bytes.now c.in-Some.rest.text.now at c.loop-round.invariant.rows in
     let p = err_from_is_err_and c.from_residual-in_err-left.result c.from_residual-in_err-left.ensures.1 in
     rw (p.1, p.2) (c.in_err-left.ensures.begun c.args.tables told waits counted)
 
@@ -61,9 +63,8 @@ loop-round-preserved g c =
     let told : Told g.row.A.Denot = λ counted. read_lines c.args.lines.number (Within counted c.args.catalog.now c.args.tables c.args.table) (lines_of c.args.lines.text.now) in
     let left = c.loop-round.lines in
     let at = rw c.in-Some.is at c.in_ok-bytes.ensures.line in
-    let waits = waiting-line c.args.catalog.now c.args.table c.args.tables told c.loop-round.tables c.loop-round.round.number c.loop-round.round.pieces.items left.number left.text.now c.in-Some.bytes.now c.in-Some.rest.text.now at c.loop-round.invariant.rows in
+    let waits = waiting-line c.args.catalog.now c.args.table c.args.tables told c.loop-round.round.tables c.loop-round.round.number c.loop-round.round.pieces.items left.number left.text.now c.in-Some.bytes.now c.in-Some.rest.text.now at c.loop-round.invariant.rows in
     record {
       rows = c.in_ok-left.ensures.begun c.args.tables told waits;
-      same_tables = c.in_ok-left.ensures.same_tables;
-      rise = c.in_ok-left.ensures.rise;
+      ready = c.in_ok-left.ensures.ready;
     }
