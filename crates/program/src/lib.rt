@@ -8,6 +8,7 @@ pub mod files;
 mod free;
 pub mod host;
 pub mod late;
+mod machine;
 mod ordering;
 mod output;
 pub mod progress;

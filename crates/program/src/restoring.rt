@@ -12,10 +12,10 @@ ghost use Rattle.program.specs.Ends.{loaded};
 
 use crate::fault::Fault;
 use crate::files::Files;
+use crate::machine::Machine;
 use crate::ordering::append;
 use crate::output::{Printer, print_whole};
 use crate::progress::Stage;
-use crate::run::read_path;
 use dumpplan::{Gate, Jobs, PieceRows};
 use dumpworker::{DumpFault, dump};
 use restore::restore;
@@ -106,114 +106,101 @@ where
     }
 }
 
-// The same, which shows how far it is where the files say so.
-fn read_shown<'p, A, F, T>(
-    rt: &T,
-    alloc: A,
-    files: &F,
-    dump: &[u8],
-    jobs: Jobs,
-) -> Result<(Catalog<A>, Tables<A>), Fault<'p>>
+impl<'m, F, T, A> Machine<'m, F, T, A>
 where
     A: Allocator + Copy + Send + Sync,
     F: Files<A>,
     T: Threads + Sync,
-    ensures read { (result ≡ loaded (read_dump dump.now)) ⊎ (result ≡ loaded (Err no_memory)) }
-    ensures sound { IfOk result (λ x. is_sound x.0 x.1 ≡ true) }
 {
-    let shown = files.watch(Stage::Reading);
-    let read = read_dump(rt, alloc, dump, jobs, &shown);
-    shown.clear();
-    read
-}
-
-// Writes tables to a file.
-fn write_again<'p, A, F, T>(
-    rt: &T,
-    alloc: A,
-    files: &F,
-    catalog: &Catalog<A>,
-    tables: &Tables<A>,
-    jobs: Jobs,
-    out: &'p str,
-) -> Result<(), Fault<'p>>
-where
-    A: Allocator + Copy + Send + Sync,
-    F: Files<A>,
-    T: Threads + Wait + Sync,
-    requires { length tables.now ≡ length catalog.now }
-    ensures written { OnOk result (IsWritten F.Out.path F.Out.taken out.entry.now (dump_text catalog.now tables.now)) }
-    ensures fault { IfErr result (λ f. (f ≡ Fault.Dump 0 Code.OutOfMemory) ⊎ IsFileFault out.entry.now f) }
-{
-    let Ok(mut file) = files.create(alloc, out) else {
-        return Err(NO_MEMORY);
-    };
-    let rows = piece_rows();
-    let shown = files.watch(Stage::Writing);
-    let dumped = dump(rt, alloc, tables, catalog, jobs, rows, &mut file, &shown);
-    shown.clear();
-    match dumped {
-        Ok(()) => Ok(()),
-        Err(DumpFault::Memory) => Err(NO_MEMORY),
-        Err(DumpFault::Device) => Err(Fault::Device { path: out }),
+    // The same, which shows how far it is where the files say so.
+    fn read_shown<'p>(&self, dump: &[u8], jobs: Jobs) -> Result<(Catalog<A>, Tables<A>), Fault<'p>>
+        ensures read { (result ≡ loaded (read_dump dump.now)) ⊎ (result ≡ loaded (Err no_memory)) }
+        ensures sound { IfOk result (λ x. is_sound x.0 x.1 ≡ true) }
+    {
+        let shown = self.files.watch(Stage::Reading);
+        let read = read_dump(self.rt, self.alloc, dump, jobs, &shown);
+        shown.clear();
+        read
     }
 }
 
-// Writes tables that a dump has read as to a file, and tells how many they are and how many rows they
-// have.
-fn write_and_tell<'p, A, F, W, T>(
-    rt: &T,
-    alloc: A,
-    files: &F,
-    catalog: &Catalog<A>,
-    tables: &Tables<A>,
-    jobs: Jobs,
-    out: &'p str,
-    printer: &mut Printer<'_, W, A>,
-) -> Result<(), Fault<'p>>
+impl<'m, F, T, A> Machine<'m, F, T, A>
 where
     A: Allocator + Copy + Send + Sync,
     F: Files<A>,
-    W: Write,
     T: Threads + Wait + Sync,
-    requires { is_sound catalog.now tables.now ≡ true }
-    ensures written { OnOk result (IsWritten F.Out.path F.Out.taken out.entry.now (dump_text catalog.now tables.now)) }
-    ensures printed { OnOk result (Adds printer.old printer.new (restored_text catalog.now tables.now)) }
-    ensures flushed { OnOk result (IsFlushed printer.new) }
-    ensures stopped { OnErr result (Prints printer.old printer.new []) }
 {
-    sound_tables_are_counted(catalog, tables);
-    write_again(rt, alloc, files, catalog, tables, jobs, out)?;
-    let Ok(text) = told(alloc, catalog, tables) else {
-        return Err(NO_MEMORY);
-    };
-    print_whole(text.as_slice(), NO_MEMORY, printer)
-}
+    // Writes tables to a file.
+    fn write_again<'p>(
+        &self,
+        catalog: &Catalog<A>,
+        tables: &Tables<A>,
+        jobs: Jobs,
+        out: &'p str,
+    ) -> Result<(), Fault<'p>>
+        requires { length tables.now ≡ length catalog.now }
+        ensures written { OnOk result (IsWritten F.Out.path F.Out.taken out.entry.now
+            (dump_text catalog.now tables.now)) }
+        ensures fault { IfErr result (λ f. (f ≡ Fault.Dump 0 Code.OutOfMemory) ⊎ IsFileFault out.entry.now f) }
+    {
+        let Ok(mut file) = self.files.create(self.alloc, out) else {
+            return Err(NO_MEMORY);
+        };
+        let rows = piece_rows();
+        let shown = self.files.watch(Stage::Writing);
+        let dumped = dump(
+            self.rt, self.alloc, tables, catalog, jobs, rows, &mut file, &shown,
+        );
+        shown.clear();
+        match dumped {
+            Ok(()) => Ok(()),
+            Err(DumpFault::Memory) => Err(NO_MEMORY),
+            Err(DumpFault::Device) => Err(Fault::Device { path: out }),
+        }
+    }
 
-/// Loads a dump, writes its text to a file, and tells its tables and rows.
-pub(crate) fn restore_file<'p, A, F, W, T>(
-    rt: &T,
-    alloc: A,
-    files: &F,
-    path: &'p str,
-    jobs: Jobs,
-    out: &'p str,
-    printer: &mut Printer<'_, W, A>,
-) -> Result<(), Fault<'p>>
-where
-    A: Allocator + Copy + Send + Sync,
-    F: Files<A>,
-    W: Write,
-    T: Threads + Wait + Sync,
-    ensures done { OnOk result (IsRestored A (F.held files.now) (F.input files.now) F.Out.path F.Out.taken
-        path.entry.now
-        out.entry.now printer.old printer.new) }
-    ensures stopped { OnErr result (Prints printer.old printer.new []) }
-{
-    let bytes = read_path(alloc, files, path, NO_MEMORY)?;
-    let (catalog, tables) = read_shown(rt, alloc, files, bytes.as_slice(), jobs)?;
-    let told = write_and_tell(rt, alloc, files, &catalog, &tables, jobs, out, printer);
-    // The program ends next, and its memory with it. A drop would give the rows back one by one.
-    forget(tables);
-    told
+    // Writes tables that a dump has read as to a file, and tells how many they are and how many rows they
+    // have.
+    fn write_and_tell<'p, W: Write>(
+        &self,
+        catalog: &Catalog<A>,
+        tables: &Tables<A>,
+        jobs: Jobs,
+        out: &'p str,
+        printer: &mut Printer<'_, W, A>,
+    ) -> Result<(), Fault<'p>>
+        requires { is_sound catalog.now tables.now ≡ true }
+        ensures written { OnOk result (IsWritten F.Out.path F.Out.taken out.entry.now
+            (dump_text catalog.now tables.now)) }
+        ensures printed { OnOk result (Adds printer.old printer.new (restored_text catalog.now tables.now)) }
+        ensures flushed { OnOk result (IsFlushed printer.new) }
+        ensures stopped { OnErr result (Prints printer.old printer.new []) }
+    {
+        sound_tables_are_counted(catalog, tables);
+        self.write_again(catalog, tables, jobs, out)?;
+        let Ok(text) = told(self.alloc, catalog, tables) else {
+            return Err(NO_MEMORY);
+        };
+        print_whole(text.as_slice(), NO_MEMORY, printer)
+    }
+
+    /// Loads a dump, writes its text to a file, and tells its tables and rows.
+    pub(crate) fn restore_file<'p, W: Write>(
+        &self,
+        path: &'p str,
+        jobs: Jobs,
+        out: &'p str,
+        printer: &mut Printer<'_, W, A>,
+    ) -> Result<(), Fault<'p>>
+        ensures done { OnOk result (IsRestored A (F.held self.now.files.now) (F.input self.now.files.now) F.Out.path
+            F.Out.taken path.entry.now out.entry.now printer.old printer.new) }
+        ensures stopped { OnErr result (Prints printer.old printer.new []) }
+    {
+        let bytes = self.read_path(path, NO_MEMORY)?;
+        let (catalog, tables) = self.read_shown(bytes.as_slice(), jobs)?;
+        let told = self.write_and_tell(&catalog, &tables, jobs, out, printer);
+        // The program ends next, and its memory with it. A drop would give the rows back one by one.
+        forget(tables);
+        told
+    }
 }

@@ -14,9 +14,10 @@ ghost use Rattle.program.specs.Runs.{HasRun, HasStopped, PathHasRun, ScriptHasRu
 
 use crate::fault::{Fault, Status, end, tell};
 use crate::files::{Files, ReadError};
+use crate::machine::Machine;
 use crate::output::{Printer, fault_of_print};
 use crate::restoring::{NO_MEMORY, read_dump};
-use crate::steps::{do_step, order_of};
+use crate::steps::order_of;
 use crate::workers::as_many_as_processors;
 use dumpplan::NoGate;
 use schema::catalog::Catalog;
@@ -56,56 +57,6 @@ fn fault_of_read<'p>(error: ReadError, path: &'p str, memory: Fault<'p>) -> Faul
     }
 }
 
-/// The bytes of a path, where `-` is standard input.
-pub(crate) fn read_path<'p, A, F>(
-    alloc: A,
-    files: &F,
-    path: &'p str,
-    memory: Fault<'p>,
-) -> Result<Vec<u8, A>, Fault<'p>>
-where
-    A: Allocator + Copy,
-    F: Files<A>,
-    ensures read { IfOk result (λ bytes. IsAllOf (read_of (F.held files.now) (F.input files.now) path.now)
-        bytes.items) }
-    ensures fault { IfErr result (λ f. (f ≡ memory.entry) ⊎ IsFileFault path.now f) }
-{
-    let read = if path == "-" {
-        files.read_input(alloc)
-    } else {
-        files.read(alloc, path)
-    };
-    match read {
-        Ok(bytes) => Ok(bytes),
-        Err(error) => Err(fault_of_read(error, path, memory)),
-    }
-}
-
-// The tables of a dump that a script opens, read by a worker for each processor.
-fn open_dump<'p, A, F, T>(
-    rt: &T,
-    alloc: A,
-    files: &F,
-    path: &'p str,
-) -> Result<(Catalog<A>, Tables<A>), Fault<'p>>
-where
-    A: Allocator + Copy + Send + Sync,
-    F: Files<A>,
-    T: Threads + Sync,
-    ensures read { IfOk result (λ x. (bytes : List ℕ) × IsAllOf (F.held files.now path.now) bytes ×
-        (dump_read bytes ≡ Ok x)) }
-    ensures sound { IfOk result (λ x. is_sound x.0 x.1 ≡ true) }
-    ensures fault { IfErr result (λ f. IsUnread A (F.held files.now path.now) path.now f) }
-{
-    match files.read(alloc, path) {
-        Ok(dump) => {
-            let jobs = as_many_as_processors(rt);
-            read_dump(rt, alloc, dump.as_slice(), jobs, &NoGate)
-        }
-        Err(error) => Err(fault_of_read(error, path, NO_MEMORY)),
-    }
-}
-
 // The tables of a catalog, without rows.
 fn empty_tables<'p, A: Allocator + Copy>(
     alloc: A,
@@ -117,53 +68,6 @@ fn empty_tables<'p, A: Allocator + Copy>(
 {
     match Tables::new(alloc, &catalog) {
         Ok(tables) => Ok((catalog, tables)),
-        Err(_) => Err(Fault::Script { line: 0 }),
-    }
-}
-
-/// The tables that a script begins with: those of the dump that it opens, or those that it creates,
-/// without rows.
-pub(crate) fn open_tables<'p, A, F, T>(
-    rt: &T,
-    alloc: A,
-    files: &F,
-    opens: Option<&'p Text<A>>,
-    catalog: Catalog<A>,
-) -> Result<(Catalog<A>, Tables<A>), Fault<'p>>
-where
-    A: Allocator + Copy + Send + Sync,
-    F: Files<A>,
-    T: Threads + Sync,
-    ensures begins { IfOk result (λ x. BeginsWith (F.held files.now) (option_copied opens.entry) catalog x.0 x.1) }
-    ensures sound { IfOk result (λ x. is_sound x.0 x.1 ≡ true) }
-    ensures fault { IfErr result (λ f. IsUnopened A (F.held files.now) (option_copied opens.entry) f) }
-{
-    match opens {
-        Some(path) => open_dump(rt, alloc, files, path.as_str()),
-        None => empty_tables(alloc, catalog),
-    }
-}
-
-// The core that a script begins with.
-fn open_core<'p, A, F, T>(
-    rt: &T,
-    alloc: A,
-    files: &F,
-    opens: Option<&'p Text<A>>,
-    catalog: Catalog<A>,
-    most_events: u32,
-) -> Result<Core<A>, Fault<'p>>
-where
-    A: Allocator + Copy + Send + Sync,
-    F: Files<A>,
-    T: Threads + Sync,
-    ensures begun { IfOk result (λ core. (c : AnyCatalog) × (X : AnyTables A) ×
-        BeginsWith (F.held files.now) (option_copied opens.entry) catalog c X × (core ≡ begun c X most_events)) }
-    ensures fault { IfErr result (λ f. IsUnbegun A (F.held files.now) (option_copied opens.entry) catalog f) }
-{
-    let (catalog, tables) = open_tables(rt, alloc, files, opens, catalog)?;
-    match Core::open(alloc, catalog, tables, most_events) {
-        Ok(core) => Ok(core),
         Err(_) => Err(Fault::Script { line: 0 }),
     }
 }
@@ -183,146 +87,192 @@ where
     }
 }
 
-// Does the lines of a script, one after the other, and prints what is shown of each.
-fn do_lines<'p, A, F, W, T>(
-    rt: &T,
-    alloc: A,
-    files: &F,
-    mut core: Core<A>,
-    lines: &'p [Line<A>],
-    way: Way,
-    printer: &mut Printer<'_, W, A>,
-) -> Result<(), Fault<'p>>
-where
-    A: Allocator + Copy + Send + Sync,
-    F: Files<A>,
-    W: Write,
-    T: Threads + Wait + Sync,
-    ensures done { OnOk result (HasRun way core lines.entry.now printer.old printer.new) }
-    ensures stopped { IfErr result (λ f. HasStopped way core lines.entry.now f printer.old printer.new) }
-{
-    for line in lines {
-        let (next, text) = do_step(rt, alloc, files, core, &line.step, way)?;
-        core = next;
-        show(text.as_slice(), printer)?;
-    }
-    let order = order_of(alloc, way.shown, &core)?;
-    show(order.as_slice(), printer)
-}
-
-// The same, and writes all that was printed, whether or not the lines were done.
-fn do_all_lines<'p, A, F, W, T>(
-    rt: &T,
-    alloc: A,
-    files: &F,
-    core: Core<A>,
-    lines: &'p [Line<A>],
-    way: Way,
-    printer: &mut Printer<'_, W, A>,
-) -> Result<(), Fault<'p>>
-where
-    A: Allocator + Copy + Send + Sync,
-    F: Files<A>,
-    W: Write,
-    T: Threads + Wait + Sync,
-    ensures done { OnOk result (HasRun way core lines.entry.now printer.old printer.new) }
-    ensures stopped { IfErr result (λ f. HasStopped way core lines.entry.now f printer.old printer.new) }
-    ensures flushed { IsFlushed printer.new }
-{
-    let done = do_lines(rt, alloc, files, core, lines, way, printer);
-    match printer.flush() {
-        Ok(()) => done,
-        Err(error) => Err(fault_of_print(error)),
+impl<'m, F: Files<A>, T, A: Allocator + Copy> Machine<'m, F, T, A> {
+    /// The bytes of a path, where `-` is standard input.
+    pub(crate) fn read_path<'p>(
+        &self,
+        path: &'p str,
+        memory: Fault<'p>,
+    ) -> Result<Vec<u8, A>, Fault<'p>>
+        ensures read { IfOk result (λ bytes.
+            IsAllOf (read_of (F.held self.now.files.now) (F.input self.now.files.now) path.now) bytes.items) }
+        ensures fault { IfErr result (λ f. (f ≡ memory.entry) ⊎ IsFileFault path.now f) }
+    {
+        let read = if path == "-" {
+            self.files.read_input(self.alloc)
+        } else {
+            self.files.read(self.alloc, path)
+        };
+        match read {
+            Ok(bytes) => Ok(bytes),
+            Err(error) => Err(fault_of_read(error, path, memory)),
+        }
     }
 }
 
-// Does the lines of a script that was read, from the tables of its dump or of its own.
-fn do_script<'p, A, F, W, T>(
-    rt: &T,
-    alloc: A,
-    files: &F,
-    catalog: Catalog<A>,
-    opens: Option<&'p Text<A>>,
-    lines: &'p [Line<A>],
-    way: Way,
-    printer: &mut Printer<'_, W, A>,
-) -> Result<(), Fault<'p>>
+impl<'m, F, T, A> Machine<'m, F, T, A>
 where
     A: Allocator + Copy + Send + Sync,
     F: Files<A>,
-    W: Write,
-    T: Threads + Wait + Sync,
-    ensures done { OnOk result (ScriptHasRun (F.held files.now) way
-        (record { catalog = catalog; opens = option_copied opens.entry; lines = lines.entry.now }) printer.old
-        printer.new) }
-    ensures stopped { IfErr result (λ f. ScriptHasStopped (F.held files.now) way
-        (record { catalog = catalog; opens = option_copied opens.entry; lines = lines.entry.now }) f printer.old
-        printer.new) }
+    T: Threads + Sync,
 {
-    let core = open_core(rt, alloc, files, opens, catalog, way.most_events)?;
-    do_all_lines(rt, alloc, files, core, lines, way, printer)
+    // The tables of a dump that a script opens, read by a worker for each processor.
+    fn open_dump<'p>(&self, path: &'p str) -> Result<(Catalog<A>, Tables<A>), Fault<'p>>
+        ensures read { IfOk result (λ x. (bytes : List ℕ) × IsAllOf (F.held self.now.files.now path.now) bytes ×
+            (dump_read bytes ≡ Ok x)) }
+        ensures sound { IfOk result (λ x. is_sound x.0 x.1 ≡ true) }
+        ensures fault { IfErr result (λ f. IsUnread A (F.held self.now.files.now path.now) path.now f) }
+    {
+        match self.files.read(self.alloc, path) {
+            Ok(dump) => {
+                let jobs = as_many_as_processors(self.rt);
+                read_dump(self.rt, self.alloc, dump.as_slice(), jobs, &NoGate)
+            }
+            Err(error) => Err(fault_of_read(error, path, NO_MEMORY)),
+        }
+    }
+
+    /// The tables that a script begins with: those of the dump that it opens, or those that it creates,
+    /// without rows.
+    pub(crate) fn open_tables<'p>(
+        &self,
+        opens: Option<&'p Text<A>>,
+        catalog: Catalog<A>,
+    ) -> Result<(Catalog<A>, Tables<A>), Fault<'p>>
+        ensures begins { IfOk result (λ x.
+            BeginsWith (F.held self.now.files.now) (option_copied opens.entry) catalog x.0 x.1) }
+        ensures sound { IfOk result (λ x. is_sound x.0 x.1 ≡ true) }
+        ensures fault { IfErr result (λ f. IsUnopened A (F.held self.now.files.now) (option_copied opens.entry) f) }
+    {
+        match opens {
+            Some(path) => self.open_dump(path.as_str()),
+            None => empty_tables(self.alloc, catalog),
+        }
+    }
+
+    // The core that a script begins with.
+    fn open_core<'p>(
+        &self,
+        opens: Option<&'p Text<A>>,
+        catalog: Catalog<A>,
+        most_events: u32,
+    ) -> Result<Core<A>, Fault<'p>>
+        ensures begun { IfOk result (λ core. (c : AnyCatalog) × (X : AnyTables A) ×
+            BeginsWith (F.held self.now.files.now) (option_copied opens.entry) catalog c X ×
+            (core ≡ begun c X most_events)) }
+        ensures fault { IfErr result (λ f.
+            IsUnbegun A (F.held self.now.files.now) (option_copied opens.entry) catalog f) }
+    {
+        let (catalog, tables) = self.open_tables(opens, catalog)?;
+        match Core::open(self.alloc, catalog, tables, most_events) {
+            Ok(core) => Ok(core),
+            Err(_) => Err(Fault::Script { line: 0 }),
+        }
+    }
 }
 
-// Does a script that was read, and tells why it isn't done where it isn't.
-fn do_read<A, F, W, E, T>(
-    rt: &T,
-    alloc: A,
-    files: &F,
-    script: Script<A>,
-    way: Way,
-    printer: &mut Printer<'_, W, A>,
-    err: &mut E,
-) -> Status
+impl<'m, F, T, A> Machine<'m, F, T, A>
 where
     A: Allocator + Copy + Send + Sync,
     F: Files<A>,
-    W: Write,
-    E: Write,
     T: Threads + Wait + Sync,
-    ensures usage { result ≢ Status.Usage }
-    ensures done { result ≡ Status.Done → ScriptHasRun (F.held files.now) way script printer.old printer.new }
 {
-    let (catalog, opens, lines) = script.into_parts();
-    let done = do_script(
-        rt,
-        alloc,
-        files,
-        catalog,
-        opens.as_ref(),
-        lines.as_slice(),
-        way,
-        printer,
-    );
-    end(done, err)
-}
+    // Does the lines of a script, one after the other, and prints what is shown of each.
+    fn do_lines<'p, W: Write>(
+        &self,
+        mut core: Core<A>,
+        lines: &'p [Line<A>],
+        way: Way,
+        printer: &mut Printer<'_, W, A>,
+    ) -> Result<(), Fault<'p>>
+        ensures done { OnOk result (HasRun way core lines.entry.now printer.old printer.new) }
+        ensures stopped { IfErr result (λ f. HasStopped way core lines.entry.now f printer.old printer.new) }
+    {
+        for line in lines {
+            let (next, text) = self.do_step(core, &line.step, way)?;
+            core = next;
+            show(text.as_slice(), printer)?;
+        }
+        let order = order_of(self.alloc, way.shown, &core)?;
+        show(order.as_slice(), printer)
+    }
 
-/// Does the script of a path, or of standard input, prints what is shown of it, and tells on `err`
-/// why it isn't done where it isn't.
-pub(crate) fn run_file<A, F, W, E, T>(
-    rt: &T,
-    alloc: A,
-    files: &F,
-    path: &str,
-    way: Way,
-    printer: &mut Printer<'_, W, A>,
-    err: &mut E,
-) -> Status
-where
-    A: Allocator + Copy + Send + Sync,
-    F: Files<A>,
-    W: Write,
-    E: Write,
-    T: Threads + Wait + Sync,
-    ensures usage { result ≢ Status.Usage }
-    ensures done { result ≡ Status.Done →
-        PathHasRun A (F.held files.now) (F.input files.now) way path.now printer.old printer.new }
-{
-    let bytes = match read_path(alloc, files, path, Fault::Script { line: 0 }) {
-        Ok(bytes) => bytes,
-        Err(fault) => return tell(&fault, err),
-    };
-    match read_script(alloc, Schedule::InOrder, bytes.as_slice()) {
-        Ok(script) => do_read(rt, alloc, files, script, way, printer, err),
-        Err(fault) => tell(&Fault::Script { line: fault.line }, err),
+    // The same, and writes all that was printed, whether or not the lines were done.
+    fn do_all_lines<'p, W: Write>(
+        &self,
+        core: Core<A>,
+        lines: &'p [Line<A>],
+        way: Way,
+        printer: &mut Printer<'_, W, A>,
+    ) -> Result<(), Fault<'p>>
+        ensures done { OnOk result (HasRun way core lines.entry.now printer.old printer.new) }
+        ensures stopped { IfErr result (λ f. HasStopped way core lines.entry.now f printer.old printer.new) }
+        ensures flushed { IsFlushed printer.new }
+    {
+        let done = self.do_lines(core, lines, way, printer);
+        match printer.flush() {
+            Ok(()) => done,
+            Err(error) => Err(fault_of_print(error)),
+        }
+    }
+
+    // Does the lines of a script that was read, from the tables of its dump or of its own.
+    fn do_script<'p, W: Write>(
+        &self,
+        catalog: Catalog<A>,
+        opens: Option<&'p Text<A>>,
+        lines: &'p [Line<A>],
+        way: Way,
+        printer: &mut Printer<'_, W, A>,
+    ) -> Result<(), Fault<'p>>
+        ensures done { OnOk result (ScriptHasRun (F.held self.now.files.now) way
+            (record { catalog = catalog; opens = option_copied opens.entry; lines = lines.entry.now }) printer.old
+            printer.new) }
+        ensures stopped { IfErr result (λ f. ScriptHasStopped (F.held self.now.files.now) way
+            (record { catalog = catalog; opens = option_copied opens.entry; lines = lines.entry.now }) f printer.old
+            printer.new) }
+    {
+        let core = self.open_core(opens, catalog, way.most_events)?;
+        self.do_all_lines(core, lines, way, printer)
+    }
+
+    // Does a script that was read, and tells why it isn't done where it isn't.
+    fn do_read<W: Write, E: Write>(
+        &self,
+        script: Script<A>,
+        way: Way,
+        printer: &mut Printer<'_, W, A>,
+        err: &mut E,
+    ) -> Status
+        ensures usage { result ≢ Status.Usage }
+        ensures done { result ≡ Status.Done →
+            ScriptHasRun (F.held self.now.files.now) way script printer.old printer.new }
+    {
+        let (catalog, opens, lines) = script.into_parts();
+        let done = self.do_script(catalog, opens.as_ref(), lines.as_slice(), way, printer);
+        end(done, err)
+    }
+
+    /// Does the script of a path, or of standard input, prints what is shown of it, and tells on `err`
+    /// why it isn't done where it isn't.
+    pub(crate) fn run_file<W: Write, E: Write>(
+        &self,
+        path: &str,
+        way: Way,
+        printer: &mut Printer<'_, W, A>,
+        err: &mut E,
+    ) -> Status
+        ensures usage { result ≢ Status.Usage }
+        ensures done { result ≡ Status.Done → PathHasRun A (F.held self.now.files.now) (F.input self.now.files.now)
+            way path.now printer.old printer.new }
+    {
+        let bytes = match self.read_path(path, Fault::Script { line: 0 }) {
+            Ok(bytes) => bytes,
+            Err(fault) => return tell(&fault, err),
+        };
+        match read_script(self.alloc, Schedule::InOrder, bytes.as_slice()) {
+            Ok(script) => self.do_read(script, way, printer, err),
+            Err(fault) => tell(&Fault::Script { line: fault.line }, err),
+        }
     }
 }

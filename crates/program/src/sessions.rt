@@ -10,6 +10,7 @@ ghost use Rattle.script.specs.Printing.{reply_text};
 use crate::dumping::dump_text;
 use crate::fault::Fault;
 use crate::files::Files;
+use crate::machine::Machine;
 use backup::{BackupFault, dump_session};
 use dumpplan::NoGate;
 use dumpworker::DumpFault;
@@ -56,37 +57,6 @@ fn reply_to<A: Allocator + Copy>(
     }
 }
 
-// Writes a dump of a session's safe snapshot to a file.
-fn dump_to_file<A, F, T>(
-    rt: &T,
-    alloc: A,
-    files: &F,
-    core: &Core<A>,
-    session: SessionId,
-    request: &DumpRequest<A>,
-) -> Result<(), BackupFault>
-where
-    A: Allocator + Copy + Send + Sync,
-    F: Files<A>,
-    T: Threads + Wait + Sync,
-    ensures dumped { IsDumped core.now session result }
-    ensures file { OnOk result (IsDumpedTo F.Out.path F.Out.taken core.now session request.now.path) }
-{
-    let Ok(mut file) = files.create(alloc, request.path.as_str()) else {
-        return Err(BackupFault::Dump(DumpFault::Memory));
-    };
-    dump_session(
-        rt,
-        alloc,
-        core,
-        session,
-        request.jobs,
-        request.rows,
-        &mut file,
-        &NoGate,
-    )
-}
-
 // Does what a session asks for, and gives what is printed of it.
 fn tell_event<A: Allocator + Copy>(
     alloc: A,
@@ -101,49 +71,6 @@ fn tell_event<A: Allocator + Copy>(
     printed_reply(alloc, session, &reply)
 }
 
-// Does a dump of a session's safe snapshot, and gives what is printed of it.
-fn tell_dump<'s, A, F, T>(
-    rt: &T,
-    alloc: A,
-    files: &F,
-    core: &Core<A>,
-    session: SessionId,
-    request: &'s DumpRequest<A>,
-) -> Result<Vec<u8, A>, Fault<'s>>
-where
-    A: Allocator + Copy + Send + Sync,
-    F: Files<A>,
-    T: Threads + Wait + Sync,
-    ensures told { IfOk result (λ text. TellsDump core.now session text.items) }
-    ensures fault { IfErr result (λ f. (f ≡ Fault.Script 0) ⊎ IsFileFault request.entry.now.path f) }
-{
-    let done = dump_to_file(rt, alloc, files, core, session, request);
-    dump_text(alloc, session, request.path.as_str(), done)
-}
-
-/// Does a session's command, and gives what is told of it.
-pub(crate) fn do_command<'s, A, F, T>(
-    rt: &T,
-    alloc: A,
-    files: &F,
-    core: &mut Core<A>,
-    session: SessionId,
-    command: &'s Command<A>,
-) -> Result<Vec<u8, A>, Fault<'s>>
-where
-    A: Allocator + Copy + Send + Sync,
-    F: Files<A>,
-    T: Threads + Wait + Sync,
-    ensures told { IfOk result (λ text. TellsCommand core.old core.new session command.entry.now text.items) }
-    ensures fault { IfErr result (λ f. EndsBy command.entry.now f) }
-{
-    match command {
-        Command::Dump(request) => tell_dump(rt, alloc, files, core, session, request),
-        Command::Ask(request) => tell_event(alloc, core, session, request),
-        Command::Wait => tell_event(alloc, core, session, &Request::Poll),
-    }
-}
-
 /// Lets the history go on from the tables that it has come to, with room for so many events more:
 /// the core, and the refusal where it doesn't.
 pub(crate) fn checkpoint<A: Allocator + Copy>(
@@ -156,5 +83,68 @@ pub(crate) fn checkpoint<A: Allocator + Copy>(
     match core.checkpoint(alloc, most_events) {
         Ok(core) => (core, None),
         Err((core, refusal)) => (core, Some(refusal)),
+    }
+}
+
+impl<'m, F, T, A> Machine<'m, F, T, A>
+where
+    A: Allocator + Copy + Send + Sync,
+    F: Files<A>,
+    T: Threads + Wait + Sync,
+{
+    // Writes a dump of a session's safe snapshot to a file.
+    fn dump_to_file(
+        &self,
+        core: &Core<A>,
+        session: SessionId,
+        request: &DumpRequest<A>,
+    ) -> Result<(), BackupFault>
+        ensures dumped { IsDumped core.now session result }
+        ensures file { OnOk result (IsDumpedTo F.Out.path F.Out.taken core.now session request.now.path) }
+    {
+        let Ok(mut file) = self.files.create(self.alloc, request.path.as_str()) else {
+            return Err(BackupFault::Dump(DumpFault::Memory));
+        };
+        dump_session(
+            self.rt,
+            self.alloc,
+            core,
+            session,
+            request.jobs,
+            request.rows,
+            &mut file,
+            &NoGate,
+        )
+    }
+
+    // Does a dump of a session's safe snapshot, and gives what is printed of it.
+    fn tell_dump<'s>(
+        &self,
+        core: &Core<A>,
+        session: SessionId,
+        request: &'s DumpRequest<A>,
+    ) -> Result<Vec<u8, A>, Fault<'s>>
+        ensures told { IfOk result (λ text. TellsDump core.now session text.items) }
+        ensures fault { IfErr result (λ f. (f ≡ Fault.Script 0) ⊎ IsFileFault request.entry.now.path f) }
+    {
+        let done = self.dump_to_file(core, session, request);
+        dump_text(self.alloc, session, request.path.as_str(), done)
+    }
+
+    /// Does a session's command, and gives what is told of it.
+    pub(crate) fn do_command<'s>(
+        &self,
+        core: &mut Core<A>,
+        session: SessionId,
+        command: &'s Command<A>,
+    ) -> Result<Vec<u8, A>, Fault<'s>>
+        ensures told { IfOk result (λ text. TellsCommand core.old core.new session command.entry.now text.items) }
+        ensures fault { IfErr result (λ f. EndsBy command.entry.now f) }
+    {
+        match command {
+            Command::Dump(request) => self.tell_dump(core, session, request),
+            Command::Ask(request) => tell_event(self.alloc, core, session, request),
+            Command::Wait => tell_event(self.alloc, core, session, &Request::Poll),
+        }
     }
 }

@@ -6,9 +6,10 @@ ghost use Rattle.program.specs.Runs.{IsDone, Stops};
 
 use crate::fault::Fault;
 use crate::files::Files;
+use crate::machine::Machine;
 use crate::ordering::order_text;
 use crate::run::{Shown, Way};
-use crate::sessions::{checkpoint, do_command};
+use crate::sessions::checkpoint;
 use history::session_id::SessionId;
 use script::command::Command;
 use script::script::Step;
@@ -112,47 +113,40 @@ fn shown_text<A: Allocator>(alloc: A, shown: Shown, text: Vec<u8, A>) -> Vec<u8,
     }
 }
 
-// Does a session's command, and gives what is printed of it.
-fn pass_command<'p, A, F, T>(
-    rt: &T,
-    alloc: A,
-    files: &F,
-    mut core: Core<A>,
-    session: SessionId,
-    command: &'p Command<A>,
-    way: Way,
-) -> Result<(Core<A>, Vec<u8, A>), Fault<'p>>
+impl<'m, F, T, A> Machine<'m, F, T, A>
 where
     A: Allocator + Copy + Send + Sync,
     F: Files<A>,
     T: Threads + Wait + Sync,
-    ensures done { IfOk result (λ x. IsDone way core (Step.Session session command.entry.now) x.0 x.1.items) }
-    ensures fault { IfErr result (λ f. Stops (Step.Session session command.entry.now) f) }
 {
-    let text = do_command(rt, alloc, files, &mut core, session, command)?;
-    Ok((core, shown_text(alloc, way.shown, text)))
-}
+    // Does a session's command, and gives what is printed of it.
+    fn pass_command<'p>(
+        &self,
+        mut core: Core<A>,
+        session: SessionId,
+        command: &'p Command<A>,
+        way: Way,
+    ) -> Result<(Core<A>, Vec<u8, A>), Fault<'p>>
+        ensures done { IfOk result (λ x. IsDone way core (Step.Session session command.entry.now) x.0 x.1.items) }
+        ensures fault { IfErr result (λ f. Stops (Step.Session session command.entry.now) f) }
+    {
+        let text = self.do_command(&mut core, session, command)?;
+        Ok((core, shown_text(self.alloc, way.shown, text)))
+    }
 
-/// Does a step, and gives what is printed of it.
-pub(crate) fn do_step<'p, A, F, T>(
-    rt: &T,
-    alloc: A,
-    files: &F,
-    core: Core<A>,
-    step: &'p Step<A>,
-    way: Way,
-) -> Result<(Core<A>, Vec<u8, A>), Fault<'p>>
-where
-    A: Allocator + Copy + Send + Sync,
-    F: Files<A>,
-    T: Threads + Wait + Sync,
-    ensures done { IfOk result (λ x. IsDone way core step.entry.now x.0 x.1.items) }
-    ensures fault { IfErr result (λ f. Stops step.entry.now f) }
-{
-    match step {
-        Step::Session(session, command) => {
-            pass_command(rt, alloc, files, core, *session, command, way)
+    /// Does a step, and gives what is printed of it.
+    pub(crate) fn do_step<'p>(
+        &self,
+        core: Core<A>,
+        step: &'p Step<A>,
+        way: Way,
+    ) -> Result<(Core<A>, Vec<u8, A>), Fault<'p>>
+        ensures done { IfOk result (λ x. IsDone way core step.entry.now x.0 x.1.items) }
+        ensures fault { IfErr result (λ f. Stops step.entry.now f) }
+    {
+        match step {
+            Step::Session(session, command) => self.pass_command(core, *session, command, way),
+            Step::Checkpoint => pass_checkpoint(self.alloc, core, way),
         }
-        Step::Checkpoint => pass_checkpoint(alloc, core, way),
     }
 }

@@ -7,10 +7,8 @@ ghost use Rattle.program.specs.Outcomes.{HasDone, IsDoneOn};
 
 use crate::fault::{Fault, Status, end, tell};
 use crate::files::Files;
-use crate::free::run_free;
+use crate::machine::Machine;
 use crate::output::Printer;
-use crate::restoring::restore_file;
-use crate::run::run_file;
 use crate::task::{Task, read_words};
 use clap::Error;
 use clap::error::ErrorKind;
@@ -21,11 +19,9 @@ use std::thread::Threads;
 
 // Does what the words ask for.
 fn do_task<A, F, W, E, T>(
-    rt: &T,
+    machine: &Machine<'_, F, T, A>,
     words_memory: Global,
-    alloc: A,
     task: Task<'_>,
-    files: &F,
     out: &mut W,
     err: &mut E,
 ) -> Status
@@ -36,28 +32,21 @@ where
     E: Write,
     T: Threads + Wait + Sync,
     ensures usage { result ≢ Status.Usage }
-    ensures done { result ≡ Status.Done →
-        IsDoneOn A (F.held files.now) (F.input files.now) task.entry (W.contents out.old) (W.contents out.new) }
+    ensures done { result ≡ Status.Done → IsDoneOn A (F.held machine.now.files.now) (F.input machine.now.files.now)
+        task.entry (W.contents out.old) (W.contents out.new) }
 {
-    let mut printer = Printer::new(alloc, out);
+    let mut printer = Printer::new(machine.alloc, out);
     let status = match task {
-        Task::Run { script, way } => { run_file(rt, alloc, files, script, way, &mut printer, err) }
+        Task::Run { script, way } => machine.run_file(script, way, &mut printer, err),
         Task::Free {
             script,
             most_events,
         } => {
-            run_free(
-                rt,
-                words_memory,
-                files,
-                script,
-                most_events,
-                &mut printer,
-                err,
-            )
+            let machine = machine.with_memory(words_memory);
+            machine.run_free(script, most_events, &mut printer, err)
         }
         Task::Restore { dump, jobs, out } => {
-            let done = restore_file(rt, alloc, files, dump, jobs, out, &mut printer);
+            let done = machine.restore_file(dump, jobs, out, &mut printer);
             end(done, err)
         }
     };
@@ -97,11 +86,9 @@ fn tell_words<W: Write, E: Write>(error: &Error, out: &mut W, err: &mut E) -> St
 
 // Does what the words ask for, or tells why it doesn't.
 fn done<A, F, W, E, T>(
-    rt: &T,
+    machine: &Machine<'_, F, T, A>,
     words_memory: Global,
-    alloc: A,
     words: &[&str],
-    files: &F,
     out: &mut W,
     err: &mut E,
 ) -> Status
@@ -114,13 +101,12 @@ where
     ensures usage { result ≡ Status.Usage → MayBeMistaken (faults (map (λ w. w.now) words.entry.now)) }
     ensures mistake { AreMistaken (faults (map (λ w. w.now) words.entry.now)) → (result ≡ Status.Usage) ⊎
         (result ≡ Status.Refused) }
-    ensures did { result ≡ Status.Done →
-        HasDone A (F.held files.now) (F.input files.now) (map (λ w. w.now) words.entry.now) (W.contents out.old)
-        (W.contents out.new) }
+    ensures did { result ≡ Status.Done → HasDone A (F.held machine.now.files.now) (F.input machine.now.files.now)
+        (map (λ w. w.now) words.entry.now) (W.contents out.old) (W.contents out.new) }
 {
     match read_words(words_memory, words) {
         Err(error) => tell_words(&error, out, err),
-        Ok(task) => do_task(rt, words_memory, alloc, task, files, out, err),
+        Ok(task) => do_task(machine, words_memory, task, out, err),
     }
 }
 
@@ -151,5 +137,6 @@ where
         HasDone A (F.held files.now) (F.input files.now) (map (λ w. w.now) words.entry.now) (W.contents out.old)
         (W.contents out.new) }
 {
-    done(rt, words_memory, alloc, words, files, out, err).code()
+    let machine = Machine { rt, alloc, files };
+    done(&machine, words_memory, words, out, err).code()
 }

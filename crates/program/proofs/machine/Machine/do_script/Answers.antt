@@ -2,7 +2,7 @@ use Rattle.std.proofs.Common.{inl, inr, refl, subst}
 use Rattle.std.proofs.lemmas.Result.{IfErr-weaker, err_from_is_err_and}
 use Rattle.program.specs.Runs.{HasRun, HasStopped}
 use Rattle.program.proofs.RunLemmas.{on_ok}
-use Rattle.program.proofs.run.do_script.Goals as goal
+use Rattle.program.proofs.machine.Machine.do_script.Goals as goal
 
 pub returns-in_err-core-clause-stopped : goal.returns-in_err-core-clause-stopped
 returns-in_err-core-clause-stopped g c =

@@ -1,7 +1,7 @@
 use Rattle.std.proofs.Common.{◌∙◌}
 use Rattle.program.proofs.EndLemmas.{was_done}
 use Rattle.program.proofs.RunLemmas.{script_has_run}
-use Rattle.program.proofs.run.do_read.Goals as goal
+use Rattle.program.proofs.machine.Machine.do_read.Goals as goal
 
 pub returns-clause-done : goal.returns-clause-done
 returns-clause-done g c told =

@@ -2,7 +2,7 @@ use Rattle.std.proofs.Common.{◌≡◌, Ok, subst}
 use Rattle.restore.specs.Reading.{read_dump}
 use Rattle.restore.specs.Steps.{no_memory}
 use Rattle.program.proofs.RestoredLemmas.{on_ok, was_read}
-use Rattle.program.proofs.restoring.restore_file.Goals as goal
+use Rattle.program.proofs.machine.Machine.restore_file.Goals as goal
 
 pub returns-clause-done : goal.returns-clause-done
 returns-clause-done g c =

@@ -2,7 +2,7 @@ use Rattle.std.proofs.Common.{◌∙◌, [], inl, refl, arith}
 use Rattle.std.proofs.lemmas.Result.{err_from_is_err_and}
 use Rattle.program.proofs.PrintLemmas.{adds_none, prints_none}
 use Rattle.program.proofs.RunLemmas.{ends_by_print, ends_by_step, if_err_of, on_ok, one_more, stopped, run}
-use Rattle.program.proofs.run.do_lines.Goals as goal
+use Rattle.program.proofs.machine.Machine.do_lines.Goals as goal
 
 pub loop-line-init : goal.loop-line-init
 loop-line-init g c = ([], (refl, refl), adds_none c.args.printer.now)

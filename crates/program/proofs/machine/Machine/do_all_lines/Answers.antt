@@ -1,6 +1,6 @@
 use Rattle.std.proofs.lemmas.Result.{IfErr-weaker}
 use Rattle.program.proofs.RunLemmas.{flushed, lost, on_ok, stopped_flushed}
-use Rattle.program.proofs.run.do_all_lines.Goals as goal
+use Rattle.program.proofs.machine.Machine.do_all_lines.Goals as goal
 
 pub returns-in-Ok-clause-done : goal.returns-in-Ok-clause-done
 returns-in-Ok-clause-done g c =

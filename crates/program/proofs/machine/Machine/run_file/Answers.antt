@@ -1,7 +1,7 @@
 use Rattle.std.proofs.Common.{◌≡◌, Ok, subst}
 use Rattle.script.specs.Scripts.{said}
 use Rattle.script.specs.declared.schedule.Schedule.TheVariants.{InOrder}
-use Rattle.program.proofs.run.run_file.Goals as goal
+use Rattle.program.proofs.machine.Machine.run_file.Goals as goal
 
 pub returns-in-Ok-read_script-clause-done : goal.returns-in-Ok-read_script-clause-done
 returns-in-Ok-read_script-clause-done g c told = (

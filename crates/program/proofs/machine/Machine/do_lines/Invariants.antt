@@ -1,5 +1,5 @@
 use Rattle.program.proofs.RunLemmas.{SoFar}
-use Rattle.program.proofs.run.do_lines.Given as goal
+use Rattle.program.proofs.machine.Machine.do_lines.Given as goal
 
 -- the lines so far were done and printed
 abbrev pub invariant-loop-line : goal.invariant-loop-line

@@ -1,4 +1,4 @@
-use Rattle.program.proofs.steps.do_step.Goals as goal
+use Rattle.program.proofs.machine.Machine.do_step.Goals as goal
 
 pub returns-in-Session-clause-done : goal.returns-in-Session-clause-done
 returns-in-Session-clause-done g c = rw c.in-Session.is c.pass_command.ensures.done
