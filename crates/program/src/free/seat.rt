@@ -4,7 +4,7 @@ ghost use Rattle.std.specs.Prelude.{◌≡◌, ◌∷◌, ◌++◌, [], Err, OnO
 ghost use Rattle.program.specs.Freely.{AreTold};
 
 use crate::fault::Fault;
-use crate::free::commands::{append, tell_lines};
+use crate::free::commands::{Client, append};
 use crate::free::sinks::Sinks;
 use pass::token::Pass;
 use pass::word::Naming;
@@ -51,14 +51,13 @@ impl<'p, 's, 'w, J: Naming<Global>, S: Sinks> Seat<'p, 's, 'w, J, S> {
         ensures { IfOk self.new.told (λ text. AreTold J.opening J.most self.old.lines.now self.old.pass text.items
             self.new.pass) }
     {
-        self.told = tell_lines(
+        let client = Client {
             rt,
             alloc,
-            self.server,
-            self.sinks,
-            &mut self.pass,
-            self.lines,
-        );
+            server: self.server,
+            sinks: self.sinks,
+        };
+        self.told = client.tell_lines(&mut self.pass, self.lines);
     }
 
     /// Adds its pass, and what is printed of it, to those of the sessions before it; or tells why it has

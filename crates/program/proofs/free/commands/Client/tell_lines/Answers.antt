@@ -1,7 +1,7 @@
 use Rattle.std.proofs.Common.{◌≡◌, ◌∙◌, ◌++◌, ◌+◌, take, sym, ap, subst, arith}
 use Rattle.program.specs.Freely.{AreTold}
 use Rattle.program.proofs.FreelyLemmas.{told_next}
-use Rattle.program.proofs.free.commands.tell_lines.Goals as goal
+use Rattle.program.proofs.free.commands.Client.tell_lines.Goals as goal
 
 pub loop-line-preserved : goal.loop-line-preserved
 loop-line-preserved g c =

@@ -1,6 +1,6 @@
 use Rattle.std.proofs.Common.{take}
 use Rattle.program.specs.Freely.{AreTold}
-use Rattle.program.proofs.free.commands.tell_lines.Given as goal
+use Rattle.program.proofs.free.commands.Client.tell_lines.Given as goal
 
 -- the lines so far are told
 abbrev pub invariant-loop-line : goal.invariant-loop-line
