@@ -112,7 +112,7 @@ where
 
 /// Does what the words behind the program's name ask for, over these files, and gives the exit
 /// status: 0 where it was done, refused statements included; 1 where a script or a dump is refused, or
-/// memory was wanting; 2 for words that are a mistake; 3 where a file or standard output failed. Why it wasn't 0 is told
+/// memory was wanting; 2 for mistaken words; 3 where a file or standard output failed. Why it wasn't 0 is told
 /// in a line on `err`. The parser of words and sessions that run freely take their memory of
 /// `words_memory`, all else of `alloc`.
 pub fn run_words<A, F, W, E, T>(
