@@ -63,7 +63,8 @@ fn read_values<A: Allocator + Copy>(
     kinds: &[Kind],
     fields: Option<&[u8]>,
 ) -> Result<Vec<Value<A>, A>, Refusal>
-    ensures ok { IfOk result (λ values. field_values kinds.now (cut_more (option_copied fields.entry)) ≡ Ok values.items) }
+    ensures ok { IfOk result (λ values. field_values kinds.now (cut_more (option_copied fields.entry)) ≡
+        Ok values.items) }
     ensures err { IfErr result (λ e. (e ≡ out_of_memory) ⊎
         (pointing_nowhere (field_values {A = A} kinds.now (cut_more (option_copied fields.entry))) ≡ Err e)) }
 {

@@ -183,8 +183,8 @@ pub fn read_round<R: Threads + Sync, G: Gate, A: Allocator + Copy + Send + Sync>
 }
 
 /// The pieces of a round's lines, as `read_round` reads them where no tables are known. A call of that one needs a
-/// lifetime for the tables that it is lent, and of this the check wants it shown that it lasts. A bare `None` shows none;
-/// the `None` here has that of the columns, `'c`.
+/// lifetime for the tables that it is lent, and of this the check wants it shown that it lasts. A bare `None` shows
+/// none; the `None` here has that of the columns, `'c`.
 pub fn read_round_alone<'c, R: Threads + Sync, G: Gate, A: Allocator + Copy + Send + Sync>(
     rt: &R,
     alloc: A,

@@ -34,7 +34,7 @@ pub fn kinds_of<A: Allocator>(alloc: A, columns: &[Column<A>]) -> Result<Vec<Kin
     Ok(kinds)
 }
 
-// About how much memory a row's field takes: its value, and of its text what most take.
+// About how many bytes a field of a row takes: its value, and of a text what most texts take.
 const FIELD_BYTES: usize = 40;
 
 /// The row of a line, or why it isn't taken.
@@ -93,9 +93,10 @@ fn row_of_line<A: Allocator + Copy>(alloc: A, kinds: &[Kind], line: &[u8]) -> Re
     }
 }
 
-// Asks for about as much memory as the rows of so many lines take, and gives it back at once. The allocator of a thread
-// that isn't the first gets its memory from the system as it is asked for it, so a page at a time for rows, and each time
-// the other threads wait. Nothing rests on it: where it is refused, the rows are asked for one by one all the same.
+// Asks for about as much memory as the rows of so many lines take, and gives it back at once. The allocator of a
+// thread that isn't the first gets its memory from the system as it is asked for it, so a page at a time for rows, and
+// each time the other threads wait. Nothing rests on it: where it is refused, the rows are asked for one by one all
+// the same.
 fn make_room<A: Allocator>(alloc: A, kinds: usize, lines: usize) {
     let bytes = lines.saturating_mul(kinds).saturating_mul(FIELD_BYTES);
     let mut room: Vec<u8, A> = Vec::new(alloc);

@@ -38,9 +38,9 @@ const PIECE_STRETCHES: usize = 16;
 const ROUND_STRETCHES: usize = 128;
 
 /// Threads that read a table's lines in rounds, a piece each. The rows of the round before are taken meanwhile, where
-/// the table has no references. Where it has some, those rows are taken between the two rounds: what a row references is
-/// looked up in the tables as they are once all rows before its round are in. With one job they are taken between the
-/// rounds too. The gate is asked about each stretch of a piece.
+/// the table has no references. Where it has some, those rows are taken between the two rounds: what a row references
+/// is looked up in the tables as they are once all rows before its round are in. With one job they are taken between
+/// the rounds too. The gate is asked about each stretch of a piece.
 #[derive(Drop)]
 pub struct Workers<'w, R, G, A: Allocator> {
     rt: &'w R,
@@ -89,8 +89,8 @@ impl<'w, R: Threads + Sync, G: Gate, A: Allocator + Copy + Send + Sync> Workers<
         self.share = self.share.saturating_mul(2).min(PIECE_STRETCHES);
     }
 
-    // The next round, whose lines other threads read while this one takes the rows of the round before. None of the rows
-    // has references: the tables where these would be looked up change meanwhile.
+    // The next round, whose lines other threads read while this one takes the rows of the round before. None of the
+    // rows has references: the tables where these would be looked up change meanwhile.
     fn read_beside(
         &self,
         catalog: &Catalog<A>,
@@ -146,8 +146,8 @@ impl<'w, R: Threads + Sync, G: Gate, A: Allocator + Copy + Send + Sync> Workers<
         })
     }
 
-    // The next round, whose lines are read once the rows of the round before are taken: what its rows reference is looked
-    // up in the tables with these.
+    // The next round, whose lines are read once the rows of the round before are taken: what its rows reference is
+    // looked up in the tables with these.
     fn read_behind(
         &self,
         catalog: &Catalog<A>,
@@ -191,8 +191,8 @@ impl<'w, R: Threads + Sync, G: Gate, A: Allocator + Copy + Send + Sync> Workers<
         }
     }
 
-    // The next round, of a row's line and those behind it, and the lines that are left. The rows of the round before are
-    // taken.
+    // The next round, of a row's line and those behind it, and the lines that are left. The rows of the round before
+    // are taken.
     fn next_round<'d>(
         &mut self,
         line: Line<'d>,
@@ -333,9 +333,9 @@ impl<'w, R: Threads + Sync, G: Gate, A: Allocator + Copy + Send + Sync> Workers<
 
 /// Reads a dump as `restore_one` does. The lines of a table's rows are read in rounds, by up to `jobs` threads side by
 /// side. Meanwhile the calling thread takes the rows of the round before, where the table has no references and `jobs`
-/// is more than one. Otherwise it takes them between the two rounds: what a row references is looked up in the tables as
-/// they are once all rows before its round are in. The gate is asked round each 1000 lines; these stretches are numbered
-/// from 1 in the order of the dump.
+/// is more than one. Otherwise it takes them between the two rounds: what a row references is looked up in the tables
+/// as they are once all rows before its round are in. The gate is asked round each 1000 lines; these stretches are
+/// numbered from 1 in the order of the dump.
 pub fn restore<R: Threads + Sync, G: Gate, A: Allocator + Copy + Send + Sync>(
     rt: &R,
     alloc: A,
