@@ -59,6 +59,8 @@ impl OutFile for Sink {
 }
 
 impl<'f> Stored for Texts<'f> {
+    type Out = Sink;
+
     ghost use Rattle.std.specs.Prelude.{None};
 
     ghost held = { λ f path. None };
@@ -74,8 +76,6 @@ fn bytes_of<A: Allocator>(alloc: A, text: &str) -> Result<Vec<u8, A>, ReadError>
 }
 
 impl<'f, A: Allocator> Files<A> for Texts<'f> {
-    type Out = Sink;
-
     fn read(&self, alloc: A, _path: &str) -> Result<Vec<u8, A>, ReadError> {
         bytes_of(alloc, self.dump)
     }

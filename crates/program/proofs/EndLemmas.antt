@@ -1,10 +1,11 @@
 -- How the program ends where its words are mistaken.
-use Rattle.std.proofs.Common.{◌≡◌, ◌⊎◌, ◌∙◌, ℕ, Result, Ok, Err, OnOk, inl, inr, refl, sym, ap, subst, arith}
-use Rattle.clap.specs.Words.{HasKind, IsAmong, Kinds, kind_of}
+use Rattle.std.proofs.Common.{◌≡◌, ◌⊎◌, ◌∙◌, ℕ, List, Option, Result, Ok, Err, IfErr, OnErr, OnOk, inl, inr, refl, sym, ap, subst, arith}
+use Rattle.clap.specs.Words.{HasKind, IsAmong, Kinds, Text, kind_of}
 use Rattle.clap.specs.declared.error.Error.{Error}
 use Rattle.clap.specs.declared.error.ErrorKind.TheVariants.{DisplayHelp, DisplayVersion, OutOfMemory}
-use Rattle.program.specs.Ends.{code, end, status}
-use Rattle.program.specs.Outcomes.{AreHelp}
+use Rattle.program.specs.CommandLine.{IsMistake, faults}
+use Rattle.program.specs.Ends.{EndsFor, code, end, status}
+use Rattle.program.specs.Outcomes.{AreHelp, IsWithoutTask}
 use Rattle.program.specs.declared.fault.Fault.{Fault}
 use Rattle.program.specs.declared.fault.Fault.TheVariants as fault
 use Rattle.program.specs.declared.fault.Status.{Status}
@@ -32,16 +33,24 @@ among ks e (inr here) other = here
 refused_is_not_done : Refused ≡ Done → ⊥
 refused_is_not_done e = let n : 1 ≡ 0 = ap code e in absurd (omega (arith, n))
 
+refused_is_no_device : Refused ≡ Device → ⊥
+refused_is_no_device e = let n : 1 ≡ 3 = ap code e in absurd (omega (arith, n))
+
+-- the words are a call for help, or for the version, by an error of this kind
+help_of : (ks : Kinds) (e : Error) → HasKind ks e → (kind_of e ≡ OutOfMemory → ⊥) → (kind_of e ≡ DisplayHelp) ⊎ (kind_of e ≡ DisplayVersion) → AreHelp ks
+help_of ks e has other (inl is) = inl (subst (λ k. IsAmong k ks) is (among ks e has other))
+help_of ks e has other (inr is) = inr (subst (λ k. IsAmong k ks) is (among ks e has other))
+
 -- what is done though the words have a fault is a call for help, or for the version
 pub are_help : (ks : Kinds) (e : Error) (s : Status) → HasKind ks e → (kind_of e ≡ OutOfMemory → s ≡ Refused) → (kind_of e ≡ DisplayHelp) ⊎ (kind_of e ≡ DisplayVersion) → s ≡ Done → AreHelp ks
-are_help ks e s has memory help done = go help
-  where
-    here : IsAmong (kind_of e) ks
-    here = among ks e has (λ m. refused_is_not_done (sym (memory m) ∙ done))
+are_help ks e s has memory help done = help_of ks e has (λ m. refused_is_not_done (sym (memory m) ∙ done)) help
 
-    go : (kind_of e ≡ DisplayHelp) ⊎ (kind_of e ≡ DisplayVersion) → AreHelp ks
-    go (inl is) = inl (subst (λ k. IsAmong k ks) is here)
-    go (inr is) = inr (subst (λ k. IsAmong k ks) is here)
+-- what is told where the words have a fault, and no help is printed
+pub without_task : (words : List Text) (e : Error) (s : Status) (before after : Option (List ℕ)) → HasKind (faults words) e → (s ≡ Usage → IsMistake (kind_of e)) → (kind_of e ≡ OutOfMemory → s ≡ Refused) → ((s ≡ Done) ⊎ (s ≡ Device) → (kind_of e ≡ DisplayHelp) ⊎ (kind_of e ≡ DisplayVersion)) → (s ≡ Refused → after ≡ before) → (s ≡ Done → ⊥) → IsWithoutTask words s before after
+without_task words e Done before after has mistake memory help silent other = absurd (other refl)
+without_task words e Refused before after has mistake memory help silent other = inr (inl (refl, silent refl))
+without_task words e Usage before after has mistake memory help silent other = inl ((kind_of e, among (faults words) e has (mistake refl).0, mistake refl), refl)
+without_task words e Device before after has mistake memory help silent other = inr (inr (help_of (faults words) e has (λ m. refused_is_no_device (sym (memory m))) (help (inr refl)), refl))
 
 -- a fault doesn't end as what is done
 pub not_done : (f : Fault) → status f ≡ Done → ⊥
@@ -53,3 +62,18 @@ not_done (fault.Device path) e = let n : 3 ≡ 0 = ap code e in absurd (omega (a
 pub was_done : (d : Result (Unit {0}) Fault) (s : Status) (P : Type 0) → s ≡ end d → OnOk d P → s ≡ Done → P
 was_done (Ok x) s P e p is = p
 was_done (Err f) s P e p is = absurd (not_done f (sym e ∙ is))
+
+-- what doesn't end as done has ended by its fault
+pub was_stopped : (d : Result (Unit {0}) Fault) (s : Status) (P : Fault → Type 0) → s ≡ end d → IfErr d P → (s ≡ Done → ⊥) → EndsFor s P
+was_stopped (Ok x) s P e p other = absurd (other e)
+was_stopped (Err f) s P e p other = (f, e, p)
+
+-- of one fact of an error another
+pub on_err : {T E : Type 0} (r : Result T E) (P : Type 0) → OnErr r P → IfErr r (λ e. P)
+on_err (Ok x) P p = tt
+on_err (Err e) P p = p
+
+-- of two facts of an error a third
+pub of_both_errors : {T E : Type 0} (r : Result T E) (P : E → Type 0) (Q : Type 0) → IfErr r P → OnErr r Q → IfErr r (λ e. P e × Q)
+of_both_errors (Ok x) P Q p q = tt
+of_both_errors (Err e) P Q p q = (p, q)

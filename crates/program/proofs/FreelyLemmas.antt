@@ -1,14 +1,19 @@
 -- Lines that a session does one after the other.
-use Rattle.std.proofs.Common.{◌≡◌, ◌∙◌, ◌++◌, ◌+◌, ◌<◌, ◌≤◌, ℕ, suc, List, [], ◌∷◌, Option, Some, Result, Ok, Err, IfOk, IsOkAnd, All, length, map, slice_get, take, drop, get_or, refl, sym, ap, subst, arith, append_assoc, append-nil}
+use Rattle.std.proofs.Common.{◌≡◌, ◌∙◌, ◌++◌, ◌+◌, ◌<◌, ◌≤◌, ℕ, suc, List, [], ◌∷◌, Option, Some, Result, Ok, Err, IfOk, IsOkAnd, OnOk, All, length, map, slice_get, take, drop, get_or, refl, sym, ap, subst, arith, append_assoc, append-nil}
 use lib.Seq.{take-append_seam}
 use Rattle.std.proofs.lemmas.List.{map-append, take_more}
 use Rattle.std.proofs.lemmas.List.Elements.{All-push}
-use Rattle.history.specs.Opening.{Opening}
+use Rattle.history.specs.Opening.{Opening, zero_base}
 use Rattle.pass.specs.Knowing.{Known}
 use Rattle.script.specs.declared.script.Line.{Line}
 use Rattle.script.specs.declared.script.Step.{Step}
 use Rattle.script.specs.declared.script.Step.TheVariants as step
-use Rattle.program.specs.Freely.{AreJoined, ArePrinted, AreTold, IsAmong, IsAtLine, fresh}
+use Rattle.program.specs.Beginnings.{BeginsWith}
+use Rattle.program.specs.Freely.{AreJoined, ArePrinted, AreServed, AreTold, IsAmong, IsAtLine, ScriptHasRunFreely, SessionsHaveRun, fresh}
+use Rattle.program.specs.Printed.{Adds, IsFlushed, Printed}
+use Rattle.schema.specs.Definition.{Catalog}
+use Rattle.schema.specs.declared.tables.Tables.{Tables}
+use Rattle.script.specs.Scripts.{Said}
 
 -- one line more
 told_more : {A : Type 0} (o : Opening A) (most : ℕ) (ls : List (Line A)) (l : Line A) (p middle q : Known A) (t u : List ℕ) → AreTold o most ls p t middle → IsAtLine o most l.step middle u q → AreTold o most (ls ++ l ∷ []) p (t ++ u) q
@@ -88,3 +93,22 @@ written_back n xs ys e = ap (λ k. take k (ys ++ drop (length ys) xs)) (sym e) �
 pub if_more : {T E : Type 0} (r : Result T E) (P Q : T → Type 0) → ((x : T) → P x → Q x) → IfOk r P → IfOk r Q
 if_more (Ok x) P Q f p = f x p
 if_more (Err e) P Q f p = p
+
+module _ {A : Type 0} where
+  -- what sessions have printed of a script
+  pub sessions_have_run : {T E : Type 0} (r : Result T E) (held : List ℕ → Option (List ℕ)) (most : ℕ) (s : Said A) (c : Catalog) (X : Tables A) (text shown : List ℕ) (p q : Printed)
+      → BeginsWith held s.opens s.catalog c X → AreServed (record { catalog = c; tables = X; base = zero_base }) most s.lines text → shown ≡ text
+      → OnOk r (Adds p q shown) → OnOk r (IsFlushed q) → OnOk r (ScriptHasRunFreely held most s p q)
+  sessions_have_run (Ok x) held most s c X text shown p q begins served same printed flushed = (c, X, begins, (text, served, subst (Adds p q) same printed, flushed))
+  sessions_have_run (Err e) held most s c X text shown p q begins served same printed flushed = tt
+
+  -- the sessions of a script have run, of which these are the parts
+  pub script_has_run_freely : (held : List ℕ → Option (List ℕ)) (most : ℕ) (s : Said A) (catalog : Catalog) (opens : Option (List ℕ)) (lines : List (Line A)) (p q : Printed)
+      → catalog ≡ s.catalog → opens ≡ s.opens → lines ≡ s.lines
+      → ScriptHasRunFreely held most (record { catalog = catalog; opens = opens; lines = lines }) p q → ScriptHasRunFreely held most s p q
+  script_has_run_freely held most s catalog opens lines p q created opened lined run = (
+    run.0,
+    run.1,
+    subst (λ o. BeginsWith held o s.catalog run.0 run.1) opened (subst (λ c. BeginsWith held opens c run.0 run.1) created run.2),
+    subst (λ ls. SessionsHaveRun (record { catalog = run.0; tables = run.1; base = zero_base }) most ls p q) lined run.3,
+  )

@@ -7,3 +7,4 @@ pub mod PrintLemmas
 pub mod RestoredLemmas
 pub mod RunLemmas
 pub mod StepsLemmas
+pub mod StopLemmas

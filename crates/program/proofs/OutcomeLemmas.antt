@@ -1,27 +1,33 @@
--- What has been done where the program ends with 0.
-use Rattle.std.proofs.Common.{◌≡◌, ℕ, List, Option, Bor, refl, sym, subst}
+-- What has been done where the program ends with 0, and why it ends otherwise.
+use Rattle.std.proofs.Common.{◌≡◌, ◌∙◌, ℕ, List, Option, Bor, sym, subst}
 use Rattle.clap.specs.Words.{Text}
+use Rattle.program.specs.Ends.{EndsFor}
+use Rattle.program.specs.Freely.{PathHasRunFreely}
 use Rattle.program.specs.Printed.{Printed, unprinted}
-use Rattle.program.specs.Outcomes.{HasRunInOrder, IsDoneOn}
-use Rattle.program.specs.Runs.{PathHasRun}
+use Rattle.program.specs.Outcomes.{HasDoneTask, IsDoneOn, IsStoppedOn}
+use Rattle.program.specs.Stops.{HasStoppedTask}
+use Rattle.program.specs.declared.fault.Status.{Status}
 use Rattle.program.specs.declared.task.Task.{Task}
 use Rattle.program.specs.declared.task.Task.TheVariants as task
-use Rattle.program.specs.declared.run.Way.{Way}
 
--- a script has run whose lines were to be done one after the other
-pub run_done : (A : Type 0) (held : List ℕ → Option (List ℕ)) (input : Option (List ℕ)) (r : Task) (path : Bor Text) (way : Way) (before after : Option (List ℕ)) (stream : ℕ) (p q last : Printed)
-    → r ≡ task.Run path way → p ≡ unprinted stream before → last ≡ q → PathHasRun A held input way path.now p q → last.out ≡ after → IsDoneOn A held input r before after
-run_done A held input r path way before after stream p q last is new same run out = (
+-- a task that was done by a printer that had printed nothing yet
+pub task_done : (A G : Type 0) {Out : Type 0} (held : List ℕ → Option (List ℕ)) (input : Option (List ℕ)) (path_of taken : Out → List ℕ) (r s : Task) (before after : Option (List ℕ)) (stream : ℕ) (p q last : Printed)
+    → r ≡ s → p ≡ unprinted stream before → last ≡ q → HasDoneTask A G held input path_of taken s p q → last.out ≡ after → IsDoneOn A G held input path_of taken r before after
+task_done A G held input path_of taken r s before after stream p q last is new same done out = (
   stream,
   last,
-  subst (λ x. HasRunInOrder A held input x (unprinted stream before) last) (sym is) (subst (λ x. PathHasRun A held input way path.now x last) new (subst (λ x. PathHasRun A held input way path.now p x) (sym same) run)),
+  subst (λ x. HasDoneTask A G held input path_of taken x (unprinted stream before) last) (sym is) (subst (λ x. HasDoneTask A G held input path_of taken s x last) new (subst (λ x. HasDoneTask A G held input path_of taken s p x) (sym same) done)),
   out,
 )
 
--- of sessions that run freely nothing is said here
-pub free_done : (A : Type 0) (held : List ℕ → Option (List ℕ)) (input : Option (List ℕ)) (r : Task) (path : Bor Text) (most : ℕ) (before after : Option (List ℕ)) → r ≡ task.Free path most → IsDoneOn A held input r before after
-free_done A held input r path most before after is = (0, unprinted 0 after, subst (λ x. HasRunInOrder A held input x (unprinted 0 before) (unprinted 0 after)) (sym is) tt, refl)
+-- a task that has stopped, by a printer that had printed nothing yet
+pub task_stopped : (A : Type 0) (held : List ℕ → Option (List ℕ)) (input : Option (List ℕ)) (r s : Task) (status x : Status) (before after : Option (List ℕ)) (stream : ℕ) (p q last : Printed)
+    → r ≡ s → p ≡ unprinted stream before → last ≡ q → status ≡ x → EndsFor x (λ f. HasStoppedTask A held input s f p q) → last.out ≡ after → IsStoppedOn A held input r status before after
+task_stopped A held input r s status x before after stream p q last is new same told ends out =
+    let done = subst (λ y. HasStoppedTask A held input y ends.0 (unprinted stream before) last) (sym is) (subst (λ y. HasStoppedTask A held input s ends.0 y last) new (subst (λ y. HasStoppedTask A held input s ends.0 p y) (sym same) ends.2)) in
+    (ends.0, told ∙ ends.1, (stream, last, done, out))
 
--- nor of a dump that is restored
-pub restore_done : (A : Type 0) (held : List ℕ → Option (List ℕ)) (input : Option (List ℕ)) (r : Task) (dump : Bor Text) (jobs : ℕ) (to : Bor Text) (before after : Option (List ℕ)) → r ≡ task.Restore dump jobs to → IsDoneOn A held input r before after
-restore_done A held input r dump jobs to before after is = (0, unprinted 0 after, subst (λ x. HasRunInOrder A held input x (unprinted 0 before) (unprinted 0 after)) (sym is) tt, refl)
+-- sessions have run freely over the same files
+pub free_done : (A G : Type 0) {Out Files : Type 0} (held : Files → List ℕ → Option (List ℕ)) (input : Files → Option (List ℕ)) (path_of taken : Out → List ℕ) (path : Bor Text) (most : ℕ) (f h : Files) (p q : Printed)
+    → f ≡ h → PathHasRunFreely G (held f) (input f) most path.now p q → HasDoneTask A G (held h) (input h) path_of taken (task.Free path most) p q
+free_done A G held input path_of taken path most f h p q same done = subst (λ x. PathHasRunFreely G (held x) (input x) most path.now p q) same done

@@ -1,5 +1,5 @@
 -- What lines do that are done one after the other.
-use Rattle.std.proofs.Common.{◌≡◌, ◌⊎◌, ℕ, ◌+◌, ◌<◌, ◌≤◌, Bool, true, List, [], ◌∷◌, ◌++◌, length, get_or, slice_get, take, codes, Option, Result, Ok, Err, IfErr, OnOk, OnErr, inl, inr, refl, sym, ap, subst, ◌∙◌, arith}
+use Rattle.std.proofs.Common.{◌≡◌, ◌⊎◌, ℕ, ◌+◌, ◌<◌, ◌≤◌, true, List, [], ◌∷◌, ◌++◌, length, get_or, take, codes, Option, Result, Ok, Err, IfErr, OnOk, OnErr, inl, inr, refl, sym, ap, subst, ◌∙◌}
 use Rattle.std.proofs.lemmas.List.{take_more, take_all}
 use Rattle.std.proofs.lemmas.Option.{slice_get_read}
 use Rattle.program.specs.Printed.{Adds, Printed, Prints}
@@ -10,8 +10,8 @@ use Rattle.script.specs.declared.script.Line.{Line}
 use Rattle.program.specs.declared.fault.Fault.{Fault}
 use Rattle.program.specs.declared.fault.Fault.TheVariants as fault
 use Rattle.program.specs.declared.run.Way.{Way}
-use Rattle.program.specs.Beginnings.{BeginsWith}
-use Rattle.program.specs.Runs.{EndsAt, HasRun, HasStopped, IsDone, LinesAreDone, ScriptHasRun, Stops, begun, order_text}
+use Rattle.program.specs.Beginnings.{BeginsWith, IsUnbegun}
+use Rattle.program.specs.Runs.{EndsAt, HasRun, HasStopped, IsDone, LinesAreDone, ScriptHasRun, ScriptHasStopped, Stops, begun, order_text}
 use Rattle.schema.specs.Definition.{Catalog}
 use Rattle.script.specs.Scripts.{Said}
 use Rattle.program.proofs.PrintLemmas.{added_is_printed, adds_no_more, adds_twice, prints_no_more}
@@ -90,4 +90,17 @@ module _ {A : Type 0} where
     subst (λ o. BeginsWith held o s.catalog run.0 run.1) opened (subst (λ c. BeginsWith held opens c run.0 run.1) created run.2),
     subst (λ ls. HasRun way (begun run.0 run.1 way.most_events) ls p q) lined run.3,
     run.4,
+  )
+
+  -- A script has stopped, of which these are the parts.
+  pub script_has_stopped : (held : List ℕ → Option (List ℕ)) (way : Way) (s : Said A) (catalog : Catalog) (opens : Option (List ℕ)) (lines : List (Line A)) (f : Fault) (p q : Printed)
+      → catalog ≡ s.catalog → opens ≡ s.opens → lines ≡ s.lines
+      → ScriptHasStopped held way (record { catalog = catalog; opens = opens; lines = lines }) f p q → ScriptHasStopped held way s f p q
+  script_has_stopped held way s catalog opens lines f p q created opened lined (inl e) = inl (subst (λ o. IsUnbegun A held o s.catalog f) opened (subst (λ c. IsUnbegun A held opens c f) created e.0), e.1)
+  script_has_stopped held way s catalog opens lines f p q created opened lined (inr e) = inr (
+    e.0,
+    e.1,
+    subst (λ o. BeginsWith held o s.catalog e.0 e.1) opened (subst (λ c. BeginsWith held opens c e.0 e.1) created e.2),
+    subst (λ ls. HasStopped way (begun e.0 e.1 way.most_events) ls f p q) lined e.3,
+    e.4,
   )

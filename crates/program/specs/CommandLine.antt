@@ -1,5 +1,5 @@
 -- The command line (this project's own choice), in the words of clap: `run SCRIPT [--events N] [--free]`, `audit SCRIPT [--events N]`, `--version` and `restore DUMP [--jobs N] --out FILE`.
-use Rattle.std.specs.Prelude.{◌≢◌, ◌==◌, true, List, [], ◌∷◌, Some, pos, length, codes, if◌then◌else◌}
+use Rattle.std.specs.Prelude.{◌≢◌, ◌==◌, true, List, [], Some, pos, length, codes, if◌then◌else◌}
 use Rattle.clap.specs.Words.{App, IsAmong, Kinds, Rule, Text, fault_of, new_app, new_rule, with_rule, with_subcommand}
 use Rattle.clap.specs.declared.builder.ArgAction.TheVariants.{Set, SetTrue}
 use Rattle.clap.specs.declared.builder.ValueParser.TheVariants.{Signed}

@@ -1,5 +1,5 @@
 -- How the program ends (this project's own choice).
-use Rattle.std.specs.Prelude.{ℕ, Result, Ok, Err}
+use Rattle.std.specs.Prelude.{◌≡◌, ℕ, Result, Ok, Err}
 use Rattle.restore.specs.declared.error.RestoreFault.{RestoreFault}
 use Rattle.program.specs.declared.fault.Fault.{Fault}
 use Rattle.program.specs.declared.fault.Fault.TheVariants as fault
@@ -31,3 +31,7 @@ loaded (Err f) = Err (dump_fault f)
 abbrev pub end : Result (Unit {0}) Fault → Status
 end (Ok done) = Done
 end (Err f) = status f
+
+-- how the program ends for some fault of which this holds
+abbrev pub EndsFor : Status → (Fault → Type 0) → Type 0
+EndsFor s P = (f : Fault) × (s ≡ status f) × P f

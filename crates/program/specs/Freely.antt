@@ -1,7 +1,9 @@
 -- What the lines of sessions do that run freely, each on its thread, and what is printed of them (this project's own choice).
-use Rattle.std.specs.Prelude.{◌≡◌, ◌≢◌, ◌≤◌, ◌⊎◌, ◌++◌, [], ◌∷◌, ℕ, suc, true, List, length, All, Result, Ok, Err}
+use Rattle.std.specs.Prelude.{◌≡◌, ◌≢◌, ◌≤◌, ◌⊎◌, ◌++◌, [], ◌∷◌, ℕ, suc, true, List, length, All, Option, Result, Ok, Err}
+use Rattle.schema.specs.Definition.{Catalog}
+use Rattle.schema.specs.declared.tables.Tables.{Tables}
 use Rattle.statement.specs.declared.reply.Reply.{Reply}
-use Rattle.history.specs.Opening.{Opening, Recorded}
+use Rattle.history.specs.Opening.{Opening, Recorded, zero_base}
 use Rattle.history.specs.Answer.{IsLegal}
 use Rattle.pass.specs.Knowing.{Known}
 use Rattle.server.specs.Calls.{HasClosed, HasPolled, IsCall}
@@ -13,9 +15,14 @@ use Rattle.script.specs.declared.command.Command.TheVariants as command
 use Rattle.script.specs.declared.script.Line.{Line}
 use Rattle.script.specs.declared.script.Step.{Step}
 use Rattle.script.specs.declared.script.Step.TheVariants as step
+use Rattle.script.specs.declared.schedule.Schedule.TheVariants.{Free}
 use Rattle.script.specs.Printing.{reply_text}
+use Rattle.script.specs.Scripts.{Said, said}
+use Rattle.program.specs.Beginnings.{BeginsWith}
 use Rattle.program.specs.Dumps.{TellsDump}
+use Rattle.program.specs.Files.{IsAllOf, read_of}
 use Rattle.program.specs.Orders.{check_line}
+use Rattle.program.specs.Printed.{Adds, IsFlushed, Printed}
 
 -- Nobody has stopped, and the text is what all have told, one after the other.
 abbrev pub AreJoined : {V F : Type 0} → (V → List ℕ) → List (Result V F) → List ℕ → Type 0
@@ -78,3 +85,16 @@ module _ {A : Type 0} where
     pub closed : All (λ q. HasClosed q history.records) passes
     pub told : ArePrinted o most ls 1 passes printed
     pub whole : text ≡ printed ++ check_line true
+
+  -- Sessions did these lines freely, from this opening on, and what they print was printed; it is on the stream, unless that has failed.
+  abbrev pub SessionsHaveRun : Opening A → ℕ → List (Line A) → Printed → Printed → Type 0
+  SessionsHaveRun o most ls p q = (text : List ℕ) × AreServed o most ls text × Adds p q text × IsFlushed q
+
+  -- the same of the sessions of a script, from its tables on
+  abbrev pub ScriptHasRunFreely : (List ℕ → Option (List ℕ)) → ℕ → Said A → Printed → Printed → Type 0
+  ScriptHasRunFreely held most s p q = (c : Catalog) × (X : Tables A) × BeginsWith held s.opens s.catalog c X
+      × SessionsHaveRun (record { catalog = c; tables = X; base = zero_base }) most s.lines p q
+
+-- What a path has says a script whose sessions may run freely, and they have.
+abbrev pub PathHasRunFreely : (A : Type 0) → (List ℕ → Option (List ℕ)) → Option (List ℕ) → ℕ → List ℕ → Printed → Printed → Type 0
+PathHasRunFreely A held input most path p q = (bytes : List ℕ) × (s : Said A) × IsAllOf (read_of held input path) bytes × (said Free bytes ≡ Ok s) × ScriptHasRunFreely held most s p q

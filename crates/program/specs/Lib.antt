@@ -12,3 +12,4 @@ pub mod Printed
 pub mod Restored
 pub mod Runs
 pub mod Steps
+pub mod Stops

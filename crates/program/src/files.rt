@@ -16,16 +16,6 @@ pub enum ReadError {
     Memory,
 }
 
-/// What is told of files that are read: what the file of a path has, and what standard input has,
-/// where that is known.
-pub trait Stored {
-    ghost use Rattle.std.specs.Prelude.{ℕ, List, Option};
-
-    ghost held: { Self → List ℕ → Option (List ℕ) };
-
-    ghost input: { Self → Option (List ℕ) };
-}
-
 /// A file that is written.
 pub trait OutFile: Device {
     ghost use Rattle.std.specs.Prelude.{ℕ, List};
@@ -33,10 +23,20 @@ pub trait OutFile: Device {
     ghost path: { Self → List ℕ };
 }
 
-/// Where paths lead.
-pub trait Files<A: Allocator>: Stored {
+/// What is told of files: what the file of a path has, and what standard input has, where that is known; and
+/// which files are written.
+pub trait Stored {
+    ghost use Rattle.std.specs.Prelude.{ℕ, List, Option};
+
     type Out: OutFile + Send + Drop;
 
+    ghost held: { Self → List ℕ → Option (List ℕ) };
+
+    ghost input: { Self → Option (List ℕ) };
+}
+
+/// Where paths lead.
+pub trait Files<A: Allocator>: Stored {
     /// The bytes of a path's file.
     fn read(&self, alloc: A, path: &str) -> Result<Vec<u8, A>, ReadError>
         ensures { IfOk result (λ bytes. IsAllOf (Self.held self.now path.now) bytes.items) };

@@ -1,6 +1,10 @@
 //! Scripts whose sessions run freely, each on a thread of its own.
 
-ghost use Rattle.std.specs.Prelude.{◌≢◌};
+ghost use Rattle.std.specs.Prelude.{◌≡◌, ◌≢◌, [], OnErr, OnOk};
+ghost use Rattle.std.specs.Option.{option_copied};
+ghost use Rattle.program.specs.Ends.{EndsFor};
+ghost use Rattle.program.specs.Freely.{PathHasRunFreely, ScriptHasRunFreely};
+ghost use Rattle.program.specs.Printed.{Prints};
 
 mod commands;
 mod seat;
@@ -10,7 +14,7 @@ mod sinks;
 use crate::fault::{Fault, Status, end, tell};
 use crate::files::Files;
 use crate::machine::Machine;
-use crate::output::{Printer, fault_of_print};
+use crate::output::{Printer, print_whole};
 use schema::catalog::Catalog;
 use script::schedule::Schedule;
 use script::script::{Line, Script, read_script};
@@ -24,40 +28,32 @@ use value::text::Text;
 
 const NO_MEMORY: Fault<'static> = Fault::Script { line: 0 };
 
-impl<'m, F: Files<Global>, T: Threads + Sync> Machine<'m, F, T, Global> {
-    // What the sessions of a script begin with: the tables of its dump, or those that it creates, without
-    // rows.
-    fn begin<'p>(
+impl<'m, F: Files<Global> + Sync, T: Threads + Wait + Sync> Machine<'m, F, T, Global> {
+    // Runs the sessions of a script from the tables of its dump or of its own, and prints what they do once all
+    // have ended.
+    fn do_sessions<'p, W: Write, A: Allocator>(
         &self,
         catalog: Catalog,
         opens: Option<&'p Text>,
         lines: &'p [Line],
         most_events: u32,
-    ) -> Result<Beginning<'p>, Fault<'p>> {
+        printer: &mut Printer<'_, W, A>,
+    ) -> Result<(), Fault<'p>>
+        ensures done { OnOk result (ScriptHasRunFreely (F.held self.now.files.now) most_events
+            (record { catalog = catalog; opens = option_copied opens.entry; lines = lines.entry.now }) printer.old
+            printer.new) }
+        ensures stopped { OnErr result (Prints printer.old printer.new []) }
+    {
         let (catalog, tables) = self.open_tables(opens, catalog)?;
-        Ok(Beginning {
+        let sinks = FilesToWrite { files: self.files };
+        let beginning = Beginning {
             catalog,
             tables,
             most_events,
             lines,
-        })
-    }
-}
-
-impl<'m, F: Files<Global> + Sync, T: Threads + Wait + Sync> Machine<'m, F, T, Global> {
-    // Runs the sessions of a script, and prints what they do once all have ended.
-    fn do_sessions<'p, W: Write, A: Allocator>(
-        &self,
-        beginning: Beginning<'p>,
-        printer: &mut Printer<'_, W, A>,
-    ) -> Result<(), Fault<'p>> {
-        let sinks = FilesToWrite { files: self.files };
+        };
         let text = serve(self.rt, self.alloc, &sinks, beginning)?;
-        let printed = printer.print(text.as_slice());
-        match printed.and(printer.flush()) {
-            Ok(()) => Ok(()),
-            Err(error) => Err(fault_of_print(error)),
-        }
+        print_whole(text.as_slice(), NO_MEMORY, printer)
     }
 
     // Does a script that was read, and tells why it isn't done where it isn't.
@@ -68,13 +64,19 @@ impl<'m, F: Files<Global> + Sync, T: Threads + Wait + Sync> Machine<'m, F, T, Gl
         printer: &mut Printer<'_, W, A>,
         err: &mut E,
     ) -> Status
-        ensures { result ≢ Status.Usage }
+        ensures usage { result ≢ Status.Usage }
+        ensures done { result ≡ Status.Done →
+            ScriptHasRunFreely (F.held self.now.files.now) most_events script printer.old printer.new }
+        ensures stopped { result ≢ Status.Done → EndsFor result (λ f. Prints printer.old printer.new []) }
     {
         let (catalog, opens, lines) = script.into_parts();
-        let done = match self.begin(catalog, opens.as_ref(), lines.as_slice(), most_events) {
-            Ok(beginning) => self.do_sessions(beginning, printer),
-            Err(fault) => Err(fault),
-        };
+        let done = self.do_sessions(
+            catalog,
+            opens.as_ref(),
+            lines.as_slice(),
+            most_events,
+            printer,
+        );
         end(done, err)
     }
 
@@ -88,7 +90,10 @@ impl<'m, F: Files<Global> + Sync, T: Threads + Wait + Sync> Machine<'m, F, T, Gl
         printer: &mut Printer<'_, W, A>,
         err: &mut E,
     ) -> Status
-        ensures { result ≢ Status.Usage }
+        ensures usage { result ≢ Status.Usage }
+        ensures done { result ≡ Status.Done → PathHasRunFreely Global (F.held self.now.files.now)
+            (F.input self.now.files.now) most_events path.now printer.old printer.new }
+        ensures stopped { result ≢ Status.Done → EndsFor result (λ f. Prints printer.old printer.new []) }
     {
         let bytes = match self.read_path(path, NO_MEMORY) {
             Ok(bytes) => bytes,

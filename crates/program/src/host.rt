@@ -161,6 +161,8 @@ impl<'r> OutFile for HostOut<'r> {
 
 // What the machine's files have, isn't known.
 impl<'r> Stored for HostFiles<'r> {
+    type Out = HostOut<'r>;
+
     ghost use Rattle.std.specs.Prelude.{None};
 
     ghost held = { λ f path. None };
@@ -169,8 +171,6 @@ impl<'r> Stored for HostFiles<'r> {
 }
 
 impl<'r> Files<Global> for HostFiles<'r> {
-    type Out = HostOut<'r>;
-
     fn read(&self, _alloc: Global, path: &str) -> Result<Vec<u8>, ReadError> {
         match fs::read(self.rt, path) {
             Ok(bytes) => Ok(bytes),

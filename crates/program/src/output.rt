@@ -1,6 +1,6 @@
 //! What the program prints.
 
-ghost use Rattle.std.specs.Prelude.{◌≡◌, [], ◌++◌, codes, true, IfErr, OnOk, OnErr};
+ghost use Rattle.std.specs.Prelude.{◌≡◌, ◌⊎◌, [], ◌++◌, codes, true, IfErr, OnOk, OnErr};
 ghost use Rattle.program.specs.Files.{IsFileFault};
 ghost use Rattle.program.specs.Printed.{Adds, Prints, IsFlushed, unprinted};
 
@@ -111,6 +111,7 @@ pub(crate) fn print_whole<'p, W: Write, A: Allocator>(
     ensures printed { OnOk result (Adds printer.old printer.new text.now) }
     ensures flushed { OnOk result (IsFlushed printer.new) }
     ensures stopped { OnErr result (Prints printer.old printer.new []) }
+    ensures fault { IfErr result (λ f. (f ≡ memory.entry) ⊎ IsFileFault (codes "-") f) }
 {
     let printed = printer.print(text);
     let flushed = printer.flush();

@@ -1,14 +1,15 @@
 //! A dump read, and written again.
 
-ghost use Rattle.std.specs.Prelude.{◌≡◌, ◌⊎◌, [], Err, IfErr, IfOk, OnErr, OnOk, length, true};
+ghost use Rattle.std.specs.Prelude.{◌≡◌, ◌⊎◌, [], Err, IfErr, IfOk, OnErr, OnOk, codes, length, true};
 ghost use Rattle.dumpplan.specs.Lines.{dump_text};
-ghost use Rattle.program.specs.Files.{IsFileFault, IsWritten};
+ghost use Rattle.program.specs.Files.{IsFileFault, IsWritten, read_of};
 ghost use Rattle.program.specs.Printed.{Adds, IsFlushed, Prints};
 ghost use Rattle.program.specs.Restored.{IsRestored, restored_text, rows_in};
 ghost use Rattle.schema.specs.Plain.{is_sound};
 ghost use Rattle.restore.specs.Reading.{read_dump};
 ghost use Rattle.restore.specs.Steps.{no_memory};
 ghost use Rattle.program.specs.Ends.{loaded};
+ghost use Rattle.program.specs.Stops.{IsUnrestored};
 
 use crate::fault::Fault;
 use crate::files::Files;
@@ -175,6 +176,8 @@ where
         ensures printed { OnOk result (Adds printer.old printer.new (restored_text catalog.now tables.now)) }
         ensures flushed { OnOk result (IsFlushed printer.new) }
         ensures stopped { OnErr result (Prints printer.old printer.new []) }
+        ensures fault { IfErr result (λ f. (f ≡ Fault.Dump 0 Code.OutOfMemory) ⊎ IsFileFault out.entry.now f ⊎
+            IsFileFault (codes "-") f) }
     {
         sound_tables_are_counted(catalog, tables);
         self.write_again(catalog, tables, jobs, out)?;
@@ -195,6 +198,9 @@ where
         ensures done { OnOk result (IsRestored A (F.held self.now.files.now) (F.input self.now.files.now) F.Out.path
             F.Out.taken path.entry.now out.entry.now printer.old printer.new) }
         ensures stopped { OnErr result (Prints printer.old printer.new []) }
+        ensures fault { IfErr result (λ f. IsUnrestored A
+            (read_of (F.held self.now.files.now) (F.input self.now.files.now) path.entry.now) path.entry.now
+            out.entry.now f) }
     {
         let bytes = self.read_path(path, NO_MEMORY)?;
         let (catalog, tables) = self.read_shown(bytes.as_slice(), jobs)?;

@@ -8,9 +8,11 @@ ghost use Rattle.schema.specs.declared.tables.Tables.{Tables as AnyTables};
 ghost use Rattle.schema.specs.Inserting.{empty_tables as without_rows};
 ghost use Rattle.schema.specs.Plain.{is_sound};
 ghost use Rattle.program.specs.Beginnings.{BeginsWith, IsUnbegun, IsUnopened, IsUnread};
+ghost use Rattle.program.specs.Ends.{EndsFor};
 ghost use Rattle.program.specs.Files.{IsAllOf, IsFileFault, read_of};
 ghost use Rattle.program.specs.Printed.{Adds, IsFlushed, Prints};
 ghost use Rattle.program.specs.Runs.{HasRun, HasStopped, PathHasRun, ScriptHasRun, ScriptHasStopped, begun};
+ghost use Rattle.program.specs.Stops.{PathHasStopped};
 
 use crate::fault::{Fault, Status, end, tell};
 use crate::files::{Files, ReadError};
@@ -247,6 +249,8 @@ where
         ensures usage { result ≢ Status.Usage }
         ensures done { result ≡ Status.Done →
             ScriptHasRun (F.held self.now.files.now) way script printer.old printer.new }
+        ensures stopped { result ≢ Status.Done → EndsFor result (λ f.
+            ScriptHasStopped (F.held self.now.files.now) way script f printer.old printer.new) }
     {
         let (catalog, opens, lines) = script.into_parts();
         let done = self.do_script(catalog, opens.as_ref(), lines.as_slice(), way, printer);
@@ -265,6 +269,8 @@ where
         ensures usage { result ≢ Status.Usage }
         ensures done { result ≡ Status.Done → PathHasRun A (F.held self.now.files.now) (F.input self.now.files.now)
             way path.now printer.old printer.new }
+        ensures stopped { result ≢ Status.Done → EndsFor result (λ f. PathHasStopped A (F.held self.now.files.now)
+            (F.input self.now.files.now) way path.now f printer.old printer.new) }
     {
         let bytes = match self.read_path(path, Fault::Script { line: 0 }) {
             Ok(bytes) => bytes,

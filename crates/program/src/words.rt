@@ -3,7 +3,7 @@
 ghost use Rattle.std.specs.Prelude.{◌≡◌, ◌≢◌, ◌⊎◌, ◌≤◌, map};
 ghost use Rattle.clap.specs.Words.{kind_of};
 ghost use Rattle.program.specs.CommandLine.{AreMistaken, IsMistake, MayBeMistaken, faults};
-ghost use Rattle.program.specs.Outcomes.{HasDone, IsDoneOn};
+ghost use Rattle.program.specs.Outcomes.{HasDone, HasEnded, IsDoneOn, IsStoppedOn, IsUndone};
 
 use crate::fault::{Fault, Status, end, tell};
 use crate::files::Files;
@@ -32,8 +32,12 @@ where
     E: Write,
     T: Threads + Wait + Sync,
     ensures usage { result ≢ Status.Usage }
-    ensures done { result ≡ Status.Done → IsDoneOn A (F.held machine.now.files.now) (F.input machine.now.files.now)
+    ensures done { result ≡ Status.Done →
+        IsDoneOn A Global (F.held machine.now.files.now) (F.input machine.now.files.now) F.Out.path F.Out.taken
         task.entry (W.contents out.old) (W.contents out.new) }
+    ensures stopped { result ≢ Status.Done →
+        IsStoppedOn A (F.held machine.now.files.now) (F.input machine.now.files.now) task.entry result
+        (W.contents out.old) (W.contents out.new) }
 {
     let mut printer = Printer::new(machine.alloc, out);
     let status = match task {
@@ -58,7 +62,7 @@ where
 
 // Prints the help that the words ask for.
 fn show_help<W: Write, E: Write>(help: &Error, out: &mut W, err: &mut E) -> Status
-    ensures { result ≢ Status.Usage }
+    ensures { (result ≡ Status.Done) ⊎ (result ≡ Status.Device) }
 {
     match write!(out, "{help}") {
         Ok(()) => Status::Done,
@@ -71,8 +75,9 @@ fn tell_words<W: Write, E: Write>(error: &Error, out: &mut W, err: &mut E) -> St
     ensures mistake { IsMistake (kind_of error.now) → result ≡ Status.Usage }
     ensures usage { result ≡ Status.Usage → IsMistake (kind_of error.now) }
     ensures memory { kind_of error.now ≡ ErrorKind.OutOfMemory → result ≡ Status.Refused }
-    ensures help { result ≡ Status.Done → (kind_of error.now ≡ ErrorKind.DisplayHelp) ⊎
-        (kind_of error.now ≡ ErrorKind.DisplayVersion) }
+    ensures help { (result ≡ Status.Done) ⊎ (result ≡ Status.Device) →
+        (kind_of error.now ≡ ErrorKind.DisplayHelp) ⊎ (kind_of error.now ≡ ErrorKind.DisplayVersion) }
+    ensures silent { result ≡ Status.Refused → W.contents out.new ≡ W.contents out.old }
 {
     match error.kind() {
         ErrorKind::OutOfMemory => tell(&Fault::Script { line: 0 }, err),
@@ -101,8 +106,12 @@ where
     ensures usage { result ≡ Status.Usage → MayBeMistaken (faults (map (λ w. w.now) words.entry.now)) }
     ensures mistake { AreMistaken (faults (map (λ w. w.now) words.entry.now)) → (result ≡ Status.Usage) ⊎
         (result ≡ Status.Refused) }
-    ensures did { result ≡ Status.Done → HasDone A (F.held machine.now.files.now) (F.input machine.now.files.now)
+    ensures did { result ≡ Status.Done →
+        HasDone A Global (F.held machine.now.files.now) (F.input machine.now.files.now) F.Out.path F.Out.taken
         (map (λ w. w.now) words.entry.now) (W.contents out.old) (W.contents out.new) }
+    ensures stopped { result ≢ Status.Done →
+        IsUndone A (F.held machine.now.files.now) (F.input machine.now.files.now)
+        (map (λ w. w.now) words.entry.now) result (W.contents out.old) (W.contents out.new) }
 {
     match read_words(words_memory, words) {
         Err(error) => tell_words(&error, out, err),
@@ -134,8 +143,11 @@ where
     ensures usage { result ≡ 2 → MayBeMistaken (faults (map (λ w. w.now) words.entry.now)) }
     ensures mistake { AreMistaken (faults (map (λ w. w.now) words.entry.now)) → (result ≡ 2) ⊎ (result ≡ 1) }
     ensures did { result ≡ 0 →
-        HasDone A (F.held files.now) (F.input files.now) (map (λ w. w.now) words.entry.now) (W.contents out.old)
-        (W.contents out.new) }
+        HasDone A Global (F.held files.now) (F.input files.now) F.Out.path F.Out.taken
+        (map (λ w. w.now) words.entry.now) (W.contents out.old) (W.contents out.new) }
+    ensures stopped { result ≢ 0 →
+        HasEnded A (F.held files.now) (F.input files.now) (map (λ w. w.now) words.entry.now) result
+        (W.contents out.old) (W.contents out.new) }
 {
     let machine = Machine { rt, alloc, files };
     done(&machine, words_memory, words, out, err).code()

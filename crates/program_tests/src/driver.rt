@@ -10,12 +10,13 @@ use std::test::Fail;
 use std::thread::Threads;
 
 /// What the program is given: words with a space between them, what standard input has, files by
-/// their path, and the bytes that a file takes which it writes.
+/// their path, the one path that it may write to, and the bytes that are taken there.
 #[derive(Clone, Copy)]
 pub struct Given<'g> {
     pub words: &'g str,
     pub input: &'g [u8],
     pub files: &'g [(&'g str, &'g [u8])],
+    pub out: &'g str,
     pub room: &'g [u8],
 }
 
@@ -26,6 +27,7 @@ impl<'g> Given<'g> {
             words,
             input: input.as_bytes(),
             files: &[],
+            out: "out",
             room: b"",
         }
     }
@@ -46,6 +48,7 @@ pub fn status_of<R: Abort + AllocGlobal + Sync + Threads + Wait, W: Write>(
     let files = MemoryFiles {
         files: given.files,
         input: given.input,
+        out: given.out,
         room: given.room,
         is_whole: &is_whole,
     };

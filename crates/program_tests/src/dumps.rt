@@ -57,13 +57,14 @@ COPY c (id, p, raw) FROM stdin;
 
 #[test]
 fn restored(rt: HostRuntime) -> Result<(), Fail> {
-    for words in [
-        "restore - --out o",
-        "restore - --out o --jobs 1",
-        "restore --jobs=8 --out=- -",
+    for (words, out) in [
+        ("restore - --out o", "o"),
+        ("restore - --out out --jobs 1", "out"),
+        ("restore --jobs=8 --out=- -", "-"),
     ] {
         for input in [EXAMPLE, EXCHANGED, WRITTEN] {
             let given = Given {
+                out,
                 room: WRITTEN.as_bytes(),
                 ..Given::of(words, input)
             };
@@ -78,7 +79,7 @@ fn restored_from_a_file(rt: HostRuntime) -> Result<(), Fail> {
     let given = Given {
         files: &[("d", b"-- dump 1\n-- end\n")],
         room: b"-- dump 2\n-- end\n",
-        ..Given::of("restore d --out o --jobs 64", "")
+        ..Given::of("restore d --out out --jobs 64", "")
     };
     assert_ends(&rt, given, (0, "RESTORE 0 tables 0 rows\n", ""))
 }
@@ -353,6 +354,7 @@ fn opened_and_dumped(rt: HostRuntime) -> Result<(), Fail> {
     for dump in [EXAMPLE, WRITTEN] {
         let given = Given {
             files: &[("-", dump.as_bytes())],
+            out: "-",
             room: WRITTEN.as_bytes(),
             ..Given::of("run -", OPENED)
         };

@@ -78,12 +78,17 @@ const PAIRS: &str = "\n\
 1 script line 3: audit late
 3 device: gone: run opener
 1 dump line 1: 22P04: run script_opener
+1 script line 4: run late_behind_a_dump
 ";
 
-const PAIRED: [(&str, &[u8]); 3] = [
+const PAIRED: [(&str, &[u8]); 4] = [
     ("late", b"OPEN gone;\n1 BEGIN;\n1 WAIT;\n"),
     ("opener", b"OPEN gone;\n1 DUMP 1 1 nowhere;\n"),
     ("script_opener", b"OPEN opener;\n1 DUMP 1 1 nowhere;\n"),
+    (
+        "late_behind_a_dump",
+        b"1 BEGIN READ ONLY DEFERRABLE;\n1 POLL;\n1 DUMP 1 1 nowhere;\n1 WAIT;\n",
+    ),
 ];
 
 #[test]

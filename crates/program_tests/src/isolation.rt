@@ -297,60 +297,49 @@ const SCRIPTS: &str = "\
 = txn 2 key 2 1 2
 = check yes
 
--- a reference to a row that goes
-> CREATE TABLE p (id bigint PRIMARY KEY);
-> CREATE TABLE c (id bigint PRIMARY KEY, p bigint REFERENCES p);
+-- the pivot is over at once
+> CREATE TABLE t (id bigint PRIMARY KEY, v bigint);
 > 1 BEGIN;
-  1 BEGIN
-> 1 INSERT INTO p VALUES (1);
-  1 INSERT 0 1
+> 1 INSERT INTO t VALUES (1, 0);
+> 1 INSERT INTO t VALUES (2, 0);
+> 1 INSERT INTO t VALUES (3, 0);
 > 1 COMMIT;
-  1 COMMIT
 > 1 BEGIN;
-  1 BEGIN
 > 2 BEGIN;
-  2 BEGIN
-> 1 INSERT INTO c VALUES (5, 1);
-  1 INSERT 0 1
-> 2 DELETE FROM p WHERE id = 1;
-  2 DELETE 1
-> 1 COMMIT;
-  1 COMMIT
-> 2 COMMIT;
-  2 ERROR 40001 cause 2 3 2
-= txn 1 key 1 1 1
-= txn 2 key 2 1 2
-= check yes
-
--- a reference to another row
-> CREATE TABLE p (id bigint PRIMARY KEY);
-> CREATE TABLE c (id bigint PRIMARY KEY, p bigint REFERENCES p);
-> 1 BEGIN;
+> 3 BEGIN;
   1 BEGIN
-> 1 INSERT INTO p VALUES (1);
   1 INSERT 0 1
-> 1 INSERT INTO p VALUES (2);
   1 INSERT 0 1
-> 1 COMMIT;
+  1 INSERT 0 1
   1 COMMIT
-> 1 BEGIN;
   1 BEGIN
-> 2 BEGIN;
   2 BEGIN
-> 1 SELECT * FROM p WHERE id = 1;
+  3 BEGIN
+> 1 SELECT v FROM t WHERE id = 1;
   1 SELECT 1
-  1 | 1
-> 1 INSERT INTO c VALUES (5, 2);
-  1 INSERT 0 1
-> 2 DELETE FROM p WHERE id = 1;
-  2 DELETE 1
+  1 | 0
+> 2 SELECT v FROM t WHERE id = 2;
+  2 SELECT 1
+  2 | 0
+> 3 UPDATE t SET v = 1 WHERE id = 2;
+  3 UPDATE 1
+> 2 UPDATE t SET v = 1 WHERE id = 1;
+  2 UPDATE 1
+> 3 COMMIT;
+  3 COMMIT
+> 4 BEGIN;
+  4 BEGIN
+> 4 UPDATE t SET v = 7 WHERE id = 1;
+  4 UPDATE 1
+> 2 COMMIT;
+  2 ERROR 40001 cause 2 3 4
+> 1 UPDATE t SET v = 1 WHERE id = 3;
+  1 UPDATE 1
 > 1 COMMIT;
   1 COMMIT
-> 2 COMMIT;
-  2 COMMIT
 = txn 1 key 1 1 1
-= txn 2 key 2 1 2
-= txn 3 key 3 1 3
+= txn 4 key 2 1 2
+= txn 2 key 3 1 3
 = check yes
 
 -- nine keys
@@ -502,6 +491,7 @@ const SCRIPTS: &str = "\
 > 1 COMMIT;
 > 3 BEGIN READ ONLY;
 > 3 IMPORT 2;
+> 3 SELECT * FROM t;
   1 BEGIN
   1 INSERT 0 1
   1 COMMIT
@@ -516,6 +506,8 @@ const SCRIPTS: &str = "\
   1 COMMIT
   3 BEGIN
   3 ERROR 55000
+  3 SELECT 1
+  3 | 1\t0
 = txn 1 key 1 1 1
 = txn 2 key 1 2 11
 = check yes
@@ -564,6 +556,47 @@ const SCRIPTS: &str = "\
 = txn 3 key 2 1 2
 = check yes
 
+-- a safe snapshot that is handed on
+> CREATE TABLE t (id bigint PRIMARY KEY, v bigint);
+> 1 BEGIN;
+> 1 INSERT INTO t VALUES (1, 0);
+> 1 COMMIT;
+> 2 BEGIN READ ONLY DEFERRABLE;
+> 2 EXPORT;
+> 2 POLL;
+> 2 EXPORT;
+> 3 BEGIN READ ONLY;
+> 3 IMPORT 1;
+> 3 POLL;
+> 4 BEGIN;
+> 4 EXPORT;
+> 5 BEGIN READ ONLY;
+> 5 IMPORT 1;
+> 5 IMPORT 2;
+> 2 COMMIT;
+> 3 SELECT * FROM t;
+  1 BEGIN
+  1 INSERT 0 1
+  1 COMMIT
+  2 BEGIN
+  2 ERROR 55000
+  2 SAFE 1
+  2 EXPORT 1
+  3 BEGIN
+  3 IMPORT
+  3 ERROR 55000
+  4 BEGIN
+  4 EXPORT 2
+  5 BEGIN
+  5 IMPORT
+  5 IMPORT
+  2 COMMIT
+  3 SELECT 1
+  3 | 1\t0
+= txn 1 key 1 1 1
+= txn 2 key 1 2 16
+= check yes
+
 -- a read-only anomaly
 > CREATE TABLE account (id bigint PRIMARY KEY, balance bigint);
 > 1 BEGIN;
@@ -601,32 +634,6 @@ const SCRIPTS: &str = "\
 = txn 1 key 1 1 1
 = txn 3 key 2 1 2
 = txn 4 key 2 2 12
-= check yes
-
--- the first updater
-> CREATE TABLE t (id bigint PRIMARY KEY, v bigint);
-> 1 BEGIN;
-  1 BEGIN
-> 1 INSERT INTO t VALUES (1, 0);
-  1 INSERT 0 1
-> 1 COMMIT;
-  1 COMMIT
-> 1 BEGIN;
-  1 BEGIN
-> 2 BEGIN;
-  2 BEGIN
-> 1 UPDATE t SET v = 5 WHERE id = 1;
-  1 UPDATE 1
-> 2 UPDATE t SET v = 6 WHERE id = 1;
-  2 ERROR 40001 row
-> 2 SELECT * FROM t;
-  2 ERROR 25P02
-> 2 COMMIT;
-  2 ROLLBACK
-> 1 COMMIT;
-  1 COMMIT
-= txn 1 key 1 1 1
-= txn 2 key 2 1 2
 = check yes
 ";
 
@@ -668,13 +675,22 @@ fn assert_script<R: Abort + AllocGlobal + Sync + Threads + Wait>(
     )
 }
 
+/// The same of each of so many scripts, with a blank line between them.
+pub fn assert_scripts<R: Abort + AllocGlobal + Sync + Threads + Wait>(
+    rt: &R,
+    scripts: &str,
+    count: u32,
+) -> Result<(), Fail> {
+    let mut done = 0u32;
+    for script in scripts.split("\n\n") {
+        assert_script(rt, script)?;
+        done = done.wrapping_add(1);
+    }
+    assert_eq!(rt; done, count);
+    Ok(())
+}
+
 #[test]
 fn replies_and_serial_orders(rt: HostRuntime) -> Result<(), Fail> {
-    let mut scripts = 0u32;
-    for script in SCRIPTS.split("\n\n") {
-        assert_script(&rt, script)?;
-        scripts = scripts.wrapping_add(1);
-    }
-    assert_eq!(rt; scripts, 17);
-    Ok(())
+    assert_scripts(&rt, SCRIPTS, 16)
 }

@@ -11,8 +11,6 @@ mod driver;
 #[cfg(test)]
 mod dumps;
 #[cfg(test)]
-mod examples;
-#[cfg(test)]
 mod faults;
 #[cfg(test)]
 mod free;
@@ -28,6 +26,8 @@ mod memory;
 mod pieces;
 #[cfg(test)]
 mod printed;
+#[cfg(test)]
+mod references;
 #[cfg(test)]
 mod replies;
 #[cfg(test)]

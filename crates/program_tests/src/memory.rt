@@ -8,13 +8,13 @@ use program::files::{Files, OutFile, ReadError, Stored};
 use std::alloc::{AllocError, Global};
 use std::sync::atomic::{AtomicBool, Ordering};
 
-/// Files with their bytes, what standard input has, the bytes that any file takes that is written,
-/// and whether one has taken all of these. A path `scarce` is one for which memory is wanting, `nowhere`
-/// one whose file takes nothing.
+/// Files with their bytes, what standard input has, the one path whose file takes anything, the bytes that it takes,
+/// and whether it has taken all of these. A path `scarce` is one for which memory is wanting.
 #[derive(Drop)]
 pub struct MemoryFiles<'f> {
     pub files: &'f [(&'f str, &'f [u8])],
     pub input: &'f [u8],
+    pub out: &'f str,
     pub room: &'f [u8],
     pub is_whole: &'f AtomicBool,
 }
@@ -79,6 +79,8 @@ impl<'f> OutFile for MemoryFile<'f> {
 
 // What is read is said by no contract here: tests compare it.
 impl<'f> Stored for MemoryFiles<'f> {
+    type Out = MemoryFile<'f>;
+
     ghost use Rattle.std.specs.Prelude.{None};
 
     ghost held = { λ f path. None };
@@ -87,8 +89,6 @@ impl<'f> Stored for MemoryFiles<'f> {
 }
 
 impl<'f> Files<Global> for MemoryFiles<'f> {
-    type Out = MemoryFile<'f>;
-
     fn read(&self, alloc: Global, path: &str) -> Result<Vec<u8>, ReadError> {
         if path == "scarce" {
             return Err(ReadError::Memory);
@@ -115,7 +115,7 @@ impl<'f> Files<Global> for MemoryFiles<'f> {
         if path == "scarce" {
             return Err(AllocError);
         }
-        let left = if path == "nowhere" { b"" } else { self.room };
+        let left = if path == self.out { self.room } else { b"" };
         Ok(MemoryFile {
             left,
             is_whole: self.is_whole,

@@ -174,7 +174,7 @@ impl<'f> Device for Taker<'f> {
     }
 }
 
-/// A script on standard input, and files that take what they are given.
+/// A script on standard input, and the file `out`, which takes what it is given.
 #[derive(Drop)]
 pub struct TakerFiles<'f> {
     pub input: &'f [u8],
@@ -188,6 +188,8 @@ impl<'f> OutFile for Taker<'f> {
 }
 
 impl<'f> Stored for TakerFiles<'f> {
+    type Out = Taker<'f>;
+
     ghost use Rattle.std.specs.Prelude.{None};
 
     ghost held = { λ f path. None };
@@ -196,8 +198,6 @@ impl<'f> Stored for TakerFiles<'f> {
 }
 
 impl<'f> Files<Global> for TakerFiles<'f> {
-    type Out = Taker<'f>;
-
     fn read(&self, _alloc: Global, _path: &str) -> Result<Vec<u8>, ReadError> {
         Err(ReadError::Device)
     }
@@ -210,6 +210,9 @@ impl<'f> Files<Global> for TakerFiles<'f> {
     }
 
     fn create(&self, alloc: Global, path: &str) -> Result<Taker<'f>, AllocError> {
+        if path != "out" {
+            return Err(AllocError);
+        }
         let taken = self.taken;
         Ok(Taker {
             writes: &taken.writes,

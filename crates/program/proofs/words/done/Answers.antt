@@ -1,6 +1,6 @@
 use Rattle.std.proofs.Common.{inl, inr}
 use Rattle.clap.specs.Words.{kind_of}
-use Rattle.program.proofs.EndLemmas.{among, are_help}
+use Rattle.program.proofs.EndLemmas.{among, are_help, without_task}
 use Rattle.program.proofs.words.done.Goals as goal
 
 pub returns-in-Err-clause-usage : goal.returns-in-Err-clause-usage
@@ -15,7 +15,7 @@ returns-in-Err-clause-mistake g c mistaken = elim c.in-Err.ensures.fails [
 ]
 
 pub returns-in-Err-clause-did : goal.returns-in-Err-clause-did
-returns-in-Err-clause-did g c told = inl (are_help _ c.in-Err.error c.tell_words.result c.in-Err.ensures.fails c.tell_words.ensures.memory (c.tell_words.ensures.help told) told)
+returns-in-Err-clause-did g c told = inl (are_help _ c.in-Err.error c.tell_words.result c.in-Err.ensures.fails c.tell_words.ensures.memory (c.tell_words.ensures.help (inl told)) told)
 
 pub returns-in-Ok-clause-usage : goal.returns-in-Ok-clause-usage
 returns-in-Ok-clause-usage g c told = absurd (c.do_task.ensures.usage told)
@@ -25,3 +25,9 @@ returns-in-Ok-clause-mistake g c mistaken = absurd (mistaken.0 c.in-Ok.ensures.f
 
 pub returns-in-Ok-clause-did : goal.returns-in-Ok-clause-did
 returns-in-Ok-clause-did g c told = inr (c.in-Ok.task, c.in-Ok.ensures.asked, c.do_task.ensures.done told)
+
+pub returns-in-Err-clause-stopped : goal.returns-in-Err-clause-stopped
+returns-in-Err-clause-stopped g c other = inl (without_task _ c.in-Err.error c.tell_words.result _ _ c.in-Err.ensures.fails c.tell_words.ensures.usage c.tell_words.ensures.memory c.tell_words.ensures.help c.tell_words.ensures.silent other)
+
+pub returns-in-Ok-clause-stopped : goal.returns-in-Ok-clause-stopped
+returns-in-Ok-clause-stopped g c other = inr (c.in-Ok.task, c.in-Ok.ensures.asked, c.do_task.ensures.stopped other)

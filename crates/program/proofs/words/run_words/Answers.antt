@@ -14,3 +14,6 @@ returns-clause-mistake g c mistaken = elim (c.done.ensures.mistake mistaken) [
 
 pub returns-clause-did : goal.returns-clause-did
 returns-clause-did g c zero = c.done.ensures.did (only_done c.done.result (sym c.code.ensures ∙ zero))
+
+pub returns-clause-stopped : goal.returns-clause-stopped
+returns-clause-stopped g c other = (c.done.result, c.code.ensures, c.done.ensures.stopped (λ told. other (c.code.ensures ∙ ap code told)))

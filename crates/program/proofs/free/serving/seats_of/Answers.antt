@@ -1,4 +1,4 @@
-use Rattle.std.proofs.Common.{◌≡◌, ◌∙◌, ◌++◌, ◌∷◌, [], sym, ap, append_assoc}
+use Rattle.std.proofs.Common.{◌∙◌, ◌++◌, ◌∷◌, [], sym, ap, append_assoc}
 use Rattle.program.proofs.FreelyLemmas.{seated_more}
 use Rattle.program.proofs.free.serving.seats_of.Goals as goal
 

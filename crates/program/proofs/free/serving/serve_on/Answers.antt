@@ -1,5 +1,5 @@
-use Rattle.std.proofs.Common.{◌≡◌, ◌∙◌, All, length, sym, ap, subst}
-use Rattle.program.specs.Freely.{AreServed, IsAmong}
+use Rattle.std.proofs.Common.{◌∙◌, All, sym, subst}
+use Rattle.program.specs.Freely.{IsAmong}
 use Rattle.program.proofs.free.serving.serve_on.Goals as goal
 
 pub returns-in-Ok-append_check : goal.returns-in-Ok-append_check

@@ -1,7 +1,9 @@
 use Rattle.std.proofs.Common.{◌≡◌, Ok, subst}
 use Rattle.restore.specs.Reading.{read_dump}
 use Rattle.restore.specs.Steps.{no_memory}
+use Rattle.std.proofs.lemmas.Result.{IfErr-weaker}
 use Rattle.program.proofs.RestoredLemmas.{on_ok, was_read}
+use Rattle.program.proofs.StopLemmas.{unwritten}
 use Rattle.program.proofs.machine.Machine.restore_file.Goals as goal
 
 pub returns-clause-done : goal.returns-clause-done
@@ -18,3 +20,6 @@ returns-clause-done g c =
       flushed,
     ))
     c.write_and_tell-told.ensures.written c.write_and_tell-told.ensures.printed c.write_and_tell-told.ensures.flushed
+
+pub returns-clause-fault : goal.returns-clause-fault
+returns-clause-fault g c = IfErr-weaker c.write_and_tell-told.result _ _ (λ f e. unwritten _ _ _ _ f e) c.write_and_tell-told.ensures.fault

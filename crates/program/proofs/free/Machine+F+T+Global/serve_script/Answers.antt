@@ -1,0 +1,13 @@
+use Rattle.std.proofs.Common.{◌∙◌}
+use Rattle.program.proofs.EndLemmas.{on_err, was_done, was_stopped}
+use Rattle.program.proofs.FreelyLemmas.{script_has_run_freely}
+use Rattle.program.proofs.free.Machine+F+T+Global.serve_script.Goals as goal
+
+pub returns-clause-done : goal.returns-clause-done
+returns-clause-done g c told =
+    script_has_run_freely _ c.args.most_events c.args.script _ _ c.as_slice.result.now c.args.printer.now c.do_sessions-done.new.printer
+    c.into_parts-catalog.ensures.catalog (c.as_ref.ensures.value ∙ c.into_parts-catalog.ensures.opens) (c.as_slice.ensures.value ∙ c.into_parts-catalog.ensures.lines)
+    (was_done c.do_sessions-done.result c.end.result _ c.end.ensures.kind c.do_sessions-done.ensures.done told)
+
+pub returns-clause-stopped : goal.returns-clause-stopped
+returns-clause-stopped g c other = was_stopped c.do_sessions-done.result c.end.result _ c.end.ensures.kind (on_err c.do_sessions-done.result _ c.do_sessions-done.ensures.stopped) other
