@@ -13,46 +13,30 @@ const CAUSE: Cause = Cause {
     c: TxnNo(2),
 };
 
-// The code of a refusal, and none for another reply.
-fn code(reply: Reply<Global>) -> Option<Code> {
+// A reply in a word: of a refusal that points nowhere its code.
+fn word(reply: Reply<Global>) -> &'static str {
     match reply {
-        Reply::Refused(refusal) => Some(refusal.code),
-        _ => None,
+        Reply::Begun => "begun",
+        Reply::RolledBack => "rolled back",
+        Reply::Pruned => "pruned",
+        Reply::Refused(refusal) if refusal == of_cause(CAUSE) => "the structure",
+        Reply::Refused(refusal) if refusal.place == Place::None => refusal.code.sqlstate(),
+        _ => "another reply",
     }
 }
 
 #[test]
 fn replies_of_sessions_whose_transaction_is_over(rt: HostRuntime) -> Result<(), Fail> {
     for (action, none, over, told) in [
-        (
-            Action::Begin(Mode::ReadWrite),
-            None,
-            Some(Code::InFailedSqlTransaction),
-            Some(Code::ActiveSqlTransaction),
-        ),
-        (
-            Action::Poll,
-            Some(Code::NoActiveSqlTransaction),
-            Some(Code::InFailedSqlTransaction),
-            Some(Code::SerializationFailure),
-        ),
-        (
-            Action::Commit,
-            Some(Code::NoActiveSqlTransaction),
-            None,
-            Some(Code::SerializationFailure),
-        ),
-        (
-            Action::Rollback,
-            Some(Code::NoActiveSqlTransaction),
-            None,
-            None,
-        ),
-        (Action::Prune, None, None, None),
+        (Action::Begin(Mode::ReadWrite), "begun", "25P02", "25001"),
+        (Action::Poll, "25P01", "25P02", "the structure"),
+        (Action::Commit, "25P01", "rolled back", "the structure"),
+        (Action::Rollback, "25P01", "rolled back", "rolled back"),
+        (Action::Prune, "pruned", "pruned", "pruned"),
     ] {
-        assert_eq!(rt; code(idle(&action)), none);
-        assert_eq!(rt; code(failed(&action)), over);
-        assert_eq!(rt; code(doomed(CAUSE, &action)), told);
+        assert_eq!(rt; word(idle(&action)), none);
+        assert_eq!(rt; word(failed(&action)), over);
+        assert_eq!(rt; word(doomed(CAUSE, &action)), told);
     }
     assert_eq!(rt;
         of_cause(CAUSE),

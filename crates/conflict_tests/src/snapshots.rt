@@ -4,11 +4,20 @@ use crate::words::{cut, not_a_case, number, txn};
 use safesnap::waiting::{State, Waiting};
 use value::refusal::{Refusal, TxnNo};
 
+// A first conflict out: the number of a commit, or `no`.
+fn first_out(word: &str) -> Result<Option<u64>, Refusal> {
+    match word {
+        "no" => Ok(None),
+        word => Ok(Some(number(word)?)),
+    }
+}
+
 // Of each transaction that ends, its number and its first conflict out.
 fn end_each(waiting: &mut Waiting, ends: &str) -> Result<(), Refusal> {
     for end in ends.split(" ") {
-        if let Some((number, first_out)) = end.split_once(">") {
-            waiting.ended(txn(number)?, first_out.parse().ok());
+        if end != "none" {
+            let (ended, out) = cut(end, ">")?;
+            waiting.ended(txn(ended)?, first_out(out)?);
         }
     }
     Ok(())

@@ -1,8 +1,8 @@
 //! Tests of reading by workers: what they read, that they read side by side, and which fault is told.
 
 use crate::readings::{fault_of, written};
-use dumpplan::{Gate, Jobs, NoGate};
-use restore::{restore, restore_one};
+use dumpplan::{Gate, Jobs};
+use restore::restore;
 use std::alloc::Global;
 use std::sync::atomic::{AtomicBool, AtomicU64, Ordering};
 use std::test::Fail;
@@ -173,25 +173,6 @@ fn what_later_pieces_reference_is_looked_up(rt: HostRuntime) -> Result<(), Fail>
     Ok(())
 }
 
-#[test]
-fn workers_read_what_one_thread_reads(rt: HostRuntime) -> Result<(), Fail> {
-    let alloc = rt.alloc();
-    let dump = many_rows(alloc, 5500)?;
-    let (catalog, tables) = restore_one(alloc, dump.as_bytes())
-        .ok()
-        .ok_or("it is a dump")?;
-    let want = written(alloc, &catalog, &tables)?;
-    for count in [1, 2, 8] {
-        let jobs = Jobs::new(count).ok_or("a number of jobs")?;
-        let (catalog, tables) = restore(&rt, alloc, dump.as_bytes(), jobs, &NoGate)
-            .ok()
-            .ok_or("it is a dump")?;
-        let text = written(alloc, &catalog, &tables)?;
-        assert_eq!(rt; text.as_slice(), want.as_slice(), "{count} jobs");
-    }
-    Ok(())
-}
-
 /// The workers of the first pieces wait for one another.
 #[derive(Drop)]
 struct Meeting {
@@ -217,9 +198,17 @@ impl Gate for Meeting {
     fn after(&self, _piece: u64) {}
 }
 
+// The same dump of so many rows in version 2.
+fn second_version(alloc: Global, dump: &str, count: u32) -> Result<String, Fail> {
+    let dump = dump.replace(alloc, "-- dump 1", "-- dump 2")?;
+    let end = format!(in alloc; "\\.\n-- rows {count}\n")?;
+    Ok(dump.as_str().replace(alloc, "\\.\n", end.as_str())?)
+}
+
 #[test]
 fn workers_read_side_by_side(rt: HostRuntime) -> Result<(), Fail> {
     let dump = many_rows(rt.alloc(), 9001)?;
+    let want = second_version(rt.alloc(), dump.as_str(), 9001)?;
     for count in [2, 8] {
         let jobs = Jobs::new(count).ok_or("a number of jobs")?;
         let mut here = Vec::new(rt.alloc());
@@ -228,8 +217,11 @@ fn workers_read_side_by_side(rt: HostRuntime) -> Result<(), Fail> {
         }
         let late = AtomicBool::new(false);
         let gate = Meeting { here, late };
-        let read = restore(&rt, rt.alloc(), dump.as_bytes(), jobs, &gate);
-        assert!(rt; read.is_ok());
+        let (catalog, tables) = restore(&rt, rt.alloc(), dump.as_bytes(), jobs, &gate)
+            .ok()
+            .ok_or("it is a dump")?;
+        let text = written(rt.alloc(), &catalog, &tables)?;
+        assert!(rt; text.as_slice() == want.as_bytes(), "{count} jobs");
         assert!(rt; !gate.late.load(Ordering::SeqCst), "{count} jobs");
     }
     Ok(())

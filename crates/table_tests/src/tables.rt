@@ -290,11 +290,9 @@ fn reading_in_key_order(rt: HostRuntime) -> Result<(), Refusal> {
         [(-1, 0), (3, 0), (5, 0)].as_slice()
     );
     let three = key(3);
-    assert!(rt; reader.get(table, &three).is_some());
-    let from = reader
-        .next_row(table, Bound::From(&three))
-        .map(|row| row.fields().len());
-    assert_eq!(rt; from, Some(0));
+    assert_eq!(rt; reader.get(table, &three).map(numbers), Some((3, 0)));
+    let from = reader.next_row(table, Bound::From(&three));
+    assert_eq!(rt; from.map(numbers), Some((3, 0)));
     Ok(())
 }
 
