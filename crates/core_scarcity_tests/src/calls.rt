@@ -1,115 +1,189 @@
 //! The core's calls and the audit's.
 
 use crate::driver::{Call, Memory, refuse_each};
+use crate::fixture::{core_after, not_asked};
 use scarce::Scarce;
 use std::alloc::Allocator;
 use std::process::Abort;
 use value::refusal::Refusal;
 
-const BEFORE: &str = "
+// What was asked before a call, each line behind `> `, and what it was answered.
+const BEFORE: &str = "\
+> 1 BEGIN
 1 BEGIN
-1 INSERT INTO p VALUES (1, 'a name')
-1 INSERT INTO c VALUES (5, 1, '\\x00ff')
-1 INSERT INTO n VALUES ('the one', 1)
+> 1 INSERT INTO p VALUES (1, 'a name')
+1 INSERT 0 1
+> 1 INSERT INTO c VALUES (5, 1, '\\x00ff')
+1 INSERT 0 1
+> 1 INSERT INTO n VALUES ('the one', 1)
+1 INSERT 0 1
+> 1 COMMIT
 1 COMMIT
-5 BEGIN DEFERRABLE
-5 POLL
-5 EXPORT
+> 5 BEGIN DEFERRABLE
+5 BEGIN
+> 5 POLL
+5 SAFE 1
+> 5 EXPORT
+5 EXPORT 1
+> 1 BEGIN
 1 BEGIN
+> 2 BEGIN
 2 BEGIN
-1 UPDATE p SET name = 'of one' WHERE id = 1
-2 SELECT * FROM p WHERE id = 1
-2 INSERT INTO c VALUES (9, 1, NULL)
-3 BEGIN DEFERRABLE
-4 BEGIN READ ONLY
+> 1 UPDATE p SET name = 'of one' WHERE id = 1
+1 UPDATE 1
+> 2 SELECT * FROM p WHERE id = 1
+2 SELECT 1
+2 | 1\ta name
+> 2 INSERT INTO c VALUES (9, 1, NULL)
+2 INSERT 0 1
+> 3 BEGIN DEFERRABLE
+3 BEGIN
+> 4 BEGIN READ ONLY
+4 BEGIN
 ";
 
-// Events that take memory.
-const TAKING: &str = "
+// Events that take memory, each with its answer.
+const TAKING: &str = "\
 1 SELECT * FROM c
-1 INSERT INTO p VALUES (7, 'seven')
-1 UPDATE n SET v = 2 WHERE name = 'the one'
-2 DELETE FROM c WHERE id > 0
-";
+1 SELECT 1
+1 | 5\t1\t\\\\x00ff
 
-// Events that may find room that is there.
-const FINDING_ROOM: &str = "
+1 INSERT INTO p VALUES (7, 'seven')
+1 INSERT 0 1
+
+1 UPDATE n SET v = 2 WHERE name = 'the one'
+1 UPDATE 1
+
+2 DELETE FROM c WHERE id > 0
+2 DELETE 2
+
 1 COMMIT
-4 IMPORT 1
-6 BEGIN
-6 BEGIN DEFERRABLE
+1 COMMIT
+
 1 PRUNE
-";
+1 PRUNE";
 
 // Events that make no request.
-const FREE: &str = "
+const FREE: &str = "\
 3 POLL
+3 WAIT
+
 1 POLL
+1 ERROR 55000
+
+4 IMPORT 1
+4 IMPORT
+
 1 ROLLBACK
+1 ROLLBACK
+
 2 ROLLBACK
+2 ROLLBACK
+
 6 ROLLBACK
-";
+6 ERROR 25P01";
 
 // One transaction is open, and none has committed.
-const ONE: &str = "
+const ONE: &str = "\
+> 1 BEGIN
 1 BEGIN
-1 INSERT INTO p VALUES (1, 'a name')
+> 1 INSERT INTO p VALUES (1, 'a name')
+1 INSERT 0 1
 ";
+
+const OF_ONE: &str = "\
+1 EXPORT
+1 EXPORT 1
+
+1 COMMIT
+1 COMMIT";
 
 // There is no room for a fifth identifier. A transaction that has exported can't import.
-const FOUR: &str = "
+const FOUR: &str = "\
+> 2 BEGIN
 2 BEGIN
-2 EXPORT
-2 EXPORT
-2 EXPORT
-2 EXPORT
-1 BEGIN READ ONLY
+> 2 EXPORT
+2 EXPORT 1
+> 2 EXPORT
+2 EXPORT 2
+> 2 EXPORT
+2 EXPORT 3
+> 2 EXPORT
+2 EXPORT 4
+> 1 BEGIN READ ONLY
+1 BEGIN
 ";
 
-// Refuses each request of each event. Whether each makes at least so many, and at most so many.
-fn make<A: Allocator + Copy>(
+const A_FIFTH: &str = "\
+1 EXPORT
+1 EXPORT 5";
+
+// Nothing has begun.
+const NOTHING: &str = "\
+> 1 POLL
+1 ERROR 25P01
+";
+
+const BEGINNINGS: &str = "\
+1 BEGIN
+1 BEGIN
+
+1 BEGIN DEFERRABLE
+1 BEGIN";
+
+// Refuses each request of each event, which takes memory, or none. With ample memory it is answered as stands below
+// it.
+fn assert_events<A: Allocator + Copy>(
     rt: &impl Abort,
     memory: &Memory,
     alloc: A,
     (before, events): (&str, &str),
-    (least, most): (u64, u64),
-) -> Result<bool, Refusal> {
-    for text in events.trim_ascii().split('\n') {
+    takes: bool,
+) -> Result<(), Refusal> {
+    for event in events.split("\n\n") {
+        let script = format!(in memory.inner; "{before}> {event}\n")?;
+        core_after(alloc, script.as_str())?;
+        let (text, _answer) = event.split_once('\n').ok_or(not_asked())?;
         let made = refuse_each(rt, memory, alloc, before, (Call::Event, text))?;
-        if made < least || made > most {
-            return Ok(false);
-        }
+        assert!(rt; (made > 0) == takes, "{text}: {made} requests");
     }
-    Ok(true)
+    Ok(())
 }
 
 #[test]
 fn events_that_take_memory(rt: HostRuntime) -> Result<(), Refusal> {
     let memory = Scarce::new(rt.alloc());
-    assert!(rt; make(&rt, &memory, &memory, (BEFORE, TAKING), (1, 99))?);
-    assert!(rt; make(&rt, &memory, &memory, (BEFORE, FINDING_ROOM), (0, 99))?);
-    assert!(rt; make(&rt, &memory, &memory, (BEFORE, FREE), (0, 0))?);
-    Ok(())
+    assert_events(&rt, &memory, &memory, (BEFORE, TAKING), true)?;
+    assert_events(&rt, &memory, &memory, (BEFORE, FREE), false)
 }
 
 #[test]
 fn events_that_find_no_room(rt: HostRuntime) -> Result<(), Refusal> {
     let memory = Scarce::new(rt.alloc());
-    assert!(rt; make(&rt, &memory, &memory, (ONE, "1 EXPORT\n1 COMMIT"), (1, 99))?);
-    assert!(rt; make(&rt, &memory, &memory, (FOUR, "1 EXPORT"), (1, 99))?);
-    assert!(rt; make(&rt, &memory, &memory, ("1 POLL", "1 BEGIN"), (1, 99))?);
+    for case in [(ONE, OF_ONE), (FOUR, A_FIFTH), (NOTHING, BEGINNINGS)] {
+        assert_events(&rt, &memory, &memory, case, true)?;
+    }
     Ok(())
 }
 
 // Two transactions have committed, of which the second has read what the first has written, and none is open.
-const QUIET: &str = "
+const QUIET: &str = "\
+> 1 BEGIN
 1 BEGIN
-1 INSERT INTO p VALUES (1, 'a name')
-1 INSERT INTO n VALUES ('the one', 1)
+> 1 INSERT INTO p VALUES (1, 'a name')
+1 INSERT 0 1
+> 1 INSERT INTO n VALUES ('the one', 1)
+1 INSERT 0 1
+> 1 COMMIT
 1 COMMIT
+> 2 BEGIN
 2 BEGIN
-2 SELECT * FROM n
-2 UPDATE p SET name = 'another' WHERE id = 1
+> 2 SELECT * FROM n
+2 SELECT 1
+2 | the one\t1
+> 2 UPDATE p SET name = 'another' WHERE id = 1
+2 UPDATE 1
+> 2 COMMIT
 2 COMMIT
 ";
 

@@ -1,10 +1,16 @@
 //! How a call on a core is tried.
 
+ghost use Rattle.std.specs.Prelude.{◌≡◌, length, IfOk};
+
 use crate::fixture::{core_after, not_asked, reply};
 use audit::keys::{serial_keys, serial_order};
 use audit::order::check_order;
 use history::session_id::SessionId;
+use mvrows::view::View;
 use scarce::Scarce;
+use schema::catalog::{Catalog, TableNo};
+use schema::reader::{first_row, row_after};
+use serial::laws::views_are_sound;
 use session::sessions::Core;
 use std::alloc::{Allocator, Global};
 use std::process::Abort;
@@ -39,10 +45,51 @@ fn event<A: Allocator + Copy>(
     Ok(format!(in ample; "{reply:?}")?)
 }
 
+// The tables that a session may view: as many as the catalog's.
+fn view_of<A: Allocator + Copy>(
+    alloc: A,
+    core: &Core<A>,
+    session: SessionId,
+) -> Result<View<A>, Refusal>
+    ensures { IfOk result (λ view. length view ≡ length core.now.opening.catalog) }
+{
+    views_are_sound::<A>();
+    core.is_legal();
+    core.view(alloc, session)
+}
+
+// More rows than any table has.
+const MOST_ROWS: u32 = 10;
+
+// The rows that a view shows, each with the number of its table.
+fn shown<A: Allocator>(
+    ample: Global,
+    view: &View<A>,
+    catalog: &Catalog<A>,
+) -> Result<String, Refusal>
+    requires { length view.now ≡ length catalog.now }
+{
+    let mut text = String::new(ample);
+    for place in 0..catalog.len() as u32 {
+        let table = TableNo::at(place);
+        let mut next = first_row(view, table);
+        for _ in 0..MOST_ROWS {
+            let Some(row) = next else {
+                break;
+            };
+            let line = format!(in ample; "{place} {row:?}\n")?;
+            text.push_str(line.as_str())?;
+            next = row_after(view, table, row);
+        }
+    }
+    Ok(text)
+}
+
+// What session 5 is shown.
 fn view<A: Allocator + Copy>(ample: Global, alloc: A, core: &Core<A>) -> Result<String, Refusal> {
     let session = SessionId::new(5).ok_or(not_asked())?;
-    let view = core.view(alloc, session)?;
-    Ok(format!(in ample; "{view:?}")?)
+    let view = view_of(alloc, core, session)?;
+    shown(ample, &view, core.history().catalog())
 }
 
 fn keys<A: Allocator + Copy>(ample: Global, alloc: A, core: &Core<A>) -> Result<String, Refusal> {
@@ -79,8 +126,8 @@ fn answer<A: Allocator + Copy>(
     }
 }
 
-// The opening of a core, as a text.
-fn opening<A: Allocator>(ample: Global, core: &Core<A>) -> Result<String, Refusal> {
+/// The opening of a core, as a text.
+pub fn opening_text<A: Allocator>(ample: Global, core: &Core<A>) -> Result<String, Refusal> {
     let history = core.history();
     let (base, tables) = (history.base(), history.tables());
     Ok(format!(in ample; "{base:?} {tables:?}")?)
@@ -93,7 +140,7 @@ fn checkpoint<A: Allocator + Copy>(
 ) -> (Core<A>, Result<String, Refusal>) {
     match core.checkpoint(alloc, 40) {
         Ok(core) => {
-            let answer = opening(ample, &core);
+            let answer = opening_text(ample, &core);
             (core, answer)
         }
         Err((core, refusal)) => (core, Err(refusal)),

@@ -1,17 +1,19 @@
 //! Cores made of texts.
 
-ghost use Rattle.std.specs.Prelude.{IfOk};
+ghost use Rattle.std.specs.Prelude.{◌≡◌, true, IfOk};
+ghost use Rattle.schema.specs.Plain.{is_sound};
 ghost use Rattle.history.specs.Answer.{Allowed};
 
 use history::event::{Action, Event};
 use history::session_id::SessionId;
 use schema::catalog::Catalog;
 use schema::tables::Tables;
+use script::printing::reply_text;
 use session::sessions::Core;
 use sqltext::create::parse_create;
 use sqltext::parse::parse_statement;
 use statement::reply::Reply;
-use std::alloc::Allocator;
+use std::alloc::{Allocator, Global};
 use value::refusal::{Code, Mode, Refusal};
 
 const CREATES: &str = "\
@@ -25,8 +27,13 @@ pub fn not_asked() -> Refusal {
     Refusal::of_code(Code::SyntaxError)
 }
 
-/// A core on empty tables, a line for each.
-pub fn open<A: Allocator + Copy>(alloc: A, creates: &str) -> Result<Core<A>, Refusal> {
+/// A catalog of tables, a line for each, and their rows: none.
+pub fn opening<A: Allocator + Copy>(
+    alloc: A,
+    creates: &str,
+) -> Result<(Catalog<A>, Tables<A>), Refusal>
+    ensures { IfOk result (λ made. is_sound made.0 made.1 ≡ true) }
+{
     let mut catalog = Catalog::new(alloc);
     for text in creates.lines() {
         catalog.add(alloc, parse_create(alloc, text)?)?;
@@ -35,6 +42,12 @@ pub fn open<A: Allocator + Copy>(alloc: A, creates: &str) -> Result<Core<A>, Ref
     if !tables.sound(&catalog) {
         return Err(not_asked());
     }
+    Ok((catalog, tables))
+}
+
+/// A core on empty tables, a line for each.
+pub fn open<A: Allocator + Copy>(alloc: A, creates: &str) -> Result<Core<A>, Refusal> {
+    let (catalog, tables) = opening(alloc, creates)?;
     Core::open(alloc, catalog, tables, 40)
 }
 
@@ -77,11 +90,91 @@ pub fn reply<A: Allocator + Copy>(
     }
 }
 
-/// A core after the sessions' texts, a line for each.
-pub fn core_after<A: Allocator + Copy>(alloc: A, texts: &str) -> Result<Core<A>, Refusal> {
+// Appends a session's line, and the core's reply as it is printed.
+fn append<A: Allocator + Copy>(
+    alloc: A,
+    core: &mut Core<A>,
+    asked: &str,
+    text: &mut Vec<u8, A>,
+) -> Result<(), Refusal> {
+    let reply = reply(alloc, core, asked)?;
+    let last = core.history().last().ok_or(not_asked())?;
+    let reply = reply_text(alloc, last.session, &reply)?;
+    text.extend_from_slice(b"> ")?;
+    text.extend_from_slice(asked.as_bytes())?;
+    text.push(b'\n')?;
+    text.extend_from_slice(reply.as_slice())?;
+    Ok(())
+}
+
+/// A core after the sessions' lines, each behind `> `. Below it stands what it is answered.
+pub fn core_after<A: Allocator + Copy>(alloc: A, script: &str) -> Result<Core<A>, Refusal> {
     let mut core = open(alloc, CREATES)?;
-    for text in texts.trim_ascii().split('\n') {
-        reply(alloc, &mut core, text)?;
+    let mut text = Vec::new(alloc);
+    for line in script.lines() {
+        if let Some(asked) = line.strip_prefix("> ") {
+            append(alloc, &mut core, asked, &mut text)?;
+        }
+    }
+    if text.as_slice() != script.as_bytes() {
+        return Err(not_asked());
     }
     Ok(core)
+}
+
+// Whether an action that is recorded is the one that was asked for.
+fn is_asked<A: Allocator>(
+    ample: Global,
+    recorded: &Action<A>,
+    asked: &Action<A>,
+) -> Result<bool, Refusal> {
+    match (recorded, asked) {
+        (Action::Begin(one), Action::Begin(other)) => Ok(*one == *other),
+        (Action::Import(one), Action::Import(other)) => Ok(*one == *other),
+        (Action::Run(one), Action::Run(other)) => {
+            let one = format!(in ample; "{one:?}")?;
+            let other = format!(in ample; "{other:?}")?;
+            Ok(one == other)
+        }
+        (Action::Poll, Action::Poll)
+        | (Action::Export, Action::Export)
+        | (Action::Commit, Action::Commit)
+        | (Action::Rollback, Action::Rollback)
+        | (Action::Prune, Action::Prune) => Ok(true),
+        _ => Ok(false),
+    }
+}
+
+// Whether a record, by its place, is of a session's line.
+fn is_recorded<A: Allocator + Copy>(
+    ample: Global,
+    alloc: A,
+    core: &Core<A>,
+    place: usize,
+    asked: &str,
+) -> Result<bool, Refusal> {
+    let (_session, asked) = asked.split_once(' ').ok_or(not_asked())?;
+    let asked = action(alloc, core.history().catalog(), asked)?;
+    let record = core.history().records().get(place).ok_or(not_asked())?;
+    is_asked(ample, &record.action, &asked)
+}
+
+/// Whether the history has the actions of a script's lines, in their order, and no others. A DUMP is none.
+pub fn are_recorded<A: Allocator + Copy>(
+    ample: Global,
+    alloc: A,
+    core: &Core<A>,
+    script: &str,
+) -> Result<bool, Refusal> {
+    let mut place = 0usize;
+    for line in script.lines() {
+        let asked = line.strip_prefix("> ").unwrap_or("1 DUMP");
+        if !asked.ends_with(" DUMP") {
+            if !is_recorded(ample, alloc, core, place, asked)? {
+                return Ok(false);
+            }
+            place = place.saturating_add(1);
+        }
+    }
+    Ok(place == core.history().records().len())
 }

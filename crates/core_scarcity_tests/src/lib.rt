@@ -1,6 +1,6 @@
-//! Tests alone: each request for memory of the core's calls, of the audit's and of whole scripts is refused in
-//! turn. After a refusal the call has answered want of memory, the core is as it was, and the call repeated answers
-//! as it would have; a script goes on behind it, or ends.
+//! Tests alone: each request for memory of the core's calls, of a server's, of the audit's and of whole scripts is
+//! refused in turn. After a refusal the call has answered want of memory, the core is as it was, and the call repeated
+//! answers as it would have; a script goes on behind it, or ends.
 
 #![tactic(auto)]
 
@@ -11,7 +11,13 @@ mod driver;
 #[cfg(test)]
 mod fixture;
 #[cfg(test)]
+mod played;
+#[cfg(test)]
+mod resuming;
+#[cfg(test)]
 mod scripts;
+#[cfg(test)]
+mod serving;
 #[cfg(test)]
 mod sinks;
 #[cfg(test)]

@@ -3,12 +3,13 @@
 
 use crate::driver::Memory;
 use crate::fixture::not_asked;
-use crate::sinks::Texts;
+use crate::sinks::{Texts, sum_of};
 use program::words::run_words;
 use scarce::Scarce;
 use std::alloc::{Allocator, Global};
 use std::process::Abort;
 use std::sync::Wait;
+use std::sync::atomic::{AtomicU64, Ordering};
 use std::thread::Threads;
 use value::refusal::Refusal;
 
@@ -37,6 +38,21 @@ CHECKPOINT;
 3 COMMIT;
 ";
 
+// What the script's DUMP writes.
+const DUMPED: &str = "-- dump 2
+CREATE TABLE t (id bigint PRIMARY KEY, v bigint);
+CREATE TABLE n (name text PRIMARY KEY);
+COPY t (id, v) FROM stdin;
+1\t10
+\\.
+-- rows 1
+COPY n (name) FROM stdin;
+a name
+\\.
+-- rows 1
+-- end
+";
+
 const DUMP: &str = "-- dump 2
 CREATE TABLE t (id bigint PRIMARY KEY, v bigint);
 COPY t (id, v) FROM stdin;
@@ -62,20 +78,29 @@ CHECKPOINT;
 2 COMMIT;
 ";
 
-// A script: how it is done, what stands before its lines, and those.
+// A script: how it is done, what stands before its lines, those, and what they dump.
 #[derive(Clone, Copy, Debug)]
 struct Script<'t> {
     command: &'t str,
     head: &'t str,
     lines: &'t str,
+    dumped: &'t str,
 }
 
-// The exit status, and what is printed.
+// The exit status, what is printed, and the sum of what is dumped.
 #[derive(Drop, Debug, PartialEq)]
 struct Ended {
     status: u8,
     out: String,
     err: String,
+    dumped: u64,
+}
+
+// What may be printed, and the sum of what may be dumped, if that is known.
+#[derive(Drop)]
+struct Likely {
+    out: String,
+    dumped: Option<u64>,
 }
 
 // Runs the program over a script.
@@ -88,7 +113,12 @@ fn end_of<A: Allocator + Copy + Send + Sync, R: Threads + Wait + Sync>(
 ) -> Result<Ended, Refusal> {
     let mut out = Vec::new(ample);
     let mut err = Vec::new(ample);
-    let files = Texts { input, dump: DUMP };
+    let sum = AtomicU64::new(0);
+    let files = Texts {
+        input,
+        dump: DUMP,
+        sum: &sum,
+    };
     let words = [command, "-"];
     let status = run_words(
         rt,
@@ -101,7 +131,13 @@ fn end_of<A: Allocator + Copy + Send + Sync, R: Threads + Wait + Sync>(
     );
     let out = String::from_utf8(out).ok().ok_or(not_asked())?;
     let err = String::from_utf8(err).ok().ok_or(not_asked())?;
-    Ok(Ended { status, out, err })
+    let dumped = sum.load(Ordering::SeqCst);
+    Ok(Ended {
+        status,
+        out,
+        err,
+        dumped,
+    })
 }
 
 // A script of the lines below a number; and of those above it too, where that is asked for.
@@ -132,21 +168,27 @@ fn refused_line(ample: Global, script: Script<'_>, line: &str) -> Result<String,
     }
 }
 
-// What is printed where a line was refused for want of memory: what is printed without it, and its refusal in its
-// place.
+// What is printed and dumped where a line was refused for want of memory: what is without it, and its refusal in its
+// place. A DUMP that was refused may have written a beginning.
 fn without<R: Threads + Wait + Sync>(
     rt: &R,
     ample: Global,
     script: Script<'_>,
     number: usize,
     line: &str,
-) -> Result<String, Refusal> {
+) -> Result<Likely, Refusal> {
     let until = part(ample, script, number, false)?;
     let until = end_of(rt, ample, ample, script.command, until.as_str())?;
     let all = part(ample, script, number, true)?;
     let all = end_of(rt, ample, ample, script.command, all.as_str())?;
+    let dumped = if line.contains(" DUMP ") {
+        None
+    } else {
+        Some(all.dumped)
+    };
     if script.command == "audit" {
-        return Ok(all.out);
+        let out = all.out;
+        return Ok(Likely { out, dumped });
     }
     let rest = all
         .out
@@ -154,28 +196,36 @@ fn without<R: Threads + Wait + Sync>(
         .strip_prefix(until.out.as_str())
         .ok_or(not_asked())?;
     let refusal = refused_line(ample, script, line)?;
-    Ok(format!(in ample; "{}{}{rest}", until.out, refusal)?)
+    let out = format!(in ample; "{}{}{rest}", until.out, refusal)?;
+    Ok(Likely { out, dumped })
 }
 
-// What may be printed where one line was refused for want of memory, for each line.
+// What may be printed and dumped where one line was refused for want of memory, for each line that may be.
 fn all_without<R: Threads + Wait + Sync>(
     rt: &R,
     ample: Global,
     script: Script<'_>,
-) -> Result<Vec<String>, Refusal> {
-    let mut texts = Vec::new(ample);
+) -> Result<Vec<Likely>, Refusal> {
+    let mut all = Vec::new(ample);
     for (number, line) in script.lines.lines().enumerate() {
-        texts.push(without(rt, ample, script, number, line)?)?;
+        if !line.ends_with(" POLL;") && !line.ends_with(" ROLLBACK;") {
+            all.push(without(rt, ample, script, number, line)?)?;
+        }
     }
-    Ok(texts)
+    Ok(all)
+}
+
+// Whether this was printed and dumped.
+fn is_of(ended: &Ended, likely: &Likely) -> bool {
+    ended.out == likely.out && likely.dumped.unwrap_or(ended.dumped) == ended.dumped
 }
 
 // How a script may end of which a request was refused: it did without, or goes on behind the line that made it, or it
 // has printed a beginning and ends.
-fn is_right(ended: &Ended, wanted: &Ended, texts: &[String]) -> bool {
+fn is_right(ended: &Ended, wanted: &Ended, likely: &[Likely]) -> bool {
     match ended.status {
-        0 if ended.out == wanted.out => ended.err.is_empty(),
-        0 => ended.err.is_empty() && texts.iter().any(|text| *text == ended.out),
+        0 if ended.out == wanted.out => ended.err.is_empty() && ended.dumped == wanted.dumped,
+        0 => ended.err.is_empty() && likely.iter().any(|likely| is_of(ended, likely)),
         1 => {
             let err = ended.err.as_str();
             (err == "script line 0\n" || err == "dump line 0: 53200\n")
@@ -197,9 +247,10 @@ fn refuse_each<R: Abort + Threads + Wait + Sync, A: Allocator + Copy + Send + Sy
     script: Script<'_>,
 ) -> Result<(u64, u64), Refusal> {
     let ample = memory.inner;
-    let texts = all_without(rt, ample, script)?;
+    let likely = all_without(rt, ample, script)?;
     let whole = part(ample, script, usize::MAX, false)?;
     let wanted = end_of(rt, ample, alloc, script.command, whole.as_str())?;
+    assert_eq!(rt; wanted.dumped, sum_of(0, script.dumped.as_bytes()));
     let (mut went_on, mut stopped) = (0u64, 0u64);
     for number in 1..MOST_REQUESTS {
         let start = memory.requests();
@@ -211,7 +262,7 @@ fn refuse_each<R: Abort + Threads + Wait + Sync, A: Allocator + Copy + Send + Sy
             return Ok((went_on, stopped));
         }
         assert!(rt;
-            is_right(&found, &wanted, texts.as_slice()),
+            is_right(&found, &wanted, likely.as_slice()),
             "{number}: {found:?}"
         );
         if found.status == 0 {
@@ -226,11 +277,15 @@ fn refuse_each<R: Abort + Threads + Wait + Sync, A: Allocator + Copy + Send + Sy
 #[test]
 fn scripts(rt: HostRuntime) -> Result<(), Refusal> {
     let memory = Scarce::new(rt.alloc());
-    for (command, head, lines) in [("run", CREATES, REPLIES), ("audit", "OPEN d;\n", AUDITED)] {
+    for (command, head, lines, dumped) in [
+        ("run", CREATES, REPLIES, DUMPED),
+        ("audit", "OPEN d;\n", AUDITED, ""),
+    ] {
         let script = Script {
             command,
             head,
             lines,
+            dumped,
         };
         let (went_on, stopped) = refuse_each(&rt, &memory, &memory, script)?;
         assert!(rt; went_on > 20 && stopped > 20, "{went_on} {stopped}");

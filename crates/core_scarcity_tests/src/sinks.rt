@@ -6,19 +6,33 @@ use collector::{Device, DeviceError};
 use http_server::Log;
 use program::files::{Files, OutFile, ReadError, Stored};
 use std::alloc::{AllocError, Allocator};
+use std::sync::atomic::{AtomicU64, Ordering};
 
-/// What standard input has, and what any other path's file has.
+/// What standard input has, and what the file `d`; and the sum of what the file `out` has taken.
 #[derive(Drop)]
 pub struct Texts<'f> {
     pub input: &'f str,
     pub dump: &'f str,
+    pub sum: &'f AtomicU64,
 }
 
-/// A file that takes all that it is given, and keeps nothing.
+/// A file that takes all that it is given, and keeps its sum.
 #[derive(Drop)]
-pub struct Sink {
+pub struct Sink<'f> {
+    sum: &'f AtomicU64,
     path: Log<u8, ()>,
     taken: Log<u8, ()>,
+}
+
+/// The sum of bytes behind others, whose sum this is: one of two texts that differ by little is another.
+pub fn sum_of(before: u64, bytes: &[u8]) -> u64 {
+    let mut sum = before;
+    for byte in bytes {
+        sum = sum
+            .wrapping_mul(1099511628211)
+            .wrapping_add(u64::from(*byte) + 1);
+    }
+    sum
 }
 
 // A log that has noted these bytes.
@@ -32,7 +46,7 @@ fn noted(bytes: &[u8]) -> Log<u8, ()>
     log
 }
 
-impl Sink {
+impl<'f> Sink<'f> {
     // Notes bytes that were taken.
     fn note(&mut self, bytes: &[u8])
         ensures { map (λ p. p.0) self.new.taken.items ≡ map (λ p. p.0) self.old.taken.items ++ bytes.now }
@@ -43,23 +57,25 @@ impl Sink {
     }
 }
 
-impl Device for Sink {
+impl<'f> Device for Sink<'f> {
     ghost taken = { λ f. map (λ p. p.0) f.taken.items };
 
     ghost failures = { λ f. 0 };
 
     fn write(&mut self, bytes: &[u8]) -> Result<usize, DeviceError> {
+        let before = self.sum.load(Ordering::SeqCst);
+        self.sum.store(sum_of(before, bytes), Ordering::SeqCst);
         self.note(bytes);
         Ok(bytes.len())
     }
 }
 
-impl OutFile for Sink {
+impl<'f> OutFile for Sink<'f> {
     ghost path = { λ f. map (λ p. p.0) f.path.items };
 }
 
 impl<'f> Stored for Texts<'f> {
-    type Out = Sink;
+    type Out = Sink<'f>;
 
     ghost use Rattle.std.specs.Prelude.{None};
 
@@ -76,7 +92,10 @@ fn bytes_of<A: Allocator>(alloc: A, text: &str) -> Result<Vec<u8, A>, ReadError>
 }
 
 impl<'f, A: Allocator> Files<A> for Texts<'f> {
-    fn read(&self, alloc: A, _path: &str) -> Result<Vec<u8, A>, ReadError> {
+    fn read(&self, alloc: A, path: &str) -> Result<Vec<u8, A>, ReadError> {
+        if path != "d" {
+            return Err(ReadError::Device);
+        }
         bytes_of(alloc, self.dump)
     }
 
@@ -84,8 +103,13 @@ impl<'f, A: Allocator> Files<A> for Texts<'f> {
         bytes_of(alloc, self.input)
     }
 
-    fn create(&self, _alloc: A, path: &str) -> Result<Sink, AllocError> {
+    fn create(&self, _alloc: A, path: &str) -> Result<Sink<'f>, AllocError> {
+        if path != "out" {
+            return Err(AllocError);
+        }
+        self.sum.store(0, Ordering::SeqCst);
         Ok(Sink {
+            sum: self.sum,
             path: noted(path.as_bytes()),
             taken: Log::new(),
         })

@@ -1,13 +1,6 @@
-//! Worked scripts: each request for memory of their lines is refused in turn.
+//! Worked scripts, with what they are answered, written by hand.
 
-use crate::driver::Memory;
 use crate::fixture::not_asked;
-use crate::transcripts::transcript;
-use scarce::Scarce;
-use std::alloc::Allocator;
-use std::process::Abort;
-use std::sync::Wait;
-use std::thread::Threads;
 use value::refusal::Refusal;
 
 // Tables, and what is asked of them, each line behind `> `, with what it is answered below it.
@@ -418,47 +411,26 @@ CREATE TABLE t (id bigint PRIMARY KEY, v bigint);
 3 | 1\t0
 ";
 
-// More requests than any script makes.
-const MOST_REQUESTS: u64 = 5000;
+/// All of them. Their sessions are at most 4, their events at most 40.
+pub const SCRIPTS: [&str; 12] = [
+    WRITE_SKEW,
+    ONE_CONFLICT,
+    READER_AFTER_THE_CLOSE,
+    READER_BEFORE_THE_CLOSE,
+    REFERENCES,
+    ABSENT_ROW,
+    NINE_KEYS,
+    EIGHT_KEYS,
+    FIRST_UPDATER,
+    DEFERRABLE,
+    SAFE_AT_ONCE,
+    EXPORT,
+];
 
-// Refuses each request of a script's lines in turn, and answers how many lines were repeated.
-fn refuse_each<A: Allocator + Copy + Send + Sync, R: Abort + Threads + Wait + Sync>(
-    rt: &R,
-    memory: &Memory,
-    alloc: A,
-    script: &str,
-) -> Result<u64, Refusal> {
-    let mut repeated = 0u64;
-    for number in 1..MOST_REQUESTS {
-        let (text, trial) = transcript(rt, memory, alloc, script, number)?;
-        assert!(rt; text.as_slice() == script.as_bytes(), "request {number}");
-        if trial.made < number {
-            return Ok(repeated);
-        }
-        repeated = repeated.wrapping_add(trial.repeated);
+/// The script at a place in the list.
+pub fn script_at(place: usize) -> Result<&'static str, Refusal> {
+    match SCRIPTS.get(place) {
+        Some(script) => Ok(*script),
+        None => Err(not_asked()),
     }
-    Err(not_asked())
-}
-
-#[test]
-fn worked_scripts(rt: HostRuntime) -> Result<(), Refusal> {
-    let memory = Scarce::new(rt.alloc());
-    for script in [
-        WRITE_SKEW,
-        ONE_CONFLICT,
-        READER_AFTER_THE_CLOSE,
-        READER_BEFORE_THE_CLOSE,
-        REFERENCES,
-        ABSENT_ROW,
-        NINE_KEYS,
-        EIGHT_KEYS,
-        FIRST_UPDATER,
-        DEFERRABLE,
-        SAFE_AT_ONCE,
-        EXPORT,
-    ] {
-        let repeated = refuse_each(&rt, &memory, &memory, script)?;
-        assert!(rt; repeated > 5, "{repeated}");
-    }
-    Ok(())
 }

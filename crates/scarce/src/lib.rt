@@ -4,6 +4,7 @@
 
 ghost use Rattle.std.specs.Prelude.{◌≡◌};
 
+mod naming;
 #[cfg(test)]
 mod tests;
 

@@ -1,0 +1,358 @@
+//! Scripts on a server, while a request for memory of its opening, a call, a view or a dump is refused.
+
+ghost use Rattle.std.specs.Prelude.{◌≡◌, IsTrue, IfOk, length};
+ghost use Rattle.schema.specs.Plain.{is_sound};
+ghost use Rattle.history.specs.Opening.{zero_base};
+
+use crate::driver::Memory;
+use crate::fixture::{are_recorded, not_asked, opening};
+use crate::transcripts::{Keeping, Trial, refusal_of};
+use crate::worked::script_at;
+use backup::{BackupFault, dump_safe};
+use dumpplan::{Jobs, NoGate, PieceRows};
+use dumpworker::dump;
+use history::base::Base;
+use mvrows::view::View;
+use pass::token::Pass;
+use pass::word::{FirstSeat, HistoryWord, Naming};
+use request::request::Request;
+use schema::catalog::Catalog;
+use schema::tables::Tables;
+use script::printing::reply_text;
+use serial::laws::views_are_sound;
+use server::shared::Server;
+use session::sessions::Core;
+use statement::reply::Reply;
+use std::alloc::{Allocator, Global};
+use std::marker::Brand;
+use std::process::Abort;
+use std::sync::Wait;
+use std::thread::Threads;
+use value::refusal::{Code, Mode, Refusal};
+use value::text::Text;
+
+// What a line asks of the server.
+fn request_of<A: Allocator>(alloc: A, asked: &str) -> Result<Request<A>, Refusal> {
+    match asked {
+        "BEGIN" => Ok(Request::Begin(Mode::ReadWrite)),
+        "BEGIN READ ONLY" => Ok(Request::Begin(Mode::ReadOnly)),
+        "BEGIN DEFERRABLE" => Ok(Request::Begin(Mode::Deferrable)),
+        "POLL" => Ok(Request::Poll),
+        "EXPORT" => Ok(Request::Export),
+        "IMPORT 1" => Ok(Request::Import(1)),
+        "IMPORT 2" => Ok(Request::Import(2)),
+        "COMMIT" => Ok(Request::Commit),
+        "ROLLBACK" => Ok(Request::Rollback),
+        _ => Ok(Request::Sql(Text::from_str(alloc, asked)?)),
+    }
+}
+
+// What a session's request is answered, as it is printed. A statement takes memory.
+fn replied<'w, J: Naming<A>, A: Allocator + Copy, R: Wait>(
+    rt: &R,
+    (memory, alloc): (&Memory, A),
+    server: &Server<'w, J, A>,
+    pass: &mut Pass<'w, J, A>,
+    asked: &str,
+    trial: &mut Trial,
+) -> Result<Vec<u8, A>, Refusal> {
+    let request = request_of(alloc, asked)?;
+    let start = trial.begin(memory);
+    let reply = server.call(rt, alloc, pass, &request);
+    let takes = trial.end(memory, start);
+    if !takes && matches!(request, Request::Sql(_)) {
+        return Err(not_asked());
+    }
+    match reply {
+        Reply::Refused(refusal) if refusal.code == Code::OutOfMemory => Err(refusal),
+        reply => Ok(reply_text(alloc, pass.session(), &reply)?),
+    }
+}
+
+// The tables that a session may view: as many as the catalog's.
+fn view_of<'w, J: Naming<A>, A: Allocator + Copy, R: Wait>(
+    rt: &R,
+    alloc: A,
+    server: &Server<'w, J, A>,
+    pass: &mut Pass<'w, J, A>,
+) -> Result<View<A>, Refusal>
+    ensures { IfOk result (λ view. length view ≡ length J.opening.catalog) }
+{
+    views_are_sound::<A>();
+    server.view(rt, alloc, pass)
+}
+
+// What a view of a session's safe snapshot shows, dumped by one job with ample memory. A view takes memory.
+fn viewed<'w, J, A, R>(
+    rt: &R,
+    (memory, alloc): (&Memory, A),
+    server: &Server<'w, J, A>,
+    pass: &mut Pass<'w, J, A>,
+    trial: &mut Trial,
+) -> Result<Vec<u8>, Refusal>
+where
+    J: Naming<A>,
+    A: Allocator + Copy + Send + Sync,
+    R: Abort + Threads + Wait + Sync,
+{
+    let start = trial.begin(memory);
+    let view = view_of(rt, alloc, server, pass);
+    if !trial.end(memory, start) {
+        return Err(not_asked());
+    }
+    let view = view?;
+    let jobs = Jobs::new(1).ok_or(not_asked())?;
+    let rows = PieceRows::new(9).ok_or(not_asked())?;
+    let mut device = Keeping::new(rt, memory.inner);
+    let catalog = server.catalog();
+    match dump(rt, alloc, &view, catalog, jobs, rows, &mut device, &NoGate) {
+        Ok(()) => Ok(device.taken),
+        Err(fault) => Err(refusal_of(BackupFault::Dump(fault))),
+    }
+}
+
+// The dump of a session's safe snapshot, by two jobs. It takes memory.
+fn dumped<'w, J, A, R>(
+    rt: &R,
+    (memory, alloc): (&Memory, A),
+    server: &Server<'w, J, A>,
+    pass: &mut Pass<'w, J, A>,
+    trial: &mut Trial,
+) -> Result<Vec<u8>, Refusal>
+where
+    J: Naming<A>,
+    A: Allocator + Copy + Send + Sync,
+    R: Abort + Threads + Wait + Sync,
+{
+    let jobs = Jobs::new(2).ok_or(not_asked())?;
+    let rows = PieceRows::new(1).ok_or(not_asked())?;
+    let mut device = Keeping::new(rt, memory.inner);
+    let start = trial.begin(memory);
+    let done = dump_safe(rt, alloc, server, pass, jobs, rows, &mut device, &NoGate);
+    if !trial.end(memory, start) {
+        return Err(not_asked());
+    }
+    match done {
+        Ok(()) => Ok(device.taken),
+        Err(fault) => Err(refusal_of(fault)),
+    }
+}
+
+// What is asked and answered, and the replies alone, which the history is to have.
+#[derive(Drop)]
+struct Told {
+    text: Vec<u8>,
+    replies: Vec<u8>,
+}
+
+impl Told {
+    // Nothing is answered yet: the text begins with what stands before the script's lines.
+    fn of(ample: Global, script: &str) -> Result<Told, Refusal> {
+        let (creates, _lines) = script.split_once("\n>").ok_or(not_asked())?;
+        let mut text = Vec::from_slice(ample, creates.as_bytes())?;
+        text.push(b'\n')?;
+        Ok(Told {
+            text,
+            replies: Vec::new(ample),
+        })
+    }
+}
+
+// A session's line is answered. A DUMP shows what a view shows.
+fn answer<'w, J, A, R>(
+    rt: &R,
+    (memory, alloc): (&Memory, A),
+    server: &Server<'w, J, A>,
+    pass: &mut Pass<'w, J, A>,
+    asked: &str,
+    (told, trial): (&mut Told, &mut Trial),
+) -> Result<(), Refusal>
+where
+    J: Naming<A>,
+    A: Allocator + Copy + Send + Sync,
+    R: Abort + Threads + Wait + Sync,
+{
+    if asked == "DUMP" {
+        let shown = viewed(rt, (memory, alloc), server, pass, trial)?;
+        let dumped = dumped(rt, (memory, alloc), server, pass, trial)?;
+        if shown != dumped {
+            return Err(not_asked());
+        }
+        told.text.extend_from_slice(dumped.as_slice())?;
+        return Ok(());
+    }
+    let reply = replied(rt, (memory, alloc), server, pass, asked, trial)?;
+    told.text.extend_from_slice(reply.as_slice())?;
+    told.replies.extend_from_slice(reply.as_slice())?;
+    Ok(())
+}
+
+// A session's line is answered; one that is refused for want of memory is repeated.
+fn answer_at_last<'w, J, A, R>(
+    rt: &R,
+    (memory, alloc): (&Memory, A),
+    server: &Server<'w, J, A>,
+    pass: &mut Pass<'w, J, A>,
+    asked: &str,
+    (told, trial): (&mut Told, &mut Trial),
+) -> Result<(), Refusal>
+where
+    J: Naming<A>,
+    A: Allocator + Copy + Send + Sync,
+    R: Abort + Threads + Wait + Sync,
+{
+    match answer(rt, (memory, alloc), server, pass, asked, (told, trial)) {
+        Err(refusal) => {
+            trial.repeat(asked, refusal)?;
+            answer(rt, (memory, alloc), server, pass, asked, (told, trial))
+        }
+        done => done,
+    }
+}
+
+// The lines of a script are asked by their sessions, one after the other.
+fn ask_all<'w, J, A, R>(
+    rt: &R,
+    (memory, alloc): (&Memory, A),
+    server: &Server<'w, J, A>,
+    passes: &mut Vec<Pass<'w, J, A>, A>,
+    script: &str,
+    (told, trial): (&mut Told, &mut Trial),
+) -> Result<(), Refusal>
+where
+    J: Naming<A>,
+    A: Allocator + Copy + Send + Sync,
+    R: Abort + Threads + Wait + Sync,
+{
+    for line in script.lines() {
+        if let Some(asked) = line.strip_prefix("> ") {
+            told.text.extend_from_slice(line.as_bytes())?;
+            told.text.push(b'\n')?;
+            let (number, asked) = asked.split_once(' ').ok_or(not_asked())?;
+            let number = number.parse::<usize>().ok().ok_or(not_asked())?;
+            let pass = passes.get_mut(number.wrapping_sub(1)).ok_or(not_asked())?;
+            answer_at_last(rt, (memory, alloc), server, pass, asked, (told, trial))?;
+        }
+    }
+    Ok(())
+}
+
+// The replies that a history has, as they are printed.
+fn recorded<A: Allocator + Copy>(
+    ample: Global,
+    alloc: A,
+    core: &Core<A>,
+) -> Result<Vec<u8>, Refusal> {
+    let mut replies = Vec::new(ample);
+    for record in core.history().records() {
+        let reply = reply_text(alloc, record.session, &record.reply)?;
+        replies.extend_from_slice(reply.as_slice())?;
+    }
+    Ok(replies)
+}
+
+// What was asked and answered, where the history has all actions and replies, and no others.
+fn text_told<A: Allocator + Copy>(
+    ample: Global,
+    alloc: A,
+    core: &Core<A>,
+    told: Told,
+    script: &str,
+) -> Result<Vec<u8>, Refusal> {
+    if recorded(ample, alloc, core)? == told.replies && are_recorded(ample, alloc, core, script)? {
+        Ok(told.text)
+    } else {
+        Err(not_asked())
+    }
+}
+
+/// What is asked and answered where a script is played on a server, which then is closed. The history has all
+/// actions and replies, and no others.
+pub fn play<'w, J, A, R>(
+    rt: &R,
+    (memory, alloc): (&Memory, A),
+    (server, passes): (Server<'w, J, A>, Vec<Pass<'w, J, A>, A>),
+    script: &str,
+    trial: &mut Trial,
+) -> Result<Vec<u8>, Refusal>
+where
+    J: Naming<A>,
+    A: Allocator + Copy + Send + Sync,
+    R: Abort + Threads + Wait + Sync,
+{
+    let mut passes = passes;
+    let mut told = Told::of(memory.inner, script)?;
+    let given = (&mut told, trial);
+    ask_all(rt, (memory, alloc), &server, &mut passes, script, given)?;
+    let core = server.close(passes);
+    text_told(memory.inner, alloc, &core, told, script)
+}
+
+// What is asked and answered where the script at a place is played on a server of this word; none where the opening is
+// refused for want of memory. The opening's tables are those of the word.
+fn serve<J, A, R>(
+    rt: &R,
+    given: (&Memory, A),
+    word: &HistoryWord<A>,
+    first: FirstSeat<A>,
+    opening: (Catalog<A>, Tables<A>),
+    place: usize,
+    trial: &mut Trial,
+) -> Result<Option<Vec<u8>>, Refusal>
+where
+    J: Naming<A>,
+    A: Allocator + Copy + Send + Sync,
+    R: Abort + Threads + Wait + Sync,
+    requires word { word.now ≡ record { table = J.table; opening = J.opening } }
+    requires first { first ≡ J.table }
+    requires opening { J.opening ≡ record { catalog = opening.0; tables = opening.1; base = zero_base } }
+    requires most { J.most ≡ 40 }
+    requires sound { IsTrue (is_sound opening.0 opening.1) }
+{
+    let (memory, alloc) = given;
+    let (catalog, tables) = opening;
+    let start = trial.begin(memory);
+    let opened = Server::<J, A>::open(alloc, word, first, catalog, tables, 40, 4);
+    if !trial.end(memory, start) {
+        return Err(not_asked());
+    }
+    match opened {
+        Ok(opened) => {
+            let text = play(rt, (memory, alloc), opened, script_at(place)?, trial)?;
+            Ok(Some(text))
+        }
+        Err(refusal) => {
+            trial.repeat("the opening", refusal)?;
+            Ok(None)
+        }
+    }
+}
+
+// The same on a server and a word of its own.
+fn serve_anew<R: Abort + Threads + Wait + Sync>(
+    rt: &R,
+    memory: &Memory,
+    place: usize,
+    trial: &mut Trial,
+) -> Result<Option<Vec<u8>>, Refusal> {
+    let (creates, _lines) = script_at(place)?.split_once("\n>").ok_or(not_asked())?;
+    let opening = opening(memory, creates)?;
+    let (word, first) = HistoryWord::new(memory, &opening.0, &opening.1, Base::zero())?;
+    serve::<Brand, _, _>(rt, (memory, memory), &word, first, opening, place, trial)
+}
+
+/// What is asked and answered where the script at a place is played on a server, while one request is refused; where
+/// that is one of its opening, it is opened again.
+pub fn serve_at_last<R: Abort + Threads + Wait + Sync>(
+    rt: &R,
+    memory: &Memory,
+    place: usize,
+    number: u64,
+) -> Result<(Vec<u8>, Trial), Refusal> {
+    let mut trial = Trial::of(number);
+    if let Some(text) = serve_anew(rt, memory, place, &mut trial)? {
+        return Ok((text, trial));
+    }
+    let text = serve_anew(rt, memory, place, &mut trial)?.ok_or(not_asked())?;
+    Ok((text, trial))
+}
