@@ -1,21 +1,19 @@
 //! COPY text of rows, and the reading of a dump, by one thread and by workers.
 
-ghost use Rattle.schema.specs.Rows.{HasTable};
-
 use crate::driver::{Call, Memory, assert_needs, assert_takes, is_out_of_memory};
+use crate::dumps::dumped;
 use crate::fixture::{Database, catalog, not_asked, row};
 use copytext::{read_row, write_row};
 use dumpplan::{Jobs, NoGate};
 use restore::{RestoreFault, restore, restore_one};
 use scarce::Scarce;
-use schema::catalog::{Catalog, TableNo};
-use schema::reader::SnapshotReader;
+use schema::catalog::Catalog;
 use schema::row::Row;
 use schema::tables::Tables;
 use std::alloc::{Allocator, Global};
 use std::process::Abort;
+use std::sync::Wait;
 use std::thread::Threads;
-use value::key::Key;
 use value::kind::Kind;
 use value::refusal::Refusal;
 use value::value::Value;
@@ -129,7 +127,6 @@ impl<'d, A: Allocator + Copy> Call for RestoreOne<'d, A> {
 fn restored_dumps(rt: HostRuntime) -> Result<(), Refusal> {
     let memory = Scarce::new(rt.alloc());
     let alloc = &memory;
-    assert!(rt; restore_one(rt.alloc(), DUMP.as_bytes()).is_ok());
     assert_needs(&rt, &memory, &RestoreOne { alloc, dump: DUMP }, 12)
 }
 
@@ -155,84 +152,75 @@ fn a_restored_dump_of_many_rows(rt: HostRuntime) -> Result<(), Refusal> {
     let alloc = &memory;
     let dump = numbers(rt.alloc(), 200)?;
     let dump = dump.as_str();
-    assert!(rt; restore_one(rt.alloc(), dump.as_bytes()).is_ok());
     assert_takes(&rt, &memory, &RestoreOne { alloc, dump }, 200)
 }
 
-// How many of the numbers below 2000 are keys of the first table, and their sum.
-fn counted<A: Allocator>(tables: &Tables<A>) -> (u64, i64)
-    requires { HasTable tables.now 0 }
-{
-    let (mut rows, mut sum) = (0u64, 0i64);
-    for number in 0..2000 {
-        if let Some(key) = Key::new(Value::Int(number)) {
-            if tables.get(TableNo::at(0), &key).is_some() {
-                rows = rows.wrapping_add(1);
-                sum = sum.wrapping_add(number);
-            }
-        }
-    }
-    (rows, sum)
-}
-
-// What workers read of a dump of numbers: how many there are, and their sum.
+// What workers read of a dump.
 fn read_by_workers<A: Allocator + Copy + Send + Sync, R: Threads + Sync>(
     rt: &R,
     alloc: A,
     dump: &str,
     jobs: Jobs,
-) -> Result<(u64, i64), Refusal> {
-    let read = database(restore(rt, alloc, dump.as_bytes(), jobs, &NoGate))?;
-    if !read.tables.has(TableNo::at(0)) {
-        return Err(not_asked());
-    }
-    Ok(counted(&read.tables))
+) -> Result<Database<A>, Refusal> {
+    database(restore(rt, alloc, dump.as_bytes(), jobs, &NoGate))
+}
+
+// Whether what was read is dumped as this text.
+fn is_dumped_as<A: Allocator + Copy + Send + Sync, R: Abort + Threads + Wait + Sync>(
+    rt: &R,
+    (ample, alloc): (Global, A),
+    read: Result<Database<A>, Refusal>,
+    dump: &str,
+) -> Result<bool, Refusal> {
+    let read = read?;
+    let one = Jobs::new(1).ok_or(not_asked())?;
+    let text = dumped(rt, (ample, alloc), (&read, one), b"")?;
+    Ok(text.as_slice() == dump.as_bytes())
 }
 
 // Refuses one request of workers that read a dump. Whether they made as many; and whether they answered want of memory:
 // where only a worker wasn't started, the others do its work.
-fn refuse_workers<A: Allocator + Copy + Send + Sync, R: Abort + Threads + Sync>(
+fn refuse_workers<A: Allocator + Copy + Send + Sync, R: Abort + Threads + Wait + Sync>(
     rt: &R,
     (memory, alloc): (&Memory, A),
     (dump, jobs): (&str, Jobs),
-    wanted: (u64, i64),
     number: u64,
 ) -> Result<(bool, bool), Refusal> {
     let start = memory.requests();
     memory.refuse(number);
-    let answer = read_by_workers(rt, alloc, dump, jobs);
+    let read = read_by_workers(rt, alloc, dump, jobs);
     memory.refuse(0);
     let is_reached = memory.requests().wrapping_sub(start) >= number;
-    if is_reached && is_out_of_memory(&answer) {
+    if is_reached && is_out_of_memory(&read) {
         return Ok((true, true));
     }
-    assert!(rt; answer? == wanted, "request {number}");
+    let is_right = is_dumped_as(rt, (memory.inner, alloc), read, dump)?;
+    assert!(rt; is_right, "request {number}");
     Ok((is_reached, false))
 }
 
 // Refuses the first request of workers that read the dump of so many numbers, and each `step`-th behind it. They read
 // it as they should after each refusal.
-fn refuse_restore<A: Allocator + Copy + Send + Sync, R: Abort + Threads + Sync>(
+fn refuse_restore<A: Allocator + Copy + Send + Sync, R: Abort + Threads + Wait + Sync>(
     rt: &R,
     memory: &Memory,
     alloc: A,
-    (count, sum, jobs, step): (u32, i64, u32, u64),
+    (count, jobs, step): (u32, u32, u64),
 ) -> Result<u64, Refusal> {
     let dump = numbers(memory.inner, count)?;
     let dump = dump.as_str();
     let jobs = Jobs::new(jobs).ok_or(not_asked())?;
-    let wanted = (u64::from(count), sum);
     let mut needed = 0u64;
     for place in 0..10_000 {
         let number = step.wrapping_mul(place).wrapping_add(1);
-        let given = (dump, jobs);
-        let (is_reached, is_refused) = refuse_workers(rt, (memory, alloc), given, wanted, number)?;
+        let (is_reached, is_refused) = refuse_workers(rt, (memory, alloc), (dump, jobs), number)?;
         if !is_reached {
             return Ok(needed);
         }
         needed = needed.wrapping_add(u64::from(is_refused));
-        let again = read_by_workers(rt, alloc, dump, jobs)?;
-        assert!(rt; again == wanted, "after {number}");
+        let again = read_by_workers(rt, alloc, dump, jobs);
+        let is_right = is_dumped_as(rt, (memory.inner, alloc), again, dump)?;
+        assert!(rt; is_right, "after {number}");
     }
     Err(not_asked())
 }
@@ -241,11 +229,8 @@ fn refuse_restore<A: Allocator + Copy + Send + Sync, R: Abort + Threads + Sync>(
 fn a_dump_of_many_rows_restored_by_workers(rt: HostRuntime) -> Result<(), Refusal> {
     let memory = Scarce::new(rt.alloc());
     for jobs in [1, 2] {
-        let case = (200, 19_900, jobs, 1);
-        assert!(rt;
-            refuse_restore(&rt, &memory, &memory, case)? >= 20,
-            "{jobs}"
-        );
+        let needed = refuse_restore(&rt, &memory, &memory, (200, jobs, 1))?;
+        assert!(rt; needed >= 20, "{jobs}");
     }
     Ok(())
 }
@@ -253,7 +238,7 @@ fn a_dump_of_many_rows_restored_by_workers(rt: HostRuntime) -> Result<(), Refusa
 #[test]
 fn a_dump_of_two_pieces_restored_by_workers(rt: HostRuntime) -> Result<(), Refusal> {
     let memory = Scarce::new(rt.alloc());
-    let case = (1001, 500_500, 2, 50);
-    assert!(rt; refuse_restore(&rt, &memory, &memory, case)? >= 20);
+    let needed = refuse_restore(&rt, &memory, &memory, (1001, 2, 50))?;
+    assert!(rt; needed >= 20);
     Ok(())
 }

@@ -44,10 +44,11 @@ fn text<C: Call>(alloc: Global, call: &C, lent: &mut C::Lent) -> Result<String, 
     text_of::<C>(alloc, &answer, lent)
 }
 
-// The text of the call on what it is lent anew.
+// The text of the call on what it is lent anew, which has ample memory and isn't refused.
 fn whole_text<C: Call>(alloc: Global, call: &C) -> Result<String, Refusal> {
     let mut lent = call.lend()?;
-    Ok(text(alloc, call, &mut lent)?)
+    let answer = call.call(&mut lent)?;
+    Ok(text_of::<C>(alloc, &Ok(answer), &lent)?)
 }
 
 // Makes the call while one of its requests is refused: its answer, and how many requests it made.

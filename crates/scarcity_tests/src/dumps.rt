@@ -70,6 +70,42 @@ fn with_names<A: Allocator + Copy>(alloc: A, count: u8) -> Result<Database<A>, R
     Ok(database)
 }
 
+// What stands in a dump of the tables before the numbered names.
+const HEAD: &str = "-- dump 2
+CREATE TABLE p (id bigint PRIMARY KEY, name text NOT NULL);
+CREATE TABLE c (id bigint PRIMARY KEY, p bigint REFERENCES p, raw bytea);
+CREATE TABLE n (name text PRIMARY KEY, v bigint);
+COPY p (id, name) FROM stdin;
+1\ta name
+2\tanother
+";
+
+// What stands behind the number of rows of the first table.
+const TAIL: &str = "COPY c (id, p, raw) FROM stdin;
+5\t2\t\\\\x00ff
+6\t\\N\t\\N
+\\.
+-- rows 2
+COPY n (name, v) FROM stdin;
+the one\t1
+\\.
+-- rows 1
+-- end
+";
+
+// The dump text of the tables with so many numbered names more.
+fn text_with_names(alloc: Global, count: u8) -> Result<String, Refusal> {
+    let mut text = String::from_str(alloc, HEAD)?;
+    for number in 0..count {
+        let line = format!(in alloc; "{}\ta name\n", 10 + u32::from(number))?;
+        text.push_str(line.as_str())?;
+    }
+    let end = format!(in alloc; "\\.\n-- rows {}\n", 2 + u32::from(count))?;
+    text.push_str(end.as_str())?;
+    text.push_str(TAIL)?;
+    Ok(text)
+}
+
 // Whether tables are as many as the catalog's.
 fn is_whole<A: Allocator>(database: &Database<A>) -> bool
     ensures { result ≡ true → length database.now.tables ≡ length database.now.catalog }
@@ -77,8 +113,8 @@ fn is_whole<A: Allocator>(database: &Database<A>) -> bool
     database.tables.count() == database.catalog.len()
 }
 
-// The dump text of the tables, by so many workers. What is written before a refusal is a beginning of `text`.
-fn dumped<A: Allocator + Copy + Send + Sync, R: Abort + Threads + Wait + Sync>(
+/// The dump text of tables, by so many workers. What is written before a refusal is a beginning of `text`.
+pub fn dumped<A: Allocator + Copy + Send + Sync, R: Abort + Threads + Wait + Sync>(
     rt: &R,
     (ample, alloc): (Global, A),
     (lent, jobs): (&Database<A>, Jobs),
@@ -137,13 +173,14 @@ fn refuse_dumps<A: Allocator + Copy + Send + Sync, R: Abort + Threads + Wait + S
 ) -> Result<u64, Refusal> {
     let lent = with_names(alloc, count)?;
     let jobs = Jobs::new(jobs).ok_or(not_asked())?;
-    let text = dumped(rt, (memory.inner, alloc), (&lent, jobs), b"")?;
+    let text = text_with_names(memory.inner, count)?;
+    let text = text.as_bytes();
     for number in 1..10_000 {
-        if !refuse_dump(rt, (memory, alloc), (&lent, jobs), text.as_slice(), number)? {
+        if !refuse_dump(rt, (memory, alloc), (&lent, jobs), text, number)? {
             return Ok(number.wrapping_sub(1));
         }
         let again = dumped(rt, (memory.inner, alloc), (&lent, jobs), b"")?;
-        assert!(rt; again == text, "after request {number}");
+        assert!(rt; again.as_slice() == text, "after request {number}");
     }
     Err(not_asked())
 }

@@ -14,9 +14,22 @@ use value::refusal::{Refusal, TxnNo};
 use value::text::Text;
 use value::value::Value;
 
-// Locks, which show the keys below 20 that each of two transactions covers.
+// Locks, which show the keys below 20 that each of two transactions covers, and which of two texts.
 #[derive(Drop)]
-struct Covering<A: Allocator>(Locks<A>);
+struct Covering<A: Allocator> {
+    locks: Locks<A>,
+    first: Key<A>,
+    second: Key<A>,
+}
+
+impl<A: Allocator> Covering<A> {
+    // Whether a transaction covers the first text, and the second.
+    fn texts(&self, txn: u64) -> (bool, bool) {
+        let first = self.locks.covers(TxnNo(txn), TableNo::at(0), &self.first);
+        let second = self.locks.covers(TxnNo(txn), TableNo::at(0), &self.second);
+        (first, second)
+    }
+}
 
 // Whether a transaction covers the key of a number.
 fn covers<A: Allocator>(locks: &Locks<A>, txn: u64, number: i64) -> bool {
@@ -29,11 +42,12 @@ fn covers<A: Allocator>(locks: &Locks<A>, txn: u64, number: i64) -> bool {
 impl<A: Allocator> Debug for Covering<A> {
     fn fmt<W: Write>(&self, f: &mut Formatter<W>) -> fmt::Result {
         for number in 0..20 {
-            let first = covers(&self.0, 1, number);
-            let second = covers(&self.0, 2, number);
+            let first = covers(&self.locks, 1, number);
+            let second = covers(&self.locks, 2, number);
             write!(f, "{first} {second} ")?;
         }
-        Ok(())
+        let (first, second) = (self.texts(1), self.texts(2));
+        write!(f, "{first:?} {second:?}")
     }
 }
 
@@ -76,7 +90,11 @@ impl<A: Allocator + Copy> Call for Further<A> {
         }
         let mut locks = Locks::new(self.alloc);
         locks.read(self.alloc, TxnNo(1), &Footprint::of(readings))?;
-        Ok(Covering(locks))
+        Ok(Covering {
+            locks,
+            first: text(self.alloc, "a")?,
+            second: text(self.alloc, "aa")?,
+        })
     }
 
     fn call(&self, lent: &mut Covering<A>) -> Result<(), Refusal> {
@@ -87,7 +105,7 @@ impl<A: Allocator + Copy> Call for Further<A> {
             let high = End::Without(text(self.alloc, "b")?);
             readings.push(reading(Extent::Range(low, high)))?;
         }
-        lent.0
+        lent.locks
             .read(self.alloc, TxnNo(self.txn), &Footprint::of(readings))
     }
 }
@@ -104,5 +122,20 @@ fn reads_kept(rt: HostRuntime) -> Result<(), Refusal> {
         };
         assert_takes(&rt, &memory, &further, least)?;
     }
+    Ok(())
+}
+
+// Both texts stand from "a" on and below "b".
+#[test]
+fn texts_kept(rt: HostRuntime) -> Result<(), Refusal> {
+    let further = Further {
+        alloc: rt.alloc(),
+        txn: 2,
+        has_texts: true,
+    };
+    let mut lent = further.lend()?;
+    assert!(rt; lent.texts(1) == (false, false) && lent.texts(2) == (false, false));
+    further.call(&mut lent)?;
+    assert!(rt; lent.texts(1) == (false, false) && lent.texts(2) == (true, true));
     Ok(())
 }

@@ -48,6 +48,16 @@ impl<A: Allocator + Copy> Versions<A> {
         Ok(versions)
     }
 
+    /// The opening of three tables that are given away.
+    pub fn of_given(alloc: A, tables: Tables<A>) -> Result<Versions<A>, Refusal> {
+        if tables.count() != 3 {
+            return Err(not_asked());
+        }
+        let rows = Rows::of(alloc, tables)?;
+        let versions = Versions { rows, next: 1 };
+        Ok(versions)
+    }
+
     /// The next commit, while the opening may still be read.
     pub fn commit(&mut self, alloc: A, changes: &[Change<A>]) -> Result<(), Refusal> {
         let commit = self.next;
@@ -249,6 +259,38 @@ impl<A: Allocator + Copy> Call for Ask<A> {
     }
 }
 
+// Tables to be given away. It isn't told whether they have been.
+#[derive(Drop)]
+struct Given<A: Allocator>(Option<Tables<A>>);
+
+impl<A: Allocator> Debug for Given<A> {
+    fn fmt<W: Write>(&self, f: &mut Formatter<W>) -> fmt::Result {
+        f.write_str("tables")
+    }
+}
+
+// The opening of tables that are given away.
+#[derive(Drop)]
+struct Give<A>(A);
+
+impl<A: Allocator + Copy> Call for Give<A> {
+    type Lent = Given<A>;
+
+    type Answer = Versions<A>;
+
+    fn lend(&self) -> Result<Given<A>, Refusal> {
+        Ok(Given(Some(some_tables(self.0)?.tables)))
+    }
+
+    // Where they have been given away, such tables are made anew.
+    fn call(&self, lent: &mut Given<A>) -> Result<Versions<A>, Refusal> {
+        match lent.0.take() {
+            Some(tables) => Versions::of_given(self.0, tables),
+            None => Versions::of_given(self.0, some_tables(self.0)?.tables),
+        }
+    }
+}
+
 #[test]
 fn openings_commits_and_prunings(rt: HostRuntime) -> Result<(), Refusal> {
     let memory = Scarce::new(rt.alloc());
@@ -263,5 +305,5 @@ fn openings_commits_and_prunings(rt: HostRuntime) -> Result<(), Refusal> {
     ] {
         assert_needs(&rt, &memory, &Ask { alloc, asked }, least)?;
     }
-    Ok(())
+    assert_needs(&rt, &memory, &Give(alloc), 6)
 }
