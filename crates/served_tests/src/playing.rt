@@ -34,6 +34,7 @@ fn word_of(reply: &Reply) -> &'static str {
         Reply::Committed => "committed",
         Reply::RolledBack => "rolled back",
         Reply::Inserted => "inserted",
+        Reply::Deleted(1) => "deleted",
         Reply::Safe(_) => "safe",
         Reply::Refused(_) => "refused",
         Reply::Rows(rows) => match rows.as_slice() {
@@ -135,6 +136,7 @@ fn told<'w, J: Naming<Global>, R: Threads + Wait + Abort + Sync>(
         "WAIT" => word_of(&server.wait_safe(rt, alloc, pass)),
         "COUNT" => counts(rt, alloc, server, pass),
         "VIEW" => viewed(rt, alloc, server, pass, barrier),
+        "DUMP 1" => dumped(rt, alloc, server, pass, 1, barrier),
         "DUMP 2" => dumped(rt, alloc, server, pass, 2, barrier),
         "DUMP 8" => dumped(rt, alloc, server, pass, 8, barrier),
         "SHUT" | "OPEN" | "REACH" => at_barrier(asked, barrier),

@@ -8,6 +8,7 @@ ghost use Rattle.history.specs.Opening.{zero_base};
 use crate::fixture::{Barrier, not_asked, opening};
 use crate::playing::{play, play_three};
 use history::base::Base;
+use pass::token::Pass;
 use pass::word::{FirstSeat, HistoryWord, Naming};
 use schema::catalog::Catalog;
 use schema::tables::Tables;
@@ -139,18 +140,115 @@ const SCRIPTS: &str = "\
 2 INSERT INTO a VALUES (1): inserted
 2 COMMIT: committed
 2 OPEN: done
+
+1 BEGIN: begun
+1 INSERT INTO a VALUES (9): inserted
+1 INSERT INTO a VALUES (1): inserted
+1 INSERT INTO a VALUES (8): inserted
+1 INSERT INTO a VALUES (3): inserted
+1 INSERT INTO a VALUES (7): inserted
+1 INSERT INTO a VALUES (4): inserted
+1 INSERT INTO a VALUES (6): inserted
+1 COMMIT: committed
+3 AFTER 9: seen
+3 BEGIN READ ONLY DEFERRABLE: begun
+3 WAIT: safe
+3 SHUT: done
+3 DUMP 1: seven rows
+2 REACH: reached
+2 BEGIN: begun
+2 INSERT INTO a VALUES (2): inserted
+2 DELETE FROM a WHERE id = 9: deleted
+2 COMMIT: committed
+2 OPEN: done
+
+1 BEGIN: begun
+1 INSERT INTO a VALUES (9): inserted
+1 INSERT INTO a VALUES (1): inserted
+1 INSERT INTO a VALUES (8): inserted
+1 INSERT INTO a VALUES (3): inserted
+1 INSERT INTO a VALUES (7): inserted
+1 INSERT INTO a VALUES (4): inserted
+1 INSERT INTO a VALUES (6): inserted
+1 COMMIT: committed
+3 AFTER 9: seen
+3 BEGIN READ ONLY DEFERRABLE: begun
+3 WAIT: safe
+3 SHUT: done
+3 DUMP 2: seven rows
+2 REACH: reached
+2 BEGIN: begun
+2 INSERT INTO a VALUES (2): inserted
+2 DELETE FROM a WHERE id = 9: deleted
+2 COMMIT: committed
+2 OPEN: done
+
+1 BEGIN: begun
+1 INSERT INTO a VALUES (9): inserted
+1 INSERT INTO a VALUES (1): inserted
+1 INSERT INTO a VALUES (8): inserted
+1 INSERT INTO a VALUES (3): inserted
+1 INSERT INTO a VALUES (7): inserted
+1 INSERT INTO a VALUES (4): inserted
+1 INSERT INTO a VALUES (6): inserted
+1 COMMIT: committed
+3 AFTER 9: seen
+3 BEGIN READ ONLY DEFERRABLE: begun
+3 WAIT: safe
+3 SHUT: done
+3 DUMP 8: seven rows
+2 REACH: reached
+2 BEGIN: begun
+2 INSERT INTO a VALUES (2): inserted
+2 DELETE FROM a WHERE id = 9: deleted
+2 COMMIT: committed
+2 OPEN: done
 ";
+
+// Whether each line is one of the three sessions.
+fn are_played(script: &str) -> bool {
+    script
+        .lines()
+        .all(|line| matches!(line.get(..2), Some("1 " | "2 " | "3 ")))
+}
 
 // Each script on a server of its own.
 #[test]
 fn sessions_on_threads(rt: HostRuntime) -> Result<(), Refusal> {
     let alloc = rt.alloc();
-    for (place, _script) in SCRIPTS.split("\n\n").enumerate() {
+    for (place, script) in SCRIPTS.split("\n\n").enumerate() {
+        assert!(rt; are_played(script), "{script}");
         let (catalog, tables) = opening(alloc, &["a", "b"])?;
         let (word, first) = HistoryWord::new(alloc, &catalog, &tables, Base::zero())?;
         play_script::<Brand, _>(&rt, alloc, &word, first, catalog, tables, place)?;
     }
     Ok(())
+}
+
+// Three passes, in the order of their sessions.
+fn three_of<'w, J: Naming<Global>>(
+    passes: &mut Vec<Pass<'w, J>>,
+) -> Result<(Pass<'w, J>, Pass<'w, J>, Pass<'w, J>), Refusal> {
+    let three = passes.pop().ok_or(not_asked())?;
+    let two = passes.pop().ok_or(not_asked())?;
+    let one = passes.pop().ok_or(not_asked())?;
+    Ok((one, two, three))
+}
+
+// Plays a script by three sessions: how many events the first has seen, which are all, and the passes.
+fn played<'w, J: Naming<Global> + Send + Sync, R: Threads + Wait + Abort + Sync>(
+    rt: &R,
+    alloc: Global,
+    server: &Server<'w, J>,
+    passes: (Pass<'w, J>, Pass<'w, J>, Pass<'w, J>),
+    script: &str,
+) -> Result<(u64, Vec<Pass<'w, J>>), Refusal> {
+    let barrier = Barrier::open();
+    let (mut one, (mut two, three)) = play_three(rt, alloc, server, passes, script, &barrier);
+    let (second, events) = (two.stamp(), one.stamp());
+    let is_right = !barrier.is_late() && second > 0 && second <= events;
+    assert!(rt; is_right, "{script}");
+    Ok((events, vec![in alloc; one, two, three]?))
 }
 
 // Plays the script at a place on a server of this word.
@@ -171,26 +269,8 @@ fn play_script<J: Naming<Global> + Send + Sync, R: Threads + Wait + Abort + Sync
 {
     let script = SCRIPTS.split("\n\n").nth(place).ok_or(not_asked())?;
     let (server, mut passes) = Server::<J>::open(alloc, word, first, catalog, tables, 100, 3)?;
-    assert!(rt; server.catalog().len() == 2);
-    let three = passes.pop().ok_or(not_asked())?;
-    let two = passes.pop().ok_or(not_asked())?;
-    let one = passes.pop().ok_or(not_asked())?;
-    let barrier = Barrier::open();
-    let (mut one, (mut two, three)) = play_three(
-        rt,
-        alloc,
-        &server,
-        (one, two, three),
-        script,
-        &barrier,
-    );
-    assert!(rt; !barrier.is_late(), "{script}");
-    let second = two.stamp();
-    let events = one.stamp();
-    assert!(rt; second > 0 && second <= events, "{script}");
-    passes.push(one)?;
-    passes.push(two)?;
-    passes.push(three)?;
+    let three = three_of(&mut passes)?;
+    let (events, passes) = played(rt, alloc, &server, three, script)?;
     let core = server.close(passes);
     assert!(rt; core.history().records().len() as u64 == events, "{script}");
     Ok(())

@@ -44,12 +44,33 @@ COPY b (id) FROM stdin;
 -- end
 ";
 
+const SEVEN_ROWS: &[u8] = b"-- dump 2
+CREATE TABLE a (id bigint PRIMARY KEY);
+CREATE TABLE b (id bigint PRIMARY KEY);
+COPY a (id) FROM stdin;
+1
+3
+4
+6
+7
+8
+9
+\\.
+-- rows 7
+COPY b (id) FROM stdin;
+\\.
+-- rows 0
+-- end
+";
+
 // The text of a dump in a word.
 fn word_of(text: &[u8]) -> &'static str {
     if text == NO_ROW {
         "no row"
     } else if text == THREE_ROWS {
         "three rows"
+    } else if text == SEVEN_ROWS {
+        "seven rows"
     } else {
         "another dump"
     }
