@@ -123,7 +123,7 @@ fn newlines(text: &str) -> u64 {
 fn a_beginning_lacks_its_next_line(rt: HostRuntime) -> Result<(), Fail> {
     for end in 0..EXAMPLE.len() {
         let Some(start) = EXAMPLE.get(..end) else {
-            continue;
+            return Err(Fail::from("no beginning"));
         };
         let want = Some((newlines(start).saturating_add(1), Code::BadCopyFileFormat));
         assert_eq!(rt; fault_of(&rt, rt.alloc(), start)?, want);
@@ -135,7 +135,7 @@ fn a_beginning_lacks_its_next_line(rt: HostRuntime) -> Result<(), Fail> {
 fn a_carriage_return_stands_before_no_newline(rt: HostRuntime) -> Result<(), Fail> {
     for end in 0..EXAMPLE.len() {
         let (Some(start), Some(rest)) = (EXAMPLE.get(..end), EXAMPLE.get(end..)) else {
-            continue;
+            return Err(Fail::from("no beginning"));
         };
         if rest.starts_with('\n') {
             let head = format!(in rt.alloc(); "{start}\r")?;
@@ -192,6 +192,7 @@ const REFUSED_LINES: &str = "\
 22P04: CREATE TABLE c (id bigint NOT NULL PRIMARY KEY);
 22P04: CREATE TABLE c (id bigint);
 22P04: CREATE TABLE c (select bigint PRIMARY KEY);
+22P04: CREATE TABLE c (id bigint PRIMARY KEY, nnnnnnnnnnnnnnnnnnnnnnnnnnnnnnnnnnnnnnnnnnnnnnnnnnnnnnnnnnnnnnnn text);
 22P04: CREATE TABLE c (id bigint PRIMARY KEY, n bigint REFERENCES p NOT NULL);
 22P04: COPY c (id) FROM stdin;
 22P04: -- end
@@ -200,7 +201,7 @@ const REFUSED_LINES: &str = "\
 #[test]
 fn create_lines_are_refused_so(rt: HostRuntime) -> Result<(), Fail> {
     let mut rest = REFUSED_LINES;
-    for _ in 0..16 {
+    for _ in 0..17 {
         let (case, after) = rest.split_once('\n').ok_or("a line ends")?;
         let (want, line) = case.split_once(": ").ok_or("a line has both")?;
         let dump = format!(in rt.alloc(); "{HEAD}{line}\n")?;

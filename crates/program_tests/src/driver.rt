@@ -93,6 +93,13 @@ pub fn assert_prints<R: Abort + AllocGlobal + Sync + Threads + Wait>(
     assert_ends(rt, Given::of(words, script), (0, want, ""))
 }
 
+/// The cases of a table, a line for each; that there are so many is asserted.
+pub fn cases_of<'t, R: Abort>(rt: &R, table: &'t str, count: usize) -> &'t str {
+    let cases = table.trim_ascii();
+    assert_eq!(rt; cases.split('\n').count(), count);
+    cases
+}
+
 /// The text of a table's cell, in which `|` stands for a newline.
 pub fn lines_of<R: AllocGlobal>(rt: &R, cell: &str) -> Result<String, Fail> {
     let mut text = String::new(rt.alloc());

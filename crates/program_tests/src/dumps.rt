@@ -1,9 +1,12 @@
 //! Dumps that are written, opened and restored.
 
-use crate::driver::{Given, assert_ends, lines_of};
+use crate::driver::{Given, assert_ends, cases_of, lines_of};
 use std::alloc::Global;
 use std::fmt::Write;
+use std::process::Abort;
+use std::sync::Wait;
 use std::test::Fail;
+use std::thread::Threads;
 
 // A dump of four rows, as version 1 has it.
 pub const EXAMPLE: &str = "\
@@ -101,7 +104,7 @@ const FAULTY: &str = "\n\
 
 #[test]
 fn faulty_dumps(rt: HostRuntime) -> Result<(), Fail> {
-    for case in FAULTY.trim_ascii().split('\n') {
+    for case in cases_of(&rt, FAULTY, 11).split('\n') {
         let Some((fault, cell)) = case.rsplit_once(": ") else {
             return Err(Fail::from("no fault"));
         };
@@ -183,13 +186,34 @@ COPY receipt (id, n) FROM stdin;
 -- end
 ";
 
+const REPORT_AUDIT: &str = "\
+txn 1 key 1 1 1
+txn 2 key 2 0 3
+txn 3 key 2 1 2
+txn 4 key 3 2 16
+check yes
+";
+
+// A script is replied to so, its serial order is this one, and under both words it writes this dump.
+fn assert_dumped<R: Abort + AllocGlobal + Sync + Threads + Wait>(
+    rt: &R,
+    script: &str,
+    dump: &str,
+    told: (&str, &str),
+) -> Result<(), Fail> {
+    for (words, want) in [("run -", told.0), ("audit -", told.1)] {
+        let given = Given {
+            room: dump.as_bytes(),
+            ..Given::of(words, script)
+        };
+        assert_ends(rt, given, (0, want, ""))?;
+    }
+    Ok(())
+}
+
 #[test]
 fn deferrable_dump(rt: HostRuntime) -> Result<(), Fail> {
-    let given = Given {
-        room: REPORT_DUMP.as_bytes(),
-        ..Given::of("run -", REPORT)
-    };
-    assert_ends(&rt, given, (0, REPORT_REPLIES, ""))
+    assert_dumped(&rt, REPORT, REPORT_DUMP, (REPORT_REPLIES, REPORT_AUDIT))
 }
 
 // What a report has dumped is opened.
@@ -313,13 +337,16 @@ COPY t (id, v) FROM stdin;
 -- end
 ";
 
+const IMPORTED_AUDIT: &str = "\
+txn 1 key 1 1 1
+txn 2 key 1 2 16
+check yes
+";
+
 #[test]
 fn imported_dump(rt: HostRuntime) -> Result<(), Fail> {
-    let given = Given {
-        room: IMPORTED_DUMP.as_bytes(),
-        ..Given::of("run -", IMPORTED)
-    };
-    assert_ends(&rt, given, (0, IMPORTED_REPLIES, ""))
+    let told = (IMPORTED_REPLIES, IMPORTED_AUDIT);
+    assert_dumped(&rt, IMPORTED, IMPORTED_DUMP, told)
 }
 
 // A dump is opened and dumped again; `-` is a file's name in both lines.

@@ -1,6 +1,6 @@
 //! What is refused before anything runs, and how it is told.
 
-use crate::driver::{Given, assert_ends, lines_of, status_of};
+use crate::driver::{Given, assert_ends, cases_of, lines_of, status_of};
 use std::process::Abort;
 use std::sync::Wait;
 use std::test::Fail;
@@ -31,6 +31,8 @@ const SCRIPTS: &str = "\n\
 2: 1 BEGIN;|1 COMMIT;
 1: 1 BEGIN;
 1: -- no newline
+1: 1 BEGIN READ;|1 COMMIT;
+1: 1 BEGIN READ;|-- no newline
 1: CREATE TABLE T (id bigint);|
 1: CREATE TABLE select (id bigint PRIMARY KEY);|
 1: CREATE TABLE t (id bigint PRIMARY KEY, p bigint REFERENCES p);|
@@ -68,15 +70,16 @@ fn assert_refuses<R: Abort + AllocGlobal + Sync + Threads + Wait>(
 
 #[test]
 fn first_faulty_lines(rt: HostRuntime) -> Result<(), Fail> {
-    for case in SCRIPTS.trim_ascii().split('\n') {
+    for case in cases_of(&rt, SCRIPTS, 40).split('\n') {
         assert_refuses(&rt, "run -", case)?;
     }
     assert_refuses(&rt, "audit -", "2: 1 BEGIN;|1 WAIT;|")
 }
 
-// Scripts without a fault; the last is a script of no line.
+// Scripts without a fault; the second is a script of no line.
 const HARMLESS: &str = "\n\
 --|
+
 --|||-- 1 WAIT;|
 CREATE TABLE t (id bigint PRIMARY KEY);|
   create\ttable U (Id BIGINT Primary\tKey) ;|
@@ -84,7 +87,7 @@ CREATE TABLE t (id bigint PRIMARY KEY);|
 
 #[test]
 fn scripts_of_no_session(rt: HostRuntime) -> Result<(), Fail> {
-    for cell in HARMLESS.split('\n') {
+    for cell in cases_of(&rt, HARMLESS, 5).split('\n') {
         let script = lines_of(&rt, cell)?;
         assert_ends(&rt, Given::of("run -", script.as_str()), (0, "", ""))?;
         let check = (0, "check yes\n", "");
@@ -99,6 +102,9 @@ fn bytes_that_are_no_text(rt: HostRuntime) -> Result<(), Fail> {
         (b"1 BEGIN;\n-- \xff\n".as_slice(), "script line 2\n"),
         (b"\n1 SELECT '\xc3';\n".as_slice(), "script line 2\n"),
         (b"OPEN \x80;\n".as_slice(), "script line 1\n"),
+        (b"1 x\n-- \xff\n".as_slice(), "script line 1\n"),
+        (b"-- \xff\n1 x\n".as_slice(), "script line 1\n"),
+        (b"1 COMMIT;\n-- \xff".as_slice(), "script line 2\n"),
     ] {
         let given = Given {
             input,
@@ -125,6 +131,7 @@ restore d --out o --free
 restore d --out o --events 9
 --free a
 run --jobs 2 a
+run gone --free --jobs 2
 audit
 audit a b
 restore
@@ -142,7 +149,7 @@ walk a
 
 #[test]
 fn mistaken_words(rt: HostRuntime) -> Result<(), Fail> {
-    for words in MISTAKES.trim_ascii().split('\n') {
+    for words in cases_of(&rt, MISTAKES, 28).split('\n') {
         let mut out = Vec::new(rt.alloc());
         let mut err = Vec::new(rt.alloc());
         let status = status_of(&rt, Given::of(words, ""), &mut out, &mut err)?;
@@ -234,7 +241,7 @@ const OPENERS: [(&str, &[u8]); 4] = [
 
 #[test]
 fn files_that_are_not_read(rt: HostRuntime) -> Result<(), Fail> {
-    for case in UNREAD.trim_ascii().split('\n') {
+    for case in cases_of(&rt, UNREAD, 12).split('\n') {
         let Some((end, words)) = case.rsplit_once(": ") else {
             return Err(Fail::from("no words"));
         };

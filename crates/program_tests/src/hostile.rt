@@ -1,6 +1,6 @@
 //! Dumps with which something is wrong, by each number of workers, and faults in pairs.
 
-use crate::driver::{Given, assert_ends, lines_of};
+use crate::driver::{Given, assert_ends, cases_of, lines_of};
 use crate::dumps::{EXAMPLE, WRITTEN};
 use std::process::Abort;
 use std::sync::Wait;
@@ -50,6 +50,8 @@ const TURNED: &str = "\n\
 8: 22P04: -- dump 1|CREATE TABLE p (id bigint PRIMARY KEY, name text NOT NULL);|CREATE TABLE c (id bigint PRIMARY KEY, p bigint REFERENCES p, raw bytea);|COPY p (id, name) FROM stdin;|1/a|2/x|\\.|COPY p (id, name) FROM stdin;|-5/2/\\N|7/\\N/\\N|\\.|-- end|
 1: 22P04: -- dump 3|CREATE TABLE p (id bigint PRIMARY KEY, name text NOT NULL);|-- end|
 2: 22P04: -- dump 1|CREATE TABLE p (select bigint PRIMARY KEY, name text NOT NULL);|-- end|
+2: 22P04: -- dump 1|CREATE TABLE p (id bigint PRIMARY KEY, nnnnnnnnnnnnnnnnnnnnnnnnnnnnnnnnnnnnnnnnnnnnnnnnnnnnnnnnnnnnnnnn text NOT NULL);|-- end|
+3: 22P04: -- dump 1|CREATE TABLE p (id bigint PRIMARY KEY, nnnnnnnnnnnnnnnnnnnnnnnnnnnnnnnnnnnnnnnnnnnnnnnnnnnnnnnnnnnnnnn text NOT NULL);|-- end|
 5: 22P04: -- dump 1|CREATE TABLE p (id bigint PRIMARY KEY, name text NOT NULL);|COPY p (id, name) FROM stdin;|1/a|\\|
 4: 23502: -- dump 1|CREATE TABLE p (id bigint PRIMARY KEY, name text NOT NULL);|COPY p (id, name) FROM stdin;|1/\\N|1/a|x/a|
 5: 23505: -- dump 1|CREATE TABLE p (id bigint PRIMARY KEY, name text NOT NULL);|COPY p (id, name) FROM stdin;|1/a|1/b|2/\\N|x/a|
@@ -59,7 +61,7 @@ const TURNED: &str = "\n\
 
 #[test]
 fn turned_lines(rt: HostRuntime) -> Result<(), Fail> {
-    for case in TURNED.trim_ascii().split('\n') {
+    for case in cases_of(&rt, TURNED, 11).split('\n') {
         let Some((fault, cell)) = case.rsplit_once(": ") else {
             return Err(Fail::from("no fault"));
         };
@@ -70,7 +72,8 @@ fn turned_lines(rt: HostRuntime) -> Result<(), Fail> {
     Ok(())
 }
 
-// Two faults each: what is wrong, the words that are told of it, and the words of the command line.
+// Two faults each: what is wrong, the words that are told of it, and the words of the command line. Where sessions run
+// freely WAIT is no fault and CHECKPOINT is one, so that some of these have one fault alone.
 const PAIRS: &str = "\n\
 3 device: nothing: restore nothing --out nowhere
 1 dump line 1: 22P04: restore late --out nowhere
@@ -79,9 +82,16 @@ const PAIRS: &str = "\n\
 3 device: gone: run opener
 1 dump line 1: 22P04: run script_opener
 1 script line 4: run late_behind_a_dump
+3 device: gone: run checkpoints
+1 script line 2: run checkpoints --free
+3 device: gone: run opener --free
+1 dump line 1: 22P04: run script_opener --free
+3 device: gone: run late --free
+3 device: nowhere: run late_behind_a_dump --free
 ";
 
-const PAIRED: [(&str, &[u8]); 4] = [
+const PAIRED: [(&str, &[u8]); 5] = [
+    ("checkpoints", b"OPEN gone;\nCHECKPOINT;\n"),
     ("late", b"OPEN gone;\n1 BEGIN;\n1 WAIT;\n"),
     ("opener", b"OPEN gone;\n1 DUMP 1 1 nowhere;\n"),
     ("script_opener", b"OPEN opener;\n1 DUMP 1 1 nowhere;\n"),
@@ -93,7 +103,7 @@ const PAIRED: [(&str, &[u8]); 4] = [
 
 #[test]
 fn the_first_of_two_faults(rt: HostRuntime) -> Result<(), Fail> {
-    for case in PAIRS.trim_ascii().split('\n') {
+    for case in cases_of(&rt, PAIRS, 13).split('\n') {
         let Some((end, words)) = case.rsplit_once(": ") else {
             return Err(Fail::from("no words"));
         };

@@ -33,4 +33,6 @@ mod replies;
 #[cfg(test)]
 mod scripts;
 #[cfg(test)]
+mod snapshots;
+#[cfg(test)]
 mod taker;

@@ -90,6 +90,10 @@ fn text_that_is_none(rt: HostRuntime) -> Result<(), Fail> {
             2,
         ),
         (b"-- no newline".as_slice(), 1),
+        (b"1 x\n-- \xff\n".as_slice(), 1),
+        (b"-- \xff\n1 x\n".as_slice(), 1),
+        (b"1 BEGIN READ;\n1 COMMIT;".as_slice(), 1),
+        (b"1 COMMIT;\n-- \xff".as_slice(), 2),
     ] {
         match read_script(rt.alloc(), Schedule::InOrder, text) {
             Ok(_) => return Err(Fail::from("a faulty script was read")),
