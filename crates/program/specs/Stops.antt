@@ -22,7 +22,7 @@ abbrev pub PathHasStopped : (A : Type 0) → (List ℕ → Option (List ℕ)) �
 PathHasStopped A held input way path f p q = (IsNoScript A InOrder (read_of held input path) path f × (q ≡ p))
     ⊎ ((bytes : List ℕ) × (s : Said A) × IsAllOf (read_of held input path) bytes × (said InOrder bytes ≡ Ok s) × ScriptHasStopped held way s f p q)
 
--- The dump of a path, of which this is known, wasn't read; or the file of the other path has failed, or standard output.
+-- The dump of a path, of which this is known, wasn't read, or memory was wanting; or the file of the other path has failed, or standard output.
 abbrev pub IsUnrestored : (A : Type 0) → Option (List ℕ) → List ℕ → List ℕ → Fault → Type 0
 IsUnrestored A known path out f = IsUnread A known path f ⊎ IsFileFault out f ⊎ IsFileFault (codes "-") f
 
