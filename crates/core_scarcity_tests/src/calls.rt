@@ -98,7 +98,7 @@ const OF_ONE: &str = "\
 1 COMMIT
 1 COMMIT";
 
-// There is no room for a fifth identifier. A transaction that has exported can't import.
+// There is no room for a fifth identifier.
 const FOUR: &str = "\
 > 2 BEGIN
 2 BEGIN

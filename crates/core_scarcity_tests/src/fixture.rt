@@ -168,13 +168,16 @@ pub fn are_recorded<A: Allocator + Copy>(
 ) -> Result<bool, Refusal> {
     let mut place = 0usize;
     for line in script.lines() {
-        let asked = line.strip_prefix("> ").unwrap_or("1 DUMP");
-        if !asked.ends_with(" DUMP") {
-            if !is_recorded(ample, alloc, core, place, asked)? {
-                return Ok(false);
-            }
-            place = place.saturating_add(1);
+        let Some(asked) = line.strip_prefix("> ") else {
+            continue;
+        };
+        if asked.ends_with(" DUMP") {
+            continue;
         }
+        if !is_recorded(ample, alloc, core, place, asked)? {
+            return Ok(false);
+        }
+        place = place.saturating_add(1);
     }
     Ok(place == core.history().records().len())
 }

@@ -24,7 +24,8 @@ pub struct Sink<'f> {
     taken: Log<u8, ()>,
 }
 
-/// The sum of bytes behind others, whose sum this is: one of two texts that differ by little is another.
+/// The sum of bytes that follow others, which had the sum `before`. Texts that differ in one byte have different sums,
+/// since each step multiplies by an odd number.
 pub fn sum_of(before: u64, bytes: &[u8]) -> u64 {
     let mut sum = before;
     for byte in bytes {
