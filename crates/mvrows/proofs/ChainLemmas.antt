@@ -2,8 +2,8 @@
 use Rattle.std.proofs.Common.{suc, ◌≡◌, refl, sym, ap, subst, ◌∙◌, ℕ, ◌+◌, ◌<◌, ◌≤◌, Bool, true, false, cond, List, [], ◌∷◌, ◌++◌, take, drop, map, length, Option, Some, None, is_some, get_or, arith, append_assoc, ◌⊎◌, inl, inr}
 use Rattle.std.specs.Prelude.{nat_le, find, slice_get}
 use Rattle.std.specs.Option.{option_map, option_map_or, option_and_then}
-use Rattle.std.proofs.lemmas.Bool.{leb-true, leb-false, le-leb, lt-leb}
-use Rattle.std.proofs.lemmas.List.{length-map, append-nil, drop_more, take_more, drop_all, take_all, take-map, drop-map, map-append}
+use Rattle.std.proofs.lemmas.Bool.{leb-false, le-leb, lt-leb}
+use Rattle.std.proofs.lemmas.List.{length-map, append-nil, drop_more, take_more, drop_all, take-map, drop-map, map-append}
 use Rattle.value.specs.declared.value.Value.{Value}
 use Rattle.schema.specs.declared.row.Row.{Row}
 use Rattle.mvrows.specs.declared.chain.Stored.{Stored}
@@ -98,10 +98,6 @@ module _ {A : Type 0} where
   kept-absence oldest items i x lt is older none so_far =
       sym (kept-last oldest items i x lt is older so_far ∙ ap (λ b. take i (map told items) ++ cond b (told x ∷ []) []) (is_some-told x.row ∙ none) ∙ append-nil _)
 
-  kept-all : (oldest : ℕ) (items : List (Stored A)) (i : ℕ) → length items ≤ i → KeptSoFar oldest (map told items) i → take i (map told items) ≡ pruned_versions oldest (map told items)
-  kept-all oldest items i past so_far =
-      sym (so_far ∙ ap (λ rest. take i (map told items) ++ pruned_versions oldest rest) (drop_all i (map told items) (rw (length-map items told) past)) ∙ append-nil _)
-
   -- the same of the versions that a chain is seen as
   pub record Shows (k : Value A) (items : List (Stored A)) (shown : KeyVersions A) : Type 0 where
     pub is : record { key = k; versions = map told items } ≡ shown
@@ -121,61 +117,23 @@ module _ {A : Type 0} where
   absence_is_dropped oldest k items shown i x s lt is older none so_far =
       subst (λ vs. take i vs ≡ pruned_versions oldest vs) (versions_is k items shown s) (kept-absence oldest items i x lt is older none (subst (λ vs. KeptSoFar oldest vs i) (sym (versions_is k items shown s)) so_far))
 
-  pub all_are_kept : (oldest : ℕ) (k : Value A) (items : List (Stored A)) (shown : KeyVersions A) (i : ℕ) → Shows k items shown → length items ≤ i → KeptSoFar oldest shown.versions i → take i shown.versions ≡ pruned_versions oldest shown.versions
-  all_are_kept oldest k items shown i s past so_far =
-      subst (λ vs. take i vs ≡ pruned_versions oldest vs) (versions_is k items shown s) (kept-all oldest items i past (subst (λ vs. KeptSoFar oldest vs i) (sym (versions_is k items shown s)) so_far))
-
   -- a pruned chain
   pub pruned-shown : (oldest : ℕ) (k : Value A) (items left : List (Stored A)) (shown : KeyVersions A) (n : ℕ) → record { key = k; versions = map told items } ≡ shown → left ≡ take n items → take n shown.versions ≡ pruned_versions oldest shown.versions → record { key = k; versions = map told left } ≡ pruned_key oldest shown
   pruned-shown oldest k items left shown n is cut kept =
       let e : map told left ≡ pruned_versions oldest shown.versions = ap (map told) cut ∙ sym (take-map told n items) ∙ ap (λ x. take n x.versions) is ∙ kept in
       λ i. record { key = (is i).key; versions = e i }
 
-  -- nothing is pruned where all are kept
-  pub pruned-all : (oldest : ℕ) (shown : KeyVersions A) (n : ℕ) → length shown.versions ≤ n → take n shown.versions ≡ pruned_versions oldest shown.versions → pruned_key oldest shown ≡ shown
-  pruned-all oldest shown n all kept = ap (λ vs. record { key = shown.key; versions = vs }) (sym kept ∙ take_all n shown.versions all)
-
   pub length-told : (k : Value A) (items : List (Stored A)) (shown : KeyVersions A) → record { key = k; versions = map told items } ≡ shown → length shown.versions ≡ length items
   length-told k items shown is = sym (ap (λ x. length x.versions) is) ∙ length-map items told
 
   -- ---- what stays stored
-
-  pub told-stored : (k : Value A) (vs : List (Version A)) → map told (map (stored k) vs) ≡ vs
-  told-stored k [] = refl
-  told-stored k (v ∷ vs) = λ i. one v.fields i ∷ told-stored k vs i
-    where
-      one : (o : Option (List (Value A))) → told (stored k (record { number = v.number; fields = o })) ≡ record { number = v.number; fields = o }
-      one None = refl
-      one (Some f) = refl
 
   -- a front part of what is stored
   pub stored-take : (k : Value A) (items left : List (Stored A)) (n : ℕ) → left ≡ take n items → items ≡ map (stored k) (map told items) → left ≡ map (stored k) (map told left)
   stored-take k items left n cut own =
       cut ∙ ap (take n) own ∙ take-map (stored k) n (map told items) ∙ ap (map (stored k)) (take-map told n items) ∙ ap (λ xs. map (stored k) (map told xs)) (sym cut)
 
-  -- what is left after the first
-  pub stored-drop : (k : Value A) (items left : List (Stored A)) (n : ℕ) → left ≡ drop n items → items ≡ map (stored k) (map told items) → left ≡ map (stored k) (map told left)
-  stored-drop k items left n cut own =
-      cut ∙ ap (drop n) own ∙ drop-map (stored k) n (map told items) ∙ ap (map (stored k)) (drop-map told n items) ∙ ap (λ xs. map (stored k) (map told xs)) (sym cut)
-
-  -- a stored version before others
-  pub stored-push : (k : Value A) (v : Version A) (s : Stored A) (items more : List (Stored A)) → s ≡ stored k v → more ≡ s ∷ items → items ≡ map (stored k) (map told items) → more ≡ map (stored k) (map told more)
-  stored-push k v s items more is pushed own =
-      let whole : more ≡ map (stored k) (v ∷ map told items) = pushed ∙ (λ i. is i ∷ own i) in
-      whole ∙ ap (map (stored k)) (sym (told-stored k (v ∷ map told items)) ∙ ap (map told) (sym whole))
-
-  pub told-push : (k : Value A) (v : Version A) (s : Stored A) (items more : List (Stored A)) → s ≡ stored k v → more ≡ s ∷ items → map told more ≡ v ∷ map told items
-  told-push k v s items more is pushed = ap (map told) pushed ∙ (λ i. told (is i) ∷ map told items) ∙ (λ i. told-stored k (v ∷ []) i ++ map told items)
-
   -- ---- taking back
-
-  -- one version of an unfinished commit is dropped
-  pub before-step : (commit : ℕ) (k : KeyVersions A) → option_map_or (λ n. nat_le commit n) (newest_version k) false ≡ true → key_before commit (record k { versions = drop 1 k.versions }) ≡ key_before commit k
-  before-step commit k from = ap (λ vs. record { key = k.key; versions = vs }) (go k.versions from)
-    where
-      go : (vs : List (Version A)) → option_map_or (λ n. nat_le commit n) (option_map (λ v. v.number) (slice_get vs 0)) false ≡ true → versions_before commit (drop 1 vs) ≡ versions_before commit vs
-      go [] e = refl
-      go (v ∷ vs) e = sym (rw (lt-leb (suc v.number) commit (omega (arith, leb-true commit v.number e))) refl)
 
   pub before-end : (commit : ℕ) (k : KeyVersions A) → option_map_or (λ n. nat_le commit n) (newest_version k) false ≡ false → key_before commit k ≡ k
   before-end commit k none = ap (λ vs. record { key = k.key; versions = vs }) (go k.versions none)
@@ -183,10 +141,3 @@ module _ {A : Type 0} where
       go : (vs : List (Version A)) → option_map_or (λ n. nat_le commit n) (option_map (λ v. v.number) (slice_get vs 0)) false ≡ false → versions_before commit vs ≡ vs
       go [] e = refl
       go (v ∷ vs) e = rw (le-leb (suc v.number) commit (omega (arith, leb-false commit v.number e))) refl
-
-  pub before-smaller : (commit : ℕ) (k : KeyVersions A) → option_map_or (λ n. nat_le commit n) (newest_version k) false ≡ true → length (drop 1 k.versions) < length k.versions
-  before-smaller commit k from = go k.versions from
-    where
-      go : (vs : List (Version A)) → option_map_or (λ n. nat_le commit n) (option_map (λ v. v.number) (slice_get vs 0)) false ≡ true → length (drop 1 vs) < length vs
-      go [] e = cc
-      go (v ∷ vs) e = omega arith

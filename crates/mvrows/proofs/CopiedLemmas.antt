@@ -1,10 +1,10 @@
 -- The rows that a snapshot shows, put into plain tables one after another.
-use Rattle.std.proofs.Common.{suc, zero, ◌≡◌, refl, sym, ap, subst, ◌∙◌, ℕ, ◌+◌, ◌<◌, ◌≤◌, List, [], ◌∷◌, ◌++◌, take, drop, map, length, Some, None, get_or, set, arith, append_assoc}
+use Rattle.std.proofs.Common.{suc, zero, ◌≡◌, refl, sym, ap, subst, ◌∙◌, ℕ, ◌+◌, ◌<◌, List, [], ◌∷◌, ◌++◌, take, drop, map, length, Some, None, get_or, set, arith, append_assoc}
 use Rattle.std.specs.List.{AllByRecursion, cons_option}
 use Rattle.std.specs.List.Sorted.{IsStrictlySortedBy}
 use Rattle.std.specs.Ordering.{ordering_reverse}
 use Rattle.std.specs.declared.cmp.Ordering.TheVariants.{Less, Greater}
-use Rattle.std.proofs.lemmas.List.{set-get_or, length-set, length-map, length-take-le, map-append, take_all, drop_all, append-nil}
+use Rattle.std.proofs.lemmas.List.{length-map, length-take-le, map-append, append-nil}
 use Rattle.value.specs.Order.{value_cmp, value_cmp-total}
 use Rattle.value.specs.declared.value.Value.{Value}
 use Rattle.schema.specs.declared.row.Row.{Row}
@@ -41,14 +41,6 @@ module _ {A : Type 0} where
       ∙ ap (λ rows. set X t (put_rows rows ys)) (get-set X t (put_rows (rows_of X t) xs) [] lt)
       ∙ ap (set X t) (sym (put_rows-append (rows_of X t) xs ys))
 
-  -- nothing put in yet
-  pub with_rows-none : (X : Tables A) (t : ℕ) → X ≡ with_rows X t []
-  with_rows-none X t = sym (set-get_or X t [])
-
-  -- the table stays there
-  pub with_rows-has : (X Y : Tables A) (t u : ℕ) (rows : Rows A) → Y ≡ with_rows X t rows → u < length X → u < length Y
-  with_rows-has X Y t u rows is lt = subst (λ n. u < n) (sym (ap length is ∙ length-set X t _)) lt
-
   -- one more key
   pub key-shown : (n : ℕ) (rows : VersionedRows A) (i : ℕ) (k : KeyVersions A) (row : Row A) (X Y Z : Tables A) (t : ℕ) → i < length rows → k ≡ get_or rows i k → shown_row n k ≡ Some row → t < length X
       → Y ≡ with_rows X t (shown_rows n (take i rows)) → Z ≡ set Y t (put_row (rows_of Y t) row) → Z ≡ with_rows X t (shown_rows n (take (i + 1) rows))
@@ -62,9 +54,6 @@ module _ {A : Type 0} where
   key-not_shown n rows i k X Y t lt at shows so_far =
       so_far
       ∙ ap (with_rows X t) (sym (ap (shown_rows n) (take-item rows i k lt at) ∙ shown_rows-append n (take i rows) (k ∷ []) ∙ ap (λ o. shown_rows n (take i rows) ++ cons_option o []) shows ∙ append-nil (shown_rows n (take i rows))))
-
-  pub keys-end : (n : ℕ) (rows : VersionedRows A) (i : ℕ) (X Y : Tables A) (t : ℕ) → length rows ≤ i → Y ≡ with_rows X t (shown_rows n (take i rows)) → Y ≡ with_rows X t (shown_rows n rows)
-  keys-end n rows i X Y t past so_far = so_far ∙ ap (λ ks. with_rows X t (shown_rows n ks)) (take_all i rows past)
 
   -- one more page
   joined-append : (xs ys : List (VersionedRows A)) → joined (xs ++ ys) ≡ joined xs ++ joined ys
@@ -85,9 +74,6 @@ module _ {A : Type 0} where
       ∙ with_rows-append X t (shown_rows n (rows_in (take i leaves))) (shown_rows n page) has
       ∙ ap (λ rows. with_rows X t (shown_rows n (rows_in (take i leaves)) ++ shown_rows n rows)) is
       ∙ ap (with_rows X t) (sym (ap (shown_rows n) (page-more leaves i h lt at) ∙ shown_rows-append n (rows_in (take i leaves)) h.rows))
-
-  pub pages-end : (n : ℕ) (leaves : List (Held A)) (i : ℕ) (X Y : Tables A) (t : ℕ) → length leaves ≤ i → Y ≡ with_rows X t (shown_rows n (rows_in (take i leaves))) → Y ≡ with_rows X t (shown_rows n (rows_in leaves))
-  pages-end n leaves i X Y t past so_far = so_far ∙ ap (λ ls. with_rows X t (shown_rows n (rows_in ls))) (take_all i leaves past)
 
   -- ---- rows in key order, put into a table without rows
 
@@ -133,12 +119,6 @@ module _ {A : Type 0} where
   set-empty (d ∷ ds) rows rest zero x long = absurd (omega (arith, long))
   set-empty (d ∷ ds) rows rest (suc i) x long = ap (λ left. d ∷ left) (set-empty ds rows rest i x (omega (arith, long)))
 
-  in-middle : (done : Tables A) (rows : Rows A) (rest : Tables A) (i : ℕ) → length done ≡ i → i < length (done ++ rows ∷ rest)
-  in-middle [] rows rest zero long = omega arith
-  in-middle [] rows rest (suc i) long = absurd (omega (arith, long))
-  in-middle (d ∷ ds) rows rest zero long = absurd (omega (arith, long))
-  in-middle (d ∷ ds) rows rest (suc i) long = let lt = in-middle ds rows rest i (omega (arith, long)) in omega (arith, lt)
-
   middle : (done : Tables A) (rows : Rows A) (rest : Tables A) (i : ℕ) → length done ≡ i → get_or (done ++ rows ∷ rest) i [] ≡ rows
   middle [] rows rest zero long = refl
   middle [] rows rest (suc i) long = absurd (omega (arith, long))
@@ -156,11 +136,6 @@ module _ {A : Type 0} where
   next-empty : (n i : ℕ) (tables : List (List (Held A))) (old : List (Held A)) → i < length tables → old ≡ get_or tables i old → so_far_copied n i tables ≡ shown n (rows_held (take i tables)) ++ [] ∷ empties (drop (i + 1) tables)
   next-empty n i tables old lt at = ap (λ ts. shown n (rows_held (take i tables)) ++ empties ts) (drop-item tables i old lt at)
 
-  pub table-has : (n i : ℕ) (tables : List (List (Held A))) (old : List (Held A)) (X : Tables A) (t : ℕ) → i < length tables → old ≡ get_or tables i old → t ≡ i → X ≡ so_far_copied n i tables → t < length X
-  table-has n i tables old X t lt at place is =
-      let low : i < length X = subst (λ (Y : Tables A). i < length Y) (sym (is ∙ next-empty n i tables old lt at)) (in-middle (shown n (rows_held (take i tables))) [] (empties (drop (i + 1) tables)) i (done-long n i tables lt)) in
-      subst (λ m. m < length X) (sym place) low
-
   pub table-none : (n i : ℕ) (tables : List (List (Held A))) (old : List (Held A)) (X : Tables A) (t : ℕ) → i < length tables → old ≡ get_or tables i old → t ≡ i → X ≡ so_far_copied n i tables → rows_of X t ≡ []
   table-none n i tables old X t lt at place is =
       ap (rows_of X) place ∙ ap (λ (Y : Tables A). rows_of Y i) (is ∙ next-empty n i tables old lt at)
@@ -176,10 +151,6 @@ module _ {A : Type 0} where
       ap (λ ts. shown n (rows_held ts)) (take-item tables i old lt at)
       ∙ ap (shown n) (map-append rows_in (take i tables) (old ∷ []))
       ∙ map-append (shown_rows n) (rows_held (take i tables)) (rows_in old ∷ [])))
-
-  pub tables-end : (n i : ℕ) (tables : List (List (Held A))) (X : Tables A) → length tables ≤ i → X ≡ so_far_copied n i tables → X ≡ shown n (rows_held tables)
-  tables-end n i tables X past so_far =
-      so_far ∙ (λ j. shown n (rows_held (take_all i tables past j)) ++ empties (drop_all i tables past j)) ∙ append-nil (shown n (rows_held tables))
 
   -- as many empty tables
   pub as_many : {X Y : Type 0} (xs : List X) (ys : List Y) → length xs ≡ length ys → map {B = Rows A} (λ x. []) xs ≡ map (λ y. []) ys

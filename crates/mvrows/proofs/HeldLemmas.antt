@@ -1,5 +1,5 @@
 -- A table's keys while a commit is under way.
-use Rattle.std.proofs.Common.{append_assoc, suc, zero, ◌≡◌, refl, sym, ap, subst, ◌∙◌, ℕ, ◌+◌, ◌<◌, ◌≤◌, Bool, true, false, true≢false, cond, List, [], ◌∷◌, ◌++◌, take, drop, map, length, get_or, set, arith, add-one}
+use Rattle.std.proofs.Common.{suc, zero, ◌≡◌, refl, sym, ap, subst, ◌∙◌, ℕ, ◌+◌, ◌<◌, ◌≤◌, Bool, true, false, true≢false, cond, List, [], ◌∷◌, ◌++◌, take, drop, map, length, get_or, set, arith, add-one}
 use Rattle.std.specs.Prelude.{filter, Result, Ok, Err, OnOk, OnErr}
 use Rattle.std.specs.List.{AllByRecursion}
 use Rattle.std.specs.List.Sorted.{IsStrictlySortedBy}
@@ -7,7 +7,7 @@ use Rattle.std.specs.Ordering.{match_ordering}
 use Rattle.std.specs.declared.cmp.Ordering.{Ordering}
 use Rattle.std.specs.declared.cmp.Ordering.TheVariants.{Less, Equal, Greater}
 use Rattle.std.proofs.lemmas.Bool.{le-leb, lt-leb}
-use Rattle.std.proofs.lemmas.List.{map-set, set-get_or, set_past, length-map, drop_more, drop_all, take_all, take_more_set, drop-set-lt, map-append, append-nil, take-append-drop}
+use Rattle.std.proofs.lemmas.List.{map-set, set-get_or, drop_more, drop_all, take_all, take_more_set, drop-set-lt, map-append, append-nil, take-append-drop}
 use Rattle.value.specs.Order.{value_cmp}
 use Rattle.value.specs.declared.value.Value.{Value}
 use Rattle.schema.specs.declared.row.Row.{Row}
@@ -197,9 +197,6 @@ module _ {A : Type 0} where
       rows_at (y ∷ ys) zero d small = refl
       rows_at (y ∷ ys) (suc i) d small = rows_at ys i d (omega arith)
 
-  pub held-past : (tables : List (List (Held A))) (t : ℕ) (commit : ℕ) (x : Change A) → t ≡ x.table → length tables ≤ t → rows_held tables ≡ install_change commit x (rows_held tables)
-  held-past tables t commit x place past = sym (ap (λ n. set (rows_held tables) n (put_version x.key (record { number = commit; fields = x.fields }) (versions_of (rows_held tables) n))) (sym place) ∙ set_past (rows_held tables) t _ (rw (length-map tables (λ (y : List (Held A)). rows_in y)) past))
-
 -- a commit's changes are installed, and could be taken back
 pub record UnderWay {A : Type 0} (commit : ℕ) (xs : List (Change A)) (old new : List (List (Held A))) : Type 0 where
   pub done : rows_held new ≡ installed commit xs (rows_held old)
@@ -305,16 +302,3 @@ module _ {A : Type 0} where
   pub opened-below : (n : ℕ) (tables : Tables A) → 0 < n → TablesAreBelow n (opened tables)
   opened-below n [] positive = tt
   opened-below n (rows ∷ tables) positive = (opened_rows-below n rows positive, opened-below n tables positive)
-
-  -- ---- tables opened one after another
-
-  -- one more table of the opening
-  pub open_tables-step : {X : Type 0} (f : X → List (Row A)) (opening more : List (List (Held A))) (table : List (Held A)) (x : X) (rest left : List X) (whole : List (VersionedRows A))
-      → more ≡ opening ++ table ∷ [] → rows_in table ≡ map opened_row (f x) → rest ≡ x ∷ left → rows_held opening ++ opened (map f rest) ≡ whole → rows_held more ++ opened (map f left) ≡ whole
-  open_tables-step f opening more table x rest left whole push made step so_far =
-      ap (λ ls. rows_held ls ++ opened (map f left)) push
-      ∙ ap (λ rs. rs ++ opened (map f left)) (map-append rows_in opening (table ∷ []))
-      ∙ append_assoc (rows_held opening) (rows_in table ∷ []) (opened (map f left))
-      ∙ ap (λ rows. rows_held opening ++ rows ∷ opened (map f left)) made
-      ∙ ap (λ xs. rows_held opening ++ opened (map f xs)) (sym step)
-      ∙ so_far

@@ -146,10 +146,6 @@ module _ {A : Type 0} where
   taken-undo commit leaves i old new lt at (inr e) versioned undoable =
       ap joined (same-set (undone commit) leaves i new old at (ap (undone commit) e ∙ undone-kept commit old (versioned-page leaves i old lt at versioned) (element-at (IsUndoable commit) leaves i old lt at undoable)))
 
-  pub taken-undoable : (commit : ℕ) (leaves : List (Held A)) (i : ℕ) (old new : Held A) → i < length leaves → old ≡ get_or leaves i old → (new ≡ old) ⊎ (new ≡ record old { own = true }) → AreUndoable commit leaves → AreUndoable commit (set leaves i new)
-  taken-undoable commit leaves i old new lt at (inl e) undoable = all-set (IsUndoable commit) leaves i new (subst (IsUndoable commit) (sym e) (element-at (IsUndoable commit) leaves i old lt at undoable)) undoable
-  taken-undoable commit leaves i old new lt at (inr e) undoable = all-set (IsUndoable commit) leaves i new (subst (IsUndoable commit) (sym e) (undoable-own commit (record old { own = true }) refl)) undoable
-
   -- ---- pages that keep some versions of their keys
 
   abbrev kept_page : (List (Version A) → List (Version A)) → Held A → VersionedRows A
@@ -321,11 +317,6 @@ module _ {A : Type 0} where
   long-page [] i h lt at two = absurd (omega arith)
   long-page (g ∷ gs) zero h lt at two = subst (λ x. 2 ≤ length x.rows) at two
   long-page (g ∷ gs) (suc i) h lt at two = long-page gs i h (omega arith) at two
-
-  pub page-long : (leaves : List (Held A)) (i : ℕ) (h : Held A) → i < length leaves → h ≡ get_or leaves i h → 2 ≤ length (get_or (pages_of leaves) i []) → 2 ≤ length h.rows
-  page-long [] i h lt at two = absurd (omega arith)
-  page-long (g ∷ gs) zero h lt at two = subst (λ x. 2 ≤ length x.rows) (sym at) two
-  page-long (g ∷ gs) (suc i) h lt at two = page-long gs i h (omega arith) at two
 
   -- ---- the next row of pages
 

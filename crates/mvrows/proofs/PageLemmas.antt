@@ -335,16 +335,8 @@ module _ {A : Type 0} where
 
   -- ---- what keeps its versions
 
-  one-pruned : (oldest : ℕ) (k : KeyVersions A) → has_version k ≡ true → pruned_key oldest k ≡ k → pruned_rows oldest (k ∷ []) ≡ k ∷ []
-  one-pruned oldest k has is = ap (λ x. cond (has_version x) (x ∷ []) []) is ∙ rw has refl
-
   pruned-append : (oldest : ℕ) (xs ys : VersionedRows A) → pruned_rows oldest (xs ++ ys) ≡ pruned_rows oldest xs ++ pruned_rows oldest ys
   pruned-append oldest xs ys = ap (filter has_version) (map-append (pruned_key oldest) xs ys) ∙ filter-append has_version (map (pruned_key oldest) xs) (map (pruned_key oldest) ys)
-
-  pub pruned-more : (oldest : ℕ) (rows : VersionedRows A) (i : ℕ) (k : KeyVersions A) → i < length rows → k ≡ get_or rows i k → has_version k ≡ true → pruned_key oldest k ≡ k → pruned_rows oldest (take i rows) ≡ take i rows → pruned_rows oldest (take (i + 1) rows) ≡ take (i + 1) rows
-  pruned-more oldest rows i k lt at has is so_far =
-      let cut : take (i + 1) rows ≡ take i rows ++ k ∷ [] = take_more rows i k lt ∙ ap (λ x. take i rows ++ x ∷ []) (sym at) in
-      ap (pruned_rows oldest) cut ∙ pruned-append oldest (take i rows) (k ∷ []) ∙ (λ j. so_far j ++ one-pruned oldest k has is j) ∙ sym cut
 
   -- ---- keys that keep some versions stay in order
 

@@ -86,9 +86,6 @@ below-more m n (s ∷ ss) e = go (nat_le m s) (nat_lt s m) (nat_lt s n) refl ref
     whole : ℕ
     whole = length (filter (λ x. nat_lt x n) ss)
 
-    some_between : is_shown_to ss m n ≡ true → (length (filter (λ x. nat_lt x m) ss) < length (filter (λ x. nat_lt x n) ss)) → length (filter (λ x. nat_lt x m) ss) ≤ length (filter (λ x. nat_lt x n) ss)
-    some_between f h = omega arith
-
     go : (d a b : Bool) → nat_le m s ≡ d → nat_lt s m ≡ a → nat_lt s n ≡ b → ((d && b) || is_shown_to ss m n) ≡ true → (is_shown_to ss m n ≡ true → length (filter (λ x. nat_lt x m) ss) < length (filter (λ x. nat_lt x n) ss))
         → length (cond a (s ∷ filter (λ x. nat_lt x m) ss) (filter (λ x. nat_lt x m) ss)) < length (cond b (s ∷ filter (λ x. nat_lt x n) ss) (filter (λ x. nat_lt x n) ss))
     go true true b p q r f rest = absurd (let k = leb-true m s p in let l = less_from s m q in omega arith)

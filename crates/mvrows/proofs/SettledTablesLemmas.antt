@@ -1,5 +1,5 @@
 -- Keys that a commit has changed, settled in all tables.
-use Rattle.std.proofs.Common.{suc, zero, ◌≡◌, refl, sym, ap, subst, ◌∙◌, ℕ, ◌+◌, ◌<◌, ◌≤◌, Bool, true, false, cond, List, [], ◌∷◌, drop, length, Some, None, get_or, set, arith}
+use Rattle.std.proofs.Common.{suc, zero, ◌≡◌, refl, sym, ap, subst, ◌∙◌, ℕ, ◌+◌, ◌<◌, Bool, true, false, cond, List, [], ◌∷◌, drop, length, Some, None, get_or, set, arith}
 use Rattle.std.specs.Prelude.{IfSome, nat_le}
 use Rattle.std.specs.List.{AllByRecursion}
 use Rattle.std.specs.Ordering.{match_ordering}
@@ -7,7 +7,7 @@ use Rattle.std.specs.declared.cmp.Ordering.{Ordering}
 use Rattle.std.specs.declared.cmp.Ordering.TheVariants.{Less, Equal, Greater}
 use Rattle.std.proofs.lemmas.Bool.{le-leb}
 use Rattle.std.proofs.lemmas.Cmp.{tied_itself}
-use Rattle.std.proofs.lemmas.List.{map-set, set_past, length-map, drop_all}
+use Rattle.std.proofs.lemmas.List.{map-set}
 use Rattle.value.specs.Order.{value_cmp, value_cmp-total}
 use Rattle.value.specs.declared.value.Value.{Value}
 use Rattle.schema.specs.declared.changes.Change.{Change}
@@ -15,7 +15,7 @@ use Rattle.schema.specs.Plain.{same}
 use Rattle.mvrows.specs.Versions.{Version, VersionedRows, versions_of}
 use Rattle.mvrows.specs.Installing.{first_version, newer, put_version, install_change, installed}
 use Rattle.mvrows.specs.Settling.{Needed, found, settle_key, settle_change, settled}
-use Rattle.mvrows.specs.Fresh.{is_from, IsFresh, IsFreshIn, AreFresh}
+use Rattle.mvrows.specs.Fresh.{is_from, IsFresh, AreFresh}
 use Rattle.mvrows.specs.HeldRows.{Held, rows_in, rows_held, AreUndoable}
 use Rattle.mvrows.proofs.VersionLemmas.{all-set}
 use Rattle.mvrows.proofs.PageLemmas.{drop-item}
@@ -108,25 +108,12 @@ module _ {A : Type 0} where
   held-at (h ∷ hs) zero old lt at = ap rows_in (sym at)
   held-at (h ∷ hs) (suc t) old lt at = held-at hs t old (omega arith) at
 
-  -- what is asked of the table that it is settled in
-  pub fresh-at : (x : Change A) (tables : List (List (Held A))) (t : ℕ) (old : List (Held A)) (key : Value A) → t ≡ x.table → key ≡ x.key → t < length tables → old ≡ get_or tables t old → AreFresh (x ∷ []) tables → IsFreshIn key old
-  fresh-at x tables t old key place is lt at f = record {
-    commit = f.commit;
-    undoable = element-at (AreUndoable f.commit) tables t old lt at f.undoable;
-    fresh = subst (λ k. IsFresh f.commit k (rows_in old)) (sym is) (subst (IsFresh f.commit x.key) (ap (versions_of (rows_held tables)) (sym place) ∙ held-at tables t old lt at) f.fresh.0);
-  }
-
   pub settled-held : (needed : Needed) (x : Change A) (tables : List (List (Held A))) (t : ℕ) (old h : List (Held A)) (key : Value A) → t ≡ x.table → key ≡ x.key → t < length tables → old ≡ get_or tables t old → rows_in h ≡ settle_key needed key (rows_in old)
       → rows_held (set tables t h) ≡ settle_change needed x (rows_held tables)
   settled-held needed x tables t old h key place is lt at made =
       map-set rows_in tables t h
       ∙ ap (set (rows_held tables) t) (made ∙ ap (λ k. settle_key needed k (rows_in old)) is ∙ ap (settle_key needed x.key) (sym (held-at tables t old lt at)))
       ∙ ap (λ n. set (rows_held tables) n (settle_key needed x.key (versions_of (rows_held tables) n))) place
-
-  pub settled-past : (needed : Needed) (x : Change A) (tables : List (List (Held A))) (t : ℕ) → t ≡ x.table → length tables ≤ t → rows_held tables ≡ settle_change needed x (rows_held tables)
-  settled-past needed x tables t place past = sym (
-      ap (λ n. set (rows_held tables) n (settle_key needed x.key (versions_of (rows_held tables) n))) (sym place)
-      ∙ set_past (rows_held tables) t _ (rw (length-map tables (λ (y : List (Held A)). rows_in y)) past))
 
   -- the others stay fresh
   pub fresh-set : (xs : List (Change A)) (tables : List (List (Held A))) (t : ℕ) (old h : List (Held A)) → t < length tables → old ≡ get_or tables t old → ((commit : ℕ) → AreUndoable commit old → AreUndoable commit h) → ((commit : ℕ) (k : Value A) → IsFresh commit k (rows_in old) → IsFresh commit k (rows_in h))
@@ -154,6 +141,3 @@ module _ {A : Type 0} where
       → settled needed (drop i xs) (rows_held old) ≡ whole → settled needed (drop (i + 1) xs) (rows_held new) ≡ whole
   settled-step needed xs i x old new whole lt at made so_far =
       ap (settled needed (drop (i + 1) xs)) made ∙ ap (λ ys. settled needed ys (rows_held old)) (sym (drop-item xs i x lt at)) ∙ so_far
-
-  pub settled-end : (needed : Needed) (xs : List (Change A)) (i : ℕ) (now : List (List (Held A))) (whole : List (VersionedRows A)) → length xs ≤ i → settled needed (drop i xs) (rows_held now) ≡ whole → rows_held now ≡ whole
-  settled-end needed xs i now whole past so_far = ap (λ ys. settled needed ys (rows_held now)) (sym (drop_all i xs past)) ∙ so_far

@@ -79,13 +79,6 @@ module _ {A : Type 0} where
   with_versions : (k : KeyVersions A) (vs ws : List (Version A)) → vs ≡ ws → record k { versions = vs } ≡ record k { versions = ws }
   with_versions k vs ws e = ap (λ us. record { key = k.key; versions = us }) e
 
-  pub none-thinned : (ss : List ℕ) (k : KeyVersions A) → None ≡ newest_version k → k ≡ thinned ss k
-  none-thinned ss k none = ap (λ us. record { key = k.key; versions = us }) (go k.versions none)
-    where
-      go : (vs : List (Version A)) → None ≡ option_map (λ v. v.number) (slice_get vs 0) → vs ≡ read_versions ss vs
-      go [] e = refl
-      go (v ∷ vs) e = cc
-
   pub thinning-begins : (ss : List ℕ) (n : ℕ) (k : KeyVersions A) → Some n ≡ newest_version k → thinned_from ss n 1 k ≡ thinned ss k
   thinning-begins ss n k is = with_versions k _ _ (go k.versions is)
     where

@@ -8,7 +8,6 @@ pub mod Laws
 pub mod Pruning
 pub mod Settling
 pub mod SharedTable
-pub mod Sources
 pub mod Stored
 pub mod TakenBack
 pub mod Versions

@@ -14,14 +14,13 @@ use crate::table::Table;
 use schema::catalog::TableNo;
 use schema::reader::{Bound, SnapshotReader};
 use schema::row::Row;
-use schema::tables::Tables;
 use schema::walk::RowsReader;
 use std::alloc::{Allocator, Global};
 use std::marker::Model;
 use value::key::Key;
 use value::refusal::Refusal;
 
-// Tables with versions, and the number of a snapshot.
+// Tables with versions, and the number of a snapshot. It has no model, so that clauses can speak of the number.
 #[derive(Drop)]
 #[derive_where(Debug)]
 struct Versions<A: Allocator = Global> {
@@ -29,30 +28,23 @@ struct Versions<A: Allocator = Global> {
     snapshot: u64,
 }
 
-// What a view reads.
-#[derive(Drop)]
-#[derive_where(Debug)]
-enum Source<A: Allocator = Global> {
-    Plain(Tables<A>),
-    Versioned(Versions<A>),
-}
-
 /// The tables at a snapshot, its own: they never change, and it borrows nothing. Threads may share
 /// it.
 #[derive(Drop)]
 #[derive_where(Debug)]
 pub struct View<A: Allocator = Global> {
-    source: Source<A>,
+    versions: Versions<A>,
 }
 
 impl<A: Allocator> Model for View<A> {
     ghost use Rattle.std.specs.Prelude.{List};
     ghost use Rattle.schema.specs.Rows.{Rows};
-    ghost use Rattle.mvrows.specs.Sources.{tables_of};
+    ghost use Rattle.mvrows.specs.Versions.{shown};
+    ghost use Rattle.mvrows.specs.HeldRows.{rows_held};
 
     ghost Value = { List (Rows A) };
 
-    ghost view = { λ v. tables_of v.source };
+    ghost view = { λ v. shown v.versions.snapshot (rows_held v.versions.tables.items) };
 }
 
 /// The row of the least key within a bound that a snapshot shows of a table.
@@ -97,21 +89,12 @@ impl<A: Allocator> Versions<A> {
 }
 
 impl<A: Allocator> View<A> {
-    /// The view of these tables.
-    pub fn of(tables: Tables<A>) -> View<A>
-        ensures { result ≡ tables }
-    {
-        View {
-            source: Source::Plain(tables),
-        }
-    }
-
     /// The view of what a snapshot shows of these tables.
     pub(crate) fn at(tables: Vec<SharedTable<A>, A>, snapshot: u64) -> View<A>
         ensures { result ≡ shown snapshot (rows_held tables.items) }
     {
         View {
-            source: Source::Versioned(Versions { tables, snapshot }),
+            versions: Versions { tables, snapshot },
         }
     }
 }
@@ -120,21 +103,13 @@ impl<A: Allocator> SnapshotReader<A> for View<A> {
     ghost tables = { λ v. v };
 
     fn next_row(&self, table: TableNo, after: Bound<&Key<A>>) -> Option<&Row<A>> {
-        match &self.source {
-            Source::Plain(tables) => tables.next_row(table, after),
-            Source::Versioned(versions) => next_row(
-                versions.table(table),
-                versions.snapshot,
-                after,
-            ),
-        }
+        let versions = &self.versions;
+        next_row(versions.table(table), versions.snapshot, after)
     }
 
     fn get(&self, table: TableNo, key: &Key<A>) -> Option<&Row<A>> {
-        match &self.source {
-            Source::Plain(tables) => tables.get(table, key),
-            Source::Versioned(versions) => versions.table(table).get(versions.snapshot, key),
-        }
+        let versions = &self.versions;
+        versions.table(table).get(versions.snapshot, key)
     }
 }
 
@@ -146,15 +121,7 @@ impl<A: Allocator> RowsReader<A> for View<A> {
         after: Bound<&Key<A>>,
         most: usize,
     ) -> Result<Vec<&Row<A>, A>, Refusal> {
-        match &self.source {
-            Source::Plain(tables) => tables.next_rows(alloc, table, after, most),
-            Source::Versioned(versions) => next_rows(
-                alloc,
-                versions.table(table),
-                versions.snapshot,
-                after,
-                most,
-            ),
-        }
+        let versions = &self.versions;
+        next_rows(alloc, versions.table(table), versions.snapshot, after, most)
     }
 }

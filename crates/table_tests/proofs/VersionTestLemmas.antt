@@ -21,7 +21,3 @@ module _ {A : Type 0} where
 
   pub installed-next : (n : ℕ) (xs : List (Change A)) (tables : List (VersionedRows A)) → TablesAreBelow n tables → TablesAreBelow (n + 1) (installed n xs tables)
   installed-next n xs tables below = installed-below (n + 1) n xs tables (omega arith) (tables-next n tables below)
-
-  pub length-opened : (tables : Tables A) → length (opened tables) ≡ length tables
-  length-opened [] = refl
-  length-opened (rows ∷ tables) = let rest : length (opened tables) ≡ length tables = length-opened tables in omega (arith, rest)

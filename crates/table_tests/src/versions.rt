@@ -9,7 +9,6 @@ mod prunings;
 
 use crate::batches::walked;
 use mvrows::rows::Rows;
-use mvrows::view::View;
 use schema::catalog::{Catalog, TableNo};
 use schema::changes::{Change, Changes};
 use schema::definition::{ColumnDef, TableDef};
@@ -217,13 +216,14 @@ fn a_key_that_goes_and_comes_again(rt: HostRuntime) -> Result<(), Fail> {
 fn a_view_has_the_rows_of_its_tables(rt: HostRuntime) -> Result<(), Fail> {
     let alloc = rt.alloc();
     let table = TableNo::at(0);
-    let mut tables = Tables::new(alloc, &catalog(alloc)?)?;
-    for number in [1, 3] {
-        assert!(rt; tables.has(table));
-        tables.put(alloc, table, row(alloc, number, 0)?)?;
-    }
-    assert!(rt; tables.has(table));
-    let view = View::of(tables);
+    let mut versions = opening(&rt, alloc, 0)?;
+    commit(
+        alloc,
+        &mut versions,
+        1,
+        [(1, Some(0)), (3, Some(0))].as_slice(),
+    )?;
+    let view = versions.view(alloc, 1)?;
     for (number, want) in [
         (0, (false, true)),
         (1, (true, true)),
