@@ -1,0 +1,5 @@
+pub mod Factorials
+pub mod Number
+pub mod Leading
+mod Once
+mod Shares
