@@ -11,3 +11,4 @@ pub mod Proper
 pub mod Structures
 pub mod Thinned
 mod WalkLemmas
+mod WorldLemmas

@@ -83,7 +83,7 @@ module _ {S T : Type 0} (g : S → T) (node : T → Node) (edge : T → T → Bo
       go true = refl
       go false = refl
 
-  earliest-map : (xs : List S) → earliest node edge (map g xs) ≡ option_map g (earliest node_of edge_of xs)
+  pub earliest-map : (xs : List S) → earliest node edge (map g xs) ≡ option_map g (earliest node_of edge_of xs)
   earliest-map [] = refl
   earliest-map (x ∷ xs) = ap (λ o. Some (earlier node edge (g x) o)) (earliest-map xs) ∙ ap Some (earlier-map x (earliest node_of edge_of xs))
 

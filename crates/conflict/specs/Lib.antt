@@ -3,3 +3,4 @@ pub mod Later
 pub mod Through
 pub mod Tracked
 pub mod Undo
+pub mod World
