@@ -8,12 +8,14 @@ ghost use Rattle.mvrows.specs.HeldRows.{rows_in};
 
 use crate::rows::Rows;
 use crate::table::Table;
-use crate::view::next_row;
+use crate::view::{next_row, next_rows};
 use schema::catalog::TableNo;
 use schema::reader::{Bound, SnapshotReader};
 use schema::row::Row;
+use schema::walk::RowsReader;
 use std::alloc::{Allocator, Global};
 use value::key::Key;
+use value::refusal::Refusal;
 
 /// The tables at a snapshot, lent: a reader that takes no memory, and as long as it is there the
 /// versions can't change.
@@ -50,5 +52,17 @@ impl<A: Allocator> SnapshotReader<A> for At<'_, A> {
 
     fn get(&self, table: TableNo, key: &Key<A>) -> Option<&Row<A>> {
         self.table(table).get(self.snapshot, key)
+    }
+}
+
+impl<A: Allocator> RowsReader<A> for At<'_, A> {
+    fn next_rows(
+        &self,
+        alloc: A,
+        table: TableNo,
+        after: Bound<&Key<A>>,
+        most: usize,
+    ) -> Result<Vec<&Row<A>, A>, Refusal> {
+        next_rows(alloc, self.table(table), self.snapshot, after, most)
     }
 }

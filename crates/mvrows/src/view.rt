@@ -60,8 +60,8 @@ pub(crate) fn next_row<'t, A: Allocator>(
     table.next_row(snapshot, after)
 }
 
-// The first rows within a bound that a snapshot shows of a table, so many at most.
-fn next_rows<'t, A: Allocator>(
+/// The first rows within a bound that a snapshot shows of a table, so many at most.
+pub(crate) fn next_rows<'t, A: Allocator>(
     alloc: A,
     table: &'t Table<A>,
     snapshot: u64,

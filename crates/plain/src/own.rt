@@ -12,7 +12,7 @@ ghost use Rattle.plain.specs.Merged.{AreInKeyOrder, AreMerged};
 use crate::added::{append_reserved, reserve};
 use schema::catalog::Catalog;
 use schema::changes::{Change, Changes};
-use schema::reader::SnapshotReader;
+use schema::walk::RowsReader;
 use schema::row::{Row, copy_all};
 use snapshot::overlay::Overlay;
 use statement::evaluate::evaluate;
@@ -88,7 +88,7 @@ fn merge_rest<A: Allocator + Copy>(
 }
 
 // What comes of a statement on the tables of a reader.
-fn evaluate_on<A: Allocator + Copy, R: SnapshotReader<A>>(
+fn evaluate_on<A: Allocator + Copy, R: RowsReader<A>>(
     alloc: A,
     catalog: &Catalog<A>,
     statement: &Statement<A>,
@@ -171,7 +171,7 @@ impl<A: Allocator> OwnChanges<A> {
 
     /// What comes of a statement on the tables of a reader with these changes put in. The tables
     /// aren't copied.
-    pub(crate) fn evaluate<R: SnapshotReader<A>>(
+    pub(crate) fn evaluate<R: RowsReader<A>>(
         &mut self,
         alloc: A,
         catalog: &Catalog<A>,

@@ -22,6 +22,7 @@ use schema::catalog::TableNo;
 use schema::changes::Changes;
 use schema::reader::{Bound, SnapshotReader};
 use schema::row::Row;
+use schema::walk::{RowsReader, rows_one_by_one};
 use snapshot::overlay::Overlay;
 use std::alloc::{Allocator, Global};
 use std::marker::Model;
@@ -65,6 +66,21 @@ impl<A: Allocator> SnapshotReader<A> for SessionReader<A> {
 
     fn get(&self, table: TableNo, key: &Key<A>) -> Option<&Row<A>> {
         Overlay::new(&self.view, &self.own).lend(table, key)
+    }
+}
+
+impl<A: Allocator> RowsReader<A> for SessionReader<A> {
+    fn next_rows(
+        &self,
+        alloc: A,
+        table: TableNo,
+        after: Bound<&Key<A>>,
+        most: usize,
+    ) -> Result<Vec<&Row<A>, A>, Refusal> {
+        match Overlay::new(&self.view, &self.own).unchanged(table, after) {
+            Some(view) => view.next_rows(alloc, table, after, most),
+            None => rows_one_by_one(alloc, self, table, after, most),
+        }
     }
 }
 

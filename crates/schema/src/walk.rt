@@ -1,6 +1,6 @@
 //! What gives many rows at once, and walks over the rows of a table a step at a time.
 
-ghost use Rattle.std.specs.Prelude.{◌≡◌, take, slice_get, IfOk, IfErr};
+ghost use Rattle.std.specs.Prelude.{◌≡◌, ◌<◌, take, slice_get, IfOk, IfErr};
 ghost use Rattle.std.specs.Option.{option_copied};
 ghost use Rattle.value.specs.Refusals.{out_of_memory};
 ghost use Rattle.schema.specs.Rows.{HasTable, IsInKeyOrder, rows_within};
@@ -8,14 +8,17 @@ ghost use Rattle.schema.specs.Plain.{rows_of};
 ghost use Rattle.schema.specs.Walking.{lent, rows_behind, rows_to_come, IsStep};
 
 use crate::catalog::TableNo;
-use crate::reader::{Bound, SnapshotReader};
+use crate::reader::{Bound, SnapshotReader, row_after, row_within};
 use crate::row::Row;
 use std::alloc::Allocator;
 use std::marker::Model;
 use value::key::Key;
 use value::refusal::Refusal;
 
-/// How many rows a walk reads at once.
+/// How many rows a walk reads at first: most walks over a range need few.
+const FIRST: usize = 16;
+
+/// How many rows a walk reads at once at most.
 const BATCH: usize = 256;
 
 /// A reader that gives many rows by one search.
@@ -33,6 +36,71 @@ pub trait RowsReader<A: Allocator>: SnapshotReader<A> {
             take most (rows_within (rows_of (Self.tables self.now) table) after.entry)) }
         ensures ordered { IsInKeyOrder (rows_of (Self.tables self.now) table) }
         ensures err { IfErr result (λ e. e ≡ out_of_memory) };
+}
+
+/// The first rows within a bound, so many at most, each looked up by the key of the one before.
+pub fn rows_one_by_one<'r, A: Allocator, R: SnapshotReader<A>>(
+    alloc: A,
+    reader: &'r R,
+    table: TableNo,
+    after: Bound<&Key<A>>,
+    most: usize,
+) -> Result<Vec<&'r Row<A>, A>, Refusal>
+    requires { HasTable (R.tables reader.now) table }
+    ensures rows { IfOk result (λ rows. lent rows.items ≡
+        take most (rows_within (rows_of (R.tables reader.now) table) after.entry)) }
+    ensures ordered { IsInKeyOrder (rows_of (R.tables reader.now) table) }
+    ensures err { IfErr result (λ e. e ≡ out_of_memory) }
+{
+    let mut rows = Vec::new(alloc);
+    let mut next = row_within(reader, table, after);
+    while let Some(row) = next {
+        if rows.len() == most {
+            return Ok(rows);
+        }
+        rows.push(row)?;
+        next = row_after(reader, table, row);
+    }
+    Ok(rows)
+}
+
+/// A reader that gives rows one by one alone, as one that gives many.
+#[derive(Clone, Copy)]
+pub struct RowByRow<'r, R> {
+    reader: &'r R,
+}
+
+impl<'r, R> RowByRow<'r, R> {
+    /// The same tables, read row by row.
+    pub fn new(reader: &'r R) -> RowByRow<'r, R>
+        ensures { result ≡ record { reader = reader.entry } }
+    {
+        RowByRow { reader }
+    }
+}
+
+impl<R: SnapshotReader<A>, A: Allocator> SnapshotReader<A> for RowByRow<'_, R> {
+    ghost tables = { λ r. R.tables r.reader.now };
+
+    fn next_row(&self, table: TableNo, after: Bound<&Key<A>>) -> Option<&Row<A>> {
+        self.reader.next_row(table, after)
+    }
+
+    fn get(&self, table: TableNo, key: &Key<A>) -> Option<&Row<A>> {
+        self.reader.get(table, key)
+    }
+}
+
+impl<R: SnapshotReader<A>, A: Allocator> RowsReader<A> for RowByRow<'_, R> {
+    fn next_rows(
+        &self,
+        alloc: A,
+        table: TableNo,
+        after: Bound<&Key<A>>,
+        most: usize,
+    ) -> Result<Vec<&Row<A>, A>, Refusal> {
+        rows_one_by_one(alloc, self.reader, table, after, most)
+    }
 }
 
 /// A walk over rows of a table in key order. To a contract it is the rows still to come.
@@ -68,6 +136,14 @@ fn given<'r, A: Allocator>(batch: &[&'r Row<A>], place: usize) -> Option<&'r Row
     }
 }
 
+// How many rows are read behind so many: twice as many, up to a whole batch.
+fn more_than(read: usize) -> usize
+    requires { 0 < read }
+    ensures { 0 < result }
+{
+    if read < BATCH / 2 { read * 2 } else { BATCH }
+}
+
 // The next rows behind those of a batch.
 fn rows_behind<'r, R: RowsReader<A>, A: Allocator + Copy>(
     alloc: A,
@@ -81,7 +157,10 @@ fn rows_behind<'r, R: RowsReader<A>, A: Allocator + Copy>(
     ensures err { IfErr result (λ e. e ≡ out_of_memory) }
 {
     match batch.last() {
-        Some(last) => reader.next_rows(alloc, table, Bound::After(last.key()), BATCH),
+        Some(last) => {
+            let most = more_than(batch.len());
+            reader.next_rows(alloc, table, Bound::After(last.key()), most)
+        }
         None => Ok(Vec::new(alloc)),
     }
 }
@@ -99,7 +178,7 @@ impl<'r, R: RowsReader<A>, A: Allocator + Copy> Walk<'r, R, A> {
         ensures ordered { IsInKeyOrder (rows_of (R.tables reader.now) table) }
         ensures err { IfErr result (λ e. e ≡ out_of_memory) }
     {
-        let batch = reader.next_rows(alloc, table, bound, BATCH)?;
+        let batch = reader.next_rows(alloc, table, bound, FIRST)?;
         Ok(Walk {
             alloc,
             reader,

@@ -164,7 +164,7 @@ module _ {A : Type 0} where
           let same_pair : (x.key, new_row x) ≡ p = cc in
           subst (λ z. IsSaidFirst xs t bound z) same_pair (f.0 ∙ ap Some (new_fields x), new_key x, f.1, f.2)
 
-  unsaid : (xs : List (Change A)) (t : ℕ) (bound : Bound (Bor (Key A))) → next_change xs t bound ≡ None → (q : Value A) → is_within bound q ≡ true → left_by t q xs ≡ None
+  pub unsaid : (xs : List (Change A)) (t : ℕ) (bound : Bound (Bor (Key A))) → next_change xs t bound ≡ None → (q : Value A) → is_within bound q ≡ true → left_by t q xs ≡ None
   unsaid xs t bound is = go (find (λ y. y.table == t && is_within bound y.key) xs) refl is
     where
       go : (o : Option (Change A)) → find (λ y. y.table == t && is_within bound y.key) xs ≡ o → option_map {T = Change A} {U = Value A × Option (Row A)} (λ x. (x.key, new_row x)) o ≡ None → (q : Value A) → is_within bound q ≡ true → left_by t q xs ≡ None

@@ -1,17 +1,19 @@
 //! Own changes over a lent reader.
 
-ghost use Rattle.std.specs.Prelude.{◌≡◌, ◌<◌, IfOk, IfErr, length};
+ghost use Rattle.std.specs.Prelude.{◌≡◌, ◌<◌, IfOk, IfErr, IfSome, length};
 ghost use Rattle.std.specs.Option.{option_copied};
-ghost use Rattle.schema.specs.Plain.{put_all};
-ghost use Rattle.schema.specs.Rows.{HasTable, IsInKeyOrder, next_row, row_of};
+ghost use Rattle.schema.specs.Plain.{put_all, rows_of};
+ghost use Rattle.schema.specs.Rows.{HasTable, IsInKeyOrder, next_row, row_of, rows_within};
 ghost use Rattle.snapshot.specs.Overlaid.{rows_with, is_before, next_after, changes_after, changes_within};
 
 use schema::catalog::TableNo;
 use schema::changes::Changes;
 use schema::reader::{Bound, SnapshotReader};
 use schema::row::Row;
+use schema::walk::{RowsReader, rows_one_by_one};
 use std::alloc::{Allocator, Global};
 use value::key::Key;
+use value::refusal::Refusal;
 
 /// Own changes over a lent reader: itself a reader, of the lent tables with the changes put in.
 #[derive(Clone, Copy)]
@@ -97,6 +99,22 @@ impl<'a, R: SnapshotReader<A>, A: Allocator> Overlay<'a, R, A> {
         }
     }
 
+    /// The lent reader, where none of the changes is within a bound: it has the same rows there.
+    pub fn unchanged(&self, table: TableNo, after: Bound<&Key<A>>) -> Option<&'a R>
+        requires { HasTable (put_all self.now.changes.now (R.tables self.now.reader.now)) table }
+        ensures has { IfSome result (λ reader. HasTable (R.tables reader.now) table) }
+        ensures ordered { IfSome result (λ reader. IsInKeyOrder (rows_of (R.tables reader.now) table) →
+            IsInKeyOrder (rows_with self.now.changes.now (R.tables self.now.reader.now) table)) }
+        ensures same { IfSome result (λ reader. IsInKeyOrder (rows_of (R.tables reader.now) table) →
+            rows_within (rows_of (R.tables reader.now) table) after.entry ≡
+            rows_within (rows_with self.now.changes.now (R.tables self.now.reader.now) table) after.entry) }
+    {
+        match self.changes.next(table, after) {
+            Some(_) => None,
+            None => Some(self.reader),
+        }
+    }
+
     /// `get`, whose row is lent as long as the reader and the changes are.
     pub fn lend(&self, table: TableNo, key: &Key<A>) -> Option<&'a Row<A>>
         requires { HasTable (put_all self.now.changes.now (R.tables self.now.reader.now)) table }
@@ -120,5 +138,20 @@ impl<R: SnapshotReader<A>, A: Allocator> SnapshotReader<A> for Overlay<'_, R, A>
 
     fn get(&self, table: TableNo, key: &Key<A>) -> Option<&Row<A>> {
         self.lend(table, key)
+    }
+}
+
+impl<R: RowsReader<A>, A: Allocator> RowsReader<A> for Overlay<'_, R, A> {
+    fn next_rows(
+        &self,
+        alloc: A,
+        table: TableNo,
+        after: Bound<&Key<A>>,
+        most: usize,
+    ) -> Result<Vec<&Row<A>, A>, Refusal> {
+        match self.unchanged(table, after) {
+            Some(reader) => reader.next_rows(alloc, table, after, most),
+            None => rows_one_by_one(alloc, self, table, after, most),
+        }
     }
 }

@@ -1,4 +1,4 @@
--- The laws of statements, over sound tables.
+-- The laws of statements, over tables in key order.
 use Rattle.std.proofs.Common.{◌≡◌, refl, sym, ap, subst, ◌∙◌, ℕ, zero, suc, ◌<◌, ◌≤◌, Bool, true, false, true≢false, T, cond, not, ◌&&◌, ◌||◌, ◌⊎◌, inl, inr, List, [], ◌∷◌, length, Option, Some, None, is_some, unwrap_or, eqb, arith}
 use Rattle.std.proofs.lemmas.Bool.{eqb-true}
 use Rattle.std.specs.List.{list_any, list_all}
@@ -17,7 +17,7 @@ use Rattle.statement.specs.Agreement.{reads_key, row_naming}
 use Rattle.statement.specs.Evaluation.{after, outcome}
 use Rattle.statement.specs.Fits.{Fits}
 use Rattle.statement.specs.Footprint.{footprint}
-use Rattle.statement.specs.Laws.{AgreeFor, names_reference, refers, writes_key}
+use Rattle.statement.specs.Laws.{AgreeFor, is_keyed, names_reference, refers, writes_key}
 use Rattle.statement.specs.Marks.{marks_reference}
 use Rattle.statement.proofs.CoverLemmas.{and_both, all_in}
 use Rattle.statement.proofs.RowsLemmas.{HasKeys}
@@ -68,11 +68,28 @@ module _ {A : Type 0} where
   sound_whole : (c : Catalog) (X : Tables A) → is_sound c X ≡ true → Sound c X
   sound_whole c X h = sound_from c X (sound_ordered c X h) h
 
+  -- ---- what keyed tables are
+
+  keyed_sorted : (X : Tables A) (t : ℕ) → list_all is_keyed X ≡ true → T (is_sorted value_cmp (rows_of X t))
+  keyed_sorted [] t h = tt
+  keyed_sorted (rows ∷ X) zero h = T_of _ (and_both (is_sorted value_cmp rows) _ (and_both (is_keyed rows) (list_all is_keyed X) h).0).0
+  keyed_sorted (rows ∷ X) (suc t) h = keyed_sorted X t (and_both (is_keyed rows) (list_all is_keyed X) h).1
+
+  keyed_given : (X : Tables A) (t : ℕ) → list_all is_keyed X ≡ true → list_all (λ row. not (is_null row.0)) (rows_of X t) ≡ true
+  keyed_given [] t h = refl
+  keyed_given (rows ∷ X) zero h = (and_both (is_sorted value_cmp rows) _ (and_both (is_keyed rows) (list_all is_keyed X) h).0).1
+  keyed_given (rows ∷ X) (suc t) h = keyed_given X t (and_both (is_keyed rows) (list_all is_keyed X) h).1
+
+  keyed_ordered : (X : Tables A) → list_all is_keyed X ≡ true → IsOrdered X
+  keyed_ordered X h = record { each = λ t. keyed_sorted X t h }
+
+  keyed_keys : (X : Tables A) → list_all is_keyed X ≡ true → HasKeys X
+  keyed_keys X h = record { each = λ t. keyed_given X t h }
+
   -- ---- the footprint suffices
 
   pub same_outcome : (c : Catalog) (q : Statement A) (X Y : Tables A) → AgreeFor c q X Y → outcome c q X ≡ outcome c q Y
-  same_outcome c q X Y a = suffices c q X Y a.fits (sound_ordered c X a.sound_X) (sound_ordered c Y a.sound_Y) (sound_keys c X a.sound_X) (sound_keys c Y a.sound_Y)
-      ((sound_whole c X a.sound_X).count ∙ sym (sound_whole c Y a.sound_Y).count) a.agree
+  same_outcome c q X Y a = suffices c q X Y a.fits (keyed_ordered X a.keyed_X) (keyed_ordered Y a.keyed_Y) (keyed_keys X a.keyed_X) (keyed_keys Y a.keyed_Y) a.as_many a.agree
 
   -- what changes leave at a key that one of them is of doesn't depend on the tables
   left_same : (xs : List (Change A)) (X Y : Tables A) (t : ℕ) (k : Value A) → length X ≡ length Y → list_any (touches t k) xs ≡ true → row_at (put_all xs X) t k ≡ row_at (put_all xs Y) t k
@@ -100,7 +117,7 @@ module _ {A : Type 0} where
 
   pub same_rows : (c : Catalog) (q : Statement A) (X Y : Tables A) → AgreeFor c q X Y → (t : ℕ) (k : Value A) → writes_key (outcome c q X).changes t k ≡ true → row_at (after c q X) t k ≡ row_at (after c q Y) t k
   same_rows c q X Y a t k w =
-      left_same (outcome c q X).changes X Y t k ((sound_whole c X a.sound_X).count ∙ sym (sound_whole c Y a.sound_Y).count) w
+      left_same (outcome c q X).changes X Y t k a.as_many w
       ∙ ap (λ r. row_at (put_all r.changes Y) t k) (same_outcome c q X Y a)
 
   -- ---- soundness is kept
@@ -120,8 +137,8 @@ module _ {A : Type 0} where
           subst (λ u. P u k ≡ true) (eqb-true x.table t p.0) (subst (λ v. P x.table v ≡ true) (sym (same_value k x.key p.1)) (f x (inl refl)))
       go false q g rest = rest g
 
-  pub written_read : (c : Catalog) (q : Statement A) (X : Tables A) → Fits c q → is_sound c X ≡ true → (t : ℕ) (k : Value A) → writes_key (outcome c q X).changes t k ≡ true → reads_key (footprint c q) t k ≡ true
-  written_read c q X f h t k w = some_change (outcome c q X).changes t k (reads_key (footprint c q)) (writes.writes_are_read c q X f (sound_keys c X h)) w
+  pub written_read : (c : Catalog) (q : Statement A) (X : Tables A) → Fits c q → list_all is_keyed X ≡ true → (t : ℕ) (k : Value A) → writes_key (outcome c q X).changes t k ≡ true → reads_key (footprint c q) t k ≡ true
+  written_read c q X f h t k w = some_change (outcome c q X).changes t k (reads_key (footprint c q)) (writes.writes_are_read c q X f (keyed_keys X h)) w
 
   pub marked_before : (c : Catalog) (q : Statement A) (X : Tables A) (t j : ℕ) (k p : Value A) → writes_key (outcome c q X).changes t p ≡ true → names_reference c X t j k p ≡ true → marks_reference (outcome c q X).marks t j k ≡ true
   marked_before c q X t j k p w n =

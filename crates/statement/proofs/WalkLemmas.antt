@@ -1,6 +1,8 @@
 -- Reading a table from one end of an interval to the other gives the rows that satisfy the conditions.
-use Rattle.std.proofs.Common.{◌≡◌, Bool, true, false, true≢false, cond, List, [], ◌∷◌, ◌++◌, Option, Some, None, Bor, refl, sym, ap, subst, ◌∙◌, append_assoc}
+use Rattle.std.proofs.Common.{◌≡◌, Bool, true, false, true≢false, cond, List, [], ◌∷◌, ◌++◌, map, Option, Some, None, Bor, refl, sym, ap, subst, ◌∙◌, append_assoc}
 use Rattle.std.specs.List.{AllByRecursion, filter, find}
+use Rattle.std.specs.List.Sorted.{IsStrictlySortedBy}
+use Rattle.std.proofs.lemmas.List.Kept.{IsStrictlySortedBy-filter}
 use Rattle.std.specs.Option.{option_copied, IfSome}
 use Rattle.std.specs.FinMap.{is_sorted}
 use Rattle.std.specs.FinMap.Entries.{below_all}
@@ -10,7 +12,7 @@ use Rattle.std.specs.Ordering.{is_eq, is_lt, is_le, is_gt, is_ge}
 use Rattle.value.specs.declared.value.Value.{Value}
 use Rattle.value.specs.Order.{value_cmp, value_cmp-total}
 use Rattle.schema.specs.declared.row.Row.{Row}
-use Rattle.schema.specs.Rows.{rows_after, row_of}
+use Rattle.schema.specs.Rows.{IsInKeyOrder, row_of}
 use Rattle.schema.proofs.PlainLemmas.{same_value}
 use Rattle.statement.specs.declared.condition.Condition.{Condition}
 use Rattle.statement.specs.declared.reading.End.{End}
@@ -73,23 +75,34 @@ module _ {A : Type 0} where
       by_order Equal is e = ap is_gt (value_cmp-total.congr v k l is ∙ less)
       by_order Greater is e = absurd (true≢false e)
 
-  none_after : (cs : List (Condition A)) (low high : End A) (k : Value A) (rows : List (Row A)) → AllByRecursion (λ row. IsWithin cs low high row) (rows_after rows k) → is_to high k ≡ false → filter (satisfies cs) (rows_after rows k) ≡ []
-  none_after cs low high k [] all above = refl
-  none_after cs low high k (r ∷ rows) all above = by_order (value_cmp k r.0) refl all (none_after cs low high k rows)
-    where
-      by_order : (o : Ordering) → value_cmp k r.0 ≡ o → AllByRecursion (λ row. IsWithin cs low high row) (cond (is_lt o) (r ∷ rows_after rows k) (rows_after rows k))
-          → (AllByRecursion (λ row. IsWithin cs low high row) (rows_after rows k) → is_to high k ≡ false → filter (satisfies cs) (rows_after rows k) ≡ [])
-          → filter (satisfies cs) (cond (is_lt o) (r ∷ rows_after rows k) (rows_after rows k)) ≡ []
-      by_order Less is a rest =
-          ap (λ b. cond b (r ∷ filter (satisfies cs) (rows_after rows k)) (filter (satisfies cs) (rows_after rows k))) (never (satisfies cs r) (is_to high r.0) (to_after high k r.0 above is) a.0.below) ∙ rest a.1 above
-      by_order Equal is a rest = rest a above
-      by_order Greater is a rest = rest a above
+  none_later : (cs : List (Condition A)) (low high : End A) (k : Value A) (rows : List (Row A)) → AllByRecursion (λ l. value_cmp k l ≡ Less) (map (λ row. row.0) rows) → AllByRecursion (λ row. IsWithin cs low high row) rows → is_to high k ≡ false → filter (satisfies cs) rows ≡ []
+  none_later cs low high k [] later all above = refl
+  none_later cs low high k (r ∷ rows) later all above =
+      ap (λ b. cond b (r ∷ filter (satisfies cs) rows) (filter (satisfies cs) rows)) (never (satisfies cs r) (is_to high r.0) (to_after high k r.0 above later.0) all.0.below) ∙ none_later cs low high k rows later.1 all.1 above
 
-  -- a row above the upper end doesn't satisfy the conditions, nor do those after it
-  pub none_beyond : (cs : List (Condition A)) (low high : End A) (rows : List (Row A)) (row : Row A) → AllByRecursion (λ r. IsWithin cs low high r) (row ∷ rows_after rows row.0) → is_to high row.0 ≡ false
-      → filter (satisfies cs) (row ∷ rows_after rows row.0) ≡ []
-  none_beyond cs low high rows row all above =
-      ap (λ b. cond b (row ∷ filter (satisfies cs) (rows_after rows row.0)) (filter (satisfies cs) (rows_after rows row.0))) (never (satisfies cs row) (is_to high row.0) above all.0.below) ∙ none_after cs low high row.0 rows all.1 above
+  -- a row above the upper end doesn't satisfy the conditions, nor do those behind it
+  pub none_in_order : (cs : List (Condition A)) (low high : End A) (row : Row A) (rows : List (Row A)) → IsInKeyOrder (row ∷ rows) → AllByRecursion (λ r. IsWithin cs low high r) (row ∷ rows) → is_to high row.0 ≡ false → filter (satisfies cs) (row ∷ rows) ≡ []
+  unfolding IsStrictlySortedBy
+  none_in_order cs low high row rows sorted all above =
+      ap (λ b. cond b (row ∷ filter (satisfies cs) rows) (filter (satisfies cs) rows)) (never (satisfies cs row) (is_to high row.0) above all.0.below) ∙ none_later cs low high row.0 rows sorted.0 all.1 above
+
+  -- the keys behind a row rise as well
+  pub rest_rises : (row : Row A) (rows : List (Row A)) → IsInKeyOrder (row ∷ rows) → IsInKeyOrder rows
+  unfolding IsStrictlySortedBy
+  rest_rises row rows sorted = sorted.1
+
+  keys_from : (low : End A) (rows : List (Row A)) → map (λ row. row.0) (filter (λ row. is_from low row.0) rows) ≡ filter (is_from low) (map (λ row. row.0) rows)
+  keys_from low [] = refl
+  keys_from low (row ∷ rows) = by_test (is_from low row.0) (keys_from low rows)
+    where
+      by_test : (b : Bool) → map (λ row. row.0) (filter (λ row. is_from low row.0) rows) ≡ filter (is_from low) (map (λ row. row.0) rows)
+          → map (λ row. row.0) (cond b (row ∷ filter (λ row. is_from low row.0) rows) (filter (λ row. is_from low row.0) rows)) ≡ cond b (row.0 ∷ filter (is_from low) (map (λ row. row.0) rows)) (filter (is_from low) (map (λ row. row.0) rows))
+      by_test true e = ap (λ keys. row.0 ∷ keys) e
+      by_test false e = e
+
+  -- the rows that aren't below a lower end are in key order
+  pub from_low_rise : (low : End A) (rows : List (Row A)) → IsInKeyOrder rows → IsInKeyOrder (filter (λ row. is_from low row.0) rows)
+  from_low_rise low rows sorted = subst (IsStrictlySortedBy value_cmp) (sym (keys_from low rows)) (IsStrictlySortedBy-filter value_cmp (is_from low) (map (λ row. row.0) rows) sorted)
 
   -- what satisfies the conditions isn't below the lower end
   pub from_low : (cs : List (Condition A)) (low high : End A) (rows : List (Row A)) → AllByRecursion (λ row. IsWithin cs low high row) rows → filter (satisfies cs) (filter (λ row. is_from low row.0) rows) ≡ filter (satisfies cs) rows

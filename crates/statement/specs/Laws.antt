@@ -1,11 +1,14 @@
 -- What the laws of statements speak of.
-use Rattle.std.specs.Prelude.{◌≡◌, ℕ, ◌==◌, Bool, true, false, not, ◌&&◌, is_some, Option, Some, None, List, slice_get}
-use Rattle.std.specs.List.{list_any}
+use Rattle.std.specs.Prelude.{◌≡◌, ℕ, ◌==◌, Bool, true, false, not, ◌&&◌, is_some, Option, Some, None, List, length, slice_get}
+use Rattle.std.specs.FinMap.{is_sorted}
+use Rattle.std.specs.List.{list_any, list_all}
+use Rattle.value.specs.Order.{value_cmp}
 use Rattle.value.specs.declared.value.Value.{Value}
 use Rattle.schema.specs.Definition.{Column, Catalog}
 use Rattle.schema.specs.declared.changes.Change.{Change}
+use Rattle.schema.specs.declared.row.Row.{Row}
 use Rattle.schema.specs.declared.tables.Tables.{Tables}
-use Rattle.schema.specs.Plain.{same, is_null, columns_of, is_sound}
+use Rattle.schema.specs.Plain.{same, is_null, columns_of}
 use Rattle.statement.specs.declared.statement.Statement.{Statement}
 use Rattle.statement.specs.declared.reading.Reading.{Reading}
 use Rattle.statement.specs.Fits.{Fits}
@@ -23,11 +26,17 @@ abbrev pub refers : Catalog → ℕ → ℕ → Bool
 refers c t j = refers_at (slice_get (columns_of c t) j)
 
 module _ {A : Type 0} where
-  -- A statement that fits the catalog, and two sound sets of tables of the catalog that agree where it reads.
+  -- A table is a finite map from keys that aren't null: they rise, so that each stands once.
+  abbrev pub is_keyed : List (Row A) → Bool
+  is_keyed rows = is_sorted value_cmp rows && list_all (λ row. not (is_null row.0)) rows
+
+  -- A statement that fits the catalog, and two sets of as many tables that agree where it reads. Of their rows nothing is
+  -- asked but keys: they may be of any kinds, and refer to rows that aren't there.
   pub record AgreeFor (c : Catalog) (q : Statement A) (X Y : Tables A) : Type 0 where
     pub fits : Fits c q
-    pub sound_X : is_sound c X ≡ true
-    pub sound_Y : is_sound c Y ≡ true
+    pub keyed_X : list_all is_keyed X ≡ true
+    pub keyed_Y : list_all is_keyed Y ≡ true
+    pub as_many : length X ≡ length Y
     pub agree : Agree (footprint c q) X Y
 
   -- one of the changes is of key k in table t

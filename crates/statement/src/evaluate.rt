@@ -20,7 +20,7 @@ use crate::reply::Reply;
 use crate::statement::{Projection, Statement};
 use schema::catalog::{Catalog, TableNo};
 use schema::changes::Changes;
-use schema::reader::SnapshotReader;
+use schema::walk::RowsReader;
 use std::alloc::Allocator;
 use value::refusal::Refusal;
 
@@ -54,7 +54,7 @@ where
 }
 
 // What a SELECT answers.
-fn evaluate_select<A: Allocator + Copy, R: SnapshotReader<A>>(
+fn evaluate_select<A: Allocator + Copy, R: RowsReader<A>>(
     alloc: A,
     catalog: &Catalog<A>,
     reader: &R,
@@ -74,7 +74,7 @@ fn evaluate_select<A: Allocator + Copy, R: SnapshotReader<A>>(
 /// What a statement that fits answers on the tables that a reader gives, the rows that it writes,
 /// and the references that those had and have. The reply may be a fault, and then nothing is
 /// written. Only the rows between the ends that the conditions on the key leave are read.
-pub fn evaluate<A: Allocator + Copy, R: SnapshotReader<A>>(
+pub fn evaluate<A: Allocator + Copy, R: RowsReader<A>>(
     alloc: A,
     catalog: &Catalog<A>,
     statement: &Statement<A>,

@@ -1,6 +1,7 @@
 //! Laws of the definitions. Each function does nothing; what it ensures is the law.
 
 ghost use Rattle.std.specs.Prelude.{◌≡◌, ℕ, IsTrue, List};
+ghost use Rattle.std.specs.List.{list_all};
 ghost use Rattle.value.specs.declared.value.Value.{Value as AnyValue};
 ghost use Rattle.schema.specs.Definition.{Catalog as AnyCatalog};
 ghost use Rattle.schema.specs.Plain.{is_sound, row_at};
@@ -10,14 +11,14 @@ ghost use Rattle.statement.specs.Cover.{covers, covers_value};
 ghost use Rattle.statement.specs.Evaluation.{after, outcome};
 ghost use Rattle.statement.specs.Fits.{Fits};
 ghost use Rattle.statement.specs.Footprint.{footprint};
-ghost use Rattle.statement.specs.Laws.{AgreeFor, HasSameReadings, names_reference, writes_key};
+ghost use Rattle.statement.specs.Laws.{AgreeFor, HasSameReadings, is_keyed, names_reference, writes_key};
 ghost use Rattle.statement.specs.Marks.{marks_reference};
 ghost use Rattle.statement.specs.declared.reading.Reading.{Reading as AnyReading};
 ghost use Rattle.statement.specs.declared.statement.Statement.{Statement as AnyStatement};
 
 use std::alloc::Allocator;
 
-/// The footprint suffices: on sound tables that agree where a statement reads, it gets the same
+/// The footprint suffices: on tables that agree where a statement reads, sound or not, it gets the same
 /// reply, writes the same keys and marks the same references; and the written keys then have the
 /// same rows, or none.
 pub fn footprint_suffices<A: Allocator>()
@@ -36,7 +37,7 @@ pub fn soundness_is_kept<A: Allocator>()
 
 /// Each key that a statement writes is in its footprint.
 pub fn writes_are_read<A: Allocator>()
-    ensures { (c : AnyCatalog) → (q : AnyStatement A) → (X : AnyTables A) → Fits c q → IsTrue (is_sound c X) →
+    ensures { (c : AnyCatalog) → (q : AnyStatement A) → (X : AnyTables A) → Fits c q → IsTrue (list_all is_keyed X) →
         (t : ℕ) → (k : AnyValue A) → IsTrue (writes_key (outcome c q X).changes t k) →
         IsTrue (reads_key (footprint c q) t k) }
 {}

@@ -9,7 +9,7 @@ ghost use Rattle.value.specs.Order.{value_cmp};
 ghost use Rattle.value.specs.Refusals.{out_of_memory};
 ghost use Rattle.value.specs.declared.value.Value.{Value as Datum};
 ghost use Rattle.schema.specs.Plain.{rows_of};
-ghost use Rattle.schema.specs.Rows.{HasTable, IsInKeyOrder, is_within, rows_left};
+ghost use Rattle.schema.specs.Rows.{HasTable, IsInKeyOrder, is_within};
 ghost use Rattle.statement.specs.Conditions.{satisfies, chosen};
 ghost use Rattle.statement.specs.Cover.{is_from, is_to};
 ghost use Rattle.statement.specs.Select.{HasColumns};
@@ -20,8 +20,9 @@ use crate::evaluate::rows::satisfies;
 use crate::interval::{Interval, intersection};
 use crate::reading::End;
 use schema::catalog::TableNo;
-use schema::reader::{Bound, SnapshotReader, row_after};
+use schema::reader::{Bound, SnapshotReader};
 use schema::row::Row;
+use schema::walk::{RowsReader, Walk};
 use std::alloc::Allocator;
 use value::key::Key;
 use value::refusal::Refusal;
@@ -82,23 +83,25 @@ fn lower_bound<A: Allocator>(end: &End<A>) -> Bound<&Key<A>>
     }
 }
 
-// The first row that isn't below a lower end.
-fn first_from<'r, A: Allocator, R: SnapshotReader<A>>(
+// A walk over the rows that aren't below a lower end.
+fn walk_from<'r, A: Allocator + Copy, R: RowsReader<A>>(
+    alloc: A,
     reader: &'r R,
     table: TableNo,
     end: &End<A>,
-) -> Option<&'r Row<A>>
+) -> Result<Walk<'r, R, A>, Refusal>
     requires { HasTable (R.tables reader.now) table }
-    ensures left { rows_left (rows_of (R.tables reader.now) table) result ≡
-        filter (λ row. is_from end.now row.0) (rows_of (R.tables reader.now) table) }
+    ensures rows { IfOk result (λ walk. walk ≡
+        filter (λ row. is_from end.now row.0) (rows_of (R.tables reader.now) table)) }
     ensures ordered { IsInKeyOrder (rows_of (R.tables reader.now) table) }
+    ensures err { IfErr result (λ e. e ≡ out_of_memory) }
 {
     let bound = lower_bound(end);
-    reader.next_row(table, bound)
+    Walk::within(alloc, reader, table, bound)
 }
 
 // The rows that satisfy the conditions, where all that do are between two ends.
-fn chosen_between<'r, A: Allocator, R: SnapshotReader<A>>(
+fn chosen_between<'r, A: Allocator + Copy, R: RowsReader<A>>(
     alloc: A,
     reader: &'r R,
     table: TableNo,
@@ -114,13 +117,12 @@ fn chosen_between<'r, A: Allocator, R: SnapshotReader<A>>(
     ensures err { IfErr result (λ e. e ≡ out_of_memory) }
 {
     let mut chosen = Vec::new(alloc);
-    let mut next = first_from(reader, table, low);
-    while let Some(row) = next {
+    let mut walk = walk_from(alloc, reader, table, low)?;
+    while let Some(row) = walk.next()? {
         if !is_to(high, row.key()) {
             return Ok(chosen);
         }
         push_chosen(conditions, row, &mut chosen)?;
-        next = row_after(reader, table, row);
     }
     Ok(chosen)
 }
@@ -164,7 +166,7 @@ fn only_key<'e, A: Allocator>(low: &'e End<A>, high: &End<A>) -> Option<&'e Key<
 }
 
 // The rows that satisfy the conditions, where all that do are between two ends.
-fn chosen_within<'r, A: Allocator, R: SnapshotReader<A>>(
+fn chosen_within<'r, A: Allocator + Copy, R: RowsReader<A>>(
     alloc: A,
     reader: &'r R,
     table: TableNo,
@@ -187,7 +189,7 @@ fn chosen_within<'r, A: Allocator, R: SnapshotReader<A>>(
 }
 
 /// The rows of a table that satisfy all conditions, by key.
-pub(crate) fn chosen<'r, A: Allocator + Copy, R: SnapshotReader<A>>(
+pub(crate) fn chosen<'r, A: Allocator + Copy, R: RowsReader<A>>(
     alloc: A,
     reader: &'r R,
     table: TableNo,
