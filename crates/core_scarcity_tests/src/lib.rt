@@ -11,16 +11,12 @@ mod driver;
 #[cfg(test)]
 mod fixture;
 #[cfg(test)]
-mod played;
-#[cfg(test)]
-mod resuming;
-#[cfg(test)]
 mod scripts;
 #[cfg(test)]
 mod serving;
 #[cfg(test)]
 mod sinks;
 #[cfg(test)]
-mod transcripts;
+mod trial;
 #[cfg(test)]
 mod worked;

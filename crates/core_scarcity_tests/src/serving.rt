@@ -5,9 +5,9 @@ ghost use Rattle.schema.specs.Plain.{is_sound};
 ghost use Rattle.history.specs.Opening.{zero_base};
 
 use crate::driver::Memory;
-use crate::fixture::{are_recorded, not_asked, opening};
-use crate::transcripts::{Keeping, Trial, refusal_of};
-use crate::worked::script_at;
+use crate::fixture::{not_asked, opening};
+use crate::trial::{Keeping, Trial, refusal_of};
+use crate::worked::{SCRIPTS, script_at};
 use backup::{BackupFault, dump_safe};
 use dumpplan::{Jobs, NoGate, PieceRows};
 use dumpworker::dump;
@@ -16,12 +16,12 @@ use mvrows::view::View;
 use pass::token::Pass;
 use pass::word::{FirstSeat, HistoryWord, Naming};
 use request::request::Request;
+use scarce::Scarce;
 use schema::catalog::Catalog;
 use schema::tables::Tables;
 use script::printing::reply_text;
 use serial::laws::views_are_sound;
 use server::shared::Server;
-use session::sessions::Core;
 use statement::reply::Reply;
 use std::alloc::{Allocator, Global};
 use std::marker::Brand;
@@ -138,26 +138,6 @@ where
     }
 }
 
-// What is asked and answered, and the replies alone, which the history is to have.
-#[derive(Drop)]
-struct Told {
-    text: Vec<u8>,
-    replies: Vec<u8>,
-}
-
-impl Told {
-    // Nothing is answered yet: the text begins with what stands before the script's lines.
-    fn of(ample: Global, script: &str) -> Result<Told, Refusal> {
-        let (creates, _lines) = script.split_once("\n>").ok_or(not_asked())?;
-        let mut text = Vec::from_slice(ample, creates.as_bytes())?;
-        text.push(b'\n')?;
-        Ok(Told {
-            text,
-            replies: Vec::new(ample),
-        })
-    }
-}
-
 // A session's line is answered. A DUMP shows what a view shows.
 fn answer<'w, J, A, R>(
     rt: &R,
@@ -165,7 +145,7 @@ fn answer<'w, J, A, R>(
     server: &Server<'w, J, A>,
     pass: &mut Pass<'w, J, A>,
     asked: &str,
-    (told, trial): (&mut Told, &mut Trial),
+    (text, trial): (&mut Vec<u8>, &mut Trial),
 ) -> Result<(), Refusal>
 where
     J: Naming<A>,
@@ -178,12 +158,11 @@ where
         if shown != dumped {
             return Err(not_asked());
         }
-        told.text.extend_from_slice(dumped.as_slice())?;
+        text.extend_from_slice(dumped.as_slice())?;
         return Ok(());
     }
     let reply = replied(rt, (memory, alloc), server, pass, asked, trial)?;
-    told.text.extend_from_slice(reply.as_slice())?;
-    told.replies.extend_from_slice(reply.as_slice())?;
+    text.extend_from_slice(reply.as_slice())?;
     Ok(())
 }
 
@@ -194,17 +173,17 @@ fn answer_at_last<'w, J, A, R>(
     server: &Server<'w, J, A>,
     pass: &mut Pass<'w, J, A>,
     asked: &str,
-    (told, trial): (&mut Told, &mut Trial),
+    (text, trial): (&mut Vec<u8>, &mut Trial),
 ) -> Result<(), Refusal>
 where
     J: Naming<A>,
     A: Allocator + Copy + Send + Sync,
     R: Abort + Threads + Wait + Sync,
 {
-    match answer(rt, (memory, alloc), server, pass, asked, (told, trial)) {
+    match answer(rt, (memory, alloc), server, pass, asked, (text, trial)) {
         Err(refusal) => {
             trial.repeat(asked, refusal)?;
-            answer(rt, (memory, alloc), server, pass, asked, (told, trial))
+            answer(rt, (memory, alloc), server, pass, asked, (text, trial))
         }
         done => done,
     }
@@ -217,7 +196,7 @@ fn ask_all<'w, J, A, R>(
     server: &Server<'w, J, A>,
     passes: &mut Vec<Pass<'w, J, A>, A>,
     script: &str,
-    (told, trial): (&mut Told, &mut Trial),
+    (text, trial): (&mut Vec<u8>, &mut Trial),
 ) -> Result<(), Refusal>
 where
     J: Naming<A>,
@@ -226,49 +205,19 @@ where
 {
     for line in script.lines() {
         if let Some(asked) = line.strip_prefix("> ") {
-            told.text.extend_from_slice(line.as_bytes())?;
-            told.text.push(b'\n')?;
+            text.extend_from_slice(line.as_bytes())?;
+            text.push(b'\n')?;
             let (number, asked) = asked.split_once(' ').ok_or(not_asked())?;
             let number = number.parse::<usize>().ok().ok_or(not_asked())?;
             let pass = passes.get_mut(number.wrapping_sub(1)).ok_or(not_asked())?;
-            answer_at_last(rt, (memory, alloc), server, pass, asked, (told, trial))?;
+            answer_at_last(rt, (memory, alloc), server, pass, asked, (text, trial))?;
         }
     }
     Ok(())
 }
 
-// The replies that a history has, as they are printed.
-fn recorded<A: Allocator + Copy>(
-    ample: Global,
-    alloc: A,
-    core: &Core<A>,
-) -> Result<Vec<u8>, Refusal> {
-    let mut replies = Vec::new(ample);
-    for record in core.history().records() {
-        let reply = reply_text(alloc, record.session, &record.reply)?;
-        replies.extend_from_slice(reply.as_slice())?;
-    }
-    Ok(replies)
-}
-
-// What was asked and answered, where the history has all actions and replies, and no others.
-fn text_told<A: Allocator + Copy>(
-    ample: Global,
-    alloc: A,
-    core: &Core<A>,
-    told: Told,
-    script: &str,
-) -> Result<Vec<u8>, Refusal> {
-    if recorded(ample, alloc, core)? == told.replies && are_recorded(ample, alloc, core, script)? {
-        Ok(told.text)
-    } else {
-        Err(not_asked())
-    }
-}
-
-/// What is asked and answered where a script is played on a server, which then is closed. The history has all
-/// actions and replies, and no others.
-pub fn play<'w, J, A, R>(
+// What is asked and answered where a script is played on a server: the text begins with what stands before its lines.
+fn play<'w, J, A, R>(
     rt: &R,
     (memory, alloc): (&Memory, A),
     (server, passes): (Server<'w, J, A>, Vec<Pass<'w, J, A>, A>),
@@ -281,11 +230,12 @@ where
     R: Abort + Threads + Wait + Sync,
 {
     let mut passes = passes;
-    let mut told = Told::of(memory.inner, script)?;
-    let given = (&mut told, trial);
+    let (creates, _lines) = script.split_once("\n>").ok_or(not_asked())?;
+    let mut text = Vec::from_slice(memory.inner, creates.as_bytes())?;
+    text.push(b'\n')?;
+    let given = (&mut text, trial);
     ask_all(rt, (memory, alloc), &server, &mut passes, script, given)?;
-    let core = server.close(passes);
-    text_told(memory.inner, alloc, &core, told, script)
+    Ok(text)
 }
 
 // What is asked and answered where the script at a place is played on a server of this word; none where the opening is
@@ -341,18 +291,60 @@ fn serve_anew<R: Abort + Threads + Wait + Sync>(
     serve::<Brand, _, _>(rt, (memory, memory), &word, first, opening, place, trial)
 }
 
-/// What is asked and answered where the script at a place is played on a server, while one request is refused; where
-/// that is one of its opening, it is opened again.
-pub fn serve_at_last<R: Abort + Threads + Wait + Sync>(
+// What is asked and answered where the script at a place is played on a server, while one request is refused; where
+// that is one of its opening, it is opened again.
+fn serve_at_last<R: Abort + Threads + Wait + Sync>(
     rt: &R,
     memory: &Memory,
     place: usize,
-    number: u64,
-) -> Result<(Vec<u8>, Trial), Refusal> {
-    let mut trial = Trial::of(number);
-    if let Some(text) = serve_anew(rt, memory, place, &mut trial)? {
-        return Ok((text, trial));
+    trial: &mut Trial,
+) -> Result<Vec<u8>, Refusal> {
+    match serve_anew(rt, memory, place, trial)? {
+        Some(text) => Ok(text),
+        None => serve_anew(rt, memory, place, trial)?.ok_or(not_asked()),
     }
-    let text = serve_anew(rt, memory, place, &mut trial)?.ok_or(not_asked())?;
-    Ok((text, trial))
+}
+
+// More requests than any script makes.
+const MOST_REQUESTS: u64 = 5000;
+
+// Refuses each request of a script in turn, from the first until none is left, and repeats what was refused. What is
+// asked and answered is the script.
+fn refuse_each<R: Abort + Threads + Wait + Sync>(
+    rt: &R,
+    memory: &Memory,
+    place: usize,
+) -> Result<(), Refusal> {
+    let script = script_at(place)?;
+    let mut repeated = 0u64;
+    for number in 1..MOST_REQUESTS {
+        let mut trial = Trial::of(number);
+        let text = serve_at_last(rt, memory, place, &mut trial)?;
+        assert!(rt; text.as_slice() == script.as_bytes(), "request {number}");
+        if trial.made < number {
+            assert!(rt; repeated > 5, "{repeated}");
+            return Ok(());
+        }
+        repeated = repeated.wrapping_add(trial.repeated);
+    }
+    Err(not_asked())
+}
+
+// A test has a minute, so the scripts are shared out.
+#[test]
+fn conflicts_on_a_server(rt: HostRuntime) -> Result<(), Refusal> {
+    let memory = Scarce::new(rt.alloc());
+    for place in 0..3 {
+        refuse_each(&rt, &memory, place)?;
+    }
+    Ok(())
+}
+
+#[test]
+fn snapshots_on_a_server(rt: HostRuntime) -> Result<(), Refusal> {
+    let memory = Scarce::new(rt.alloc());
+    for place in 3..SCRIPTS.len() {
+        refuse_each(&rt, &memory, place)?;
+    }
+    Ok(())
 }

@@ -1,74 +1,10 @@
-//! Worked scripts, with what they are answered, written by hand.
+//! Worked scripts, with what they are answered: those of tests/, with a semicolon less at each line, and no marks at the
+//! replies.
 
 use crate::fixture::not_asked;
 use value::refusal::Refusal;
 
-// Tables, and what is asked of them, each line behind `> `, with what it is answered below it.
-const WRITE_SKEW: &str = "\
-CREATE TABLE t (id bigint PRIMARY KEY, v bigint);
-> 1 BEGIN
-1 BEGIN
-> 1 INSERT INTO t VALUES (1, 10)
-1 INSERT 0 1
-> 1 INSERT INTO t VALUES (2, 20)
-1 INSERT 0 1
-> 1 COMMIT
-1 COMMIT
-> 1 BEGIN
-1 BEGIN
-> 2 BEGIN
-2 BEGIN
-> 1 SELECT * FROM t
-1 SELECT 2
-1 | 1\t10
-1 | 2\t20
-> 2 SELECT * FROM t
-2 SELECT 2
-2 | 1\t10
-2 | 2\t20
-> 1 UPDATE t SET v = 0 WHERE id = 1
-1 UPDATE 1
-> 2 UPDATE t SET v = 0 WHERE id = 2
-2 UPDATE 1
-> 1 COMMIT
-1 COMMIT
-> 2 COMMIT
-2 ERROR 40001 cause 2 3 2
-> 1 BEGIN
-1 BEGIN
-> 1 SELECT * FROM t
-1 SELECT 2
-1 | 1\t0
-1 | 2\t20
-";
-
-const ONE_CONFLICT: &str = "\
-CREATE TABLE t (id bigint PRIMARY KEY, v bigint);
-> 1 BEGIN
-1 BEGIN
-> 1 INSERT INTO t VALUES (1, 10)
-1 INSERT 0 1
-> 1 INSERT INTO t VALUES (2, 20)
-1 INSERT 0 1
-> 1 COMMIT
-1 COMMIT
-> 1 BEGIN
-1 BEGIN
-> 2 BEGIN
-2 BEGIN
-> 1 SELECT * FROM t WHERE id = 1
-1 SELECT 1
-1 | 1\t10
-> 2 UPDATE t SET v = 11 WHERE id = 1
-2 UPDATE 1
-> 2 COMMIT
-2 COMMIT
-> 1 UPDATE t SET v = 21 WHERE id = 2
-1 UPDATE 1
-> 1 COMMIT
-1 COMMIT
-";
-
+// As in tests/isolation.transcript: a reader after the close
 const READER_AFTER_THE_CLOSE: &str = "\
 CREATE TABLE batch (id bigint PRIMARY KEY, n bigint);
 CREATE TABLE receipt (id bigint PRIMARY KEY, n bigint);
@@ -104,41 +40,7 @@ CREATE TABLE receipt (id bigint PRIMARY KEY, n bigint);
 2 ERROR 40001 cause 4 2 3
 ";
 
-const READER_BEFORE_THE_CLOSE: &str = "\
-CREATE TABLE batch (id bigint PRIMARY KEY, n bigint);
-CREATE TABLE receipt (id bigint PRIMARY KEY, n bigint);
-> 1 BEGIN
-1 BEGIN
-> 1 INSERT INTO batch VALUES (1, 1)
-1 INSERT 0 1
-> 1 COMMIT
-1 COMMIT
-> 2 BEGIN
-2 BEGIN
-> 2 SELECT n FROM batch WHERE id = 1
-2 SELECT 1
-2 | 1
-> 1 BEGIN READ ONLY
-1 BEGIN
-> 3 BEGIN
-3 BEGIN
-> 3 UPDATE batch SET n = n + 1 WHERE id = 1
-3 UPDATE 1
-> 3 COMMIT
-3 COMMIT
-> 1 SELECT * FROM batch
-1 SELECT 1
-1 | 1\t1
-> 1 SELECT * FROM receipt WHERE id >= 1
-1 SELECT 0
-> 1 COMMIT
-1 COMMIT
-> 2 INSERT INTO receipt VALUES (1, 1)
-2 INSERT 0 1
-> 2 COMMIT
-2 COMMIT
-";
-
+// As in tests/references.transcript: a reference to a row that goes
 const REFERENCES: &str = "\
 CREATE TABLE p (id bigint PRIMARY KEY);
 CREATE TABLE c (id bigint PRIMARY KEY, p bigint REFERENCES p);
@@ -162,34 +64,8 @@ CREATE TABLE c (id bigint PRIMARY KEY, p bigint REFERENCES p);
 2 ERROR 40001 cause 2 3 2
 ";
 
-const ABSENT_ROW: &str = "\
-CREATE TABLE t (id bigint PRIMARY KEY, v bigint);
-> 1 BEGIN
-1 BEGIN
-> 1 INSERT INTO t VALUES (1, 0)
-1 INSERT 0 1
-> 1 COMMIT
-1 COMMIT
-> 1 BEGIN
-1 BEGIN
-> 2 BEGIN
-2 BEGIN
-> 1 SELECT * FROM t WHERE id BETWEEN 10 AND 20
-1 SELECT 0
-> 2 SELECT * FROM t WHERE id = 1
-2 SELECT 1
-2 | 1\t0
-> 1 UPDATE t SET v = 1 WHERE id = 1
-1 UPDATE 1
-> 2 INSERT INTO t VALUES (15, 0)
-2 INSERT 0 1
-> 1 COMMIT
-1 COMMIT
-> 2 COMMIT
-2 ERROR 40001 cause 2 3 2
-";
-
 // Nine keys are covered as the range between them.
+// As in tests/isolation.transcript: nine keys
 const NINE_KEYS: &str = "\
 CREATE TABLE t (id bigint PRIMARY KEY, v bigint);
 > 1 BEGIN
@@ -234,49 +110,7 @@ CREATE TABLE t (id bigint PRIMARY KEY, v bigint);
 2 ERROR 40001 cause 2 3 2
 ";
 
-// Eight keys are covered by themselves.
-const EIGHT_KEYS: &str = "\
-CREATE TABLE t (id bigint PRIMARY KEY, v bigint);
-> 1 BEGIN
-1 BEGIN
-> 1 INSERT INTO t VALUES (1, 0)
-1 INSERT 0 1
-> 1 COMMIT
-1 COMMIT
-> 1 BEGIN
-1 BEGIN
-> 2 BEGIN
-2 BEGIN
-> 1 SELECT v FROM t WHERE id = 1
-1 SELECT 1
-1 | 0
-> 1 SELECT v FROM t WHERE id = 3
-1 SELECT 0
-> 1 SELECT v FROM t WHERE id = 5
-1 SELECT 0
-> 1 SELECT v FROM t WHERE id = 7
-1 SELECT 0
-> 1 SELECT v FROM t WHERE id = 9
-1 SELECT 0
-> 1 SELECT v FROM t WHERE id = 11
-1 SELECT 0
-> 1 SELECT v FROM t WHERE id = 13
-1 SELECT 0
-> 1 SELECT v FROM t WHERE id = 15
-1 SELECT 0
-> 2 SELECT v FROM t WHERE id = 1
-2 SELECT 1
-2 | 0
-> 2 INSERT INTO t VALUES (4, 0)
-2 INSERT 0 1
-> 1 UPDATE t SET v = 1 WHERE id = 1
-1 UPDATE 1
-> 1 COMMIT
-1 COMMIT
-> 2 COMMIT
-2 COMMIT
-";
-
+// As in tests/references.transcript: the first updater
 const FIRST_UPDATER: &str = "\
 CREATE TABLE t (id bigint PRIMARY KEY, v bigint);
 > 1 BEGIN
@@ -301,6 +135,7 @@ CREATE TABLE t (id bigint PRIMARY KEY, v bigint);
 1 COMMIT
 ";
 
+// As in tests/dumped_scripts.transcript: a deferrable report that is dumped
 const DEFERRABLE: &str = "\
 CREATE TABLE batch (id bigint PRIMARY KEY, n bigint);
 CREATE TABLE receipt (id bigint PRIMARY KEY, n bigint);
@@ -353,30 +188,7 @@ COPY receipt (id, n) FROM stdin;
 4 ROLLBACK
 ";
 
-// Nobody writes: each snapshot is safe at once.
-const SAFE_AT_ONCE: &str = "\
-CREATE TABLE t (id bigint PRIMARY KEY, v bigint);
-> 1 BEGIN DEFERRABLE
-1 BEGIN
-> 1 POLL
-1 SAFE 0
-> 2 BEGIN READ ONLY
-2 BEGIN
-> 2 COMMIT
-2 COMMIT
-> 3 BEGIN DEFERRABLE
-3 BEGIN
-> 3 POLL
-3 SAFE 0
-> 3 DUMP
--- dump 2
-CREATE TABLE t (id bigint PRIMARY KEY, v bigint);
-COPY t (id, v) FROM stdin;
-\\.
--- rows 0
--- end
-";
-
+// As in tests/snapshots.transcript: an exported snapshot
 const EXPORT: &str = "\
 CREATE TABLE t (id bigint PRIMARY KEY, v bigint);
 > 1 BEGIN
@@ -412,18 +224,12 @@ CREATE TABLE t (id bigint PRIMARY KEY, v bigint);
 ";
 
 /// All of them. Their sessions are at most 4, their events at most 40.
-pub const SCRIPTS: [&str; 12] = [
-    WRITE_SKEW,
-    ONE_CONFLICT,
+pub const SCRIPTS: [&str; 6] = [
     READER_AFTER_THE_CLOSE,
-    READER_BEFORE_THE_CLOSE,
     REFERENCES,
-    ABSENT_ROW,
     NINE_KEYS,
-    EIGHT_KEYS,
     FIRST_UPDATER,
     DEFERRABLE,
-    SAFE_AT_ONCE,
     EXPORT,
 ];
 

@@ -11,11 +11,6 @@ pub fn not_a_case() -> Refusal {
     Refusal::of_code(Code::SyntaxError)
 }
 
-/// What stands before and behind the first of these words.
-pub fn cut<'t>(text: &'t str, word: &str) -> Result<(&'t str, &'t str), Refusal> {
-    text.split_once(word).ok_or(not_a_case())
-}
-
 /// The tables of a dump.
 pub fn tables_of(alloc: Global, dump: &str) -> Result<(Catalog, Tables), Refusal> {
     restore_one(alloc, dump.as_bytes()).ok().ok_or(not_a_case())
@@ -26,15 +21,20 @@ pub const NOTHING: &str = "-- dump 2
 -- end
 ";
 
-/// A table of three keys.
-pub const THREE_KEYS: &str = "-- dump 2
-CREATE TABLE t (id bigint PRIMARY KEY);
-COPY t (id) FROM stdin;
-1
-2
-3
+/// Two names, and two rows of bytes, of which one belongs to the second name.
+pub const EXAMPLE: &str = "-- dump 2
+CREATE TABLE p (id bigint PRIMARY KEY, name text NOT NULL);
+CREATE TABLE c (id bigint PRIMARY KEY, p bigint REFERENCES p, raw bytea);
+COPY p (id, name) FROM stdin;
+1\ta
+2\tx\\ty
 \\.
--- rows 3
+-- rows 2
+COPY c (id, p, raw) FROM stdin;
+-5\t2\t\\\\x00ff
+7\t\\N\t\\N
+\\.
+-- rows 2
 -- end
 ";
 

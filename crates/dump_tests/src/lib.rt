@@ -1,4 +1,4 @@
-//! Tests alone: COPY text, plans of dumps, and collectors of their pieces.
+//! Tests alone: collectors of a dump's pieces, and dumps and restores by workers.
 
 #![tactic(auto)]
 
@@ -7,20 +7,10 @@ mod collectors;
 #[cfg(test)]
 mod dumping_workers;
 #[cfg(test)]
-mod example;
-#[cfg(test)]
-mod fields;
-#[cfg(test)]
 mod fixture;
 #[cfg(test)]
 mod flaky;
 #[cfg(test)]
 mod gates;
-#[cfg(test)]
-mod hostile_dumps;
-#[cfg(test)]
-mod plans;
-#[cfg(test)]
-mod readings;
 #[cfg(test)]
 mod restoring_workers;

@@ -31,44 +31,6 @@ fn a_dump_to_a_full_file(rt: HostRuntime) -> Result<(), Fail> {
     Ok(())
 }
 
-#[test]
-fn a_restore_to_a_full_file(rt: HostRuntime) -> Result<(), Fail> {
-    let whole = WRITTEN.as_bytes();
-    for most in [0, 17, 253] {
-        let given = Given {
-            room: &whole[..whole.len().min(most)],
-            ..Given::of("restore - --out out", EXAMPLE)
-        };
-        assert_ends(&rt, given, (3, "", "device: out\n"))?;
-    }
-    Ok(())
-}
-
-// Files that can't be made, for one of which memory is wanting.
-#[test]
-fn files_that_are_not_made(rt: HostRuntime) -> Result<(), Fail> {
-    let begun = "1 BEGIN READ ONLY DEFERRABLE;\n1 POLL;\n";
-    let nowhere = format!(in rt.alloc(); "{begun}1 DUMP 1 1 nowhere;\n1 COMMIT;\n")?;
-    let scarce = format!(in rt.alloc(); "{begun}1 DUMP 1 1 scarce;\n1 COMMIT;\n")?;
-    let replies = "1 BEGIN\n1 SAFE 0\n1 ERROR 53200\n1 COMMIT\n";
-    assert_ends(
-        &rt,
-        Given::of("run -", nowhere.as_str()),
-        (3, "1 BEGIN\n1 SAFE 0\n", "device: nowhere\n"),
-    )?;
-    assert_ends(&rt, Given::of("run -", scarce.as_str()), (0, replies, ""))?;
-    assert_ends(
-        &rt,
-        Given::of("restore - --out nowhere", EXAMPLE),
-        (3, "", "device: nowhere\n"),
-    )?;
-    assert_ends(
-        &rt,
-        Given::of("restore - --out scarce", EXAMPLE),
-        (1, "", "dump line 0: 53200\n"),
-    )
-}
-
 // Asserts that the program ends by the failure of a standard output that takes so many bytes.
 fn assert_closed<R: Abort + AllocGlobal + Sync + Threads + Wait>(
     rt: &R,
@@ -78,7 +40,7 @@ fn assert_closed<R: Abort + AllocGlobal + Sync + Threads + Wait>(
     let mut room = [0u8; 16];
     let mut out: &mut [u8] = &mut room[..most.min(16)];
     let mut err = Vec::new(rt.alloc());
-    let status = status_of(rt, given, &mut out, &mut err)?;
+    let (status, _writes) = status_of(rt, given, &mut out, &mut err)?;
     assert_eq!(rt; status, 3);
     assert!(rt; err.as_slice() == b"device: -\n".as_slice());
     Ok(())
@@ -99,9 +61,34 @@ fn standard_output_fails(rt: HostRuntime) -> Result<(), Fail> {
     assert_closed(&rt, restored, 5)
 }
 
-// Replies come before a dump: a standard output that fails is told of, and not the dump's file.
+// A dump to a file for which memory is wanting is refused, and the session goes on.
+const SCARCE: &str = "\
+1 BEGIN READ ONLY DEFERRABLE;
+1 POLL;
+1 DUMP 1 1 scarce;
+1 COMMIT;
+";
+
 #[test]
-fn both_fail(rt: HostRuntime) -> Result<(), Fail> {
-    let script = "1 BEGIN READ ONLY DEFERRABLE;\n1 POLL;\n1 DUMP 1 1 out;\n";
-    assert_closed(&rt, Given::of("run -", script), 3)
+fn files_without_memory(rt: HostRuntime) -> Result<(), Fail> {
+    for (words, input, want) in [
+        (
+            "run -",
+            SCARCE,
+            (0, "1 BEGIN\n1 SAFE 0\n1 ERROR 53200\n1 COMMIT\n", ""),
+        ),
+        (
+            "run - --free",
+            SCARCE,
+            (0, "1 BEGIN\n1 SAFE 0\n1 ERROR 53200\n1 COMMIT\ncheck yes\n", ""),
+        ),
+        ("run -", "OPEN scarce;\n", (1, "", "dump line 0: 53200\n")),
+        ("run scarce", "", (1, "", "script line 0\n")),
+        ("audit scarce", "", (1, "", "script line 0\n")),
+        ("restore scarce --out o", "", (1, "", "dump line 0: 53200\n")),
+        ("restore - --out scarce", EXAMPLE, (1, "", "dump line 0: 53200\n")),
+    ] {
+        assert_ends(&rt, Given::of(words, input), want)?;
+    }
+    Ok(())
 }

@@ -6,10 +6,11 @@ use collector::{Device, DeviceError};
 use http_server::Log;
 use program::files::{Files, OutFile, ReadError, Stored};
 use std::alloc::{AllocError, Global};
-use std::sync::atomic::{AtomicBool, Ordering};
+use std::sync::atomic::{AtomicBool, AtomicU64, Ordering};
 
 /// Files with their bytes, what standard input has, the one path whose file takes anything, the bytes that it takes,
-/// and whether it has taken all of these. A path `scarce` is one for which memory is wanting.
+/// whether it has taken all of these, and how often something was written. A path `scarce` is one for which memory is
+/// wanting.
 #[derive(Drop)]
 pub struct MemoryFiles<'f> {
     pub files: &'f [(&'f str, &'f [u8])],
@@ -17,6 +18,7 @@ pub struct MemoryFiles<'f> {
     pub out: &'f str,
     pub room: &'f [u8],
     pub is_whole: &'f AtomicBool,
+    pub writes: &'f AtomicU64,
 }
 
 /// A file that takes certain bytes, fails at another, and is full behind them.
@@ -24,6 +26,7 @@ pub struct MemoryFiles<'f> {
 pub struct MemoryFile<'f> {
     left: &'f [u8],
     is_whole: &'f AtomicBool,
+    writes: &'f AtomicU64,
     path: String,
     taken: Log<u8, ()>,
     failed: Log<(), ()>,
@@ -55,6 +58,7 @@ impl<'f> Device for MemoryFile<'f> {
     ghost failures = { λ f. length f.failed.items };
 
     fn write(&mut self, bytes: &[u8]) -> Result<usize, DeviceError> {
+        self.writes.fetch_add(1, Ordering::SeqCst);
         let count = bytes.len().min(self.left.len());
         if count > 0 {
             if let Some(left) = self.left.strip_prefix(&bytes[..count]) {
@@ -119,6 +123,7 @@ impl<'f> Files<Global> for MemoryFiles<'f> {
         Ok(MemoryFile {
             left,
             is_whole: self.is_whole,
+            writes: self.writes,
             path: String::from_str(alloc, path)?,
             taken: Log::new(),
             failed: Log::new(),

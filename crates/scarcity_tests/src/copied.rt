@@ -1,95 +1,18 @@
-//! COPY text of rows, and the reading of a dump, by one thread and by workers.
+//! The reading of a dump by workers.
 
-use crate::driver::{Call, Memory, assert_needs, assert_takes, is_out_of_memory};
+use crate::driver::{Memory, is_out_of_memory};
 use crate::dumps::dumped;
-use crate::fixture::{Database, catalog, not_asked, row};
-use copytext::{read_row, write_row};
+use crate::fixture::{Database, not_asked};
 use dumpplan::{Jobs, NoGate};
-use restore::{RestoreFault, restore, restore_one};
+use restore::{RestoreFault, restore};
 use scarce::Scarce;
 use schema::catalog::Catalog;
-use schema::row::Row;
 use schema::tables::Tables;
 use std::alloc::{Allocator, Global};
 use std::process::Abort;
 use std::sync::Wait;
 use std::thread::Threads;
-use value::kind::Kind;
 use value::refusal::Refusal;
-use value::value::Value;
-
-// A row, and a full list to which its text is appended.
-#[derive(Drop)]
-#[derive_where(Debug)]
-struct Line<A: Allocator> {
-    row: Row<A>,
-    text: Vec<u8, A>,
-}
-
-// The writing of a row.
-#[derive(Drop)]
-struct WriteRow<A>(A);
-
-impl<A: Allocator + Copy> Call for WriteRow<A> {
-    type Lent = Line<A>;
-
-    type Answer = ();
-
-    fn lend(&self) -> Result<Line<A>, Refusal> {
-        let text = "INSERT INTO c VALUES (-5, 2, '\\x00ff')";
-        let (_, row) = row(self.0, &catalog(self.0)?, text)?;
-        let text = Vec::from_slice(self.0, b"full")?;
-        Ok(Line { row, text })
-    }
-
-    fn call(&self, lent: &mut Line<A>) -> Result<(), Refusal> {
-        write_row(&lent.row, &mut lent.text)
-    }
-}
-
-const KINDS: [Kind; 3] = [Kind::Bigint, Kind::Text, Kind::Bytea];
-
-// The reading of a row.
-#[derive(Drop)]
-struct Reading<A>(A);
-
-impl<A: Allocator + Copy> Call for Reading<A> {
-    type Lent = ();
-
-    type Answer = Vec<Value<A>, A>;
-
-    fn lend(&self) -> Result<(), Refusal> {
-        Ok(())
-    }
-
-    fn call(&self, _lent: &mut ()) -> Result<Vec<Value<A>, A>, Refusal> {
-        read_row(self.0, KINDS.as_slice(), b"-5\ta\\tname\t\\\\x00ff")
-    }
-}
-
-#[test]
-fn texts_of_rows(rt: HostRuntime) -> Result<(), Refusal> {
-    let memory = Scarce::new(rt.alloc());
-    assert_takes(&rt, &memory, &WriteRow(&memory), 1)?;
-    // A text, a bytea, and the list of values.
-    assert_takes(&rt, &memory, &Reading(&memory), 3)
-}
-
-const DUMP: &str = "-- dump 2
-CREATE TABLE p (id bigint PRIMARY KEY, name text NOT NULL);
-CREATE TABLE c (id bigint PRIMARY KEY, p bigint REFERENCES p, raw bytea);
-COPY p (id, name) FROM stdin;
-1\ta
-2\tx\\ty
-\\.
--- rows 2
-COPY c (id, p, raw) FROM stdin;
--5\t2\t\\\\x00ff
-7\t\\N\t\\N
-\\.
--- rows 2
--- end
-";
 
 // What was read of a dump. Want of memory is of no line.
 fn database<A: Allocator>(
@@ -100,34 +23,6 @@ fn database<A: Allocator>(
         Err(fault) if fault.line == 0 => Err(Refusal::of_code(fault.code)),
         Err(_) => Err(not_asked()),
     }
-}
-
-// The reading of a dump.
-#[derive(Drop)]
-struct RestoreOne<'d, A> {
-    alloc: A,
-    dump: &'d str,
-}
-
-impl<'d, A: Allocator + Copy> Call for RestoreOne<'d, A> {
-    type Lent = ();
-
-    type Answer = Database<A>;
-
-    fn lend(&self) -> Result<(), Refusal> {
-        Ok(())
-    }
-
-    fn call(&self, _lent: &mut ()) -> Result<Database<A>, Refusal> {
-        database(restore_one(self.alloc, self.dump.as_bytes()))
-    }
-}
-
-#[test]
-fn restored_dumps(rt: HostRuntime) -> Result<(), Refusal> {
-    let memory = Scarce::new(rt.alloc());
-    let alloc = &memory;
-    assert_needs(&rt, &memory, &RestoreOne { alloc, dump: DUMP }, 12)
 }
 
 // The dump of so many numbers, each in a row with itself: a row takes a list of what stands behind its key.
@@ -144,15 +39,6 @@ COPY p (id, same) FROM stdin;
     let end = format!(in alloc; "\\.\n-- rows {count}\n-- end\n")?;
     dump.push_str(end.as_str())?;
     Ok(dump)
-}
-
-#[test]
-fn a_restored_dump_of_many_rows(rt: HostRuntime) -> Result<(), Refusal> {
-    let memory = Scarce::new(rt.alloc());
-    let alloc = &memory;
-    let dump = numbers(rt.alloc(), 200)?;
-    let dump = dump.as_str();
-    assert_takes(&rt, &memory, &RestoreOne { alloc, dump }, 200)
 }
 
 // What workers read of a dump.

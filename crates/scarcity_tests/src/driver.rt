@@ -142,18 +142,6 @@ pub fn refuse_each<C: Call>(
     Err(not_asked())
 }
 
-/// Refuses each request of a call, which makes so many and needs all of them.
-pub fn assert_makes<C: Call>(
-    rt: &impl Abort,
-    memory: &Memory,
-    call: &C,
-    requests: u64,
-) -> Result<(), Refusal> {
-    let found = refuse_each(rt, memory, call)?;
-    assert!(rt; found.spared == 0 && found.needed == requests, "{found:?}");
-    Ok(())
-}
-
 /// Refuses each request of a call, which makes so many at least and needs all of them.
 pub fn assert_takes<C: Call>(
     rt: &impl Abort,

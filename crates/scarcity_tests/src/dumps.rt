@@ -1,11 +1,11 @@
-//! Dumps, of which a beginning may be written, their plans and their collectors.
+//! Dumps, of which a beginning may be written.
 
 ghost use Rattle.std.specs.Prelude.{◌≡◌, true, length};
 
-use crate::driver::{Call, Memory, assert_takes, is_out_of_memory};
+use crate::driver::{Memory, is_out_of_memory};
 use crate::fixture::{Database, not_asked, some_tables};
-use collector::{Collector, Device, DeviceError};
-use dumpplan::{Jobs, NoGate, PieceRows, Plan, plan};
+use collector::{Device, DeviceError};
+use dumpplan::{Jobs, NoGate, PieceRows};
 use dumpworker::{DumpFault, dump};
 use scarce::Scarce;
 use schema::catalog::TableNo;
@@ -194,83 +194,3 @@ fn dumps_of_few_and_of_many_rows(rt: HostRuntime) -> Result<(), Refusal> {
     Ok(())
 }
 
-// The plan of a dump in pieces of two rows.
-#[derive(Drop)]
-struct Pieces<A>(A);
-
-impl<A: Allocator + Copy> Call for Pieces<A> {
-    type Lent = Database<A>;
-
-    type Answer = Plan<A>;
-
-    fn lend(&self) -> Result<Database<A>, Refusal> {
-        with_names(self.0, 9)
-    }
-
-    fn call(&self, lent: &mut Database<A>) -> Result<Plan<A>, Refusal> {
-        let rows = PieceRows::new(2).ok_or(not_asked())?;
-        if !is_whole(lent) {
-            return Err(not_asked());
-        }
-        plan(self.0, &lent.tables, &lent.catalog, rows)
-    }
-}
-
-// What was written to a device that a collector gives back, and its failures: nothing.
-fn given_back<R: Abort>(device: &Keeping<'_, R>) -> u64 {
-    device.failures.wrapping_add(device.taken.len() as u64)
-}
-
-// The refusal of a collector that has done so much to its device.
-fn refusal_of(done: u64) -> Refusal {
-    if done == 0 {
-        Refusal::of_code(Code::OutOfMemory)
-    } else {
-        not_asked()
-    }
-}
-
-// The plan of a dump and the collector of its pieces.
-#[derive(Drop)]
-struct Collect<'r, A, R> {
-    rt: &'r R,
-    ample: Global,
-    alloc: A,
-}
-
-impl<'r, A: Allocator + Copy, R: Abort> Call for Collect<'r, A, R> {
-    type Lent = Database<A>;
-
-    type Answer = u64;
-
-    fn lend(&self) -> Result<Database<A>, Refusal> {
-        with_names(self.alloc, 9)
-    }
-
-    fn call(&self, lent: &mut Database<A>) -> Result<u64, Refusal> {
-        let rows = PieceRows::new(2).ok_or(not_asked())?;
-        if !is_whole(lent) {
-            return Err(not_asked());
-        }
-        let plan = plan(self.alloc, &lent.tables, &lent.catalog, rows)?;
-        let mut device = Keeping::new(self.rt, self.ample);
-        match Collector::new(self.alloc, &lent.tables, &lent.catalog, &plan, &mut device) {
-            Ok(collector) => Ok(given_back(collector.into_device())),
-            Err(device) => Err(refusal_of(given_back(device))),
-        }
-    }
-}
-
-#[test]
-fn plans_and_collectors(rt: HostRuntime) -> Result<(), Refusal> {
-    let memory = Scarce::new(rt.alloc());
-    let alloc = &memory;
-    let ample = rt.alloc();
-    assert_takes(&rt, &memory, &Pieces(alloc), 2)?;
-    let collect = Collect {
-        rt: &rt,
-        ample,
-        alloc,
-    };
-    assert_takes(&rt, &memory, &collect, 3)
-}

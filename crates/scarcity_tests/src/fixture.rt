@@ -11,8 +11,8 @@ use value::key::Key;
 use value::refusal::{Code, Refusal};
 use value::value::Value;
 
-/// A table, another whose rows reference the first one's, and one whose key is a text.
-pub const CREATES: [&str; 3] = [
+// A table, another whose rows reference the first one's, and one whose key is a text.
+const CREATES: [&str; 3] = [
     "CREATE TABLE p (id bigint PRIMARY KEY, name text NOT NULL);",
     "CREATE TABLE c (id bigint PRIMARY KEY, p bigint REFERENCES p, raw bytea);",
     "CREATE TABLE n (name text PRIMARY KEY, v bigint);",
@@ -73,8 +73,8 @@ pub fn row<A: Allocator + Copy>(
     }
 }
 
-/// Puts in the row of an INSERT.
-pub fn insert<A: Allocator + Copy>(
+// Puts in the row of an INSERT.
+fn insert<A: Allocator + Copy>(
     alloc: A,
     database: &mut Database<A>,
     text: &str,

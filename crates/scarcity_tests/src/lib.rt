@@ -14,13 +14,7 @@ mod fixture;
 #[cfg(test)]
 mod kept;
 #[cfg(test)]
-mod statements;
-#[cfg(test)]
-mod tables;
-#[cfg(test)]
 mod tracked;
-#[cfg(test)]
-mod values;
 #[cfg(test)]
 mod versions;
 #[cfg(test)]

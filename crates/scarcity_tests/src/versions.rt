@@ -8,7 +8,7 @@ use crate::fixture::{catalog, not_asked, row, some_tables};
 use mvrows::rows::Rows;
 use mvrows::view::View;
 use scarce::Scarce;
-use schema::catalog::{Catalog, TableNo};
+use schema::catalog::TableNo;
 use schema::changes::{Change, Changes};
 use schema::reader::{SnapshotReader, first_row, row_after};
 use schema::tables::Tables;
@@ -82,21 +82,6 @@ impl<A: Allocator + Copy> Versions<A> {
         let _lent = self.rows.at(snapshot);
         let view = self.rows.view(alloc, snapshot)?;
         Ok(view)
-    }
-
-    /// What a snapshot shows, copied.
-    pub fn tables(
-        &self,
-        alloc: A,
-        catalog: &Catalog<A>,
-        snapshot: u64,
-    ) -> Result<Tables<A>, Refusal>
-        requires { length catalog.now ≡ 3 }
-        ensures { IfOk result (λ tables. length tables ≡ 3) }
-    {
-        let _lent = self.rows.at(snapshot);
-        let tables = self.rows.tables(alloc, catalog, snapshot)?;
-        Ok(tables)
     }
 }
 

@@ -1,4 +1,4 @@
-//! What the tests share: an opening, a device that takes or fails, and a barrier between threads.
+//! What the tests share: an opening, a device that keeps what it is given, and a barrier between threads.
 
 ghost use Rattle.std.specs.Prelude.{◌≡◌, true, IfOk};
 ghost use Rattle.schema.specs.Plain.{is_sound};
@@ -35,22 +35,20 @@ pub(crate) fn opening(alloc: Global, names: &[&str]) -> Result<(Catalog, Tables)
     Ok((catalog, tables))
 }
 
-/// A device that takes all that it is given, or fails.
+/// A device that takes all that it is given.
 #[derive(Drop)]
 pub(crate) struct Tape<'r, R: Abort> {
     rt: &'r R,
     pub(crate) taken: Vec<u8>,
     failures: u64,
-    fails: bool,
 }
 
 impl<'r, R: Abort> Tape<'r, R> {
-    pub(crate) fn new(rt: &'r R, alloc: Global, fails: bool) -> Tape<'r, R> {
+    pub(crate) fn new(rt: &'r R, alloc: Global) -> Tape<'r, R> {
         Tape {
             rt,
             taken: Vec::new(alloc),
             failures: 0,
-            fails,
         }
     }
 }
@@ -61,7 +59,7 @@ impl<'r, R: Abort> Device for Tape<'r, R> {
     ghost failures = { λ d. d.failures };
 
     fn write(&mut self, bytes: &[u8]) -> Result<usize, DeviceError> {
-        if !self.fails && self.taken.extend_from_slice(bytes).is_ok() {
+        if self.taken.extend_from_slice(bytes).is_ok() {
             return Ok(bytes.len());
         }
         assert!(self.rt; self.failures < 9);

@@ -1,9 +1,7 @@
-//! Tests alone: passes, the server on threads, and dumps of a session's safe snapshot.
+//! Tests alone: passes, and the server on threads.
 
 #![tactic(auto)]
 
-#[cfg(test)]
-mod backups;
 #[cfg(test)]
 mod fixture;
 #[cfg(test)]

@@ -59,38 +59,6 @@ fn request_of(alloc: Global, asked: &str) -> Result<Request, AllocError> {
     }
 }
 
-// How many rows a table has; 100 where that isn't answered.
-fn count<'w, J: Naming<Global>, R: Wait>(
-    rt: &R,
-    alloc: Global,
-    server: &Server<'w, J>,
-    pass: &mut Pass<'w, J>,
-    asked: &str,
-) -> u64 {
-    match request_of(alloc, asked) {
-        Ok(request) => match server.call(rt, alloc, pass, &request) {
-            Reply::Rows(rows) => rows.as_slice().len() as u64,
-            _ => 100,
-        },
-        Err(_) => 100,
-    }
-}
-
-// Whether a safe snapshot has as many rows as it has commits.
-fn counts<'w, J: Naming<Global>, R: Wait>(
-    rt: &R,
-    alloc: Global,
-    server: &Server<'w, J>,
-    pass: &mut Pass<'w, J>,
-) -> &'static str {
-    let in_a = count(rt, alloc, server, pass, "SELECT * FROM a");
-    let in_b = count(rt, alloc, server, pass, "SELECT * FROM b");
-    match server.call(rt, alloc, pass, &Request::Poll) {
-        Reply::Safe(snapshot) if in_a.wrapping_add(in_b) == snapshot => "as many rows as commits",
-        _ => "other rows",
-    }
-}
-
 // What the server answers, whose SELECTs wait at the barrier.
 fn reply<'w, J: Naming<Global>, R: Wait>(
     rt: &R,
@@ -134,7 +102,6 @@ fn told<'w, J: Naming<Global>, R: Threads + Wait + Abort + Sync>(
     }
     match asked {
         "WAIT" => word_of(&server.wait_safe(rt, alloc, pass)),
-        "COUNT" => counts(rt, alloc, server, pass),
         "VIEW" => viewed(rt, alloc, server, pass, barrier),
         "DUMP 1" => dumped(rt, alloc, server, pass, 1, barrier),
         "DUMP 2" => dumped(rt, alloc, server, pass, 2, barrier),

@@ -1,5 +1,4 @@
-//! Sessions on threads of their own, each of which plays its lines of a script; what a server is refused for, and
-//! checkpoints.
+//! Sessions on threads of their own, each of which plays its lines of a script, and a checkpoint that is gone on from.
 
 ghost use Rattle.std.specs.Prelude.{◌≡◌, [], IsTrue};
 ghost use Rattle.schema.specs.Plain.{is_sound};
@@ -19,7 +18,7 @@ use std::marker::Brand;
 use std::process::Abort;
 use std::sync::Wait;
 use std::thread::Threads;
-use value::refusal::{Code, Refusal};
+use value::refusal::Refusal;
 
 // Scripts of three sessions, with blank lines between them. A line has a session's number, what it asks for and what it
 // is answered. AFTER 6 waits for six events. At SHUT and OPEN a barrier is shut and opened at which SELECTs, views and
@@ -33,7 +32,6 @@ const SCRIPTS: &str = "\
 2 COMMIT: committed
 3 BEGIN READ ONLY DEFERRABLE: begun
 3 WAIT: safe
-3 COUNT: as many rows as commits
 3 COMMIT: committed
 3 VIEW: refused
 
@@ -220,19 +218,9 @@ fn sessions_on_threads(rt: HostRuntime) -> Result<(), Refusal> {
         assert!(rt; are_played(script), "{script}");
         let (catalog, tables) = opening(alloc, &["a", "b"])?;
         let (word, first) = HistoryWord::new(alloc, &catalog, &tables, Base::zero())?;
-        play_script::<Brand, _>(&rt, alloc, &word, first, catalog, tables, place)?;
+        play_script::<Brand, _>(&rt, alloc, &word, first, catalog, tables, place);
     }
     Ok(())
-}
-
-// Three passes, in the order of their sessions.
-fn three_of<'w, J: Naming<Global>>(
-    passes: &mut Vec<Pass<'w, J>>,
-) -> Result<(Pass<'w, J>, Pass<'w, J>, Pass<'w, J>), Refusal> {
-    let three = passes.pop().ok_or(not_asked())?;
-    let two = passes.pop().ok_or(not_asked())?;
-    let one = passes.pop().ok_or(not_asked())?;
-    Ok((one, two, three))
 }
 
 // Plays a script by three sessions: how many events the first has seen, which are all, and the passes.
@@ -240,15 +228,34 @@ fn played<'w, J: Naming<Global> + Send + Sync, R: Threads + Wait + Abort + Sync>
     rt: &R,
     alloc: Global,
     server: &Server<'w, J>,
-    passes: (Pass<'w, J>, Pass<'w, J>, Pass<'w, J>),
+    mut passes: Vec<Pass<'w, J>>,
     script: &str,
-) -> Result<(u64, Vec<Pass<'w, J>>), Refusal> {
+) -> (u64, Vec<Pass<'w, J>>) {
+    let (Some(three), Some(two), Some(one)) = (passes.pop(), passes.pop(), passes.pop()) else {
+        panic!(rt; "not three passes")
+    };
     let barrier = Barrier::open();
-    let (mut one, (mut two, three)) = play_three(rt, alloc, server, passes, script, &barrier);
+    let three_passes = (one, two, three);
+    let (mut one, (mut two, three)) = play_three(rt, alloc, server, three_passes, script, &barrier);
     let (second, events) = (two.stamp(), one.stamp());
     let is_right = !barrier.is_late() && second > 0 && second <= events;
     assert!(rt; is_right, "{script}");
-    Ok((events, vec![in alloc; one, two, three]?))
+    let Ok(passes) = vec![in alloc; one, two, three] else {
+        panic!(rt; "no memory")
+    };
+    (events, passes)
+}
+
+// Plays a script on a server, which then is closed: its history has all events.
+fn play_opened<'w, J: Naming<Global> + Send + Sync, R: Threads + Wait + Abort + Sync>(
+    rt: &R,
+    alloc: Global,
+    (server, passes): (Server<'w, J>, Vec<Pass<'w, J>>),
+    script: &str,
+) {
+    let (events, passes) = played(rt, alloc, &server, passes, script);
+    let core = server.close(passes);
+    assert!(rt; core.history().records().len() as u64 == events, "{script}");
 }
 
 // Plays the script at a place on a server of this word.
@@ -260,54 +267,20 @@ fn play_script<J: Naming<Global> + Send + Sync, R: Threads + Wait + Abort + Sync
     catalog: Catalog,
     tables: Tables,
     place: usize,
-) -> Result<(), Refusal>
+)
     requires word { word.now ≡ record { table = J.table; opening = J.opening } }
     requires first { first ≡ J.table }
     requires opening { J.opening ≡ record { catalog = catalog; tables = tables; base = zero_base } }
     requires most { J.most ≡ 100 }
     requires sound { IsTrue (is_sound catalog tables) }
 {
-    let script = SCRIPTS.split("\n\n").nth(place).ok_or(not_asked())?;
-    let (server, mut passes) = Server::<J>::open(alloc, word, first, catalog, tables, 100, 3)?;
-    let three = three_of(&mut passes)?;
-    let (events, passes) = played(rt, alloc, &server, three, script)?;
-    let core = server.close(passes);
-    assert!(rt; core.history().records().len() as u64 == events, "{script}");
-    Ok(())
-}
-
-// A server isn't opened for no events, nor for no session or 65.
-#[test]
-fn numbers_outside_are_refused(rt: HostRuntime) -> Result<(), Refusal> {
-    let alloc = rt.alloc();
-    for (events, sessions) in [(10, 0), (10, 65), (0, 1)] {
-        let (catalog, tables) = opening(alloc, &[])?;
-        let (word, first) = HistoryWord::new(alloc, &catalog, &tables, Base::zero())?;
-        let is_refused = refuses::<Brand>(alloc, &word, first, catalog, tables, events, sessions);
-        assert!(rt; is_refused, "{events} events, {sessions} sessions");
-    }
-    Ok(())
-}
-
-fn refuses<J: Naming<Global>>(
-    alloc: Global,
-    word: &HistoryWord,
-    first: FirstSeat,
-    catalog: Catalog,
-    tables: Tables,
-    events: u32,
-    sessions: u32,
-) -> bool
-    requires word { word.now ≡ record { table = J.table; opening = J.opening } }
-    requires first { first ≡ J.table }
-    requires opening { J.opening ≡ record { catalog = catalog; tables = tables; base = zero_base } }
-    requires most { J.most ≡ events }
-    requires sound { IsTrue (is_sound catalog tables) }
-{
-    match Server::<J>::open(alloc, word, first, catalog, tables, events, sessions) {
-        Ok(_opened) => false,
-        Err(refusal) => refusal == Refusal::of_code(Code::ProgramLimitExceeded),
-    }
+    let Ok(opened) = Server::<J>::open(alloc, word, first, catalog, tables, 100, 3) else {
+        panic!(rt; "no server")
+    };
+    let Some(script) = SCRIPTS.split("\n\n").nth(place) else {
+        panic!(rt; "no script")
+    };
+    play_opened(rt, alloc, opened, script);
 }
 
 #[test]

@@ -88,7 +88,7 @@ pub(crate) fn dumped<'w, J: Naming<Global>, R: Threads + Wait + Abort + Sync>(
     let (Some(jobs), Some(rows)) = (Jobs::new(jobs), PieceRows::new(1)) else {
         return "no jobs";
     };
-    let mut tape = Tape::new(rt, alloc, false);
+    let mut tape = Tape::new(rt, alloc);
     match dump_safe(rt, alloc, server, pass, jobs, rows, &mut tape, barrier) {
         Ok(()) => word_of(tape.taken.as_slice()),
         Err(_) => "refused",
@@ -122,7 +122,7 @@ pub(crate) fn viewed<'w, J: Naming<Global>, R: Threads + Wait + Abort + Sync>(
     let (Some(jobs), Some(rows)) = (Jobs::new(1), PieceRows::new(9)) else {
         return "no jobs";
     };
-    let mut tape = Tape::new(rt, alloc, false);
+    let mut tape = Tape::new(rt, alloc);
     let catalog = server.catalog();
     match dump(rt, alloc, &view, catalog, jobs, rows, &mut tape, barrier) {
         Ok(()) => word_of(tape.taken.as_slice()),

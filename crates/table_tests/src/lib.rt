@@ -1,11 +1,7 @@
-//! Tests alone: values, tables, and readers over tables.
+//! Tests alone: values, references between tables, and versions of rows.
 
 #![tactic(auto)]
 
-#[cfg(test)]
-mod batches;
-#[cfg(test)]
-mod overlays;
 #[cfg(test)]
 mod tables;
 #[cfg(test)]

@@ -4,15 +4,11 @@ ghost use Rattle.std.specs.Prelude.{◌≡◌, ◌<◌, ◌+◌, length, IfOk, O
 ghost use Rattle.schema.specs.Rows.{HasTable};
 ghost use Rattle.mvrows.specs.Versions.{TablesAreBelow};
 
-mod pages;
-mod prunings;
-
-use crate::batches::walked;
 use mvrows::rows::Rows;
 use schema::catalog::{Catalog, TableNo};
 use schema::changes::{Change, Changes};
 use schema::definition::{ColumnDef, TableDef};
-use schema::reader::{Bound, SnapshotReader, first_row, row_after};
+use schema::reader::{SnapshotReader, first_row, row_after};
 use schema::row::Row;
 use schema::tables::Tables;
 use std::alloc::Global;
@@ -45,18 +41,6 @@ fn row(alloc: Global, number: i64, beside: i64) -> Result<Row, Fail> {
     let mut fields = Vec::new(alloc);
     fields.push(Value::Int(beside))?;
     Ok(Row::new(key(number)?, fields))
-}
-
-// Whether there is a row of the key, and one after it, by what workers share.
-fn met<R: SnapshotReader<Global> + Send + Sync>(
-    reader: &R,
-    table: TableNo,
-    key: &Key,
-) -> (bool, bool)
-    requires { HasTable (R.tables reader.now) table }
-{
-    let after = reader.next_row(table, Bound::After(key)).is_some();
-    (reader.get(table, key).is_some(), after)
 }
 
 // A row's key and number.
@@ -161,7 +145,7 @@ fn commit(
     settle(alloc, versions, snapshots.as_slice(), number, all)
 }
 
-// What a snapshot shows, lent and as a view, a row or many at a time: the same.
+// What a snapshot shows, lent and as a view: the same.
 fn shown(
     rt: &impl Abort,
     alloc: Global,
@@ -175,8 +159,6 @@ fn shown(
     let view = versions.view(alloc, number)?;
     let viewed = rows(alloc, &view)?;
     assert_eq!(rt; viewed.as_slice(), shown.as_slice());
-    let walked = walked(alloc, &view, TableNo::at(0))?;
-    assert_eq!(rt; walked.as_slice(), shown.as_slice());
     Ok(shown)
 }
 
@@ -209,62 +191,6 @@ fn a_key_that_goes_and_comes_again(rt: HostRuntime) -> Result<(), Fail> {
     assert_eq!(rt; versions.newest(table, &key(6)?), None);
     versions.prune(alloc, 3)?;
     assert_eq!(rt; versions.newest(table, &key(5)?), Some(3));
-    Ok(())
-}
-
-#[test]
-fn a_view_has_the_rows_of_its_tables(rt: HostRuntime) -> Result<(), Fail> {
-    let alloc = rt.alloc();
-    let table = TableNo::at(0);
-    let mut versions = opening(&rt, alloc, 0)?;
-    commit(
-        alloc,
-        &mut versions,
-        1,
-        [(1, Some(0)), (3, Some(0))].as_slice(),
-    )?;
-    let view = versions.view(alloc, 1)?;
-    for (number, want) in [
-        (0, (false, true)),
-        (1, (true, true)),
-        (2, (false, true)),
-        (3, (true, false)),
-    ] {
-        assert_eq!(rt; met(&view, table, &key(number)?), want, "{number}");
-    }
-    Ok(())
-}
-
-// Writes a key by a thousand commits, each of them the oldest snapshot: beside it stands the commit's number.
-fn write_again_and_again(alloc: Global, versions: &mut Rows) -> Result<(), Fail>
-    requires { TablesAreBelow 1 versions.old }
-    ensures { OnOk result (length versions.new ≡ length versions.old) }
-{
-    for number in 1..1001u64 {
-        settle(
-            alloc,
-            versions,
-            [number].as_slice(),
-            number,
-            [(5, Some(number as i64))].as_slice(),
-        )?;
-    }
-    Ok(())
-}
-
-#[test]
-fn a_key_written_a_thousand_times_keeps_one_version(rt: HostRuntime) -> Result<(), Fail> {
-    let alloc = rt.alloc();
-    let mut versions = opening(&rt, alloc, 0)?;
-    write_again_and_again(alloc, &mut versions)?;
-    for number in [0, 1, 2, 500, 998, 999] {
-        let shown = shown(&rt, alloc, &versions, number)?;
-        assert_eq!(rt; shown.len(), 0, "{number}");
-    }
-    assert_eq!(rt;
-        shown(&rt, alloc, &versions, 1000)?.as_slice(),
-        [(5, 1000)].as_slice()
-    );
     Ok(())
 }
 
@@ -311,44 +237,5 @@ fn a_key_keeps_what_open_snapshots_show(rt: HostRuntime) -> Result<(), Fail> {
     }
     let table = TableNo::at(0);
     assert_eq!(rt; versions.newest(table, &key(0)?), Some(1000));
-    Ok(())
-}
-
-#[test]
-fn a_settled_key_stays_what_a_view_shows(rt: HostRuntime) -> Result<(), Fail> {
-    let alloc = rt.alloc();
-    let mut versions = opening(&rt, alloc, 2)?;
-    settle(
-        alloc,
-        &mut versions,
-        [1].as_slice(),
-        1,
-        [(1, Some(10))].as_slice(),
-    )?;
-    let view = versions.view(alloc, 1)?;
-    settle(
-        alloc,
-        &mut versions,
-        [1].as_slice(),
-        2,
-        [(0, None), (1, Some(20))].as_slice(),
-    )?;
-    let both = [(0, 0), (1, 10)];
-    assert_eq!(rt;
-        shown(&rt, alloc, &versions, 1)?.as_slice(),
-        both.as_slice()
-    );
-    settle(
-        alloc,
-        &mut versions,
-        [3].as_slice(),
-        3,
-        [(0, None), (1, None)].as_slice(),
-    )?;
-    assert_eq!(rt; shown(&rt, alloc, &versions, 3)?.len(), 0);
-    let table = TableNo::at(0);
-    assert_eq!(rt; versions.newest(table, &key(0)?), None);
-    assert_eq!(rt; versions.newest(table, &key(1)?), None);
-    assert_eq!(rt; rows(alloc, &view)?.as_slice(), both.as_slice());
     Ok(())
 }

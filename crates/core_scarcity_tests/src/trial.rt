@@ -1,0 +1,98 @@
+//! What a script is played with while one request for memory is refused: a device, and the count of requests.
+
+use crate::driver::Memory;
+use crate::fixture::not_asked;
+use backup::BackupFault;
+use collector::{Device, DeviceError};
+use dumpworker::DumpFault;
+use std::alloc::Global;
+use std::process::Abort;
+use value::refusal::{Code, Refusal};
+
+/// A device that keeps what it is given, in ample memory.
+#[derive(Drop)]
+pub struct Keeping<'r, R: Abort> {
+    rt: &'r R,
+    pub taken: Vec<u8>,
+    failures: u64,
+}
+
+impl<'r, R: Abort> Keeping<'r, R> {
+    /// A device that has been given nothing.
+    pub fn new(rt: &'r R, ample: Global) -> Keeping<'r, R> {
+        Keeping {
+            rt,
+            taken: Vec::new(ample),
+            failures: 0,
+        }
+    }
+}
+
+impl<'r, R: Abort> Device for Keeping<'r, R> {
+    ghost taken = { λ d. d.taken.items };
+
+    ghost failures = { λ d. d.failures };
+
+    fn write(&mut self, bytes: &[u8]) -> Result<usize, DeviceError> {
+        if self.taken.extend_from_slice(bytes).is_ok() {
+            return Ok(bytes.len());
+        }
+        assert!(self.rt; self.failures < 9);
+        self.failures += 1;
+        Err(DeviceError)
+    }
+}
+
+/// Why there is no dump: the view's refusal, or want of memory.
+pub fn refusal_of(fault: BackupFault) -> Refusal {
+    match fault {
+        BackupFault::View(refusal) => refusal,
+        BackupFault::Dump(DumpFault::Memory) => Refusal::of_code(Code::OutOfMemory),
+        BackupFault::Dump(DumpFault::Device) => not_asked(),
+    }
+}
+
+/// A request that is refused, by its number, how many were made, and how many calls were repeated.
+#[derive(Clone, Copy)]
+pub struct Trial {
+    number: u64,
+    pub made: u64,
+    pub repeated: u64,
+}
+
+impl Trial {
+    /// A trial in which this request is refused, counted from 1.
+    pub fn of(number: u64) -> Trial {
+        Trial {
+            number,
+            made: 0,
+            repeated: 0,
+        }
+    }
+
+    /// From here on requests are counted, and the one may be refused. Answers how many the memory has had.
+    pub fn begin(&self, memory: &Memory) -> u64 {
+        memory.refuse(self.number.saturating_sub(self.made));
+        memory.requests()
+    }
+
+    /// Up to here they were. Whether any was made.
+    pub fn end(&mut self, memory: &Memory, start: u64) -> bool {
+        memory.refuse(0);
+        let made = memory.requests().wrapping_sub(start);
+        self.made = self.made.wrapping_add(made);
+        made > 0
+    }
+
+    /// What is refused for want of memory is to be repeated. A POLL and a ROLLBACK never are so refused.
+    pub fn repeat(&mut self, asked: &str, refusal: Refusal) -> Result<(), Refusal> {
+        if refusal != Refusal::of_code(Code::OutOfMemory) {
+            return Err(refusal);
+        }
+        if asked.ends_with("POLL") || asked.ends_with("ROLLBACK") {
+            return Err(not_asked());
+        }
+        self.repeated = self.repeated.wrapping_add(1);
+        Ok(())
+    }
+}
