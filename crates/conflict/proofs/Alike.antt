@@ -4,12 +4,12 @@ use Rattle.std.proofs.lemmas.List.Elements.{filter-append}
 use Rattle.std.specs.List.{filter, find, list_any}
 use Rattle.std.specs.Option.{option_map, option_to_list}
 use Rattle.value.specs.declared.refusal.Cause.{Cause}
-use Rattle.value.specs.Isolation.{cause_from, dooms, earliest, bound, first_cause, is_doomed, is_first, is_live, is_other, with_doom}
+use Rattle.value.specs.Isolation.{cause_from, earliest, bound, first_cause, is_doomed, is_first, is_live, is_other, with_doom}
 use Rattle.value.proofs.IsolationLemmas.{In}
-use Rattle.conflict.specs.Tracked.{Party, Tracked, Each, IsNumbered, IsProper, node, reads, edge, opened, after_forget, cause_of, dooms_of, dooms_from, first_out, out_from, party_of, is_active, is_needed, is_recent, is_writer, with_out, with_snapshot, with_commit}
+use Rattle.conflict.specs.Tracked.{Party, Tracked, Each, IsNumbered, IsProper, node, reads, edge, opened, after_forget, cause_of, dooms_of, dooms_from, first_out, out_from, party_of, is_active, is_needed, is_recent, is_writer, forgetful, with_edge, with_snapshot, with_commit, without_active}
 use Rattle.conflict.specs.Later.{Told, Begins, Reads, Moves, Commits, Drops, told, all_told, has_committed, CanTell, CanTellAll, IsFrom, is_recent_from, AnswersAlike, Alike, IsOldest}
 use Rattle.conflict.proofs.Lists.{both_true, and_true, either, or_left, or_right, is_false, clash, Each-In, Each-all, In-filter, In-append, filter-In, In-any, any-In, In-map, filter_alike, filter-kept, filter-filter, filter-map, find-In, find-kept, find-alike, fold-kept, fold-alike}
-use Rattle.conflict.proofs.Proper.{one_of_number, proper_filter, proper_begin, proper_edge, proper_move, proper_commit}
+use Rattle.conflict.proofs.Proper.{edge_still, one_of_number, proper_drop, proper_begin, proper_edge, proper_move, proper_commit}
 use Rattle.conflict.proofs.Thinned.{Thinned, active_recent, commit_recent, commit_step, edge_step, lt_of, move_recent, move_step, moved_snapshot, needed_by, needed_cases, needed_recent, not_lt, same_cause, same_of, thinned_needed, to_lt, to_same}
 
 abbrev keeps : (ℕ → Bool) → Party → Bool
@@ -24,7 +24,7 @@ proper_told r h (Begins t m n) can = proper_begin t m n r h can.0 can.1
 proper_told r h (Reads t u) can = proper_edge t u r h can
 proper_told r h (Moves t n) can = proper_move t n r h can
 proper_told r h (Commits t) can = proper_commit t r h can
-proper_told r h (Drops t) can = proper_filter (λ p. not (is_active t p)) r h
+proper_told r h (Drops t) can = proper_drop t r h
 
 -- ---- the oldest snapshot stays
 
@@ -45,14 +45,19 @@ module _ (o : ℕ) (r : Tracked) (h : IsProper r) (old : IsOldest o r) where
       go p (inl i) = late p i
       go p (inr (inl q)) = subst Late (sym q) (λ _. from)
       go p (inr (inr i)) = absurd i
-  oldest_told (Reads t u) from = record { commits = old.commits; active = late_map (with_out t u) (λ p i. late p i) }
+  oldest_told (Reads t u) from = record { commits = old.commits; active = late_map (with_edge r.begun t u) (λ p i. late p i) }
   oldest_told (Moves t n) from = record { commits = old.commits; active = late_map (with_snapshot t n) (λ p i a. moved_snapshot o r h old t n from p i a) }
   oldest_told (Commits t) from = record { commits = grown (list_any (is_writer t) r.parties); active = late_map (with_commit t (r.commits + 1)) (λ p i a. late p i (both_true (not (eqb p.number t)) p.active a).1) }
     where
       grown : (b : Bool) → o ≤ cond b (r.commits + 1) r.commits
       grown true = omega (arith, old.commits)
       grown false = old.commits
-  oldest_told (Drops t) from = record { commits = old.commits; active = Each-all Late (filter (λ p. not (is_active t p)) r.parties) (λ p i. late p (In-filter (λ q. not (is_active t q)) p r.parties i).0) }
+  oldest_told (Drops t) from = record {
+    commits = old.commits;
+    active = Each-all Late (without_active t r.parties) (λ p i.
+        let m = In-map (forgetful (list_any (is_active t) r.parties) t) p (filter (without t) r.parties) i in
+        subst Late (sym m.2) (late m.0 (In-filter (without t) m.0 r.parties m.1).0));
+  }
 
   -- ---- the two trackers, one told what the other is told
 
@@ -105,6 +110,24 @@ module _ (o : ℕ) (r : Tracked) (h : IsProper r) (old : IsOldest o r) where
         go true e = there e ∙ sym e
         go false e = is_false _ (λ d. clash _ (more d) e) ∙ sym e
 
+    active_there : (t : ℕ) → list_any (is_active t) s.parties ≡ list_any (is_active t) r.parties
+    active_there t = go (list_any (is_active t) r.parties) refl
+      where
+        more : list_any (is_active t) s.parties ≡ true → list_any (is_active t) r.parties ≡ true
+        more e =
+            let x = any-In (is_active t) s.parties e in
+            In-any (is_active t) r.parties x.0 (In-filter k x.0 r.parties (subst (λ ps. In x.0 ps) thin.parties x.1)).0 x.2
+
+        there : list_any (is_active t) r.parties ≡ true → list_any (is_active t) s.parties ≡ true
+        there e =
+            let x = any-In (is_active t) r.parties e in
+            let kept = thin.needed x.0 x.1 (needed_recent o r.parties x.0 (active_recent o x.0 (both_true (eqb x.0.number t) x.0.active x.2).1)) in
+            In-any (is_active t) s.parties x.0 (subst (λ ps. In x.0 ps) (sym thin.parties) (filter-In k x.0 r.parties x.1 kept)) x.2
+
+        go : (b : Bool) → list_any (is_active t) r.parties ≡ b → list_any (is_active t) s.parties ≡ list_any (is_active t) r.parties
+        go true e = there e ∙ sym e
+        go false e = is_false _ (λ d. clash _ (more d) e) ∙ sym e
+
     thin_told : (x : Told) → IsFrom o x → CanTell x r → Thinned o keep (told x s) (told x r)
     thin_told (Begins t m n) from can = record {
       begun = refl;
@@ -132,9 +155,9 @@ module _ (o : ℕ) (r : Tracked) (h : IsProper r) (old : IsOldest o r) where
     thin_told (Reads t u) from can = record {
       begun = thin.begun;
       commits = thin.commits;
-      parties = same_map (with_out t u) (λ p. refl);
+      parties = ap (λ b. map (with_edge b t u) s.parties) thin.begun ∙ same_map (with_edge r.begun t u) (λ p. refl);
       later = thin.later;
-      needed = thinned_needed o r h old (with_out t u) (λ p. refl) (λ p i e. e) (λ q p j i e. edge_step o r h old t u can q p j i e) keep thin.needed;
+      needed = thinned_needed o r h old (with_edge r.begun t u) (λ p. refl) (λ p i e. e) (λ q p j i e. edge_step o r h old t u can q p j i e) keep thin.needed;
     }
     thin_told (Moves t n) from can = record {
       begun = thin.begun;
@@ -153,14 +176,28 @@ module _ (o : ℕ) (r : Tracked) (h : IsProper r) (old : IsOldest o r) where
     thin_told (Drops t) from can = record {
       begun = thin.begun;
       commits = thin.commits;
-      parties = ap (filter (without t)) thin.parties ∙ filter-filter (without t) k r.parties;
+      parties =
+          ap (λ b. map (forgetful b t) (filter (without t) s.parties)) (active_there t)
+          ∙ ap (λ ps. map (forgetful gone t) (filter (without t) ps)) thin.parties
+          ∙ ap (map (forgetful gone t)) (filter-filter (without t) k r.parties)
+          ∙ sym (filter-map (forgetful gone t) k (filter (without t) r.parties) ∙ ap (map (forgetful gone t)) (filter_alike (λ p. k (forgetful gone t p)) k (filter (without t) r.parties) (λ p i. refl)));
       later = thin.later;
-      needed = λ p i e. thin.needed p (In-filter (without t) p r.parties i).0 (before p (needed_cases o (filter (without t) r.parties) p e));
+      needed = λ p i e. stays p (In-map (forgetful gone t) p (filter (without t) r.parties) i) e;
     }
       where
-        before : (p : Party) → (is_recent o p ≡ true) ⊎ ((q : Party) × In q (filter (without t) r.parties) × (is_recent o q ≡ true) × (edge q p ≡ true)) → is_needed o r.parties p ≡ true
-        before p (inl x) = needed_recent o r.parties p x
-        before p (inr x) = needed_by o r.parties p x.0 (In-filter (without t) x.0 r.parties x.1).0 x.2 x.3
+        gone : Bool
+        gone = list_any (is_active t) r.parties
+
+        before : (m : Party) → (is_recent o m ≡ true) ⊎ ((q : Party) × In q (map (forgetful gone t) (filter (without t) r.parties)) × (is_recent o q ≡ true) × (edge q (forgetful gone t m) ≡ true)) → is_needed o r.parties m ≡ true
+        before m (inl x) = needed_recent o r.parties m x
+        before m (inr x) =
+            let q = In-map (forgetful gone t) x.0 (filter (without t) r.parties) x.1 in
+            needed_by o r.parties m q.0 (In-filter (without t) q.0 r.parties q.1).0 (subst (λ z. is_recent o z ≡ true) q.2 x.2) (edge_still t r h gone q.0 m (subst (λ z. edge z (forgetful gone t m) ≡ true) q.2 x.3))
+
+        stays : (p : Party) → (m : Party) × In m (filter (without t) r.parties) × (p ≡ forgetful gone t m) → is_needed o (map (forgetful gone t) (filter (without t) r.parties)) p ≡ true → keep p.number ≡ true
+        stays p m e =
+            subst (λ (z : Party). keep z.number ≡ true) (sym m.2)
+            (thin.needed m.0 (In-filter (without t) m.0 r.parties m.1).0 (before m.0 (needed_cases o (map (forgetful gone t) (filter (without t) r.parties)) (forgetful gone t m.0) (subst (λ z. is_needed o (map (forgetful gone t) (filter (without t) r.parties)) z ≡ true) m.2 e))))
 
     -- ---- what is asked of one that is recent
 

@@ -1,47 +1,20 @@
 -- Structures and dooms, found from the front of a list.
-use Rattle.std.proofs.Common.{◌≡◌, refl, sym, ap, ◌∙◌, ℕ, suc, ◌+◌, ◌<◌, Bool, true, false, true≢false, cond, ◌&&◌, List, [], ◌∷◌, ◌++◌, length, take, drop, get_or, Option, Some, None, is_some, nat_lt, nat_le, arith}
+use Rattle.std.proofs.Common.{◌≡◌, refl, sym, ap, ◌∙◌, ℕ, Bool, true, false, cond, ◌&&◌, List, [], ◌∷◌, ◌++◌, Option, Some, None, is_some, nat_lt, nat_le, arith}
 use Rattle.std.proofs.lemmas.Bool.Decides.{nat_tests}
-use Rattle.std.proofs.lemmas.List.{append-nil}
-use Rattle.std.proofs.lemmas.List.Elements.{filter-append}
 use Rattle.std.specs.List.{filter}
 use Rattle.std.specs.Option.{option_map}
 use Rattle.value.specs.Isolation.{Node, caused, earlier, earliest, first_some, is_dangerous}
 use Rattle.conflict.specs.Earliest.{first_of}
-use Rattle.conflict.proofs.WalkLemmas.{split_at, take_next}
 
 -- ---- the first that a function gives
 
-first_some-passes : {A B : Type 0} (f : A → Option B) (xs ys : List A) → first_some f xs ≡ None → first_some f (xs ++ ys) ≡ first_some f ys
+pub first_some-passes : {A B : Type 0} (f : A → Option B) (xs ys : List A) → first_some f xs ≡ None → first_some f (xs ++ ys) ≡ first_some f ys
 first_some-passes f [] ys none = refl
 first_some-passes {A} {B} f (x ∷ xs) ys none = go (f x) (first_some-passes f xs ys) none
   where
     go : (o : Option B) → (first_some f xs ≡ None → first_some f (xs ++ ys) ≡ first_some f ys) → cond (is_some o) o (first_some f xs) ≡ None → cond (is_some o) o (first_some f (xs ++ ys)) ≡ first_some f ys
     go None rest e = rest e
     go (Some y) rest e = cc
-
-given_or : {B : Type 0} (o rest : Option B) → is_some o ≡ true → o ≡ cond (is_some o) o rest
-given_or o rest e = ap (λ b. cond b o rest) (sym e)
-
-none_of : {B : Type 0} (o : Option B) → is_some o ≡ false → o ≡ None
-none_of None e = refl
-none_of (Some x) e = absurd (true≢false e)
-
--- it gives something of this element, and nothing of those before
-pub first_some-here : {A B : Type 0} (f : A → Option B) (xs : List A) (i : ℕ) (x : A) → i < length xs → x ≡ get_or xs i x → first_some f (take i xs) ≡ None
-    → (o : Option B) → o ≡ f x → is_some o ≡ true → o ≡ first_some f xs
-first_some-here f xs i x lt at none o e some =
-    e ∙ given_or (f x) (first_some f (drop (suc i) xs)) (ap is_some (sym e) ∙ some)
-    ∙ sym (first_some-passes f (take i xs) (x ∷ drop (suc i) xs) none) ∙ ap (first_some f) (sym (split_at xs i x lt at))
-
--- it gives nothing of this element either
-pub first_some-next : {A B : Type 0} (f : A → Option B) (xs : List A) (i : ℕ) (x : A) → i < length xs → x ≡ get_or xs i x → first_some f (take i xs) ≡ None
-    → (o : Option B) → o ≡ f x → is_some o ≡ false → first_some f (take (i + 1) xs) ≡ None
-first_some-next {A} {B} f xs i x lt at none o e empty =
-    ap (first_some f) (take_next xs i x lt at) ∙ first_some-passes f (take i xs) (x ∷ []) none ∙ last (f x) (sym e ∙ none_of o empty)
-  where
-    last : (p : Option B) → p ≡ None → cond (is_some p) p None ≡ None
-    last None q = refl
-    last (Some y) q = q
 
 -- ---- the first to commit
 
@@ -76,28 +49,12 @@ module _ {T : Type 0} (node : T → Node) (edge : T → T → Bool) where
       go true = refl
       go false = refl
 
-  earliest-push : (xs : List T) (x : T) → option_map node (earliest node edge (xs ++ x ∷ [])) ≡ Some (first_of (option_map node (earliest node edge xs)) (node x))
+  pub earliest-push : (xs : List T) (x : T) → option_map node (earliest node edge (xs ++ x ∷ [])) ≡ Some (first_of (option_map node (earliest node edge xs)) (node x))
   earliest-push [] x = refl
   earliest-push (y ∷ ys) x =
       ap Some (node-earlier y (earliest node edge (ys ++ x ∷ [])) ∙ ap (earlier_of (node y)) (earliest-push ys x)
       ∙ earlier_first (node y) (option_map node (earliest node edge ys)) (node x)
       ∙ ap (λ n. first_of (Some n) (node x)) (sym (node-earlier y (earliest node edge ys))))
-
-  filter-push : (p : T → Bool) (xs : List T) (i : ℕ) (x : T) → i < length xs → x ≡ get_or xs i x → filter p (take (i + 1) xs) ≡ filter p (take i xs) ++ cond (p x) (x ∷ []) []
-  filter-push p xs i x lt at = ap (filter p) (take_next xs i x lt at) ∙ filter-append p (take i xs) (x ∷ [])
-
-  -- one more that passes
-  pub earliest-next : (p : T → Bool) (xs : List T) (i : ℕ) (x : T) → i < length xs → x ≡ get_or xs i x → p x ≡ true → (last : Option Node)
-      → last ≡ option_map node (earliest node edge (filter p (take i xs))) → Some (first_of last (node x)) ≡ option_map node (earliest node edge (filter p (take (i + 1) xs)))
-  earliest-next p xs i x lt at passes last e =
-      ap (λ o. Some (first_of o (node x))) e ∙ sym (earliest-push (filter p (take i xs)) x)
-      ∙ ap (λ ys. option_map node (earliest node edge ys)) (sym (filter-push p xs i x lt at ∙ ap (λ b. filter p (take i xs) ++ cond b (x ∷ []) []) passes))
-
-  -- one more that doesn't
-  pub earliest-same : (p : T → Bool) (xs : List T) (i : ℕ) (x : T) → i < length xs → x ≡ get_or xs i x → p x ≡ false → (last : Option Node)
-      → last ≡ option_map node (earliest node edge (filter p (take i xs))) → last ≡ option_map node (earliest node edge (filter p (take (i + 1) xs)))
-  earliest-same p xs i x lt at fails last e =
-      e ∙ ap (λ ys. option_map node (earliest node edge ys)) (sym (filter-push p xs i x lt at ∙ ap (λ b. filter p (take i xs) ++ cond b (x ∷ []) []) fails ∙ append-nil (filter p (take i xs))))
 
   -- ---- structures
 

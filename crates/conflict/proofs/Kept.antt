@@ -7,12 +7,15 @@ use Rattle.value.specs.declared.refusal.Mode.{Mode}
 use Rattle.value.specs.declared.refusal.TxnNo.{TxnNo}
 use Rattle.value.specs.Isolation.{is_live}
 use Rattle.value.proofs.IsolationLemmas.{In}
-use Rattle.conflict.specs.Tracked.{Party, Tracked, Each, IsProper, after_commit, after_edge, after_edges, after_forget, cause_of, is_active, is_needed, is_rival, is_writer, lesser, next_commit, node, opened, reads, rivals, with_commit, with_out, with_outs, with_snapshot}
+use Rattle.conflict.specs.Tracked.{AreEdges, Ascending, IsSorted, Party, Rising, Tracked, Each, IsProper, after_commit, after_edge, after_edges, after_forget, cause_of, is_needed, is_rival, is_writer, lesser, next_commit, node, opened, reads, rivals, with_commit, with_edge, with_edges, with_snapshot, without_active}
 use Rattle.conflict.specs.Later.{Alike, CanTellEdges, IsOldest, has_committed}
-use Rattle.conflict.proofs.Lists.{Each-all, clash, find-In}
-use Rattle.conflict.proofs.Proper.{proper_begin, proper_commit, proper_edge, proper_filter, proper_move}
+use Rattle.conflict.proofs.Lists.{Each-In, Each-all, clash, find-In}
+use Rattle.conflict.proofs.Proper.{proper_begin, proper_commit, proper_drop, proper_edge, proper_filter, proper_move}
 use Rattle.conflict.specs.Through.{IsThrough}
+use Rattle.conflict.specs.Undo.{AreSorted}
+use Rattle.conflict.specs.Walks.{IsAmong, IsCommitter}
 use Rattle.conflict.proofs.Alike.{forgets_alike}
+use Rattle.conflict.proofs.Places.{any_found, any_none}
 use Rattle.conflict.proofs.Committer.{nobody_commits, through_committer}
 
 abbrev pub with_parties : Tracked → List Party → Tracked
@@ -28,24 +31,24 @@ begin_proper s now t m n qs e h later shown is =
 
 -- ---- edges
 
-same_committed : (v t u : ℕ) (ps : List Party) → has_committed v (map (with_out t u) ps) ≡ has_committed v ps
-same_committed v t u [] = refl
-same_committed v t u (p ∷ ps) = ap (λ b. not p.active && eqb p.number v || b) (same_committed v t u ps)
+same_committed : (v b t u : ℕ) (ps : List Party) → has_committed v (map (with_edge b t u) ps) ≡ has_committed v ps
+same_committed v b t u [] = refl
+same_committed v b t u (p ∷ ps) = ap (λ x. not p.active && eqb p.number v || x) (same_committed v b t u ps)
 
 still_can : (t u : ℕ) (s : Tracked) (es : List (TxnNo × TxnNo)) → CanTellEdges es s → CanTellEdges es (after_edge t u s)
 still_can t u s [] can = tt
-still_can t u s (e ∷ es) can = (ap (λ b. b && has_committed e.1.0 (map (with_out t u) s.parties)) (same_committed e.0.0 t u s.parties) ∙ ap (λ b. has_committed e.0.0 s.parties && b) (same_committed e.1.0 t u s.parties) ∙ can.0, still_can t u s es can.1)
+still_can t u s (e ∷ es) can = (ap (λ b. b && has_committed e.1.0 (map (with_edge s.begun t u) s.parties)) (same_committed e.0.0 s.begun t u s.parties) ∙ ap (λ b. has_committed e.0.0 s.parties && b) (same_committed e.1.0 s.begun t u s.parties) ∙ can.0, still_can t u s es can.1)
 
 proper_edges : (es : List (TxnNo × TxnNo)) (s : Tracked) → IsProper s → CanTellEdges es s → IsProper (after_edges es s)
 proper_edges [] s h can = h
 proper_edges (e ∷ es) s h can = proper_edges es (after_edge e.0.0 e.1.0 s) (proper_edge e.0.0 e.1.0 s h can.0) (still_can e.0.0 e.1.0 s es can.1)
 
-pub edges_proper : {T E : Type 0} (s now : Tracked) (es : List (TxnNo × TxnNo)) (qs : List Party) (r : Result T E) → s ≡ now → IsProper s → CanTellEdges es now → OnOk r (qs ≡ with_outs es s.parties) → OnErr r (qs ≡ s.parties)
+pub edges_proper : {T E : Type 0} (s now : Tracked) (es : List (TxnNo × TxnNo)) (qs : List Party) (r : Result T E) → s ≡ now → IsProper s → CanTellEdges es now → OnOk r (qs ≡ with_edges s.begun es s.parties) → OnErr r (qs ≡ s.parties)
     → IsProper (with_parties s qs)
 edges_proper s now es qs (Ok v) e h can ok err = subst (λ ps. IsProper (with_parties s ps)) (sym ok) (proper_edges es s h (subst (CanTellEdges es) (sym e) can))
 edges_proper s now es qs (Err v) e h can ok err = subst (λ ps. IsProper (with_parties s ps)) (sym err) h
 
-pub edges_ok : {T E : Type 0} (s now : Tracked) (es : List (TxnNo × TxnNo)) (qs : List Party) (r : Result T E) → s ≡ now → OnOk r (qs ≡ with_outs es s.parties) → OnOk r (with_parties s qs ≡ after_edges es now)
+pub edges_ok : {T E : Type 0} (s now : Tracked) (es : List (TxnNo × TxnNo)) (qs : List Party) (r : Result T E) → s ≡ now → OnOk r (qs ≡ with_edges s.begun es s.parties) → OnOk r (with_parties s qs ≡ after_edges es now)
 edges_ok s now es qs (Ok v) e ok = ap (with_parties s) ok ∙ ap (after_edges es) e
 edges_ok s now es qs (Err v) e ok = ok
 
@@ -58,8 +61,8 @@ edges_err s now qs (Err v) e err = ap (with_parties s) err ∙ e
 pub move_proper : (s now : Tracked) (t n : ℕ) (qs : List Party) → s ≡ now → IsProper s → n ≤ now.commits → qs ≡ map (with_snapshot t n) s.parties → IsProper (with_parties s qs)
 move_proper s now t n qs e h shown is = subst (λ ps. IsProper (with_parties s ps)) (sym is) (proper_move t n s h (subst (λ (x : Tracked). n ≤ x.commits) (sym e) shown))
 
-pub drop_proper : (s : Tracked) (t : ℕ) (qs : List Party) → IsProper s → qs ≡ filter (λ p. not (is_active t p)) s.parties → IsProper (with_parties s qs)
-drop_proper s t qs h is = subst (λ ps. IsProper (with_parties s ps)) (sym is) (proper_filter (λ p. not (is_active t p)) s h)
+pub drop_proper : (s : Tracked) (t : ℕ) (qs : List Party) → IsProper s → qs ≡ without_active t s.parties → IsProper (with_parties s qs)
+drop_proper s t qs h is = subst (λ ps. IsProper (with_parties s ps)) (sym is) (proper_drop t s h)
 
 -- ---- a commit
 
@@ -190,13 +193,46 @@ nobody_found t (q ∷ ps) e p i = go (eqb q.number t) refl e i (nobody_found t p
     go false d f (inl s) rest = ap (λ (x : Party). eqb x.number t) s ∙ d
     go false d f (inr j) rest = rest f p j
 
-pub through_found : (s : Tracked) (t : ℕ) (x : Party) (ps qs : List Party) → IsProper s → ps ≡ s.parties → find (λ (q : Party). eqb q.number t) ps ≡ Some x → qs ≡ s.parties → Each (IsThrough t (s.commits + 1) qs x) qs
-through_found s t x ps qs h at found same =
+same_number : (n t : ℕ) → eqb n t ≡ true → n ≡ t
+same_number n t f = grind (arith, nat_tests)
+
+pub among_found : (s : Tracked) (t : ℕ) (x : Party) (ps qs : List Party) → IsProper s → ps ≡ s.parties → find (λ (q : Party). eqb q.number t) ps ≡ Some x → qs ≡ s.parties → IsAmong qs x
+among_found s t x ps qs h at found same =
+    let f = find-In (λ (q : Party). eqb q.number t) ps x found in (
+      subst Rising (sym same) h.rising,
+      subst AreEdges (sym same) h.edges,
+      ap (λ n. find (λ (q : Party). eqb q.number n) qs) (same_number x.number t f.1) ∙ ap (find (λ (q : Party). eqb q.number t)) (same ∙ sym at) ∙ found,
+    )
+
+pub committer_found : (s : Tracked) (t : ℕ) (x : Party) (ps qs : List Party) → IsProper s → ps ≡ s.parties → find (λ (q : Party). eqb q.number t) ps ≡ Some x → qs ≡ s.parties → IsCommitter t (s.commits + 1) x qs
+committer_found s t x ps qs h at found same =
     let f = find-In (λ (q : Party). eqb q.number t) ps x found in
-    subst (λ us. Each (IsThrough t (s.commits + 1) us x) us) (sym same) (through_committer s h t x (subst (In x) at f.0) (number f.1))
-  where
-    number : eqb x.number t ≡ true → x.number ≡ t
-    number f = grind (arith, nat_tests)
+    let n = same_number x.number t f.1 in
+    (among_found s t x ps qs h at found same, n, subst (λ us. Each (IsThrough t (s.commits + 1) us x) us) (sym same) (through_committer s h t x (subst (In x) at f.0) n))
+
+pub sorted_now : (s : Tracked) (qs : List Party) → IsProper s → qs ≡ s.parties → AreSorted qs
+sorted_now s qs h same = (subst Rising (sym same) h.rising, subst (Each IsSorted) (sym same) h.edges.sorted)
+
+pub rising_now : (s : Tracked) (qs : List Party) → IsProper s → qs ≡ s.parties → Rising qs
+rising_now s qs h same = subst Rising (sym same) h.rising
+
+-- what one that was found has read stands in order
+pub outs_found : (s : Tracked) (t : ℕ) (x : Party) (ps : List Party) → IsProper s → ps ≡ s.parties → find (λ (q : Party). eqb q.number t) ps ≡ Some x → Ascending x.outs
+outs_found s t x ps h at found = (Each-In IsSorted s.parties x h.edges.sorted (subst (In x) at (find-In (λ (q : Party). eqb q.number t) ps x found).0)).0
+
+and_no : (b : Bool) → (b && false) ≡ false
+and_no true = refl
+and_no false = refl
+
+pub committed_found : (s now : Tracked) (t : ℕ) (x : Party) (ps : List Party) (b : Bool) → s ≡ now → IsProper s → ps ≡ s.parties → find (λ (q : Party). eqb q.number t) ps ≡ Some x → b ≡ (not x.active && eqb x.number t) → b ≡ has_committed t now.parties
+committed_found s now t x ps b e h at found is =
+    is ∙ any_found (λ (p : Party). not p.active && eqb p.number t) t (λ p d. ap (λ z. not p.active && z) d ∙ and_no (not p.active)) ps x (subst Rising (sym at) h.rising) found
+    ∙ ap (has_committed t) (at ∙ ap (λ (z : Tracked). z.parties) e)
+
+pub committed_none : (s now : Tracked) (t : ℕ) (ps : List Party) → s ≡ now → ps ≡ s.parties → find (λ (q : Party). eqb q.number t) ps ≡ None → false ≡ has_committed t now.parties
+committed_none s now t ps e at none =
+    any_none (λ (p : Party). not p.active && eqb p.number t) t (λ p d. ap (λ z. not p.active && z) d ∙ and_no (not p.active)) ps none
+    ∙ ap (has_committed t) (at ∙ ap (λ (z : Tracked). z.parties) e)
 
 pub nobody_makes : (s now : Tracked) (t : ℕ) (ps : List Party) → s ≡ now → IsProper s → ps ≡ s.parties → find (λ (q : Party). eqb q.number t) ps ≡ None → None ≡ cause_of t now
 nobody_makes s now t ps e h at none = sym (nobody_commits s h t (subst (λ us. (p : Party) → In p us → eqb p.number t ≡ false) at (nobody_found t ps none))) ∙ ap (cause_of t) e

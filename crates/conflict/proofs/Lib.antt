@@ -1,14 +1,17 @@
 pub mod Alike
 mod CauseLemmas
 mod Committer
-mod DoomLemmas
 mod Forgetting
+mod Found
 mod Kept
 pub mod Lists
 mod Mapped
+mod Ordered
 pub mod Places
 pub mod Proper
 pub mod Structures
 pub mod Thinned
 mod WalkLemmas
+mod WalkedCause
+mod WalkedDooms
 mod WorldLemmas

@@ -4,7 +4,7 @@ use Rattle.std.proofs.lemmas.Bool.Decides.{nat_tests}
 use Rattle.std.specs.List.{filter, list_any}
 use Rattle.value.specs.Isolation.{bound, first_cause, is_dangerous}
 use Rattle.value.proofs.IsolationLemmas.{In}
-use Rattle.conflict.specs.Tracked.{Party, Tracked, Each, IsNumbered, IsProper, node, reads, edge, is_active, is_needed, is_recent, is_writer, with_out, with_snapshot, with_commit}
+use Rattle.conflict.specs.Tracked.{Party, Tracked, IsNumbered, IsProper, node, reads, edge, is_active, is_needed, is_recent, is_writer, with_edge, with_snapshot, with_commit}
 use Rattle.conflict.specs.Later.{has_committed, IsOldest}
 use Rattle.conflict.proofs.Lists.{both_true, and_true, either, or_left, or_right, is_false, clash, Each-In, In-any, any-In, In-map, filter-map}
 use Rattle.conflict.proofs.Structures.{Danger, parts, whole, no_danger, cause-kept}
@@ -111,11 +111,11 @@ module _ (o : ℕ) (r : Tracked) (h : IsProper r) (old : IsOldest o r) where
         subst (λ n. keep n ≡ true) (sym (ap (λ (z : Party). z.number) m.2 ∙ number m.0)) x
 
   -- an edge
-  pub edge_step : (t u : ℕ) → (has_committed t r.parties && has_committed u r.parties) ≡ false → (q p : Party) → In q r.parties → In p r.parties → edge (with_out t u q) (with_out t u p) ≡ true → (edge q p ≡ true) ⊎ (is_recent o p ≡ true)
+  pub edge_step : (t u : ℕ) → (has_committed t r.parties && has_committed u r.parties) ≡ false → (q p : Party) → In q r.parties → In p r.parties → edge (with_edge r.begun t u q) (with_edge r.begun t u p) ≡ true → (edge q p ≡ true) ⊎ (is_recent o p ≡ true)
   edge_step t u new q p j i e = go (eqb q.number t && eqb u p.number) refl
     where
-      k : ((not (eqb q.number p.number) && nat_lt q.snapshot p.commit) ≡ true) × (reads (with_out t u q) p ≡ true)
-      k = both_true (not (eqb q.number p.number) && nat_lt q.snapshot p.commit) (reads (with_out t u q) p) e
+      k : ((not (eqb q.number p.number) && nat_lt q.snapshot p.commit) ≡ true) × (reads (with_edge r.begun t u q) p ≡ true)
+      k = both_true (not (eqb q.number p.number) && nat_lt q.snapshot p.commit) (reads (with_edge r.begun t u q) p) e
 
       late : q.active ≡ true → is_recent o p ≡ true
       late a = late_recent o r.begun r.commits p (num p i) (let x = oldest q j a in let y = lt_of q.snapshot p.commit (both_true (not (eqb q.number p.number)) (nat_lt q.snapshot p.commit) k.0).1 in omega (arith, x, y))
@@ -126,7 +126,7 @@ module _ (o : ℕ) (r : Tracked) (h : IsProper r) (old : IsOldest o r) where
 
       go : (b : Bool) → (eqb q.number t && eqb u p.number) ≡ b → (edge q p ≡ true) ⊎ (is_recent o p ≡ true)
       go true d = inr (one (one_active t u r.parties new q p j i d))
-      go false d = inl (and_true (not (eqb q.number p.number) && nat_lt q.snapshot p.commit) (reads q p) k.0 (sym (reads_otherwise t u q p d) ∙ k.1))
+      go false d = inl (and_true (not (eqb q.number p.number) && nat_lt q.snapshot p.commit) (reads q p) k.0 (sym (reads_otherwise r.begun t u q p d) ∙ k.1))
 
   -- another snapshot
   pub move_recent : (t n : ℕ) (p : Party) → In p r.parties → is_recent o (with_snapshot t n p) ≡ true → is_recent o p ≡ true

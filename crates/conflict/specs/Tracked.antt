@@ -1,6 +1,6 @@
 -- What is tracked of transactions that may be part of a dangerous structure (Ports and Grittner, "Serializable Snapshot Isolation in PostgreSQL", VLDB 2012, sections 3.2 and 5.3): their numbers, and for each those whose writes it has read.
 -- Structures, and those that a commit dooms, are of these as Isolation defines them of any transactions.
-use Rattle.std.specs.Prelude.{◌≡◌, ℕ, ◌+◌, ◌==◌, ◌<◌, ◌≤◌, nat_lt, Bool, true, false, not, ◌&&◌, ◌||◌, if◌then◌else◌, Option, Some, None, List, [], ◌∷◌, ◌++◌, map}
+use Rattle.std.specs.Prelude.{◌≡◌, ℕ, ◌+◌, ◌==◌, ◌<◌, ◌≤◌, nat_lt, nat_le, Bool, true, false, not, ◌&&◌, ◌||◌, if◌then◌else◌, Option, Some, None, List, [], ◌∷◌, ◌++◌, map}
 use Rattle.std.specs.List.{count_by, filter, find, list_any}
 use Rattle.std.specs.Option.{option_map}
 use Rattle.value.specs.declared.refusal.Mode.{Mode}
@@ -16,12 +16,26 @@ pub record Party : Type 0 where
   pub snapshot : ℕ  -- it sees the commits up to this number
   pub active : Bool  -- it hasn't committed yet
   pub commit : ℕ  -- the number of its commit; 0 where it has none
-  pub outs : List ℕ  -- the numbers of those that wrote what it has read
+  pub outs : List ℕ  -- the numbers of those that wrote what it has read, in their order
+  pub ins : List ℕ  -- the numbers of those that have read what it wrote, in their order
 
 pub record Tracked : Type 0 where
   pub begun : ℕ  -- the number of the last transaction that began
   pub commits : ℕ  -- the number of the last commit
   pub parties : List Party  -- by number
+
+-- ---- numbers
+
+abbrev pub is_among : ℕ → List ℕ → Bool
+is_among n ns = list_any (λ m. m == n) ns
+
+-- put in its place, where it isn't there
+abbrev pub put_in : ℕ → List ℕ → List ℕ
+put_in n [] = n ∷ []
+put_in n (m ∷ ms) = if nat_lt m n then m ∷ put_in n ms else if m == n then m ∷ ms else n ∷ m ∷ ms
+
+abbrev pub without : ℕ → List ℕ → List ℕ
+without n ns = filter (λ m. not (m == n)) ns
 
 -- ---- conflicts
 
@@ -31,7 +45,7 @@ node p = record { number = p.number; read_write = p.read_write; snapshot = p.sna
 
 -- q wrote what p has read
 abbrev pub reads : Party → Party → Bool
-reads p q = list_any (λ n. n == q.number) p.outs
+reads p q = is_among q.number p.outs
 
 -- p -> q: q wrote what p has read, and committed after p's snapshot
 abbrev pub edge : Party → Party → Bool
@@ -45,26 +59,32 @@ may_write _ = false
 
 -- a transaction at its BEGIN
 abbrev pub opened : ℕ → Mode → ℕ → Party
-opened t m n = record { number = t; read_write = may_write m; snapshot = n; active = true; commit = 0; outs = [] }
+opened t m n = record { number = t; read_write = may_write m; snapshot = n; active = true; commit = 0; outs = []; ins = [] }
 
 -- transaction t has begun
 abbrev pub after_begin : ℕ → Mode → ℕ → Tracked → Tracked
 after_begin t m n s = record { begun = t; commits = s.commits; parties = s.parties ++ opened t m n ∷ [] }
 
--- t has read what u wrote
-abbrev pub with_out : ℕ → ℕ → Party → Party
-with_out t u p = record p { outs = if p.number == t && not (list_any (λ n. n == u) p.outs) then p.outs ++ u ∷ [] else p.outs }
+-- t has read what u wrote, of the first b that began: what t knows of it, and what u does
+abbrev pub with_out : ℕ → ℕ → ℕ → Party → Party
+with_out b t u p = record p { outs = if p.number == t && nat_le u b then put_in u p.outs else p.outs }
+
+abbrev pub with_in : ℕ → ℕ → ℕ → Party → Party
+with_in b t u p = record p { ins = if p.number == u && nat_le t b then put_in t p.ins else p.ins }
+
+abbrev pub with_edge : ℕ → ℕ → ℕ → Party → Party
+with_edge b t u p = with_in b t u (with_out b t u p)
 
 abbrev pub after_edge : ℕ → ℕ → Tracked → Tracked
-after_edge t u s = record s { parties = map (with_out t u) s.parties }
+after_edge t u s = record s { parties = map (with_edge s.begun t u) s.parties }
 
 -- so of each pair, a reader and a writer
-abbrev pub with_outs : List (TxnNo × TxnNo) → List Party → List Party
-with_outs [] ps = ps
-with_outs (e ∷ es) ps = with_outs es (map (with_out e.0.0 e.1.0) ps)
+abbrev pub with_edges : ℕ → List (TxnNo × TxnNo) → List Party → List Party
+with_edges b [] ps = ps
+with_edges b (e ∷ es) ps = with_edges b es (map (with_edge b e.0.0 e.1.0) ps)
 
 abbrev pub after_edges : List (TxnNo × TxnNo) → Tracked → Tracked
-after_edges es s = record s { parties = with_outs es s.parties }
+after_edges es s = record s { parties = with_edges s.begun es s.parties }
 
 -- t, while it is active
 abbrev pub is_active : ℕ → Party → Bool
@@ -96,9 +116,17 @@ after_commit t s = record {
   parties = map (with_commit t (s.commits + 1)) s.parties;
 }
 
+-- it doesn't know t, where t goes
+abbrev pub forgetful : Bool → ℕ → Party → Party
+forgetful goes t p = record p { outs = if goes then without t p.outs else p.outs; ins = if goes then without t p.ins else p.ins }
+
+-- t goes, if it is active, and the others don't know it
+abbrev pub without_active : ℕ → List Party → List Party
+without_active t ps = map (forgetful (list_any (is_active t) ps) t) (filter (λ p. not (is_active t p)) ps)
+
 -- t is over and hasn't committed
 abbrev pub after_drop : ℕ → Tracked → Tracked
-after_drop t s = record s { parties = filter (λ p. not (is_active t p)) s.parties }
+after_drop t s = record s { parties = without_active t s.parties }
 
 -- what isolation will know of a transaction once t has committed as n
 abbrev pub node_after : ℕ → ℕ → Party → Node
@@ -173,6 +201,19 @@ abbrev pub Rising : List Party → Type 0
 Rising [] = Unit {0}
 Rising (p ∷ ps) = Each (λ (q : Party). p.number < q.number) ps × Rising ps
 
+-- each number above those before it
+abbrev pub Ascending : List ℕ → Type 0
+Ascending [] = Unit {0}
+Ascending (n ∷ ns) = Each (λ m. n < m) ns × Ascending ns
+
+abbrev pub IsSorted : Party → Type 0
+IsSorted p = Ascending p.outs × Ascending p.ins
+
+-- The numbers that each knows stand in their order, and what one knows of another the other knows of it.
+pub record AreEdges (ps : List Party) : Type 0 where
+  pub sorted : Each IsSorted ps
+  pub both : Each (λ (p : Party). Each (λ (q : Party). is_among q.number p.outs ≡ is_among p.number q.ins) ps) ps
+
 -- Its numbers are not above those of the last BEGIN and commit, and it has a commit number only once it has written and committed.
 pub record IsNumbered (begun commits : ℕ) (p : Party) : Type 0 where
   pub number : p.number ≤ begun
@@ -180,9 +221,12 @@ pub record IsNumbered (begun commits : ℕ) (p : Party) : Type 0 where
   pub commit : p.commit ≤ commits
   pub active : p.active ≡ true → p.commit ≡ 0
   pub reader : p.read_write ≡ false → p.commit ≡ 0
+  pub outs : Each (λ n. n ≤ begun) p.outs
+  pub ins : Each (λ n. n ≤ begun) p.ins
 
--- The transactions stand by their numbers, and no dangerous structure is among them.
+-- The transactions stand by their numbers, each edge is known on both sides, and no dangerous structure is among them.
 pub record IsProper (s : Tracked) : Type 0 where
   pub rising : Rising s.parties
   pub numbered : Each (IsNumbered s.begun s.commits) s.parties
+  pub edges : AreEdges s.parties
   pub none : first_cause node edge s.parties ≡ None

@@ -1,5 +1,5 @@
 -- What is asked of the transactions of a world, of any kind, and which of them may be left out of those that are tracked.
-use Rattle.std.specs.Prelude.{◌≡◌, ℕ, nat_lt, nat_le, min, Bool, true, false, ◌&&◌, ◌⊎◌, Option, Some, None, List}
+use Rattle.std.specs.Prelude.{◌≡◌, ℕ, nat_le, min, Bool, true, false, ◌&&◌, ◌⊎◌, Option, Some, None, List}
 use Rattle.std.specs.List.{filter}
 use Rattle.std.specs.Option.{option_map}
 use Rattle.value.specs.Isolation.{Node, earliest, is_live, is_other}

@@ -1,24 +1,17 @@
 //! The dangerous structure that a commit would make, over a list of transactions.
 
-ghost use Rattle.std.specs.Prelude.{◌≡◌, ◌&&◌, if◌then◌else◌, None};
-ghost use Rattle.std.specs.List.{filter};
+ghost use Rattle.std.specs.Prelude.{◌≡◌, ◌==◌, ◌&&◌, if◌then◌else◌, None, Some};
+ghost use Rattle.std.specs.List.{filter, find};
 ghost use Rattle.std.specs.Option.{option_map};
-ghost use Rattle.value.specs.Isolation.{bound, caused, earliest, edge_of, first_cause, first_some, is_dangerous, structure};
+ghost use Rattle.value.specs.Isolation.{bound, earliest, edge_of, first_cause, first_some, structure};
 ghost use Rattle.conflict.specs.Earliest.{first_of};
-ghost use Rattle.conflict.specs.Through.{IsThrough, from_first};
-ghost use Rattle.conflict.specs.Tracked.{Each, node_after, reads};
+ghost use Rattle.conflict.specs.Tracked.{Rising, node_after, reads};
+ghost use Rattle.conflict.specs.Walks.{IsCommitter, closed_by, first_with, found, from_other, from_own, given, is_last, is_pair, last_of, sooner, walked_cause};
 
+use crate::parties;
 use crate::party::{Commit, Facts, Party};
 use std::alloc::Allocator;
 use value::refusal::{Cause, TxnNo};
-
-// Whether another transaction wrote what this one has read, and committed after its snapshot.
-fn has_edge<A: Allocator>(commit: Commit, reader: &Party<A>, writer: &Party<A>) -> bool
-    ensures { result ≡ edge_of (node_after commit.txn commit.number) reads reader.now writer.now }
-{
-    let (from, to) = (reader.facts_after(commit), writer.facts_after(commit));
-    from.number != to.number && from.snapshot < to.commit && reader.reads_from(writer)
-}
 
 // The last commit that may close a structure on a transaction.
 fn bound<A: Allocator>(commit: Commit, first: &Party<A>) -> u64
@@ -31,27 +24,6 @@ fn bound<A: Allocator>(commit: Commit, first: &Party<A>) -> u64
     } else {
         facts.snapshot
     }
-}
-
-// Whether three transactions are a dangerous structure: all committed, each with an edge to the
-// next, and the last committed first.
-fn is_dangerous<A: Allocator>(
-    commit: Commit,
-    first: &Party<A>,
-    pivot: &Party<A>,
-    last: &Party<A>,
-) -> bool
-    ensures { result ≡ is_dangerous (node_after commit.txn commit.number)
-        (edge_of (node_after commit.txn commit.number) reads) first.now pivot.now last.now }
-{
-    let (middle, end) = (pivot.facts_after(commit), last.facts_after(commit));
-    first.facts_after(commit).committed
-        && middle.committed
-        && end.committed
-        && has_edge(commit, first, pivot)
-        && has_edge(commit, pivot, last)
-        && end.commit < middle.commit
-        && end.commit <= bound(commit, first)
 }
 
 /// A structure, by the numbers of its transactions.
@@ -75,65 +47,127 @@ pub(crate) fn first_of(before: Option<Facts>, next: Facts) -> Facts
     }
 }
 
-// Of the transactions that close a structure on two others, the first to commit.
-fn last_of<A: Allocator>(
+// Whether a transaction may close a structure on a pivot that has read what it wrote.
+fn is_last<A: Allocator>(commit: Commit, pivot: &Party<A>, last: &Party<A>) -> bool
+    ensures { result ≡ is_last commit.txn commit.number pivot.now last.now }
+{
+    let (middle, end) = (pivot.facts_after(commit), last.facts_after(commit));
+    end.committed
+        && middle.number != end.number
+        && middle.snapshot < end.commit
+        && end.commit < middle.commit
+}
+
+// The first to commit of those so far, and of the transaction of a number, if it may close a
+// structure on a pivot.
+fn last_with<A: Allocator>(
     commit: Commit,
-    first: &Party<A>,
-    pivot: &Party<A>,
     parties: &[Party<A>],
+    pivot: &Party<A>,
+    last: Option<Facts>,
+    writer: u64,
 ) -> Option<Facts>
-    ensures { result
-        ≡ option_map (node_after commit.txn commit.number)
+    requires { Rising parties.now }
+    ensures { result ≡ first_with (node_after commit.txn commit.number) (is_last commit.txn commit.number pivot.now) last
+        (find (λ p. p.number == writer) parties.now) }
+{
+    match parties::find(parties, writer) {
+        Some(party) if is_last(commit, pivot, party) => {
+            Some(first_of(last, party.facts_after(commit)))
+        }
+        _ => last,
+    }
+}
+
+// Of the transactions of these numbers that may close a structure on a pivot, the first to commit.
+fn last_among<A: Allocator>(
+    commit: Commit,
+    parties: &[Party<A>],
+    pivot: &Party<A>,
+    numbers: &[u64],
+) -> Option<Facts>
+    requires { Rising parties.now }
+    ensures { result ≡ option_map (node_after commit.txn commit.number)
         (earliest (node_after commit.txn commit.number) (edge_of (node_after commit.txn commit.number) reads)
-        (filter (is_dangerous (node_after commit.txn commit.number)
-        (edge_of (node_after commit.txn commit.number) reads) first.now pivot.now) parties.now)) }
+        (filter (is_last commit.txn commit.number pivot.now) (found numbers.now parties.now))) }
 {
     let mut last = None;
-    for candidate in parties {
-        if is_dangerous(commit, first, pivot, candidate) {
-            last = Some(first_of(last, candidate.facts_after(commit)));
-        }
+    for writer in numbers {
+        last = last_with(commit, parties, pivot, last, *writer);
     }
     last
 }
 
-// The structure of two transactions and the first to commit that closes it, if there is one.
-fn cause_between<A: Allocator>(
+// Of the transactions that may close a structure on a pivot, the first to commit.
+fn last_of<A: Allocator>(commit: Commit, parties: &[Party<A>], pivot: &Party<A>) -> Option<Facts>
+    requires { Rising parties.now }
+    ensures { result ≡ last_of commit.txn commit.number parties.now pivot.now }
+{
+    last_among(commit, parties, pivot, pivot.outs())
+}
+
+// Whether two transactions may be the first two of a structure, where one has read what the other
+// wrote.
+fn is_pair<A: Allocator>(commit: Commit, first: &Party<A>, pivot: &Party<A>) -> bool
+    ensures { result ≡ is_pair commit.txn commit.number first.now pivot.now }
+{
+    let (front, middle) = (first.facts_after(commit), pivot.facts_after(commit));
+    front.committed
+        && middle.committed
+        && front.number != middle.number
+        && front.snapshot < middle.commit
+}
+
+// The structure of two transactions and the one that closes it.
+fn closed_by<A: Allocator>(
     commit: Commit,
     first: &Party<A>,
     pivot: &Party<A>,
-    parties: &[Party<A>],
+    last: Option<Facts>,
 ) -> Option<Cause>
-    ensures { result
-        ≡ caused (node_after commit.txn commit.number) (edge_of (node_after commit.txn commit.number) reads)
-        first.now pivot.now (earliest (node_after commit.txn commit.number)
-        (edge_of (node_after commit.txn commit.number) reads)
-        (filter (is_dangerous (node_after commit.txn commit.number)
-        (edge_of (node_after commit.txn commit.number) reads) first.now pivot.now) parties.now)) }
+    ensures { result ≡ closed_by commit.txn commit.number first.now pivot.now last }
 {
-    if !has_edge(commit, first, pivot) {
-        return None;
-    }
-    match last_of(commit, first, pivot, parties) {
-        Some(last) => {
+    match last {
+        Some(end) if is_pair(commit, first, pivot) && end.commit <= bound(commit, first) => {
             let (front, middle) = (first.facts_after(commit), pivot.facts_after(commit));
-            Some(structure(front, middle, last))
+            Some(structure(front, middle, end))
         }
-        None => None,
+        _ => None,
     }
 }
 
-// The structure that begins at a transaction, with the least pivot, if there is one.
-fn cause_from<A: Allocator>(commit: Commit, first: &Party<A>, parties: &[Party<A>]) -> Option<Cause>
-    ensures { result
-        ≡ first_some (λ b. caused (node_after commit.txn commit.number)
-        (edge_of (node_after commit.txn commit.number) reads) first.now b
-        (earliest (node_after commit.txn commit.number) (edge_of (node_after commit.txn commit.number) reads)
-        (filter (is_dangerous (node_after commit.txn commit.number)
-        (edge_of (node_after commit.txn commit.number) reads) first.now b) parties.now))) parties.now }
+// The structure of the transaction of a number and the committer, if there is one.
+fn from_other<A: Allocator>(
+    commit: Commit,
+    parties: &[Party<A>],
+    committer: &Party<A>,
+    last: Facts,
+    reader: u64,
+) -> Option<Cause>
+    requires { Rising parties.now }
+    ensures { result ≡ given (from_other commit.txn commit.number committer.now (Some last))
+        (find (λ p. p.number == reader) parties.now) }
 {
-    for pivot in parties {
-        let cause = cause_between(commit, first, pivot, parties);
+    match parties::find(parties, reader) {
+        Some(first) if !first.is_of(commit.txn) => closed_by(commit, first, committer, Some(last)),
+        _ => None,
+    }
+}
+
+// The structure of the least other transaction of these numbers and the committer.
+fn from_numbers<A: Allocator>(
+    commit: Commit,
+    parties: &[Party<A>],
+    committer: &Party<A>,
+    last: Facts,
+    numbers: &[u64],
+) -> Option<Cause>
+    requires { Rising parties.now }
+    ensures { result ≡ first_some (from_other commit.txn commit.number committer.now (Some last))
+        (found numbers.now parties.now) }
+{
+    for reader in numbers {
+        let cause = from_other(commit, parties, committer, last, *reader);
         if cause.is_some() {
             return cause;
         }
@@ -141,42 +175,96 @@ fn cause_from<A: Allocator>(commit: Commit, first: &Party<A>, parties: &[Party<A
     None
 }
 
-// The structure that begins at a transaction, with the least pivot, if there is one. Where it isn't
-// the committer, that is the only pivot.
-fn cause_from_first<A: Allocator>(
+// The structure of the least other transaction and the committer.
+fn from_others<A: Allocator>(
     commit: Commit,
-    first: &Party<A>,
-    committer: &Party<A>,
     parties: &[Party<A>],
+    committer: &Party<A>,
 ) -> Option<Cause>
-    requires { IsThrough commit.txn commit.number parties.now committer.now first.now }
-    ensures { result ≡ from_first commit.txn commit.number parties.now first.now }
+    requires { Rising parties.now }
+    ensures { result ≡ first_some (from_other commit.txn commit.number committer.now
+        (last_of commit.txn commit.number parties.now committer.now)) (found committer.now.ins parties.now) }
 {
-    if first.is_of(commit.txn) {
-        cause_from(commit, first, parties)
-    } else {
-        cause_between(commit, first, committer, parties)
+    match last_of(commit, parties, committer) {
+        Some(last) => from_numbers(commit, parties, committer, last, committer.ins()),
+        None => None,
     }
 }
 
+// The structure of the committer and the transaction of a number, if there is one.
+fn from_own<A: Allocator>(
+    commit: Commit,
+    parties: &[Party<A>],
+    committer: &Party<A>,
+    writer: u64,
+) -> Option<Cause>
+    requires { Rising parties.now }
+    ensures { result ≡ given (from_own commit.txn commit.number parties.now committer.now)
+        (find (λ p. p.number == writer) parties.now) }
+{
+    match parties::find(parties, writer) {
+        Some(pivot) => closed_by(commit, committer, pivot, last_of(commit, parties, pivot)),
+        None => None,
+    }
+}
+
+// The structure of the committer and the least pivot of these numbers.
+fn from_committer<A: Allocator>(
+    commit: Commit,
+    parties: &[Party<A>],
+    committer: &Party<A>,
+    numbers: &[u64],
+) -> Option<Cause>
+    requires { Rising parties.now }
+    ensures { result ≡ first_some (from_own commit.txn commit.number parties.now committer.now)
+        (found numbers.now parties.now) }
+{
+    for writer in numbers {
+        let cause = from_own(commit, parties, committer, *writer);
+        if cause.is_some() {
+            return cause;
+        }
+    }
+    None
+}
+
+// The one whose first transaction is less, where the second's is the committer.
+fn sooner(commit: Commit, other: Option<Cause>, own: Option<Cause>) -> Option<Cause>
+    ensures { result ≡ sooner commit.txn other own }
+{
+    match (other, own) {
+        (Some(cause), Some(_)) if cause.a.0 < commit.txn => Some(cause),
+        (cause, None) => cause,
+        (_, cause) => cause,
+    }
+}
+
+// The structure that is found from the committer's numbers.
+fn walked_cause<A: Allocator>(
+    commit: Commit,
+    parties: &[Party<A>],
+    committer: &Party<A>,
+) -> Option<Cause>
+    requires { Rising parties.now }
+    ensures { result ≡ walked_cause commit.txn commit.number parties.now committer.now }
+{
+    let other = from_others(commit, parties, committer);
+    let own = from_committer(commit, parties, committer, committer.outs());
+    sooner(commit, other, own)
+}
+
 /// The dangerous structure that there would be after a commit, of transactions in the order of
-/// their numbers, where each such structure has the committer first or in its middle: the one of
-/// the least first transaction, then of the least pivot, then of the first to commit. It takes no
-/// memory.
+/// their numbers: the one of the least first transaction, then of the least pivot, then of the first
+/// to commit. It looks at those that the committer has an edge from or to, and at those to which
+/// these have one. It takes no memory.
 pub(crate) fn first_cause<A: Allocator>(
     commit: Commit,
     committer: &Party<A>,
     parties: &[Party<A>],
 ) -> Option<Cause>
-    requires { Each (IsThrough commit.txn commit.number parties.now committer.now) parties.now }
+    requires { IsCommitter commit.txn commit.number committer.now parties.now }
     ensures { result ≡ first_cause (node_after commit.txn commit.number)
         (edge_of (node_after commit.txn commit.number) reads) parties.now }
 {
-    for first in parties {
-        let cause = cause_from_first(commit, first, committer, parties);
-        if cause.is_some() {
-            return cause;
-        }
-    }
-    None
+    walked_cause(commit, parties, committer)
 }

@@ -32,19 +32,7 @@ impl<A: Allocator> Model for Conflicts<A> {
     ghost invariant = { λ c. IsProper (record { begun = c.begun; commits = c.commits; parties = c.parties.items }) };
 }
 
-impl<A: Allocator> Conflicts<A> {
-    /// No transaction is tracked yet; `begun` transactions have begun before, and there were
-    /// `commits` commits.
-    pub fn new(alloc: A, begun: u64, commits: u64) -> Conflicts<A>
-        ensures { result ≡ record { begun = begun; commits = commits; parties = [] } }
-    {
-        Conflicts {
-            begun,
-            commits,
-            parties: Vec::new(alloc),
-        }
-    }
-
+impl<A: Allocator + Copy> Conflicts<A> {
     /// A transaction has begun, with a snapshot that shows the commits up to a number.
     pub fn begin(&mut self, alloc: A, txn: TxnNo, mode: Mode, snapshot: u64) -> Result<(), Refusal>
         requires later { self.old.begun < txn.0 }
@@ -59,16 +47,30 @@ impl<A: Allocator> Conflicts<A> {
         self.begun = txn.0;
         Ok(())
     }
+}
 
-    /// Of each pair the first has read what the second wrote. A pair whose reader isn't tracked is
-    /// left out.
+impl<A: Allocator> Conflicts<A> {
+    /// No transaction is tracked yet; `begun` transactions have begun before, and there were
+    /// `commits` commits.
+    pub fn new(alloc: A, begun: u64, commits: u64) -> Conflicts<A>
+        ensures { result ≡ record { begun = begun; commits = commits; parties = [] } }
+    {
+        Conflicts {
+            begun,
+            commits,
+            parties: Vec::new(alloc),
+        }
+    }
+
+    /// Of each pair the first has read what the second wrote. Of one that hasn't begun
+    /// nothing is kept.
     pub fn edges(&mut self, alloc: A, pairs: &[(TxnNo, TxnNo)]) -> Result<(), Refusal>
         requires { CanTellEdges pairs.now self.old }
         ensures ok { OnOk result (self.new ≡ after_edges pairs.now self.old) }
         ensures err { OnErr result (self.new ≡ self.old) }
         ensures memory { IfErr result (λ e. e ≡ out_of_memory) }
     {
-        edges::add_all(alloc, &mut self.parties, pairs)
+        edges::add_all(alloc, &mut self.parties, self.begun, pairs)
     }
 
     /// An active transaction has another snapshot. It takes no memory.
@@ -170,8 +172,10 @@ impl<A: Allocator> Conflicts<A> {
     pub fn has_committed(&self, txn: TxnNo) -> bool
         ensures { result ≡ has_committed txn.0 self.now.parties }
     {
-        let number = txn.0;
-        self.parties.iter().any(|party| party.has_committed(number))
+        match parties::find(self.parties.as_slice(), txn.0) {
+            Some(party) => party.has_committed(txn.0),
+            None => false,
+        }
     }
 
     /// Whether two transactions that are tracked have both committed.

@@ -1,12 +1,14 @@
 //! The active transactions that a commit dooms: each is the pivot of a structure that it closes.
 
-ghost use Rattle.std.specs.Prelude.{◌≡◌, ◌<◌, ◌≤◌, [], ◌∷◌, ◌++◌, true, find, length, take};
-ghost use Rattle.std.specs.List.{filter};
+ghost use Rattle.std.specs.Prelude.{◌≡◌, ◌==◌, ◌<◌, ◌≤◌, [], ◌∷◌, ◌++◌, true, fold, length, take, Some};
+ghost use Rattle.std.specs.List.{filter, find};
 ghost use Rattle.std.specs.Option.{option_map};
 ghost use Rattle.value.specs.Isolation as spec;
-ghost use Rattle.conflict.specs.Tracked.{node, reads};
+ghost use Rattle.conflict.specs.Tracked.{Party as Kept, Rising, node, reads};
+ghost use Rattle.conflict.specs.Walks.{IsAmong, folded, found, may_be_first, passing, walked_doom, with_walked};
 
 use crate::cause::structure;
+use crate::parties;
 use crate::party::{Facts, Party};
 use std::alloc::Allocator;
 use std::marker::Model;
@@ -84,82 +86,135 @@ fn is_doomed<A: Allocator>(causes: &[Cause], party: &Party<A>) -> bool
     causes.iter().any(|cause| cause.b.0 == number)
 }
 
-// Whether a transaction may stand first before the pivot.
-fn is_first<A: Allocator>(
+// Whether a transaction may stand first before the pivot, where it has read what that wrote.
+fn may_be_first<A: Allocator>(
     committer: &Party<A>,
     causes: &[Cause],
     pivot: &Party<A>,
     first: &Party<A>,
 ) -> bool
-    ensures { result ≡ spec.is_first node reads committer.now causes.now pivot.now first.now }
+    ensures { result ≡ may_be_first committer.now causes.now pivot.now first.now }
 {
     let number = first.facts().number;
     let is_committer = number == committer.facts().number;
     number != pivot.facts().number
         && (is_committer || is_live(committer, first) && !is_doomed(causes, first))
-        && first.reads_from(pivot)
 }
 
-// The facts of the least that may stand first before the pivot.
+// The facts of the transaction of a number, if it may stand first before the pivot.
+fn first_found<A: Allocator>(
+    parties: &[Party<A>],
+    committer: &Party<A>,
+    causes: &[Cause],
+    pivot: &Party<A>,
+    reader: u64,
+) -> Option<Facts>
+    requires { Rising parties.now }
+    ensures { result ≡ option_map node (passing (may_be_first committer.now causes.now pivot.now)
+        (find (λ p. p.number == reader) parties.now)) }
+{
+    match parties::find(parties, reader) {
+        Some(first) if may_be_first(committer, causes, pivot, first) => Some(first.facts()),
+        _ => None,
+    }
+}
+
+// The facts of the least of these numbers that may stand first before the pivot.
 fn first_before<A: Allocator>(
     parties: &[Party<A>],
     committer: &Party<A>,
     causes: &[Cause],
     pivot: &Party<A>,
+    numbers: &[u64],
 ) -> Option<Facts>
-    ensures { result ≡ option_map node (find (spec.is_first node reads committer.now causes.now pivot.now)
-        parties.now) }
+    requires { Rising parties.now }
+    ensures { result ≡ option_map node (find (may_be_first committer.now causes.now pivot.now)
+        (found numbers.now parties.now)) }
 {
-    for first in parties {
-        if is_first(committer, causes, pivot, first) {
-            return Some(first.facts());
+    for reader in numbers {
+        let first = first_found(parties, committer, causes, pivot, *reader);
+        if first.is_some() {
+            return first;
         }
     }
     None
 }
 
-// The structure by which a commit dooms the pivot, if there is one.
+// The structure by which a commit dooms the pivot that has read what the committer wrote, if there
+// is one.
 fn doom_of<A: Allocator>(
     parties: &[Party<A>],
     committer: &Party<A>,
     causes: &[Cause],
     pivot: &Party<A>,
 ) -> Option<Cause>
-    ensures { result ≡ spec.doom_of node reads parties.now committer.now causes.now pivot.now }
+    requires { Rising parties.now }
+    ensures { result ≡ walked_doom parties.now committer.now causes.now pivot.now }
 {
-    if !is_live(committer, pivot) || !pivot.reads_from(committer) {
+    if !is_live(committer, pivot) {
         return None;
     }
-    match first_before(parties, committer, causes, pivot) {
+    match first_before(parties, committer, causes, pivot, pivot.ins()) {
         Some(first) => Some(structure(first, pivot.facts(), committer.facts())),
         None => None,
     }
 }
 
-// Adds the structure by which a commit dooms the pivot, if there is one.
+// Adds the structure by which a commit dooms a pivot, if there is one.
 fn push_doom<A: Allocator>(
     parties: &[Party<A>],
     committer: &Party<A>,
     dooms: &mut Dooms,
     pivot: &Party<A>,
 )
-    requires { spec.is_live node reads committer.now pivot.now ≡ true → length dooms.old < 63 }
-    ensures { dooms.new ≡ spec.with_doom node reads parties.now committer.now dooms.old pivot.now }
+    requires rising { Rising parties.now }
+    requires room { spec.is_live node reads committer.now pivot.now ≡ true → length dooms.old < 63 }
+    ensures { dooms.new ≡ with_walked parties.now committer.now dooms.old pivot.now }
 {
     if let Some(cause) = doom_of(parties, committer, dooms.causes(), pivot) {
         dooms.push(cause);
     }
 }
 
-/// The structures by which a commit dooms active transactions, each the one in its middle, of
-/// transactions in the order of their numbers.
-pub(crate) fn doomed_by<A: Allocator>(parties: &[Party<A>], committer: &Party<A>) -> Dooms
-    requires { length (filter (spec.is_live node reads committer.now) parties.now) ≤ 63 }
-    ensures { result ≡ spec.dooms node reads parties.now committer.now }
+// Adds the structure by which a commit dooms the transaction of a number, if there is one.
+fn push_found<A: Allocator>(
+    parties: &[Party<A>],
+    committer: &Party<A>,
+    dooms: &mut Dooms,
+    reader: u64,
+)
+    requires rising { Rising parties.now }
+    requires room { (p : Kept) → find (λ p. p.number == reader) parties.now ≡ Some p →
+        spec.is_live node reads committer.now p ≡ true → length dooms.old < 63 }
+    ensures { dooms.new ≡ folded (with_walked parties.now committer.now) dooms.old
+        (find (λ p. p.number == reader) parties.now) }
+{
+    if let Some(pivot) = parties::find(parties, reader) {
+        push_doom(parties, committer, dooms, pivot);
+    }
+}
+
+// The structures by which a commit dooms those of these numbers, which have read what the committer
+// wrote.
+fn walked_dooms<A: Allocator>(parties: &[Party<A>], committer: &Party<A>, numbers: &[u64]) -> Dooms
+    requires rising { Rising parties.now }
+    requires few { length (filter (spec.is_live node reads committer.now) (found numbers.now parties.now)) ≤ 63 }
+    ensures { result ≡ fold (with_walked parties.now committer.now) [] (found numbers.now parties.now) }
 {
     let mut dooms = Dooms::none();
-    for pivot in parties {
-        push_doom(parties, committer, &mut dooms, pivot);
+    for reader in numbers {
+        push_found(parties, committer, &mut dooms, *reader);
     }
     dooms
+}
+
+/// The structures by which a commit dooms active transactions, each the one in its middle, of
+/// transactions in the order of their numbers. It looks at those that have an edge to the committer,
+/// and at those that have one to these.
+pub(crate) fn doomed_by<A: Allocator>(parties: &[Party<A>], committer: &Party<A>) -> Dooms
+    requires among { IsAmong parties.now committer.now }
+    requires few { length (filter (spec.is_live node reads committer.now) parties.now) ≤ 63 }
+    ensures { result ≡ spec.dooms node reads parties.now committer.now }
+{
+    walked_dooms(parties, committer, committer.ins())
 }

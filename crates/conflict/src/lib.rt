@@ -8,5 +8,6 @@ pub mod conflicts;
 pub mod dooms;
 mod edges;
 pub mod laws;
+mod numbers;
 mod parties;
 mod party;

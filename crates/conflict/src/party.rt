@@ -1,12 +1,13 @@
 //! What is kept of a transaction.
 
 ghost use Rattle.std.specs.Prelude.{◌≡◌, ◌==◌, not, ◌&&◌, IfOk, IfErr, OnErr, OnOk, true, false};
-ghost use Rattle.std.specs.List.{list_any};
 ghost use Rattle.value.specs.Isolation.{Node, bound};
 ghost use Rattle.value.specs.Refusals.{out_of_memory};
-ghost use Rattle.conflict.specs.Tracked.{edge, is_active, is_recent, is_rival, is_writer, may_write, node, opened, reads, with_commit, with_out, with_snapshot};
-ghost use Rattle.conflict.specs.Undo.{without_last};
+ghost use Rattle.conflict.specs.Tracked.{Ascending, edge, is_recent, is_rival, is_writer, may_write, node, opened, with_commit, with_in, with_out, with_snapshot};
+ghost use Rattle.conflict.specs.Undo.{without_in, without_out};
+ghost use Rattle.conflict.specs.Walks.{is_unseen};
 
+use crate::numbers;
 use std::alloc::{Allocator, Global};
 use std::marker::Model;
 use value::refusal::{Mode, Refusal};
@@ -67,6 +68,7 @@ pub struct Party<A: Allocator = Global> {
     active: bool,
     commit: u64,
     outs: Vec<u64, A>,
+    ins: Vec<u64, A>,
 }
 
 impl<A: Allocator> Model for Party<A> {
@@ -81,6 +83,7 @@ impl<A: Allocator> Model for Party<A> {
       active = p.active;
       commit = p.commit;
       outs = p.outs.items;
+      ins = p.ins.items;
     } };
 }
 
@@ -94,7 +97,7 @@ pub fn may_write(mode: Mode) -> bool
     }
 }
 
-impl<A: Allocator> Party<A> {
+impl<A: Allocator + Copy> Party<A> {
     /// A transaction at its BEGIN.
     pub fn opened(alloc: A, number: u64, mode: Mode, snapshot: u64) -> Party<A>
         ensures { result ≡ opened number mode snapshot }
@@ -106,9 +109,12 @@ impl<A: Allocator> Party<A> {
             active: true,
             commit: 0,
             outs: Vec::new(alloc),
+            ins: Vec::new(alloc),
         }
     }
+}
 
+impl<A: Allocator> Party<A> {
     /// Its number.
     pub fn number(&self) -> u64
         ensures { result ≡ self.now.number }
@@ -151,19 +157,25 @@ impl<A: Allocator> Party<A> {
         }
     }
 
-    /// Whether another wrote what it has read.
-    pub fn reads_from(&self, other: &Party<A>) -> bool
-        ensures { result ≡ reads self.now other.now }
+    /// Whether another has committed after its snapshot.
+    pub fn is_unseen(&self, other: &Party<A>) -> bool
+        ensures { result ≡ is_unseen self.now other.now }
     {
-        let number = other.number;
-        self.outs.iter().any(|out| *out == number)
+        self.number != other.number && self.snapshot < other.commit
     }
 
-    /// Whether another wrote what it has read, and committed after its snapshot.
-    pub fn has_edge(&self, other: &Party<A>) -> bool
-        ensures { result ≡ edge self.now other.now }
+    /// The numbers of those that wrote what it has read, in their order.
+    pub fn outs(&self) -> &[u64]
+        ensures { result.now ≡ self.now.outs }
     {
-        self.number != other.number && self.snapshot < other.commit && self.reads_from(other)
+        self.outs.as_slice()
+    }
+
+    /// The numbers of those that have read what it wrote, in their order.
+    pub fn ins(&self) -> &[u64]
+        ensures { result.now ≡ self.now.ins }
+    {
+        self.ins.as_slice()
     }
 
     /// The last commit that may close a structure on it.
@@ -196,13 +208,6 @@ impl<A: Allocator> Party<A> {
         ensures { result ≡ (self.now.number == number) }
     {
         self.number == number
-    }
-
-    /// Whether it is active and has a number.
-    pub fn is_active_of(&self, number: u64) -> bool
-        ensures { result ≡ is_active number self.now }
-    {
-        self.number == number && self.active
     }
 
     /// Whether it has a number and has committed.
@@ -254,32 +259,49 @@ impl<A: Allocator> Party<A> {
         }
     }
 
-    // Whether the writer of a number is among those whose writes it has read.
-    fn has_read(&self, writer: u64) -> bool
-        ensures { result ≡ list_any (λ n. n == writer) self.now.outs }
-    {
-        self.outs.iter().any(|out| *out == writer)
-    }
-
-    /// It has read what a writer wrote; whether that is new.
-    pub fn read(&mut self, writer: u64) -> Result<bool, Refusal>
-        ensures ok { OnOk result (self.new ≡ with_out self.old.number writer self.old) }
-        ensures new { IfOk result (λ new. new ≡ true → without_last self.new ≡ self.old) }
+    /// It has read what a writer wrote, of the first so many that began; whether that is new.
+    pub fn read(&mut self, begun: u64, writer: u64) -> Result<bool, Refusal>
+        requires { Ascending self.old.outs }
+        ensures ok { OnOk result (self.new ≡ with_out begun self.old.number writer self.old) }
+        ensures new { IfOk result (λ new. new ≡ true → without_out self.old.number writer self.new ≡ self.old) }
         ensures same { IfOk result (λ new. new ≡ false → self.new ≡ self.old) }
         ensures err { OnErr result (self.new ≡ self.old) }
         ensures memory { IfErr result (λ e. e ≡ out_of_memory) }
     {
-        if self.has_read(writer) {
+        if writer > begun {
             return Ok(false);
         }
-        self.outs.push(writer)?;
-        Ok(true)
+        numbers::put(&mut self.outs, writer)
     }
 
-    /// Takes the last back of those whose writes it has read.
-    pub fn take_back(&mut self)
-        ensures { self.new ≡ without_last self.old }
+    /// A reader, of the first so many that began, has read what it wrote; whether that is new.
+    pub fn be_read(&mut self, begun: u64, reader: u64) -> Result<bool, Refusal>
+        requires { Ascending self.old.ins }
+        ensures ok { OnOk result (self.new ≡ with_in begun reader self.old.number self.old) }
+        ensures new { IfOk result (λ new. new ≡ true → without_in reader self.old.number self.new ≡ self.old) }
+        ensures same { IfOk result (λ new. new ≡ false → self.new ≡ self.old) }
+        ensures err { OnErr result (self.new ≡ self.old) }
+        ensures memory { IfErr result (λ e. e ≡ out_of_memory) }
     {
-        let _ = self.outs.pop();
+        if reader > begun {
+            return Ok(false);
+        }
+        numbers::put(&mut self.ins, reader)
+    }
+
+    /// Takes back that it has read what a writer wrote.
+    pub fn unread(&mut self, writer: u64)
+        requires { Ascending self.old.outs }
+        ensures { self.new ≡ without_out self.old.number writer self.old }
+    {
+        numbers::take_out(&mut self.outs, writer);
+    }
+
+    /// Takes back that a reader has read what it wrote.
+    pub fn be_unread(&mut self, reader: u64)
+        requires { Ascending self.old.ins }
+        ensures { self.new ≡ without_in reader self.old.number self.old }
+    {
+        numbers::take_out(&mut self.ins, reader);
     }
 }

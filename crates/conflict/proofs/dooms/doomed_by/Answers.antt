@@ -1,12 +1,21 @@
-use Rattle.std.proofs.Common.{arith}
-use Rattle.conflict.proofs.DoomLemmas.{dooms_next, lives_next, room_left}
+use Rattle.std.proofs.Common.{◌∙◌, ◌≤◌, ap, fold, length, [], subst, sym}
+use Rattle.std.specs.List.{filter}
+use Rattle.value.specs.Isolation.{is_live}
+use Rattle.conflict.specs.Tracked.{node, reads}
+use Rattle.conflict.specs.Walks.{found, with_walked}
+use Rattle.conflict.proofs.WalkedDooms.{dooms_walked, few_found}
 use Rattle.conflict.proofs.dooms.doomed_by.Goals as goal
 
-pub push_doom-requires : goal.push_doom-requires
-push_doom-requires g c = λ live. room_left c.args.parties.now c.args.committer.now c.loop-pivot.pivot-index c.pivot-item.result c.loop-pivot.dooms (omega arith) c.pivot-item.is live c.requires c.loop-pivot.invariant.1
+pub walked_dooms-requires-clause-rising : goal.walked_dooms-requires-clause-rising
+walked_dooms-requires-clause-rising g c = c.requires.among.0
 
-pub loop-pivot-preserved : goal.loop-pivot-preserved
-loop-pivot-preserved g c = (
-  dooms_next c.args.parties.now c.args.committer.now c.loop-pivot.pivot-index c.pivot-item.result c.loop-pivot.dooms c.push_doom.new.dooms (omega arith) c.pivot-item.is c.loop-pivot.invariant.0 c.push_doom.ensures,
-  lives_next c.args.parties.now c.args.committer.now c.loop-pivot.pivot-index c.pivot-item.result c.loop-pivot.dooms c.push_doom.new.dooms (omega arith) c.pivot-item.is c.push_doom.ensures c.loop-pivot.invariant.1,
-)
+pub walked_dooms-requires-clause-few : goal.walked_dooms-requires-clause-few
+walked_dooms-requires-clause-few g c =
+    subst (λ ns. length (filter (is_live node reads c.args.committer.now) (found ns c.args.parties.now)) ≤ 63) (sym c.ins.ensures)
+    (few_found c.args.parties.now c.args.committer.now c.requires.among c.requires.few)
+
+pub returns : goal.returns
+returns g c =
+    c.walked_dooms.ensures
+    ∙ ap (λ ns. fold (with_walked c.args.parties.now c.args.committer.now) [] (found ns c.args.parties.now)) c.ins.ensures
+    ∙ dooms_walked c.args.parties.now c.args.committer.now c.requires.among

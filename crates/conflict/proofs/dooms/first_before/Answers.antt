@@ -1,17 +1,13 @@
-use Rattle.std.proofs.Common.{◌∙◌, sym, ap, Some, arith}
-use Rattle.std.specs.Option.{option_map}
-use Rattle.conflict.specs.Tracked.{node, reads}
-use Rattle.value.specs.Isolation.{is_first}
-use Rattle.conflict.proofs.WalkLemmas.{find-here, find-next}
+use Rattle.std.proofs.Common.{◌∙◌, sym, arith}
+use Rattle.conflict.specs.Tracked.{node}
+use Rattle.conflict.specs.Walks.{may_be_first}
+use Rattle.conflict.proofs.Found.{found_here, found_none}
 use Rattle.conflict.proofs.dooms.first_before.Goals as goal
 
-pub returns-then-is_first : goal.returns-then-is_first
-returns-then-is_first g c =
-    let test = is_first node reads c.args.committer.now c.args.causes.now c.args.pivot.now in
-    ap Some c.facts.ensures
-    ∙ ap (option_map node) (sym (find-here test c.args.parties.now c.loop-first.first-index c.first-item.result (omega arith) c.first-item.is c.loop-first.invariant (sym c.is_first.ensures ∙ c.if-is_first.true)))
+pub returns-then-is_some : goal.returns-then-is_some
+returns-then-is_some g c =
+    found_here (may_be_first c.args.committer.now c.args.causes.now c.args.pivot.now) node c.args.numbers.now c.loop-reader.reader-index c.args.parties.now c.first_found-first.result (omega arith) c.loop-reader.invariant c.first_found-first.ensures (sym c.is_some.ensures ∙ c.if-is_some.true)
 
-pub loop-first-preserved : goal.loop-first-preserved
-loop-first-preserved g c =
-    let test = is_first node reads c.args.committer.now c.args.causes.now c.args.pivot.now in
-    find-next test c.args.parties.now c.loop-first.first-index c.first-item.result (omega arith) c.first-item.is c.loop-first.invariant (sym c.is_first.ensures ∙ c.if-is_first.false)
+pub loop-reader-preserved : goal.loop-reader-preserved
+loop-reader-preserved g c =
+    found_none (may_be_first c.args.committer.now c.args.causes.now c.args.pivot.now) node c.args.numbers.now c.loop-reader.reader-index c.args.parties.now c.first_found-first.result (omega arith) c.loop-reader.invariant c.first_found-first.ensures (sym c.is_some.ensures ∙ c.if-is_some.false)

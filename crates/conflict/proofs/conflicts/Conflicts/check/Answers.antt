@@ -1,12 +1,12 @@
 use Rattle.std.proofs.Common.{◌∙◌, ap, sym, ◌+◌}
 use Rattle.value.specs.Isolation.{edge_of, first_cause}
 use Rattle.conflict.specs.Tracked.{after_commit, edge, node, node_after, reads, with_commit}
-use Rattle.conflict.proofs.Kept.{nobody_makes, through_found}
+use Rattle.conflict.proofs.Kept.{committer_found, nobody_makes}
 use Rattle.conflict.proofs.Structures.{cause-map}
 use Rattle.conflict.proofs.conflicts.Conflicts.check.Goals as goal
 
 pub first_cause-requires : goal.first_cause-requires
-first_cause-requires g c = through_found _ c.args.txn.0 c.in-Some.committer.now c.as_slice.result.now c.as_slice-in-Some.result.now c.self.invariant c.as_slice.ensures.value c.in-Some.ensures.some c.as_slice-in-Some.ensures.value
+first_cause-requires g c = committer_found _ c.args.txn.0 c.in-Some.committer.now c.as_slice.result.now c.as_slice-in-Some.result.now c.self.invariant c.as_slice.ensures.value c.in-Some.ensures.some c.as_slice-in-Some.ensures.value
 
 pub returns-in-Some : goal.returns-in-Some
 returns-in-Some g c =
