@@ -1,3 +1,4 @@
 pub mod Asked
 pub mod Grows
+mod Holding
 pub mod Stepped
