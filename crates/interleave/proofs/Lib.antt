@@ -3,3 +3,4 @@ pub mod Number
 pub mod Leading
 mod Once
 mod Shares
+pub mod Turns

@@ -1,6 +1,6 @@
 //! Laws of interleavings. Each function does nothing; what it ensures is the law.
 
-ghost use Rattle.std.specs.Prelude.{◌≡◌, ℕ, ◌*◌, ◌<◌, List, length, sum};
+ghost use Rattle.std.specs.Prelude.{◌≡◌, ℕ, ◌*◌, ◌<◌, All, List, length, sum};
 ghost use Rattle.interleave.specs.Interleavings.{IsInterleaving, interleavings, occurrences};
 ghost use Rattle.interleave.specs.Numbers.{factorial, factorials};
 
@@ -8,6 +8,11 @@ ghost use Rattle.interleave.specs.Numbers.{factorial, factorials};
 pub fn each_once()
     ensures each { (lines order : List ℕ) → IsInterleaving lines order → occurrences order (interleavings lines) ≡ 1 }
     ensures only { (lines order : List ℕ) → 0 < occurrences order (interleavings lines) → IsInterleaving lines order }
+{}
+
+/// Each has a turn for each line.
+pub fn as_many_turns()
+    ensures { (lines : List ℕ) → All (λ order. length order ≡ sum lines) (interleavings lines) }
 {}
 
 /// Their number is the multinomial coefficient.

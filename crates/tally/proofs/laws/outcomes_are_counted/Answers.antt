@@ -1,0 +1,14 @@
+use Rattle.tally.proofs.Counts.{counted, first_each, once_each, some_each}
+use Rattle.tally.proofs.laws.outcomes_are_counted.Goals as goal
+
+pub returns-clause-counted : goal.returns-clause-counted
+returns-clause-counted c = counted
+
+pub returns-clause-once : goal.returns-clause-once
+returns-clause-once c = once_each
+
+pub returns-clause-some : goal.returns-clause-some
+returns-clause-some c = some_each
+
+pub returns-clause-first : goal.returns-clause-first
+returns-clause-first c = first_each

@@ -1,0 +1,37 @@
+-- The outcomes of many runs, and how many runs come to each.
+use Rattle.std.specs.Prelude.{◌≡◌, ℕ, ◌+◌, ◌<◌, if◌then◌else◌, List, [], ◌∷◌, length, take, slice_index_or, bytes_eq}
+use Rattle.interleave.specs.Interleavings.{occurrences}
+
+-- An outcome, as a text: how many runs come to it, and the number of the first of these.
+pub record Counted : Type 0 where
+  pub text : List ℕ
+  pub runs : ℕ
+  pub first : ℕ
+
+-- with one more run, the n-th, that comes to this text
+abbrev pub noted : List Counted → List ℕ → ℕ → List Counted
+noted [] text n = record { text = text; runs = 1; first = n } ∷ []
+noted (o ∷ os) text n = if bytes_eq o.text text then record o { runs = o.runs + 1 } ∷ os else o ∷ noted os text n
+
+-- with further runs, the first of them the n-th
+abbrev pub noted_all : List Counted → List (List ℕ) → ℕ → List Counted
+noted_all os [] n = os
+noted_all os (text ∷ texts) n = noted_all (noted os text n) texts (n + 1)
+
+-- the outcomes of runs that come to these texts, in the order of their first runs
+unfoldable pub outcomes : List (List ℕ) → List Counted
+outcomes texts = noted_all [] texts 0
+
+-- how many runs come to a text
+abbrev pub runs_to : List ℕ → List Counted → ℕ
+runs_to text [] = 0
+runs_to text (o ∷ os) = (if bytes_eq o.text text then o.runs else 0) + runs_to text os
+
+-- how many outcomes have a text
+abbrev pub outcomes_with : List ℕ → List Counted → ℕ
+outcomes_with text [] = 0
+outcomes_with text (o ∷ os) = (if bytes_eq o.text text then 1 else 0) + outcomes_with text os
+
+-- The first of the runs that come to the outcome comes to it, and none before does.
+abbrev pub IsFirst : List (List ℕ) → Counted → Type 0
+IsFirst texts o = (o.first < length texts) × (slice_index_or texts o.first [] ≡ o.text) × (occurrences o.text (take o.first texts) ≡ 0)

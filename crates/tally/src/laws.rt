@@ -1,0 +1,14 @@
+//! Laws of outcomes. Each function does nothing; what it ensures is the law.
+
+ghost use Rattle.std.specs.Prelude.{◌≡◌, ◌≤◌, ◌<◌, ℕ, List, All};
+ghost use Rattle.interleave.specs.Interleavings.{occurrences};
+ghost use Rattle.tally.specs.Outcomes.{IsFirst, outcomes, outcomes_with, runs_to};
+
+/// The outcomes of some runs are exactly their texts, each told once with the number of runs that come to it, and with
+/// the first of these.
+pub fn outcomes_are_counted()
+    ensures counted { (texts : List (List ℕ)) (text : List ℕ) → runs_to text (outcomes texts) ≡ occurrences text texts }
+    ensures once { (texts : List (List ℕ)) (text : List ℕ) → outcomes_with text (outcomes texts) ≤ 1 }
+    ensures some { (texts : List (List ℕ)) → All (λ o. 0 < o.runs) (outcomes texts) }
+    ensures first { (texts : List (List ℕ)) → All (IsFirst texts) (outcomes texts) }
+{}

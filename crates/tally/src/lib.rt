@@ -1,0 +1,7 @@
+//! What comes of every interleaving, counted.
+
+#![tactic(auto)]
+
+pub mod laws;
+pub mod outcomes;
+pub mod runs;

@@ -1,0 +1,49 @@
+//! What is run, and in which orders.
+
+ghost use Rattle.std.specs.Prelude.{◌≡◌, ◌<◌, ◌≤◌, [], List, ℕ, length, slice_index_or, IfOk};
+
+use interleave::interleavings::Interleavings;
+use std::alloc::{AllocError, Allocator};
+
+/// What can be run in any order of its sessions' turns: a text tells how that ends.
+pub trait Runs<A: Allocator> {
+    /// The text of an order.
+    ghost outcome: { Self → List ℕ → List ℕ };
+
+    /// How many turns there may be.
+    ghost most: { Self → ℕ };
+
+    /// Runs an order. Want of memory is the only refusal.
+    fn run(&self, alloc: A, order: &[usize]) -> Result<Vec<u8, A>, AllocError>
+        requires { length order.now ≤ most self.now }
+        ensures { IfOk result (λ text. text.items ≡ outcome self.now order.now) };
+}
+
+/// Orders of sessions' turns, by their numbers, counted from 0.
+pub trait Schedules<A: Allocator> {
+    /// The orders.
+    ghost orders: { Self → List (List ℕ) };
+
+    /// How many there are.
+    fn count(&self) -> u64
+        ensures { result ≡ length (orders self.now) };
+
+    /// The order with a number. Want of memory is the only refusal.
+    fn order_at(&self, alloc: A, number: u64) -> Result<Vec<usize, A>, AllocError>
+        requires { number < length (orders self.now) }
+        ensures { IfOk result (λ order. order.items ≡ slice_index_or (orders self.now) number []) };
+}
+
+impl<A: Allocator + Copy> Schedules<A> for Interleavings<A> {
+    ghost use Rattle.interleave.specs.Interleavings.{interleavings};
+
+    ghost orders = { λ lines. interleavings lines };
+
+    fn count(&self) -> u64 {
+        self.len()
+    }
+
+    fn order_at(&self, alloc: A, number: u64) -> Result<Vec<usize, A>, AllocError> {
+        self.order(alloc, number)
+    }
+}
