@@ -1,5 +1,5 @@
 -- Pieces that are written one after another.
-use Rattle.std.proofs.Common.{◌≡◌, ◌⊎◌, ℕ, zero, suc, ◌+◌, ◌-◌, ◌≤◌, ◌<◌, nat_lt, Bool, true, false, ◌||◌, List, [], ◌∷◌, ◌++◌, length, take, set, get_or, Option, Some, None, refl, sym, ap, ◌∙◌, subst, inl, inr, ⊎_elim, arith, append_assoc, length-set, length-append}
+use Rattle.std.proofs.Common.{◌≡◌, ℕ, zero, suc, ◌+◌, ◌-◌, ◌≤◌, ◌<◌, nat_lt, Bool, true, false, ◌||◌, List, [], ◌∷◌, ◌++◌, length, take, set, get_or, Option, Some, None, refl, sym, ap, ◌∙◌, subst, arith, append_assoc, length-set, length-append}
 use Rattle.std.specs.Prelude.{slice_index_or, slice_set, is_some}
 use Rattle.std.proofs.lemmas.Bool.Decides.{nat_tests}
 use Rattle.std.proofs.lemmas.List.{append-nil}
@@ -47,13 +47,6 @@ none_set (x ∷ xs) zero zero b e = absurd (cc e)
 none_set (x ∷ xs) zero (suc k) b e = e
 none_set (x ∷ xs) (suc i) zero b e = e
 none_set (x ∷ xs) (suc i) (suc k) b e = none_set xs i k b e
-
-some_set : {A : Type 0} (xs : List (Option A)) (i k : ℕ) (v b : A) → get_or (set xs i (Some v)) k None ≡ Some b → ((k ≡ i) × (v ≡ b)) ⊎ (get_or xs k None ≡ Some b)
-some_set [] i k v b e = inr e
-some_set (x ∷ xs) zero zero v b e = inl (refl, cc e)
-some_set (x ∷ xs) zero (suc k) v b e = inr e
-some_set (x ∷ xs) (suc i) zero v b e = inr e
-some_set (x ∷ xs) (suc i) (suc k) v b e = ⊎_elim (λ (t : (k ≡ i) × (v ≡ b)). inl (ap suc t.0, t.1)) (λ t. inr t) (some_set xs i k v b e)
 
 get_push : {A : Type 0} (xs : List (Option A)) (k : ℕ) → ((j : ℕ) → get_or xs j None ≡ None) → get_or (xs ++ None ∷ []) k None ≡ None
 get_push [] zero h = refl

@@ -1,5 +1,5 @@
 -- The pieces of a dump, written in their order though they come in any.
-use Rattle.std.specs.Prelude.{ℕ, ◌+◌, ◌-◌, ◌≤◌, ◌≡◌, ◌==◌, nat_lt, Bool, true, false, ◌||◌, List, [], ◌++◌, length, take, Option, Some, None, is_some, slice_index_or}
+use Rattle.std.specs.Prelude.{ℕ, ◌+◌, ◌≤◌, ◌≡◌, ◌==◌, nat_lt, Bool, true, false, ◌||◌, List, [], ◌++◌, length, take, Option, Some, None, is_some, slice_index_or}
 use Rattle.dumpplan.specs.Pieces.{joined}
 use Rattle.collector.specs.Written.{WroteSome}
 

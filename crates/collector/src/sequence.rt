@@ -16,7 +16,7 @@ use std::marker::Model;
 use std::snapshot::Snapshot;
 use value::bytes::Bytes;
 
-// Beside a `Collector`, the next piece may be here.
+/// Beside a `Collector`, the next piece may be here.
 pub(crate) struct Sequence<'a, R: SnapshotReader<A>, W: Device, A: Allocator> {
     reader: &'a R,
     catalog: &'a Catalog<A>,
@@ -41,6 +41,7 @@ impl<'a, R: SnapshotReader<A>, W: Device, A: Allocator> Model for Sequence<'a, R
 }
 
 impl<'a, R: SnapshotReader<A>, W: Device, A: Allocator> Sequence<'a, R, W, A> {
+    /// Nothing is written yet. Where memory for the places is refused the device comes back as it was.
     pub(crate) fn new(
         alloc: A,
         reader: &'a R,
@@ -89,7 +90,7 @@ impl<'a, R: SnapshotReader<A>, W: Device, A: Allocator> Sequence<'a, R, W, A> {
         self.waiting[index] = Some(Bytes::of(bytes));
     }
 
-    // Takes a piece, and writes all that are in turn.
+    /// Takes a piece, and writes all that are in turn.
     pub(crate) fn offer(&mut self, number: u64, bytes: Vec<u8, A>) -> Result<(), OfferFault>
         requires text { 0 < number → number ≤ length self.old.texts →
             bytes.items ≡ slice_index_or self.old.texts (number - 1) [] }
@@ -155,7 +156,7 @@ impl<'a, R: SnapshotReader<A>, W: Device, A: Allocator> Sequence<'a, R, W, A> {
         }
     }
 
-    // What is written is in turn.
+    /// What is written is in turn.
     pub(crate) fn in_turn(&self)
         ensures { IsInTurn self.now }
     {
@@ -163,6 +164,7 @@ impl<'a, R: SnapshotReader<A>, W: Device, A: Allocator> Sequence<'a, R, W, A> {
         let _next = self.next;
     }
 
+    /// How it ends: all pieces are written, or one is missing, or the device has failed.
     pub(crate) fn finish(&self) -> Finish
         requires { LacksNext self.now }
         ensures { Finished self.now result }
@@ -176,6 +178,7 @@ impl<'a, R: SnapshotReader<A>, W: Device, A: Allocator> Sequence<'a, R, W, A> {
         }
     }
 
+    /// The device, with what was written.
     pub(crate) fn into_device(self) -> &'a mut W
         ensures name { result.ghost_name ≡ self.entry.name }
         ensures taken { (W.taken result.now ≡ self.entry.taken) × (W.failures result.now ≡ self.entry.failures) }

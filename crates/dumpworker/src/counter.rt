@@ -14,7 +14,7 @@ pub struct Hand {
     pub each: u64,
 }
 
-// Each number is drawn once.
+/// Each number is drawn once.
 pub struct Once;
 
 impl TableRule<(), Hand, ()> for Once {
@@ -25,7 +25,7 @@ impl TableRule<(), Hand, ()> for Once {
     ghost first = { λ _. first_hand };
 }
 
-// A number is drawn.
+/// A number is drawn.
 pub struct Draw;
 
 impl Play<(), Hand> for Draw {
@@ -35,7 +35,7 @@ impl Play<(), Hand> for Draw {
     ghost then = { λ s v found w. Draws v.0 found w.0 × (w.1 ≡ v.1) };
 }
 
-// A worker gives another one as many draws.
+/// A worker gives another one as many draws.
 pub struct Deal;
 
 impl Split<Hand> for Deal {

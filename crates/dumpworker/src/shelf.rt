@@ -34,13 +34,13 @@ impl Job for Brand {
     ghost failures = { 0 };
 }
 
-// That a shelf is stopped: it alone says so.
+/// That a shelf is stopped: it alone says so.
 #[derive(Drop)]
 pub(crate) struct Stopped {
     by_shelf: (),
 }
 
-// The collector of a dump, which lies under a lock.
+/// The collector of a dump, which lies under a lock.
 pub(crate) struct Shelf<'a, R: SnapshotReader<A>, W: Device, A: Allocator, D: Job> {
     collector: Collector<'a, R, W, A>,
     // Whether a piece could not be made or written, so that the rest isn't made.
@@ -53,6 +53,7 @@ pub(crate) struct Shelf<'a, R: SnapshotReader<A>, W: Device, A: Allocator, D: Jo
 }
 
 impl<'a, R: SnapshotReader<A>, W: Device, A: Allocator, D: Job> Shelf<'a, R, W, A, D> {
+    /// A shelf that isn't stopped.
     pub(crate) fn new(collector: Collector<'a, R, W, A>) -> Shelf<'a, R, W, A, D>
         requires texts { collector.texts ≡ D.texts }
         requires name { collector.name ≡ D.name }
@@ -65,8 +66,8 @@ impl<'a, R: SnapshotReader<A>, W: Device, A: Allocator, D: Job> Shelf<'a, R, W, 
         }
     }
 
-    // Takes a piece that a worker has made. Where it could not be made, or the collector doesn't
-    // take it, the shelf is stopped; and it stays so.
+    /// Takes a piece that a worker has made. Where it could not be made, or the collector doesn't
+    /// take it, the shelf is stopped; and it stays so.
     pub(crate) fn take(
         &mut self,
         number: u64,
@@ -113,7 +114,7 @@ impl<'a, R: SnapshotReader<A>, W: Device, A: Allocator, D: Job> Shelf<'a, R, W, 
         Ok(())
     }
 
-    // The collector, when the workers have ended.
+    /// The collector, when the workers have ended.
     pub(crate) fn into_collector(self) -> Collector<'a, R, W, A>
         ensures texts { result.texts ≡ D.texts }
         ensures name { result.name ≡ D.name }

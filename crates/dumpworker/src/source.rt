@@ -13,7 +13,7 @@ use std::alloc::Allocator;
 use std::marker::Model;
 use value::refusal::Refusal;
 
-// A plan, and the tables that it was made of. To a contract it is the texts of the pieces.
+/// A plan, and the tables that it was made of. To a contract it is the texts of the pieces.
 #[derive(Drop)]
 pub(crate) struct Source<'a, R: RowsReader<A>, A: Allocator> {
     reader: &'a R,
@@ -35,6 +35,7 @@ impl<'a, R: RowsReader<A>, A: Allocator> Model for Source<'a, R, A> {
 }
 
 impl<'a, R: RowsReader<A>, A: Allocator> Source<'a, R, A> {
+    /// The pieces of a plan, and the tables that it was made of.
     pub(crate) fn new(reader: &'a R, catalog: &'a Catalog<A>, plan: &'a Plan<A>) -> Source<'a, R, A>
         requires counted { length (R.tables reader.now) ≡ length catalog.now }
         requires known { AllByRecursion (IsPieceOf (length catalog.now)) plan.now }
@@ -47,14 +48,14 @@ impl<'a, R: RowsReader<A>, A: Allocator> Source<'a, R, A> {
         }
     }
 
-    // How many pieces there are.
+    /// How many pieces there are.
     pub(crate) fn count(&self) -> u64
         ensures { result ≡ length self.now }
     {
         self.plan.count()
     }
 
-    // The text of the piece of a number.
+    /// The text of the piece of a number.
     pub(crate) fn text(&self, alloc: A, number: u64) -> Result<Vec<u8, A>, Refusal>
     where
         A: Copy,

@@ -58,7 +58,7 @@ where
     (drawer, Ok(()))
 }
 
-// Lets as many workers work as there are jobs. The calling thread is one; one that isn't started is left out.
+/// Lets as many workers work as there are jobs. The calling thread is one; one that isn't started is left out.
 pub(crate) fn work_in_scope<A, R, W, G, T, D>(
     rt: &T,
     alloc: A,

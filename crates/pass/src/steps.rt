@@ -13,8 +13,10 @@ use atomic_table::Seat;
 use history::event::Record;
 use std::alloc::Allocator;
 
+/// An owner's share of the word's table.
 pub(crate) type Place<A> = Seat<Record<A>, Knowledge<A>>;
 
+/// Splits the right to act off a seat, with what it has seen.
 pub(crate) fn give<A: Allocator>(words: &Words<A>, seat: &mut Place<A>) -> Place<A>
     requires table { seat.old.table_id ≡ words.now.shared.table_id }
     requires one { words.now.shared.table_id.words ≡ 1 }
@@ -24,6 +26,7 @@ pub(crate) fn give<A: Allocator>(words: &Words<A>, seat: &mut Place<A>) -> Place
     words.shared.split_seat::<Part>(seat)
 }
 
+/// Makes the seat of the next session, of the lock's.
 pub(crate) fn next<A: Allocator>(words: &Words<A>, seat: &mut Place<A>) -> Place<A>
     requires table { seat.old.table_id ≡ words.now.shared.table_id }
     requires one { words.now.shared.table_id.words ≡ 1 }
@@ -34,6 +37,7 @@ pub(crate) fn next<A: Allocator>(words: &Words<A>, seat: &mut Place<A>) -> Place
     words.shared.split_seat::<Next>(seat)
 }
 
+/// Splits off a note of what a seat has seen, with no right to act.
 pub(crate) fn tell<A: Allocator>(words: &Words<A>, seat: &mut Place<A>) -> Place<A>
     requires table { seat.old.table_id ≡ words.now.shared.table_id }
     requires one { words.now.shared.table_id.words ≡ 1 }
@@ -43,6 +47,7 @@ pub(crate) fn tell<A: Allocator>(words: &Words<A>, seat: &mut Place<A>) -> Place
     words.shared.split_seat::<Note>(seat)
 }
 
+/// The right to act comes in: the lock's seat is told what the other has seen, and another seat has then seen it.
 pub(crate) fn unite<A: Allocator>(words: &Words<A>, seat: &mut Place<A>, other: Place<A>)
     requires table { (seat.old.table_id ≡ words.now.shared.table_id) × (other.table_id ≡ words.now.shared.table_id) }
     requires one { words.now.shared.table_id.words ≡ 1 }
@@ -53,6 +58,7 @@ pub(crate) fn unite<A: Allocator>(words: &Words<A>, seat: &mut Place<A>, other: 
     words.shared.join_seat::<Unite>(seat, other);
 }
 
+/// A seat is told of what another has seen.
 pub(crate) fn hear<A: Allocator>(words: &Words<A>, seat: &mut Place<A>, other: Place<A>)
     requires table { (seat.old.table_id ≡ words.now.shared.table_id) × (other.table_id ≡ words.now.shared.table_id) }
     requires one { words.now.shared.table_id.words ≡ 1 }
@@ -63,7 +69,7 @@ pub(crate) fn hear<A: Allocator>(words: &Words<A>, seat: &mut Place<A>, other: P
     words.shared.join_seat::<Hear>(seat, other);
 }
 
-// It sees the history as it is.
+/// It sees the history as it is.
 pub(crate) fn look<A: Allocator, J: Naming<A>>(words: &Words<A>, seat: &mut Place<A>) -> u64
     requires table { seat.old.table_id ≡ words.now.shared.table_id }
     requires one { words.now.shared.table_id.words ≡ 1 }
@@ -75,7 +81,7 @@ pub(crate) fn look<A: Allocator, J: Naming<A>>(words: &Words<A>, seat: &mut Plac
     words.shared.load::<Look<J>>(seat, 0)
 }
 
-// It sees the longer of what it has seen and was told.
+/// It sees the longer of what it has seen and was told.
 pub(crate) fn compare<A: Allocator>(words: &Words<A>, seat: &mut Place<A>)
     requires table { seat.old.table_id ≡ words.now.shared.table_id }
     requires one { words.now.shared.table_id.words ≡ 1 }
@@ -86,7 +92,7 @@ pub(crate) fn compare<A: Allocator>(words: &Words<A>, seat: &mut Place<A>)
     words.shared.load::<Compare>(seat, 0);
 }
 
-// The lock's seat checks what it was told.
+/// The lock's seat checks what it was told.
 pub(crate) fn check<A: Allocator>(words: &Words<A>, seat: &mut Place<A>)
     requires table { seat.old.table_id ≡ words.now.shared.table_id }
     requires one { words.now.shared.table_id.words ≡ 1 }
@@ -97,7 +103,7 @@ pub(crate) fn check<A: Allocator>(words: &Words<A>, seat: &mut Place<A>)
     words.shared.load::<Check>(seat, 0);
 }
 
-// The lock's seat is told which event comes next. The word stays as it is.
+/// The lock's seat is told which event comes next. The word stays as it is.
 pub(crate) fn expect<A: Allocator>(words: &Words<A>, seat: &mut Place<A>, entry: &Record<A>)
     requires table { seat.old.table_id ≡ words.now.shared.table_id }
     requires one { words.now.shared.table_id.words ≡ 1 }
@@ -110,7 +116,7 @@ pub(crate) fn expect<A: Allocator>(words: &Words<A>, seat: &mut Place<A>, entry:
         .compare_exchange_with::<Expect>(seat, 0, 0, 0, entry);
 }
 
-// The lock's seat adds that event.
+/// The lock's seat adds that event.
 pub(crate) fn add<A: Allocator>(words: &Words<A>, seat: &mut Place<A>)
     requires table { seat.old.table_id ≡ words.now.shared.table_id }
     requires one { words.now.shared.table_id.words ≡ 1 }

@@ -53,7 +53,7 @@ impl<A: Allocator> Model for Origin<A> {
     ghost view = { λ o. record { catalog = o.catalog.value; tables = o.tables.value; base = o.base } };
 }
 
-// The rule of the word.
+/// The rule of the word.
 pub(crate) struct Growing;
 
 impl<A: Allocator> TableRule<Record<A>, Knowledge<A>, Origin<A>> for Growing {
@@ -122,7 +122,7 @@ impl<A: Allocator> HistoryWord<A> {
         Ok((HistoryWord { table }, FirstSeat { seat }))
     }
 
-    // Its table.
+    /// Its table.
     pub(crate) fn words(&self) -> &Words<A>
         ensures table { result.now.shared.table_id ≡ self.now.table }
         ensures opening { result.now.shared.key ≡ self.now.opening }
@@ -133,6 +133,7 @@ impl<A: Allocator> HistoryWord<A> {
 }
 
 impl<A: Allocator> FirstSeat<A> {
+    /// The seat, which has seen nothing.
     pub(crate) fn into_seat(self) -> Seat<Record<A>, Knowledge<A>>
         ensures table { result.table_id ≡ self }
         ensures first { result.me ≡ (opener, []) }

@@ -6,7 +6,7 @@ use Rattle.std.specs.Option.{option_copied, option_map_or}
 use Rattle.std.specs.Ordering.{is_le, ordering_reverse}
 use Rattle.std.specs.declared.cmp.Ordering.{Ordering}
 use Rattle.std.specs.declared.cmp.Ordering.TheVariants.{Less, Equal, Greater}
-use Rattle.std.proofs.lemmas.Bool.{and_parts, eqb-true}
+use Rattle.std.proofs.lemmas.Bool.{and_parts, eqb-true, not-true, or_parts, or_from}
 use Rattle.value.specs.declared.kind.Kind.{Kind}
 use Rattle.value.specs.declared.refusal.Code.{Code}
 use Rattle.value.specs.declared.refusal.Code.TheVariants.{BadCopyFileFormat}
@@ -25,13 +25,11 @@ use Rattle.restore.specs.declared.error.LineError.{LineError}
 use Rattle.restore.specs.Steps.{◌>>=◌, Gives}
 use Rattle.restore.specs.Reading.{kinds_of, with_row}
 use Rattle.restore.specs.Rows.{row_of_values, row_of_line, is_behind, IsNext}
-use Rattle.restore.proofs.CatalogLemmas.{not_true}
 use Rattle.schema.proofs.LiteralLemmas.{literal_fits}
 use Rattle.restore.proofs.ReadingLemmas.{done_same}
 use Rattle.restore.proofs.RowLemmas.{row_of, with_row_is}
 use Rattle.restore.proofs.RowsAgain.{kind_is, no_zero, no_fault, inserted_by}
 use Rattle.restore.proofs.SoundReading.{bind_ok, row_kept}
-use Rattle.restore.proofs.SpellingLemmas.{neither, nor}
 
 -- nothing is found where none is answered
 pub none_found : {X : Type 0} (found : Option (Bor X)) (there : Option X) (none : Bool) → option_copied found ≡ there → is_some found ≡ not none → none ≡ not (is_some there)
@@ -108,7 +106,7 @@ module _ {A : Type 0} where
   without_zeros (k ∷ ks) [] h = absurd cc
   without_zeros (k ∷ ks) (v ∷ vs) h =
       let p = and_parts (has_kind k v) (fit_kinds ks vs) h in
-      nor (has_zero_byte v) (list_any has_zero_byte vs) (no_zero k v p.0) (without_zeros ks vs p.1)
+      or_from (has_zero_byte v) (list_any has_zero_byte vs) (no_zero k v p.0) (without_zeros ks vs p.1)
 
   -- ---- no references
 
@@ -121,8 +119,8 @@ module _ {A : Type 0} where
   none_dangles X [] (v ∷ vs) h = refl
   none_dangles X (d ∷ ds) [] h = refl
   none_dangles X (d ∷ ds) (v ∷ vs) h =
-      let p = neither (is_some d.references) (list_any (λ e. is_some e.references) ds) h in
-      nor (not (is_there X d v)) (dangles X ds vs) (is_there_so X d.references v p.0) (none_dangles X ds vs p.1)
+      let p = or_parts (is_some d.references) (list_any (λ e. is_some e.references) ds) h in
+      or_from (not (is_there X d v)) (dangles X ds vs) (is_there_so X d.references v p.0) (none_dangles X ds vs p.1)
 
   -- ---- a key behind a table
 
@@ -161,8 +159,8 @@ module _ {A : Type 0} where
       let fits = row_fits (kinds_of c t) text row is in
       let free = and_parts (not (dangles X (columns_of c t) (cells row))) (not (lacks_value (columns_of c t) (cells row))) next.0 in
       with_row_is c X t text ∙ ap (λ (r : Result (Row A) Code). r >>= λ x. inserted c X t x) is
-      ∙ inserted_by c X t row (no_fault c X t row (columns_of c t) refl (of_their_kinds (columns_of c t) (cells row) fits) (without_zeros (kinds_of c t) (cells row) fits) (not_true (lacks_value (columns_of c t) (cells row)) free.1)
-      (absent row.0 (rows_of X t) next.1) (not_true (dangles X (columns_of c t) (cells row)) free.0))
+      ∙ inserted_by c X t row (no_fault c X t row (columns_of c t) refl (of_their_kinds (columns_of c t) (cells row) fits) (without_zeros (kinds_of c t) (cells row) fits) (not-true (lacks_value (columns_of c t) (cells row)) free.1)
+      (absent row.0 (rows_of X t) next.1) (not-true (dangles X (columns_of c t) (cells row)) free.0))
 
   -- and sound tables stay sound
   pub put_sound : (c : Catalog) (X Y : Tables A) (t : ℕ) (text : List ℕ) → length X ≡ length c → is_sound c X ≡ true → with_row c X t text ≡ Ok Y → is_sound c Y ≡ true

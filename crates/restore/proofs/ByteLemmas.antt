@@ -1,11 +1,9 @@
 -- The first place of a byte.
 use Rattle.std.proofs.Common.{◌≡◌, ℕ, zero, suc, ◌+◌, ◌==◌, ◌<◌, nat_lt, Bool, true, false, not, cond, List, [], ◌∷◌, length, slice_index, Option, Some, None, refl, sym, ap, ◌∙◌, arith}
+use Rattle.std.proofs.lemmas.Bool.{lt-ltb}
 use Rattle.std.specs.List.{prefix_len, position}
 use Rattle.std.proofs.lemmas.Bool.Decides.{nat_tests}
 use Rattle.memchr.specs.Find.{IsFirstByte, is_byte}
-
-is_below : (k n : ℕ) → k < n → nat_lt k n ≡ true
-is_below k n lt = grind (arith, nat_tests)
 
 is_not_below : (n : ℕ) → nat_lt n n ≡ false
 is_not_below n = grind (arith, nat_tests)
@@ -33,4 +31,4 @@ first_place a xs None none =
     sym (ap (λ n. cond (nat_lt n (length xs)) (Some n) None) all ∙ ap (λ b. cond b (Some (length xs)) None) (is_not_below (length xs)))
 first_place a xs (Some k) h =
     let here = up_to_first (λ b. b == a) xs k h.0.high h.1 (λ j below is. h.0.before j (omega arith) below is) in
-    sym (ap (λ n. cond (nat_lt n (length xs)) (Some n) None) here ∙ ap (λ b. cond b (Some k) None) (is_below k (length xs) h.0.high))
+    sym (ap (λ n. cond (nat_lt n (length xs)) (Some n) None) here ∙ ap (λ b. cond b (Some k) None) (lt-ltb k (length xs) h.0.high))

@@ -4,7 +4,7 @@ use Rattle.std.specs.Prelude.{position, option_and_then}
 use Rattle.std.specs.List.{list_any, list_all, prefix_len}
 use Rattle.std.specs.Option.{option_map, option_map_or}
 use Rattle.std.specs.Str.{bytes_eq}
-use Rattle.std.proofs.lemmas.Bool.{and_parts, and_from}
+use Rattle.std.proofs.lemmas.Bool.{and_parts, and_from, not-true}
 use Rattle.std.proofs.lemmas.Bool.Decides.{nat_tests}
 use Rattle.std.proofs.lemmas.Slice.Eq.{bytes_eq-Decides}
 use Rattle.value.specs.declared.kind.Kind.{Kind}
@@ -15,10 +15,6 @@ use Rattle.dumpplan.specs.Lines.{name_of_table, written_column, written}
 use Rattle.schema.specs.WellFormed.{are_new, are_named, is_key_unmarked, references_key, is_table_after, are_tables_after}
 
 -- ---- tests
-
-pub not_true : (b : Bool) → not b ≡ true → b ≡ false
-not_true true e = absurd (true≢false (sym e))
-not_true false e = refl
 
 none_of : {X : Type 0} (o : Option X) → is_some o ≡ false → o ≡ None
 none_of None e = refl
@@ -55,7 +51,7 @@ table_after before d h =
     let names = and_parts (list_all (λ x. is_name x.name) d.columns) (are_new [] (map (λ x. x.name) d.columns)) c.1 in
     record {
       name = f.0;
-      new = none_of (table_named before d.name) (not_true (is_some (table_named before d.name)) f.1);
+      new = none_of (table_named before d.name) (not-true (is_some (table_named before d.name)) f.1);
       some = few.0;
       few = few.1;
       names = names.0;
@@ -176,7 +172,7 @@ names_apart c words (d ∷ ds) = ap (λ b. not (list_any (bytes_eq d.name) words
 no_mark : (c : Catalog) (ds : List Column) → is_key_unmarked ds ≡ true → without_key_mark (map (written_column c) ds) ≡ map (written_column c) ds
 no_mark c [] h = refl
 no_mark c (d ∷ ds) h =
-    ap (λ (b : Bool). record { name = d.name; kind = d.kind; not_null = b; references = option_and_then (name_of_table c) d.references } ∷ map (written_column c) ds) (sym (not_true d.not_null h))
+    ap (λ (b : Bool). record { name = d.name; kind = d.kind; not_null = b; references = option_and_then (name_of_table c) d.references } ∷ map (written_column c) ds) (sym (not-true d.not_null h))
 
 some_columns : (c : Catalog) (ds : List Column) → nat_lt 0 (length ds) ≡ true → nat_lt 0 (length (map (written_column c) ds)) ≡ true
 some_columns c [] h = h

@@ -1,5 +1,6 @@
 -- The words of a CREATE TABLE line.
-use Rattle.std.proofs.Common.{◌≡◌, ℕ, ◌<◌, ◌==◌, Bool, true, false, cond, not, nat_le, ◌&&◌, List, [], ◌∷◌, get_or, length, zero, suc, Option, Some, None, IfSome, Result, Ok, Err, refl, ap, inl, inr, arith}
+use Rattle.std.proofs.Common.{◌≡◌, ℕ, ◌<◌, ◌==◌, Bool, true, false, cond, not, nat_le, ◌&&◌, List, [], ◌∷◌, get_or, length, zero, suc, Option, Some, None, Result, Ok, Err, refl, ap, inl, inr, arith}
+use Rattle.std.proofs.lemmas.Bool.{and_parts}
 use Rattle.std.specs.Prelude.{codes}
 use Rattle.std.specs.List.{list_all}
 use Rattle.std.specs.Str.{IsAscii, IsUtf8}
@@ -14,18 +15,12 @@ use Rattle.schema.specs.Names.{is_name, is_small_word, is_reserved, begins_name,
 use Rattle.restore.specs.Steps.{◌>>=◌, Fails}
 use Rattle.restore.specs.declared.error.LineError.{LineError}
 use Rattle.restore.specs.declared.error.LineError.TheVariants as line
-use Rattle.restore.specs.CreateLine.{behind, name_of, referenced, well_formed, key_column, other_column, other_columns, columns, parts_of}
+use Rattle.restore.specs.CreateLine.{behind, name_of, referenced, well_formed, other_column, other_columns, parts_of}
 use Rattle.std.specs.Borrow.{Bor}
 use Rattle.std.specs.Option.{option_copied}
-use Rattle.restore.proofs.StepLemmas.{failed, same_refusal, front_with}
+use Rattle.restore.proofs.StepLemmas.{failed, same_refusal}
 
 -- ---- names are ASCII
-
--- what holds of both
-both : (a b : Bool) → (a && b) ≡ true → (a ≡ true) × (b ≡ true)
-both true true e = (refl, refl)
-both true false e = absurd cc
-both false b e = absurd cc
 
 begins_below : (b : ℕ) → begins_name b ≡ true → b < 128
 begins_below b h = grind (arith, nat_tests)
@@ -35,8 +30,8 @@ continues_below b h = grind (arith, nat_tests)
 
 all_below : (bs : List ℕ) → list_all continues_name bs ≡ true → (i : ℕ) → get_or bs i 0 < 128
 all_below [] h i = omega arith
-all_below (b ∷ bs) h zero = continues_below b (both (continues_name b) (list_all continues_name bs) h).0
-all_below (b ∷ bs) h (suc i) = all_below bs (both (continues_name b) (list_all continues_name bs) h).1 i
+all_below (b ∷ bs) h zero = continues_below b (and_parts (continues_name b) (list_all continues_name bs) h).0
+all_below (b ∷ bs) h (suc i) = all_below bs (and_parts (continues_name b) (list_all continues_name bs) h).1 i
 
 pub name-ascii : (word : List ℕ) → is_name word ≡ true → IsAscii word
 name-ascii [] h i = omega arith
@@ -44,12 +39,12 @@ name-ascii (b ∷ bs) h i = below i
   where
     small : is_small_word (b ∷ bs) ≡ true
     small =
-        let most = both (is_small_word (b ∷ bs) && nat_le (length (b ∷ bs)) 63) (not (is_reserved (b ∷ bs))) h in
-        (both (is_small_word (b ∷ bs)) (nat_le (length (b ∷ bs)) 63) most.0).0
+        let most = and_parts (is_small_word (b ∷ bs) && nat_le (length (b ∷ bs)) 63) (not (is_reserved (b ∷ bs))) h in
+        (and_parts (is_small_word (b ∷ bs)) (nat_le (length (b ∷ bs)) 63) most.0).0
 
     below : (k : ℕ) → get_or (b ∷ bs) k 0 < 128
-    below zero = begins_below b (both (begins_name b) (list_all continues_name bs) small).0
-    below (suc k) = all_below bs (both (begins_name b) (list_all continues_name bs) small).1 k
+    below zero = begins_below b (and_parts (begins_name b) (list_all continues_name bs) small).0
+    below (suc k) = all_below bs (and_parts (begins_name b) (list_all continues_name bs) small).1 k
 
 pub name-utf8 : (word : List ℕ) → is_name word ≡ true → IsUtf8 word
 name-utf8 word h = IsUtf8-from_ascii word (name-ascii word h)
@@ -97,19 +92,6 @@ module _ {A : Type 0} where
 abbrev pub part_left : Option (Bor (List ℕ)) → ℕ
 part_left None = 0
 part_left (Some text) = suc (length text.now)
-
-pub part_shorter : (more : Option (Bor (List ℕ))) (text : List ℕ) → IfSome more (λ m. length m.now < length text) → part_left more < suc (length text)
-part_shorter None text h = omega arith
-part_shorter (Some m) text h = omega arith
-
-pub columns-first : (parts rest : List (List ℕ)) (first : List ℕ) (key : ColumnDef) → parts ≡ first ∷ rest → key_column first ≡ Ok key → front_with (key ∷ []) (other_columns rest) ≡ columns parts
-unfolding columns
-columns-first parts rest first key same h = rw (same, h) refl
-
-pub columns-first_fails : (e : LineError) (parts rest : List (List ℕ)) (first : List ℕ) → parts ≡ first ∷ rest → Fails e (key_column first) → Fails e (columns parts)
-unfolding columns
-columns-first_fails line.Memory parts rest first same h = tt
-columns-first_fails (line.Refused code) parts rest first same h = rw (same, h) refl
 
 pub others-next : (parts rest : List (List ℕ)) (part : List ℕ) (d : ColumnDef) → parts ≡ part ∷ rest → other_column part ≡ Ok d → other_columns parts ≡ (other_columns rest >>= λ ds. Ok (d ∷ ds))
 unfolding other_columns

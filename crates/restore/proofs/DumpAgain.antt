@@ -1,7 +1,7 @@
 -- A dump reads as what was dumped.
 use Rattle.std.proofs.Common.{◌≡◌, ℕ, ◌≤◌, nat_le, Bool, true, false, true≢false, Ok, not, eqb, ◌&&◌, List, [], ◌∷◌, ◌++◌, length, map, refl, sym, ap, subst, ◌∙◌, append_assoc}
 use Rattle.std.specs.List.{list_any, list_all, flat_map}
-use Rattle.std.proofs.lemmas.Bool.{and_parts, and_from, leb-true}
+use Rattle.std.proofs.lemmas.Bool.{and_parts, and_from, leb-true, not-true, not_from_false}
 use Rattle.std.specs.FinMap.{is_sorted}
 use Rattle.value.specs.Order.{value_cmp}
 use Rattle.schema.specs.Definition.{TableSchema, Catalog}
@@ -13,8 +13,8 @@ use Rattle.dumpplan.specs.Lines.{written, create_line, copy_line, row_line, end_
 use Rattle.schema.specs.WellFormed.{is_table_after, are_tables_after, is_catalog}
 use Rattle.restore.specs.Reading.{Start, Created, Before, Whole, lines_of, step, read_lines}
 use Rattle.restore.specs.Progress.{read_in_steps}
-use Rattle.restore.proofs.CatalogLemmas.{not_true, table_after, IsFound, IsNamed, named_tables}
-use Rattle.restore.proofs.SpellingLemmas.{Lacks, all_lack, cut_at, not_false, create_line_lacks}
+use Rattle.restore.proofs.CatalogLemmas.{table_after, IsFound, IsNamed, named_tables}
+use Rattle.restore.proofs.SpellingLemmas.{Lacks, all_lack, cut_at, create_line_lacks}
 use Rattle.restore.proofs.RowsAgain.{kinds_fit}
 use Rattle.restore.proofs.RowLines.{row_lacks, copy_line_lacks, rows_line_lacks}
 use Rattle.restore.proofs.LinesAgain.{GoesTo, goes_on, goes_through, goes_alike, reads_whole, first_step, created_again, written_key_first}
@@ -23,7 +23,7 @@ use Rattle.restore.proofs.TablesAgain.{may_stand, tables_go}
 -- ---- a text of lines, each ended by a newline, is cut into these lines
 
 lacks : (line : List ℕ) (rest : Bool) → Lacks 10 line → rest ≡ true → (not (list_any (λ b. eqb b 10) line) && rest) ≡ true
-lacks line rest h k = and_from (not (list_any (λ b. eqb b 10) line)) rest (not_false (list_any (λ b. eqb b 10) line) h) k
+lacks line rest h k = and_from (not (list_any (λ b. eqb b 10) line)) rest (not_from_false (list_any (λ b. eqb b 10) line) h) k
 
 lack-append : (xs ys : List (List ℕ)) → all_lack 10 xs ≡ true → all_lack 10 ys ≡ true → all_lack 10 (xs ++ ys) ≡ true
 lack-append [] ys h k = k
@@ -36,7 +36,7 @@ lines_again [] h = refl
 lines_again (l ∷ ls) h =
     let p = and_parts (not (list_any (λ b. eqb b 10) l)) (all_lack 10 ls) h in
     ap lines_of (append_assoc l (10 ∷ []) (flat_map (λ line. line ++ 10 ∷ []) ls))
-    ∙ cut_at 10 l (flat_map (λ line. line ++ 10 ∷ []) ls) (not_true (list_any (λ b. eqb b 10) l) p.0)
+    ∙ cut_at 10 l (flat_map (λ line. line ++ 10 ∷ []) ls) (not-true (list_any (λ b. eqb b 10) l) p.0)
     ∙ ap (λ (rest : List (List ℕ)). l ∷ rest) (lines_again ls p.1)
 
 -- ---- no line holds a newline

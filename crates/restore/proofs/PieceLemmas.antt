@@ -1,8 +1,8 @@
 -- Lines of rows, read by pieces and inserted one after another.
-use Rattle.std.proofs.Common.{◌≡◌, ℕ, suc, ◌+◌, ◌*◌, ◌<◌, ◌≤◌, Bool, true, false, not, ◌&&◌, Bor, List, [], ◌∷◌, ◌++◌, length, map, take, drop, get_or, Option, Some, Result, Ok, Err, IfOk, refl, sym, ap, subst, ◌∙◌, arith, append_assoc}
+use Rattle.std.proofs.Common.{◌≡◌, ℕ, suc, ◌+◌, ◌*◌, ◌<◌, ◌≤◌, Bool, true, false, ◌&&◌, Bor, List, [], ◌∷◌, ◌++◌, length, map, take, drop, get_or, Option, Some, Result, Ok, Err, IfOk, refl, sym, ap, subst, ◌∙◌, arith, append_assoc}
 use Rattle.std.specs.List.{list_all}
 use Rattle.std.specs.Str.{bytes_eq}
-use Rattle.std.proofs.lemmas.Bool.{and_parts}
+use Rattle.std.proofs.lemmas.Bool.{and_parts, not-true, not_from_false}
 use Rattle.std.proofs.lemmas.List.{take_more, take-map, drop-map, drop-drop, map-append, length-append, length-map, length-drop}
 use Rattle.std.proofs.lemmas.List.Folds.{list_all-append}
 use Rattle.value.specs.declared.kind.Kind.{Kind}
@@ -23,19 +23,11 @@ use Rattle.restore.proofs.StepLemmas.{stops}
 use Rattle.restore.proofs.ReadingLemmas.{row_is, stops_at, stepped_on, refused_on}
 use Rattle.restore.proofs.TextLemmas.{split-parted}
 
-is_false : (b : Bool) → not b ≡ true → b ≡ false
-is_false true e = cc
-is_false false e = refl
-
 zero-mul : (n : ℕ) → 0 * n ≡ 0
 zero-mul n = omega arith
 
 suc_times : (n m : ℕ) → suc n * m ≡ m + n * m
 suc_times n m = grind arith
-
-not_false : (b : Bool) → b ≡ false → not b ≡ true
-not_false true e = cc
-not_false false e = refl
 
 -- ---- lines of rows up to those that are left
 
@@ -43,7 +35,7 @@ pub row_lines-first : (first : Line) → bytes_eq first.bytes.now end_of_rows �
 row_lines-first first row = record {
   lines = refl;
   number = omega arith;
-  rows_alone = ap (λ b. b && true) (not_false (bytes_eq first.bytes.now end_of_rows) row);
+  rows_alone = ap (λ b. b && true) (not_from_false (bytes_eq first.bytes.now end_of_rows) row);
 }
 
 pub row_lines-more : (first : Line) (rows more : List (Bor (List ℕ))) (left rest : Lines) (line : Bor (List ℕ)) → AreRowLines first rows left → parted 10 left.text.now ≡ Some (line.now, rest.text.now) → rest.number ≡ left.number + 1
@@ -86,12 +78,6 @@ module _ {A : Type 0} (kinds : List Kind) where
       ap (map now) (take_more lines i d lt) ∙ map-append now (take i lines) (get_or lines i d ∷ []) in
       subst (λ (rs : List (Result (Row A) LineError)). AreRead kinds rs (map now (take (i + 1) lines))) (sym pushed)
       (subst (λ (ls : List (List ℕ)). AreRead kinds (rows ++ r ∷ []) ls) (sym taken) (read-append rows (r ∷ []) (map now (take i lines)) ((get_or lines i d).now ∷ []) before (gives, tt)))
-
-module _ {A : Type 0} where
-  -- the same kinds and lines
-  pub read-same : (kinds others : List Kind) (rows : List (Result (Row A) LineError)) (shown lines : List (Bor (List ℕ))) → kinds ≡ others → shown ≡ lines → AreRead kinds rows (map (λ l. l.now) shown) → AreRead others rows (map (λ l. l.now) lines)
-  read-same kinds others rows shown lines e f h =
-      subst (λ (ks : List Kind). AreRead ks rows (map (λ l. l.now) lines)) e (subst (λ (ls : List (Bor (List ℕ))). AreRead kinds rows (map (λ l. l.now) ls)) f h)
 
 -- ---- by pieces of a size
 
@@ -166,7 +152,7 @@ module _ {A : Type 0} where
   taken_on : (counted : Bool) (c : Catalog) (t : ℕ) (n : ℕ) (X Y : Tables A) (row : List ℕ) (lines : List (List ℕ)) → (lines ≡ [] → ⊥) → is_row_line row ≡ true → with_row c X t row ≡ Ok Y
       → read_lines n (Within counted c X t) (row ∷ lines) ≡ read_lines (n + 1) (Within counted c Y t) lines
   taken_on counted c t n X Y row lines some is h =
-      stepped_on n (Within counted c X t) (Within counted c Y t) row lines some (row_is counted c X t row (is_false (bytes_eq row end_of_rows) is) ∙ ap (λ r. r >>= λ Z. Ok (Within counted c Z t)) h)
+      stepped_on n (Within counted c X t) (Within counted c Y t) row lines some (row_is counted c X t row (not-true (bytes_eq row end_of_rows) is) ∙ ap (λ r. r >>= λ Z. Ok (Within counted c Z t)) h)
 
   pub inserted-next : (counted : Bool) (c : Catalog) (t : ℕ) (more : List (List ℕ)) (start : ℕ) (lines : List (List ℕ)) (X : Tables A) (n : ℕ) (left rest : List (Result (Row A) LineError)) (Y Z : Tables A) (row : Result (Row A) LineError)
       → (more ≡ [] → ⊥) → left ≡ row ∷ rest → ((l : List ℕ) → Gives (λ r. r) row (row_of_line (kinds_of c t) l) → with_row c Y t l ≡ Ok Z)
@@ -198,7 +184,7 @@ module _ {A : Type 0} where
           let p = and_parts (is_row_line l) (list_all is_row_line last) r in
           stops_at (read_error n e) _ _
           (refused_on e n (Within counted c Y t) l (last ++ more) (some_more last more some)
-          (rw (row_is counted c Y t l (is_false (bytes_eq l end_of_rows) p.0)) (stops e (with_row c Y t l) (λ Z. Ok (Within counted c Z t)) (fails l h.0)))) a
+          (rw (row_is counted c Y t l (not-true (bytes_eq l end_of_rows) p.0)) (stops e (with_row c Y t l) (λ Z. Ok (Within counted c Z t)) (fails l h.0)))) a
 
   pub inserted-all : (counted : Bool) (c : Catalog) (t : ℕ) (more : List (List ℕ)) (start : ℕ) (lines : List (List ℕ)) (X : Tables A) (n : ℕ) (left : List (Result (Row A) LineError)) (Y : Tables A) → left ≡ []
       → IsInserting counted c t more start lines X n left Y → read_lines start (Within counted c X t) (lines ++ more) ≡ read_lines (start + length lines) (Within counted c Y t) more

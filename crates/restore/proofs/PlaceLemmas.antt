@@ -1,5 +1,6 @@
 -- Where a line stands, and what stands against a row: by the lines before, and by the tables that they have come to.
-use Rattle.std.proofs.Common.{◌≡◌, ℕ, ◌+◌, ◌-◌, ◌<◌, ◌≤◌, ◌==◌, nat_lt, Bool, true, false, not, ◌||◌, if◌then◌else◌, List, [], ◌∷◌, ◌++◌, length, Option, Some, None, is_some, refl, ap, ◌∙◌, arith, length-append}
+use Rattle.std.proofs.Common.{◌≡◌, ℕ, ◌+◌, ◌-◌, ◌<◌, ◌≤◌, ◌==◌, Bool, true, false, not, ◌||◌, if◌then◌else◌, List, [], ◌∷◌, ◌++◌, length, Option, Some, None, is_some, refl, ap, ◌∙◌, arith, length-append}
+use Rattle.std.proofs.lemmas.Bool.{le-ltb, lt-ltb}
 use Rattle.std.specs.Prelude.{slice_index_or}
 use Rattle.std.specs.List.{list_any, zip}
 use Rattle.std.specs.Option.{option_map_or}
@@ -25,14 +26,8 @@ above_test a b h = grind (arith, nat_tests)
 under_test : (a b : ℕ) → a + 1 < b → (a + 1 == b) ≡ false
 under_test a b h = grind (arith, nat_tests)
 
-below_test : (a b : ℕ) → a < b → nat_lt a b ≡ true
-below_test a b h = grind (arith, nat_tests)
-
-from_test : (a b : ℕ) → b ≤ a → nat_lt a b ≡ false
-from_test a b h = grind (arith, nat_tests)
-
 pub lead_two : (t : ℕ) → lead true (t + 1) ≡ 2
-lead_two t = rw (below_test 0 (t + 1) (omega arith)) refl
+lead_two t = rw (lt-ltb 0 (t + 1) (omega arith)) refl
 
 -- ---- where a line stands
 
@@ -41,13 +36,13 @@ module _ (tables : ℕ) (counted : Bool) (t n : ℕ) where
   at_copy e = rw (equal_test (n + 1) (lead counted t) e) refl
 
   pub at_count : n + 1 < lead counted t → place_in tables counted t n ≡ Count (t - 1)
-  at_count h = let less : n < lead counted t = omega (arith, h) in rw (under_test n (lead counted t) h, below_test n (lead counted t) less) refl
+  at_count h = let less : n < lead counted t = omega (arith, h) in rw (under_test n (lead counted t) h, lt-ltb n (lead counted t) less) refl
 
   pub at_rows : lead counted t ≤ n → t < tables → place_in tables counted t n ≡ Rows t
-  at_rows h within = rw (above_test n (lead counted t) h, from_test n (lead counted t) h, below_test t tables within) refl
+  at_rows h within = rw (above_test n (lead counted t) h, le-ltb n (lead counted t) h, lt-ltb t tables within) refl
 
   pub at_nothing : lead counted t ≤ n → tables ≤ t → place_in tables counted t n ≡ Nothing
-  at_nothing h past = rw (above_test n (lead counted t) h, from_test n (lead counted t) h, from_test t tables past) refl
+  at_nothing h past = rw (above_test n (lead counted t) h, le-ltb n (lead counted t) h, le-ltb t tables past) refl
 
 pub one_less : {X : Type 0} (xs : List X) (x : X) → length (xs ++ x ∷ []) - 1 ≡ length xs
 one_less xs x = let e : length (xs ++ x ∷ []) ≡ length xs + 1 = length-append xs (x ∷ []) in omega (arith, e)

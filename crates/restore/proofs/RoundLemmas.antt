@@ -1,8 +1,8 @@
 -- Rounds of lines: read piece by piece, and taken behind one another.
-use Rattle.std.proofs.Common.{◌≡◌, ℕ, zero, suc, ◌+◌, ◌-◌, ◌*◌, ◌/◌, ◌%◌, ◌<◌, ◌≤◌, min, Bool, true, false, Bor, List, [], ◌∷◌, ◌++◌, length, map, take, drop, Option, Some, None, Result, Ok, Err, refl, sym, ap, subst, ◌∙◌, arith, append_assoc}
+use Rattle.std.proofs.Common.{◌≡◌, ℕ, zero, suc, ◌+◌, ◌-◌, ◌*◌, ◌/◌, ◌%◌, ◌<◌, ◌≤◌, min, Bool, true, false, Bor, List, [], ◌∷◌, ◌++◌, map, take, drop, Option, Some, None, Result, Ok, Err, refl, sym, ap, subst, ◌∙◌, arith, append_assoc}
 use Rattle.std.specs.Str.{bytes_eq}
 use Rattle.std.proofs.Math.Nat.{mod-lt}
-use Rattle.std.proofs.lemmas.List.{take-append-drop, drop-drop, map-append, length-map, length-drop, nil_from_length}
+use Rattle.std.proofs.lemmas.List.{take-append-drop, drop-drop, map-append, length-map}
 use Rattle.std.proofs.lemmas.Nat.{div-add-mod'}
 use Rattle.std.proofs.lemmas.Slice.Eq.{bytes_eq-Decides}
 use Rattle.value.specs.declared.kind.Kind.{Kind}
@@ -74,16 +74,6 @@ module _ {A : Type 0} where
             subst (λ (rs : List (Result (Row A) LineError)). AreRead kinds rs (map now (j.front ++ next))) (sym e)
             (subst (λ (ls : List (List ℕ)). AreRead kinds (rows ++ more) ls) (sym (map-append now j.front next)) (read-append kinds rows more (map now j.front) (map now next) j.read h));
       }
-
-  pub read_to-all : (kinds : List Kind) (rows : List (Result (Row A) LineError)) (lines : List (Bor (List ℕ))) (place : ℕ) → length lines ≤ place → AreReadTo kinds rows lines place → AreRead kinds rows (map (λ l. l.now) lines)
-  read_to-all kinds rows lines place over j =
-      let none : drop place lines ≡ [] = nil_from_length (drop place lines) (omega (arith, length-drop place lines, over)) in
-      let all : j.front ≡ lines = sym (append_nil j.front) ∙ ap (λ ls. j.front ++ ls) (sym none) ∙ j.whole in
-      subst (λ (ls : List (Bor (List ℕ))). AreRead kinds rows (map (λ l. l.now) ls)) all j.read
-    where
-      append_nil : (xs : List (Bor (List ℕ))) → xs ++ [] ≡ xs
-      append_nil [] = refl
-      append_nil (x ∷ xs) = ap (λ ys. x ∷ ys) (append_nil xs)
 
 -- ---- the pieces of a round
 

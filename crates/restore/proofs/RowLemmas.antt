@@ -13,8 +13,7 @@ use Rattle.copytext.specs.Reading.{line_values}
 use Rattle.restore.specs.declared.error.LineError.{LineError}
 use Rattle.restore.specs.Reading.{kinds_of, with_values, with_row}
 use Rattle.restore.specs.Rows.{row_of_values, row_of_line}
-use Rattle.restore.specs.Steps.{◌>>=◌, Gives, Fails}
-use Rattle.restore.proofs.StepLemmas.{stops}
+use Rattle.restore.specs.Steps.{◌>>=◌, Gives}
 
 -- the first of some kinds, and the others
 pub first_and_rest : (ks : List Kind) (d : Kind) → 1 ≤ length ks → get_or ks 0 d ∷ take (length ks - 1) (drop 1 ks) ≡ ks
@@ -53,8 +52,3 @@ module _ {A : Type 0} where
   gives_row c X t text read row done view was given h =
       let is : row_of_line (kinds_of c t) text ≡ Ok row = subst (λ (r : Result (Row A) LineError). Gives (λ x. x) r (row_of_line (kinds_of c t) text)) was given in
       subst (Gives view done) (sym (with_row_is c X t text ∙ ap (λ (r : Result (Row A) Code). r >>= λ x. inserted c X t x) is)) h
-
-  -- what wasn't read isn't inserted
-  pub fails_row : (c : Catalog) (X : Tables A) (t : ℕ) (text : List ℕ) (read : Result (Row A) LineError) (e : LineError) → read ≡ Err e → Gives (λ r. r) read (row_of_line (kinds_of c t) text) → Fails e (with_row c X t text)
-  fails_row c X t text read e was given =
-      subst (Fails e) (sym (with_row_is c X t text)) (stops e (row_of_line (kinds_of c t) text) (λ x. inserted c X t x) (subst (λ (r : Result (Row A) LineError). Gives (λ x. x) r (row_of_line (kinds_of c t) text)) was given))

@@ -4,7 +4,7 @@ use Rattle.std.specs.Prelude.{codes}
 use Rattle.std.specs.Int.Digits.{digits_of}
 use Rattle.std.specs.List.{list_any, list_all, AllByRecursion}
 use Rattle.std.specs.Str.{bytes_eq}
-use Rattle.std.proofs.lemmas.Bool.{and_parts, and_from}
+use Rattle.std.proofs.lemmas.Bool.{and_parts, and_from, or_parts, or_from, not_from_false}
 use Rattle.std.proofs.lemmas.Bool.Decides.{nat_tests}
 use Rattle.std.proofs.lemmas.Grind.{common_steps}
 use Rattle.std.proofs.lemmas.List.{append-nil}
@@ -21,7 +21,7 @@ use Rattle.copytext.specs.RoundTrip.{fit_kinds}
 use Rattle.copytext.proofs.EscapedLemmas.{written, escaped_plain, escaped_letter, no_break-escaped}
 use Rattle.copytext.proofs.RoundTrip.{IsText, field_is}
 use Rattle.dumpplan.specs.Lines.{comma_separated, copy_line, end_of_rows, number_text, rows_line}
-use Rattle.restore.proofs.SpellingLemmas.{Lacks, neither, nor, not_false, lacks-append, all_lack, joined_lacks, name_lacks}
+use Rattle.restore.proofs.SpellingLemmas.{Lacks, lacks-append, all_lack, joined_lacks, name_lacks}
 
 -- ---- the line that ends rows
 
@@ -67,8 +67,8 @@ module _ {A : Type 0} where
 no_newline : (text : List ℕ) → list_any is_break text ≡ false → Lacks 10 text
 no_newline [] h = refl
 no_newline (b ∷ text) h =
-    let p = neither (is_break b) (list_any is_break text) h in
-    nor (eqb b 10) (list_any (λ x. eqb x 10) text) (neither (eqb b 10) (eqb b 13) p.0).0 (no_newline text p.1)
+    let p = or_parts (is_break b) (list_any is_break text) h in
+    or_from (eqb b 10) (list_any (λ x. eqb x 10) text) (or_parts (eqb b 10) (eqb b 13) p.0).0 (no_newline text p.1)
 
 module _ {A : Type 0} where
   field_lacks : (kind : Kind) (v : Value A) (text : List ℕ) → IsText kind v text → Lacks 10 text
@@ -84,13 +84,13 @@ module _ {A : Type 0} where
       let p = and_parts (has_kind k v) (fit_kinds kinds (w ∷ ws)) h in
       lacks-append 10 (field_text v) (9 ∷ line_text (w ∷ ws)) (field_lacks k v (field_text v) (field_is k v p.0)) (row_lacks kinds (w ∷ ws) p.1)
 
--- ---- nor in the other lines
+-- ---- or_from in the other lines
 
 names_lack : (ds : List Column) → list_all (λ d. is_name d.name) ds ≡ true → all_lack 10 (map (λ t. 32 ∷ t) (map (λ d. d.name) ds)) ≡ true
 names_lack [] h = refl
 names_lack (d ∷ ds) h =
     let p = and_parts (is_name d.name) (list_all (λ e. is_name e.name) ds) h in
-    and_from (not (list_any (λ b. eqb b 10) d.name)) (all_lack 10 (map (λ t. 32 ∷ t) (map (λ e. e.name) ds))) (not_false (list_any (λ b. eqb b 10) d.name) (name_lacks 10 refl d.name p.0)) (names_lack ds p.1)
+    and_from (not (list_any (λ b. eqb b 10) d.name)) (all_lack 10 (map (λ t. 32 ∷ t) (map (λ e. e.name) ds))) (not_from_false (list_any (λ b. eqb b 10) d.name) (name_lacks 10 refl d.name p.0)) (names_lack ds p.1)
 
 columns_lack : (ds : List Column) → list_all (λ d. is_name d.name) ds ≡ true → Lacks 10 (comma_separated (map (λ d. d.name) ds))
 columns_lack [] h = refl
@@ -109,7 +109,7 @@ glyphs_lack : (ds : List ℕ) → AllByRecursion (λ d. d < 10) ds → Lacks 10 
 glyphs_lack [] h = refl
 glyphs_lack (d ∷ ds) h =
     let digit : eqb (48 + d) 10 ≡ false = grind (arith, nat_tests, common_steps) in
-    nor (eqb (48 + d) 10) (list_any (λ b. eqb b 10) (map (λ e. 48 + e) ds)) digit (glyphs_lack ds h.1)
+    or_from (eqb (48 + d) 10) (list_any (λ b. eqb b 10) (map (λ e. 48 + e) ds)) digit (glyphs_lack ds h.1)
 
 number_lacks : (n : ℕ) → Lacks 10 (number_text n)
 number_lacks zero = refl

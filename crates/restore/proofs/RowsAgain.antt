@@ -8,7 +8,7 @@ use Rattle.std.specs.Ordering.{is_lt, ordering_reverse}
 use Rattle.std.specs.declared.cmp.Ordering.{Ordering}
 use Rattle.std.specs.declared.cmp.Ordering.TheVariants.{Less, Equal, Greater}
 use Rattle.std.specs.Str.{is_utf8}
-use Rattle.std.proofs.lemmas.Bool.{and_parts, and_from}
+use Rattle.std.proofs.lemmas.Bool.{and_parts, and_from, not-true, or_from}
 use Rattle.std.proofs.lemmas.List.{get_or_append_left}
 use Rattle.std.proofs.lemmas.Option.{slice_get_within}
 use Rattle.std.proofs.Math.Seq.{get_or-append_seam, set-append_seam}
@@ -26,8 +26,7 @@ use Rattle.schema.specs.Plain.{is_null, cells, rows_of, row_at, has_kind, is_the
 use Rattle.schema.specs.Inserting.{is_of_kind, are_of_kinds, has_zero_byte, lacks_value, dangles, inserting_fault, inserted}
 use Rattle.copytext.specs.RoundTrip.{fit_kinds}
 use Rattle.schema.specs.WellFormed.{references_key}
-use Rattle.restore.proofs.CatalogLemmas.{key_there, not_true}
-use Rattle.restore.proofs.SpellingLemmas.{nor}
+use Rattle.restore.proofs.CatalogLemmas.{key_there}
 
 pub lt_is : (o : Ordering) → is_lt o ≡ true → o ≡ Less
 lt_is Less h = refl
@@ -53,7 +52,7 @@ module _ {A : Type 0} where
   no_zero k Null h = refl
   no_zero k (Int n) h = refl
   no_zero kind.Bigint (Text t) h = absurd cc
-  no_zero kind.Text (Text t) h = not_true (list_any (λ b. eqb b 0) t) (and_parts (is_utf8 t) (not (list_any (λ b. eqb b 0) t)) h).1
+  no_zero kind.Text (Text t) h = not-true (list_any (λ b. eqb b 0) t) (and_parts (is_utf8 t) (not (list_any (λ b. eqb b 0) t)) h).1
   no_zero kind.Bytea (Text t) h = absurd cc
   no_zero k (Bytes b) h = refl
 
@@ -70,7 +69,7 @@ module _ {A : Type 0} where
       let p = and_parts (has_kind d.kind v && not (d.not_null && is_null v) && is_there X d v) rest h in
       let q = and_parts (has_kind d.kind v && not (d.not_null && is_null v)) (is_there X d v) p.0 in
       let r = and_parts (has_kind d.kind v) (not (d.not_null && is_null v)) q.0 in
-      (record { kind = r.0; present = not_true (d.not_null && is_null v) r.1; there = q.1 }, p.1)
+      (record { kind = r.0; present = not-true (d.not_null && is_null v) r.1; there = q.1 }, p.1)
 
   of_kinds : (X : Tables A) (ds : List Column) (vs : List (Value A)) → fits_columns X ds vs ≡ true → are_of_kinds ds vs ≡ true
   of_kinds X [] [] h = refl
@@ -86,7 +85,7 @@ module _ {A : Type 0} where
   no_zeros X (d ∷ ds) [] h = absurd cc
   no_zeros X (d ∷ ds) (v ∷ vs) h =
       let p = fit X d v (fits_columns X ds vs) h in
-      nor (has_zero_byte v) (list_any has_zero_byte vs) (no_zero d.kind v p.0.kind) (no_zeros X ds vs p.1)
+      or_from (has_zero_byte v) (list_any has_zero_byte vs) (no_zero d.kind v p.0.kind) (no_zeros X ds vs p.1)
 
   no_lack : (X : Tables A) (ds : List Column) (vs : List (Value A)) → fits_columns X ds vs ≡ true → lacks_value ds vs ≡ false
   no_lack X [] [] h = refl
@@ -94,7 +93,7 @@ module _ {A : Type 0} where
   no_lack X (d ∷ ds) [] h = absurd cc
   no_lack X (d ∷ ds) (v ∷ vs) h =
       let p = fit X d v (fits_columns X ds vs) h in
-      nor (d.not_null && is_null v) (lacks_value ds vs) p.0.present (no_lack X ds vs p.1)
+      or_from (d.not_null && is_null v) (lacks_value ds vs) p.0.present (no_lack X ds vs p.1)
 
   pub kinds_fit : (X : Tables A) (ds : List Column) (vs : List (Value A)) → fits_columns X ds vs ≡ true → fit_kinds (map (λ d. d.kind) ds) vs ≡ true
   kinds_fit X [] [] h = refl
@@ -123,7 +122,7 @@ module _ {A : Type 0} where
   no_dangling before X Y same (d ∷ ds) (v ∷ vs) r h =
       let p = fit X d v (fits_columns X ds vs) h in
       let q = and_parts (references_key before d) (list_all (references_key before) ds) r in
-      nor (not (is_there Y d v)) (dangles Y ds vs) (there_too before X Y same d.kind d.references v q.0 p.0.there) (no_dangling before X Y same ds vs q.1 p.1)
+      or_from (not (is_there Y d v)) (dangles Y ds vs) (there_too before X Y same d.kind d.references v q.0 p.0.there) (no_dangling before X Y same ds vs q.1 p.1)
 
   -- ---- a row above those before it
 

@@ -1,5 +1,6 @@
 -- What is read of a dump is sound.
 use Rattle.std.proofs.Common.{◌≡◌, ℕ, ◌+◌, ◌==◌, ◌&&◌, Bool, true, false, cond, List, [], ◌∷◌, length, slice_get, slice_set, Option, Some, None, Result, Ok, Err, refl, subst, length-set}
+use Rattle.std.proofs.lemmas.Bool.{and_parts}
 use Rattle.std.specs.Prelude.{codes}
 use Rattle.std.specs.List.{list_all}
 use Rattle.std.specs.Str.{bytes_eq}
@@ -27,11 +28,6 @@ use Rattle.schema.proofs.LiteralLemmas.{literal_fits}
 use Rattle.restore.proofs.ReadingLemmas.{done_same, empty_is_sound}
 use Rattle.restore.proofs.RowLemmas.{row_of}
 
-both_of : (a b : Bool) → (a && b) ≡ true → (a ≡ true) × (b ≡ true)
-both_of true true e = (refl, refl)
-both_of true false e = absurd cc
-both_of false b e = absurd cc
-
 abbrev done : {T E : Type 0} → T → Result T E
 done x = Ok x
 
@@ -48,7 +44,7 @@ module _ {A : Type 0} where
   made_of_kind of.Text (Int n) h = absurd cc
   made_of_kind of.Bytea (Int n) h = absurd cc
   made_of_kind of.Bigint (Text t) h = absurd cc
-  made_of_kind of.Text (Text t) h = (both_of _ _ h).0
+  made_of_kind of.Text (Text t) h = (and_parts _ _ h).0
   made_of_kind of.Bytea (Text t) h = absurd cc
   made_of_kind of.Bigint (Bytes b) h = absurd cc
   made_of_kind of.Text (Bytes b) h = absurd cc

@@ -3,7 +3,7 @@ use Rattle.std.proofs.Common.{◌≡◌, ℕ, nat_le, Bool, true, false, true≢
 use Rattle.std.specs.Prelude.{codes}
 use Rattle.std.specs.List.{list_any, list_all, slice_split, join_with_byte}
 use Rattle.std.specs.Option.{option_map_or}
-use Rattle.std.proofs.lemmas.Bool.{and_parts, and_from, eqb-true, eq-eqb}
+use Rattle.std.proofs.lemmas.Bool.{and_parts, and_from, eqb-true, eq-eqb, not_from_false, or_from, or_parts, not-true}
 use Rattle.std.proofs.lemmas.List.Splits.{slice_split-cons_yes, slice_split-cons_no}
 use Rattle.value.specs.declared.kind.Kind.{Kind}
 use Rattle.value.specs.declared.kind.Kind.TheVariants as kind
@@ -11,26 +11,18 @@ use Rattle.schema.specs.Definition.{ColumnDef, TableDef}
 use Rattle.schema.specs.Names.{begins_name, continues_name, is_small_word, is_reserved, is_name}
 use Rattle.schema.specs.Adding.{is_well_named, defined}
 use Rattle.dumpplan.specs.Lines.{kind_word, comma_separated, reference_text, not_null_text, named_text, key_text, column_text, column_texts, create_line}
-use Rattle.restore.proofs.CatalogLemmas.{not_true}
-use Rattle.restore.specs.CreateLine.{behind, parted, name_of, kind_at, named, referenced, key_column, not_null_at, other_column, other_columns, columns, in_parentheses, well_formed, table_of}
+use Rattle.restore.specs.CreateLine.{parted, name_of, kind_at, named, referenced, key_column, not_null_at, other_column, other_columns, columns, in_parentheses, well_formed, table_of}
 
 -- ---- bytes that a text lacks
 
 abbrev pub Lacks : ℕ → List ℕ → Type 0
 Lacks c text = list_any (λ b. eqb b c) text ≡ false
 
-pub neither : (p q : Bool) → (p || q) ≡ false → (p ≡ false) × (q ≡ false)
-neither true q h = absurd (true≢false h)
-neither false q h = (refl, h)
-
-pub nor : (p q : Bool) → p ≡ false → q ≡ false → (p || q) ≡ false
-nor p q a b = cc
-
 pub lacks-append : (c : ℕ) (a b : List ℕ) → Lacks c a → Lacks c b → Lacks c (a ++ b)
 lacks-append c [] b h k = k
 lacks-append c (x ∷ a) b h k =
-    let p = neither (eqb x c) (list_any (λ y. eqb y c) a) h in
-    nor (eqb x c) (list_any (λ y. eqb y c) (a ++ b)) p.0 (lacks-append c a b p.1 k)
+    let p = or_parts (eqb x c) (list_any (λ y. eqb y c) a) h in
+    or_from (eqb x c) (list_any (λ y. eqb y c) (a ++ b)) p.0 (lacks-append c a b p.1 k)
 
 itself : (c : ℕ) → eqb c c ≡ true
 itself c = eq-eqb c c refl
@@ -39,41 +31,37 @@ itself c = eq-eqb c c refl
 pub cut_at : (c : ℕ) (text rest : List ℕ) → Lacks c text → slice_split (λ b. eqb b c) (text ++ c ∷ rest) ≡ text ∷ slice_split (λ b. eqb b c) rest
 cut_at c [] rest h = slice_split-cons_yes (λ b. eqb b c) c rest (itself c)
 cut_at c (b ∷ text) rest h =
-    let p = neither (eqb b c) (list_any (λ y. eqb y c) text) h in
+    let p = or_parts (eqb b c) (list_any (λ y. eqb y c) text) h in
     slice_split-cons_no (λ x. eqb x c) b (text ++ c ∷ rest) p.0 ∙ rw (cut_at c text rest p.1) refl
 
 pub uncut : (c : ℕ) (text : List ℕ) → Lacks c text → slice_split (λ b. eqb b c) text ≡ text ∷ []
 uncut c [] h = refl
 uncut c (b ∷ text) h =
-    let p = neither (eqb b c) (list_any (λ y. eqb y c) text) h in
+    let p = or_parts (eqb b c) (list_any (λ y. eqb y c) text) h in
     slice_split-cons_no (λ x. eqb x c) b text p.0 ∙ rw (uncut c text p.1) refl
 
 pub parted_at : (c : ℕ) (text rest : List ℕ) → Lacks c text → parted c (text ++ c ∷ rest) ≡ Some (text, rest)
 parted_at c [] rest h = rw (itself c) refl
 parted_at c (b ∷ text) rest h =
-    let p = neither (eqb b c) (list_any (λ y. eqb y c) text) h in
+    let p = or_parts (eqb b c) (list_any (λ y. eqb y c) text) h in
     rw (p.0, parted_at c text rest p.1) refl
 
 -- texts that lack a byte are the parts of what is joined by it
 abbrev pub all_lack : ℕ → List (List ℕ) → Bool
 all_lack c texts = list_all (λ text. not (list_any (λ b. eqb b c) text)) texts
 
-pub not_false : (b : Bool) → b ≡ false → not b ≡ true
-not_false true e = absurd (true≢false e)
-not_false false e = refl
-
 parts_joined : (c : ℕ) (x : List ℕ) (xs : List (List ℕ)) → Lacks c x → all_lack c xs ≡ true → slice_split (λ b. eqb b c) (join_with_byte c (x ∷ xs)) ≡ x ∷ xs
 parts_joined c x [] h hs = uncut c x h
 parts_joined c x (y ∷ ys) h hs =
     let p = and_parts (not (list_any (λ b. eqb b c) y)) (all_lack c ys) hs in
-    cut_at c x (join_with_byte c (y ∷ ys)) h ∙ ap (λ (parts : List (List ℕ)). x ∷ parts) (parts_joined c y ys (not_true (list_any (λ b. eqb b c) y) p.0) p.1)
+    cut_at c x (join_with_byte c (y ∷ ys)) h ∙ ap (λ (parts : List (List ℕ)). x ∷ parts) (parts_joined c y ys (not-true (list_any (λ b. eqb b c) y) p.0) p.1)
 
 pub joined_lacks : (c s : ℕ) (x : List ℕ) (xs : List (List ℕ)) → eqb s c ≡ false → Lacks c x → all_lack c xs ≡ true → Lacks c (join_with_byte s (x ∷ xs))
 joined_lacks c s x [] apart h hs = h
 joined_lacks c s x (y ∷ ys) apart h hs =
     let p = and_parts (not (list_any (λ b. eqb b c) y)) (all_lack c ys) hs in
     lacks-append c x (s ∷ join_with_byte s (y ∷ ys)) h
-    (nor (eqb s c) (list_any (λ b. eqb b c) (join_with_byte s (y ∷ ys))) apart (joined_lacks c s y ys apart (not_true (list_any (λ b. eqb b c) y) p.0) p.1))
+    (or_from (eqb s c) (list_any (λ b. eqb b c) (join_with_byte s (y ∷ ys))) apart (joined_lacks c s y ys apart (not-true (list_any (λ b. eqb b c) y) p.0) p.1))
 
 -- ---- names
 
@@ -92,7 +80,7 @@ word_lacks : (c : ℕ) → continues_name c ≡ false → (w : List ℕ) → lis
 word_lacks c apart [] h = refl
 word_lacks c apart (b ∷ w) h =
     let p = and_parts (continues_name b) (list_all continues_name w) h in
-    nor (eqb b c) (list_any (λ x. eqb x c) w) (other (eqb b c) refl p.0) (word_lacks c apart w p.1)
+    or_from (eqb b c) (list_any (λ x. eqb x c) w) (other (eqb b c) refl p.0) (word_lacks c apart w p.1)
   where
     other : (t : Bool) → eqb b c ≡ t → continues_name b ≡ true → t ≡ false
     other true e k = absurd (true≢false (sym k ∙ ap continues_name (eqb-true b c e) ∙ apart))
@@ -149,7 +137,7 @@ named_spelled d marks = append_assoc d.name (32 ∷ kind_word d.kind) marks
 
 named_lacks : (c : ℕ) → IsApart c → (d : ColumnDef) (marks : List ℕ) → is_name d.name ≡ true → Lacks c marks → Lacks c (named_text d marks)
 named_lacks c apart d marks h k =
-    let rest : Lacks c (32 ∷ (kind_word d.kind ++ marks)) = nor (eqb 32 c) (list_any (λ b. eqb b c) (kind_word d.kind ++ marks)) apart.space (lacks-append c (kind_word d.kind) marks (apart.kinds d.kind) k) in
+    let rest : Lacks c (32 ∷ (kind_word d.kind ++ marks)) = or_from (eqb 32 c) (list_any (λ b. eqb b c) (kind_word d.kind ++ marks)) apart.space (lacks-append c (kind_word d.kind) marks (apart.kinds d.kind) k) in
     subst (Lacks c) (sym (named_spelled d marks)) (lacks-append c d.name (32 ∷ (kind_word d.kind ++ marks)) (name_lacks c apart.name d.name h) rest)
 
 pub key_lacks : (c : ℕ) → IsApart c → (d : ColumnDef) → is_well_named d ≡ true → Lacks c (key_text d)
@@ -168,7 +156,7 @@ others_lack c apart [] h = refl
 others_lack c apart (d ∷ ds) h =
     let p = and_parts (is_well_named d) (list_all is_well_named ds) h in
     and_from (not (eqb 32 c || list_any (λ b. eqb b c) (column_text d))) (all_lack c (map (λ t. 32 ∷ t) (map column_text ds)))
-    (not_false (eqb 32 c || list_any (λ b. eqb b c) (column_text d)) (nor (eqb 32 c) (list_any (λ b. eqb b c) (column_text d)) apart.space (column_lacks c apart d p.0)))
+    (not_from_false (eqb 32 c || list_any (λ b. eqb b c) (column_text d)) (or_from (eqb 32 c) (list_any (λ b. eqb b c) (column_text d)) apart.space (column_lacks c apart d p.0)))
     (others_lack c apart ds p.1)
 
 -- ---- columns read as they are written
@@ -236,7 +224,7 @@ are_columns : (d : ColumnDef) (ds : List ColumnDef) → is_key_first (d ∷ ds) 
 are_columns d ds h =
     let p = and_parts (not d.not_null && is_well_named d) (list_all is_well_named ds) h in
     let q = and_parts (not d.not_null) (is_well_named d) p.0 in
-    record { unmarked = not_true d.not_null q.0; key = q.1; others = p.1 }
+    record { unmarked = not-true d.not_null q.0; key = q.1; others = p.1 }
 
 read_columns : (e : ColumnDef) (es : List ColumnDef) → AreColumns e es → columns (key_text e ∷ map (λ t. 32 ∷ t) (map column_text es)) ≡ Ok (e ∷ es)
 unfolding columns
@@ -281,9 +269,6 @@ read_table e m n =
 
 pub table_again : (d : TableDef) → is_name d.name ≡ true → is_key_first d.columns ≡ true → table_of (behind_words d) ≡ well_formed (defined d.name d.columns)
 table_again d h k = ap table_of (words_spelled d) ∙ read_table d h k
-
-pub create_line_behind : (d : TableDef) → behind (codes "CREATE TABLE ") (create_line d) ≡ Some (behind_words d)
-create_line_behind d = refl
 
 pub create_line_lacks : (d : TableDef) → is_name d.name ≡ true → is_key_first d.columns ≡ true → Lacks 10 (create_line d)
 create_line_lacks d h k =

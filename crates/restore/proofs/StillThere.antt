@@ -1,7 +1,7 @@
--- Rows that are there stay there while others are put in, and so do references that were found.
-use Rattle.std.proofs.Common.{◌≡◌, ℕ, ◌<◌, ◌≤◌, Bool, true, false, cond, not, ◌&&◌, ◌⊎◌, inl, inr, List, [], ◌∷◌, length, Option, Some, None, is_some, slice_set, Result, Ok, Err, OnErr, refl, ap, sym, subst, ◌∙◌, arith}
+-- Rows that are there stay there while others are put in, and not-false do references that were found.
+use Rattle.std.proofs.Common.{◌≡◌, ℕ, ◌<◌, ◌≤◌, Bool, true, false, cond, not, ◌&&◌, ◌⊎◌, inl, inr, List, [], ◌∷◌, length, Option, Some, None, is_some, slice_set, Result, Ok, Err, refl, ap, sym, subst, ◌∙◌, arith}
 use Rattle.std.specs.List.{list_any}
-use Rattle.std.proofs.lemmas.Bool.{and_parts}
+use Rattle.std.proofs.lemmas.Bool.{and_parts, not-false, not-true, or_parts, or_from}
 use Rattle.value.specs.declared.refusal.Code.{Code}
 use Rattle.value.specs.declared.value.Value.{Value}
 use Rattle.value.specs.Order.{value_cmp}
@@ -19,18 +19,11 @@ use Rattle.std.specs.Ordering.{is_lt}
 use Rattle.restore.specs.declared.error.LineError.{LineError}
 use Rattle.restore.specs.declared.rows.ReadPiece.{ReadPiece}
 use Rattle.restore.specs.Rows.{is_free, rise_from, rise, AreStillThere, AreKnown, MayRise}
-use Rattle.restore.specs.Steps.{Gives}
 use Rattle.restore.proofs.BehindLemmas.{none_dangles}
-use Rattle.restore.proofs.CatalogLemmas.{not_true}
 use Rattle.restore.proofs.ReadingLemmas.{done_same}
-use Rattle.restore.proofs.SpellingLemmas.{neither, nor}
 
 two_places : (n t : ℕ) → (n ≤ t) ⊎ (t < n)
 two_places n t = grind arith
-
-so : (b : Bool) → not b ≡ false → b ≡ true
-so true e = refl
-so false e = absurd cc
 
 swap : (a b c : Bool) → (a ≡ true → b ≡ true) → (a && c) ≡ true → (b && c) ≡ true
 swap true true c f h = h
@@ -70,10 +63,6 @@ module _ {A : Type 0} where
       go (Some code) is = absurd (let e = rw is at h in cc)
       go None is = subst (AreStillThere X) (done_same {E = Code} (slice_set X t (put_row (rows_of X t) row)) Y (rw is at h)) (still-put X t row)
 
-  pub still-gives : {U : Type 0} (c : Catalog) (X Y : Tables A) (t : ℕ) (row : Row A) (r : Result U LineError) → Gives (λ _. Y) r (inserted c X t row) → OnErr r (Y ≡ X) → AreStillThere X Y
-  still-gives c X Y t row (Ok u) given same = still-inserted c X Y t row given
-  still-gives c X Y t row (Err e) given same = subst (AreStillThere X) (sym same) (still-same X)
-
   -- ---- references that were found
 
   still_dangles : (X Y : Tables A) (ds : List Column) (vs : List (Value A)) → AreStillThere X Y → dangles X ds vs ≡ false → dangles Y ds vs ≡ false
@@ -81,21 +70,21 @@ module _ {A : Type 0} where
   still_dangles X Y [] (v ∷ vs) f h = refl
   still_dangles X Y (d ∷ ds) [] f h = refl
   still_dangles X Y (d ∷ ds) (v ∷ vs) f h =
-      let p = neither (not (is_there X d v)) (dangles X ds vs) h in
-      let there : is_there Y d v ≡ true = there_still X Y d v (λ u. f u v) (so (is_there X d v) p.0) in
-      nor (not (is_there Y d v)) (dangles Y ds vs) (ap not there) (still_dangles X Y ds vs f p.1)
+      let p = or_parts (not (is_there X d v)) (dangles X ds vs) h in
+      let there : is_there Y d v ≡ true = there_still X Y d v (λ u. f u v) (not-false (is_there X d v) p.0) in
+      or_from (not (is_there Y d v)) (dangles Y ds vs) (ap not there) (still_dangles X Y ds vs f p.1)
 
-  -- what is free with references looked up somewhere is so with these looked up elsewhere
+  -- what is free with references looked up somewhere is not-false with these looked up elsewhere
   abbrev pub IsFreeToo : Option (Tables A) → Option (Tables A) → List Column → Type 0
   IsFreeToo known K ds = (row : Row A) → is_free known ds row ≡ true → is_free K ds row ≡ true
 
   pub free-still : (X Y : Tables A) (ds : List Column) → AreStillThere X Y → IsFreeToo (Some X) (Some Y) ds
-  free-still X Y ds f row h = swap (not (dangles X ds (cells row))) (not (dangles Y ds (cells row))) (not (lacks_value ds (cells row))) (λ e. ap not (still_dangles X Y ds (cells row) f (not_true (dangles X ds (cells row)) e))) h
+  free-still X Y ds f row h = swap (not (dangles X ds (cells row))) (not (dangles Y ds (cells row))) (not (lacks_value ds (cells row))) (λ e. ap not (still_dangles X Y ds (cells row) f (not-true (dangles X ds (cells row)) e))) h
 
   pub free-nowhere : (Y : Tables A) (ds : List Column) → IsFreeToo None (Some Y) ds
   free-nowhere Y ds row h =
       swap (not (list_any (λ d. is_some d.references) ds)) (not (dangles Y ds (cells row))) (not (lacks_value ds (cells row)))
-      (λ e. ap not (none_dangles Y ds (cells row) (not_true (list_any (λ d. is_some d.references) ds) e))) h
+      (λ e. ap not (none_dangles Y ds (cells row) (not-true (list_any (λ d. is_some d.references) ds) e))) h
 
   pub rise_from-too : (known K : Option (Tables A)) (ds : List Column) (key : Value A) (rows : List (Result (Row A) LineError)) → IsFreeToo known K ds → rise_from known ds key rows ≡ true → rise_from K ds key rows ≡ true
   rise_from-too known K ds key [] f h = refl

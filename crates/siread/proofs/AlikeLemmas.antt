@@ -303,9 +303,6 @@ module _ {A : Type 0} where
   pub alike_equal : (rs qs : List (Reading A)) → rs ≡ qs → CoverAlike rs qs
   alike_equal rs qs e = record { keys = λ more t k. ap (λ xs. covers (xs ++ more) t k) e; references = λ more t j k. ap (λ xs. covers_value (xs ++ more) t j k) e }
 
-  pub alike_turned : (rs qs : List (Reading A)) → CoverAlike rs qs → CoverAlike qs rs
-  alike_turned rs qs a = record { keys = λ more t k. sym (a.keys more t k); references = λ more t j k. sym (a.references more t j k) }
-
   pub alike_then : (rs qs ps : List (Reading A)) → CoverAlike rs qs → CoverAlike qs ps → CoverAlike rs ps
   alike_then rs qs ps a b = record { keys = λ more t k. a.keys more t k ∙ b.keys more t k; references = λ more t j k. a.references more t j k ∙ b.references more t j k }
 

@@ -1,5 +1,5 @@
 -- What is kept of one transaction's reads, as it grows.
-use Rattle.std.proofs.Common.{◌≡◌, sym, ap, ◌∙◌, ℕ, ◌+◌, ◌<◌, false, List, [], ◌∷◌, ◌++◌, length, take, drop, get_or, ◌≤◌, arith, length-append, append_assoc, append-nil}
+use Rattle.std.proofs.Common.{◌≡◌, sym, ap, ◌∙◌, ℕ, ◌+◌, ◌<◌, false, List, [], ◌∷◌, ◌++◌, length, take, drop, get_or, append_assoc, append-nil}
 use Rattle.std.proofs.Math.Seq.{take-append_seam}
 use Rattle.std.proofs.lemmas.List.{take-append-drop, take_more}
 use Rattle.statement.specs.declared.reading.Reading.{Reading}
@@ -40,11 +40,6 @@ module _ {A : Type 0} where
       (append_assoc kept (take i readings) (r ∷ []) ∙ ap (λ xs. kept ++ xs) (ap (λ y. take i readings ++ y ∷ []) at ∙ sym (take_more readings i r lt))))
 
   -- ---- the whole of it, once its beginning is settled
-
-  pub still_within : (kept now : List (Reading A)) (m : ℕ) → m ≡ length kept → Keeps kept now → m ≤ length now
-  still_within kept now m e k =
-      let l : length now ≡ length kept + length k.grown.0 = ap length k.grown.1 ∙ length-append kept k.grown.0 in
-      omega arith
 
   -- as its parts
   abbrev pub parted_at : ℕ → List (Reading A) → Reads A
