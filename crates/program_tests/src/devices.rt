@@ -80,13 +80,25 @@ fn files_without_memory(rt: HostRuntime) -> Result<(), Fail> {
         (
             "run - --free",
             SCARCE,
-            (0, "1 BEGIN\n1 SAFE 0\n1 ERROR 53200\n1 COMMIT\ncheck yes\n", ""),
+            (
+                0,
+                "1 BEGIN\n1 SAFE 0\n1 ERROR 53200\n1 COMMIT\ncheck yes\n",
+                "",
+            ),
         ),
         ("run -", "OPEN scarce;\n", (1, "", "dump line 0: 53200\n")),
         ("run scarce", "", (1, "", "script line 0\n")),
         ("audit scarce", "", (1, "", "script line 0\n")),
-        ("restore scarce --out o", "", (1, "", "dump line 0: 53200\n")),
-        ("restore - --out scarce", EXAMPLE, (1, "", "dump line 0: 53200\n")),
+        (
+            "restore scarce --out o",
+            "",
+            (1, "", "dump line 0: 53200\n"),
+        ),
+        (
+            "restore - --out scarce",
+            EXAMPLE,
+            (1, "", "dump line 0: 53200\n"),
+        ),
     ] {
         assert_ends(&rt, Given::of(words, input), want)?;
     }

@@ -193,4 +193,3 @@ fn dumps_of_few_and_of_many_rows(rt: HostRuntime) -> Result<(), Refusal> {
     }
     Ok(())
 }
-
