@@ -227,8 +227,8 @@ fn is_right(ended: &Ended, wanted: &Ended, likely: &[Likely]) -> bool {
         0 if ended.out == wanted.out => ended.err.is_empty() && ended.dumped == wanted.dumped,
         0 => ended.err.is_empty() && likely.iter().any(|likely| is_of(ended, likely)),
         1 => {
-            let err = ended.err.as_str();
-            (err == "script line 0\n" || err == "dump line 0: 53200\n")
+            let told = ended.err.as_str().strip_suffix("out of memory\n");
+            (told == Some("script line 0\n") || told == Some("dump line 0: 53200\n"))
                 && wanted.out.starts_with(ended.out.as_str())
                 && (ended.out.is_empty() || ended.out.ends_with("\n"))
         }

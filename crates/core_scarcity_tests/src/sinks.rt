@@ -4,8 +4,9 @@ ghost use Rattle.std.specs.Prelude.{◌≡◌, ◌+◌, ◌++◌, length, map};
 
 use collector::{Device, DeviceError};
 use http_server::Log;
-use program::files::{Files, OutFile, ReadError, Stored};
+use program::files::{Files, OutFile, Placed, ReadError, Stored};
 use std::alloc::{AllocError, Allocator};
+use std::mem;
 use std::sync::atomic::{AtomicU64, Ordering};
 
 /// What standard input has, and what the file `d`; and the sum of what the file `out` has taken.
@@ -22,6 +23,7 @@ pub struct Sink<'f> {
     sum: &'f AtomicU64,
     path: Log<u8, ()>,
     taken: Log<u8, ()>,
+    kept: Log<u8, ()>,
 }
 
 /// The sum of bytes that follow others, which had the sum `before`. Texts that differ in one byte have different sums,
@@ -71,6 +73,15 @@ impl<'f> Device for Sink<'f> {
     }
 }
 
+impl<'f> Placed for Sink<'f> {
+    ghost kept = { λ f. map (λ p. p.0) f.kept.items };
+
+    fn keep(&mut self) -> Result<(), DeviceError> {
+        self.kept = mem::replace(&mut self.taken, Log::new());
+        Ok(())
+    }
+}
+
 impl<'f> OutFile for Sink<'f> {
     ghost path = { λ f. map (λ p. p.0) f.path.items };
 }
@@ -113,6 +124,7 @@ impl<'f, A: Allocator> Files<A> for Texts<'f> {
             sum: self.sum,
             path: noted(path.as_bytes()),
             taken: Log::new(),
+            kept: Log::new(),
         })
     }
 }

@@ -1,12 +1,20 @@
 //! `pgserial`: scripts of sessions on an in-memory relational server whose transactions are
-//! serializable, and dumps.
+//! serializable, and dumps; what can come of a script, why a transaction was refused, and whether a recorded
+//! history has a serial order.
 
 #![tactic(auto)]
 
+use command_check::words::check_words;
+use command_explore::words::explore_words;
 use program::host::HostFiles;
+use program::naming::NamingOutput;
+use program::reasons::SystemErrors;
 use program::words::run_words;
-use std::io::ErrorKind;
+use std::alloc::Global;
+use std::io::{ErrorKind, IsTerminal, Write};
 use std::process::ExitCode;
+use std::sync::Wait;
+use std::thread::Threads;
 use std::{env, io};
 
 // The words behind the program's name.
@@ -37,6 +45,35 @@ fn end_without_words(rt: &HostRuntime, error: &io::Error) -> ExitCode {
     ExitCode::from(2)
 }
 
+// Tells a person who gave no words what is read.
+fn greet(rt: &HostRuntime, words: &[&str]) {
+    if words.is_empty() && rt.stdin().is_terminal() {
+        let _ = eprintln!(rt;
+            "pgserial reads a script from here; Ctrl-D on a line of its own ends it, `pgserial --help` tells more"
+        );
+    }
+}
+
+// Does what the words ask for: a command that has its words to itself, or else the program's.
+fn do_words<R: Threads + Wait + Sync, W: Write, E: Write>(
+    rt: &R,
+    alloc: Global,
+    words: &[&str],
+    files: &HostFiles<'_>,
+    out: &mut W,
+    err: &mut E,
+) -> u8 {
+    let (command, rest) = match words {
+        [command, rest @ ..] => (*command, rest),
+        [] => ("", words),
+    };
+    match command {
+        "check" => check_words(rt, alloc, alloc, rest, files, out, err),
+        "explore" => explore_words(alloc, alloc, rest, files, out, err),
+        _ => run_words(rt, alloc, alloc, words, files, out, err),
+    }
+}
+
 fn main(rt: HostRuntime) -> ExitCode {
     let words = match words(&rt) {
         Ok(words) => words,
@@ -46,16 +83,13 @@ fn main(rt: HostRuntime) -> ExitCode {
         Ok(lent) => lent,
         Err(error) => return end_without_words(&rt, &error),
     };
-    let files = HostFiles { rt: &rt };
-    let (mut out, mut err) = (rt.stdout(), rt.stderr());
-    let status = run_words(
-        &rt,
-        rt.alloc(),
-        rt.alloc(),
-        lent.as_slice(),
-        &files,
-        &mut out,
-        &mut err,
-    );
+    let errors = SystemErrors::none();
+    let files = HostFiles {
+        rt: &rt,
+        errors: &errors,
+    };
+    greet(&rt, lent.as_slice());
+    let (mut out, mut err) = (NamingOutput::new(&rt), rt.stderr());
+    let status = do_words(&rt, rt.alloc(), lent.as_slice(), &files, &mut out, &mut err);
     ExitCode::from(status)
 }

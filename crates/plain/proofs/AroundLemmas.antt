@@ -2,7 +2,7 @@
 use Rattle.std.proofs.Common.{◌≡◌, refl, sym, ap, ◌∙◌, ℕ, zero, suc, ◌<◌, ◌≤◌, Bool, true, false, cond, ◌&&◌, List, [], ◌∷◌, ◌++◌, length, get_or, None, arith}
 use Rattle.std.specs.List.{AllByRecursion, filter}
 use Rattle.std.proofs.lemmas.List.Elements.{filter-append}
-use Rattle.value.specs.Isolation.{bound, caused, earliest, is_dangerous}
+use Rattle.value.specs.Isolation.{bound, is_dangerous}
 use Rattle.history.specs.Transactions.{Txn, edge, is_read_write, node, reads_from}
 use Rattle.plain.specs.Ledger.{txn_at}
 use Rattle.plain.specs.Stretches.{IsAround, IsPast}
@@ -20,13 +20,12 @@ module _ {A : Type 0} where
   edges-none t place (u ∷ us) all = (past-edge t place u all.0, edges-none t place us all.1)
 
   -- what the middle one's snapshot shows closes nothing
-  pub pair-around : (ts front back : List (Txn A)) (a b : Txn A) (place : ℕ) → IsAround b.snapshot place ts front back → closed_pair node edge (front ++ back) a b ≡ closed_pair node edge ts a b
-  pair-around ts front back a b place r =
-      ap (λ xs. caused node edge a b (earliest node edge xs))
-      (filter-append (is_dangerous node edge a b) front back
-      ∙ sym (ap (filter (is_dangerous node edge a b)) r.whole ∙ filter-append (is_dangerous node edge a b) front (r.between ++ back)
+  pub pair-filter : (ts front back : List (Txn A)) (a b : Txn A) (place : ℕ) → IsAround b.snapshot place ts front back
+      → filter (is_dangerous node edge a b) front ++ filter (is_dangerous node edge a b) back ≡ filter (is_dangerous node edge a b) ts
+  pair-filter ts front back a b place r =
+      sym (ap (filter (is_dangerous node edge a b)) r.whole ∙ filter-append (is_dangerous node edge a b) front (r.between ++ back)
       ∙ ap (λ ys. filter (is_dangerous node edge a b) front ++ ys) (filter-append (is_dangerous node edge a b) r.between back
-      ∙ ap (λ ys. ys ++ filter (is_dangerous node edge a b) back) (none_closed node edge a b r.between (edges-none b place r.between r.past)))))
+      ∙ ap (λ ys. ys ++ filter (is_dangerous node edge a b) back) (none_closed node edge a b r.between (edges-none b place r.between r.past))))
 
   -- what the first one's snapshot shows is in the middle of nothing
   pub pivots-none : (a : Txn A) (place : ℕ) (ts bs : List (Txn A)) → AllByRecursion (IsPast a.snapshot place) bs → AllByRecursion (λ b. closed_pair node edge ts a b ≡ None) bs

@@ -120,6 +120,22 @@ earlier_first n (Some k) m = go (nat_lt m.commit k.commit) refl (nat_lt k.commit
     go false p true q = ap (λ b. cond b k n) q ∙ sym (ap (λ b. cond b m k) p)
     go false p false q = ap (λ b. cond b k n) q ∙ sym (ap (λ b. cond b m n) (before_or_after m.commit k.commit n.commit p q))
 
+first_of-assoc : (o : Option Node) (m n : Node) → first_of (Some (first_of o m)) n ≡ first_of o (first_of (Some m) n)
+first_of-assoc None m n = refl
+first_of-assoc (Some k) m n = go (nat_lt m.commit k.commit) refl (nat_lt n.commit m.commit) refl
+  where
+    go : (b : Bool) → nat_lt m.commit k.commit ≡ b → (d : Bool) → nat_lt n.commit m.commit ≡ d
+        → cond (nat_lt n.commit (cond b m k).commit) n (cond b m k) ≡ cond (nat_lt (cond d n m).commit k.commit) (cond d n m) k
+    go true p true q = ap (λ b. cond b n m) q ∙ sym (ap (λ b. cond b n k) (before_both n.commit m.commit k.commit q p))
+    go true p false q = ap (λ b. cond b n m) q ∙ sym (ap (λ b. cond b m k) p)
+    go false p true q = refl
+    go false p false q = ap (λ b. cond b n k) (before_or_after n.commit m.commit k.commit q p) ∙ sym (ap (λ b. cond b m k) p)
+
+pub both-assoc : (a b c : Option Node) → first_of_both (first_of_both a b) c ≡ first_of_both a (first_of_both b c)
+both-assoc a b None = refl
+both-assoc a None (Some n) = refl
+both-assoc a (Some m) (Some n) = ap Some (first_of-assoc a m n)
+
 module _ {T : Type 0} (node : T → Node) (edge : T → T → Bool) where
   node-earlier : (x : T) (o : Option T) → node (earlier node edge x o) ≡ earlier_of (node x) (option_map node o)
   node-earlier x None = refl

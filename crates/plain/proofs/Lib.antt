@@ -1,5 +1,6 @@
 pub mod CauseLemmas
 mod AroundLemmas
+mod PieceLemmas
 pub mod CalmLemmas
 pub mod ReadLemmas
 mod ForgettingLemmas

@@ -1,27 +1,30 @@
 -- Changes by key, with one more put over those of its key.
-use Rattle.std.proofs.Common.{◌≡◌, refl, sym, ap, subst, ◌∙◌, ℕ, suc, ◌+◌, ◌<◌, ◌≤◌, Bool, true, false, true≢false, T, cond, ◌&&◌, List, [], ◌∷◌, ◌++◌, length, take, get_or, Option, Some, None, is_some, unwrap_or, eqb, arith}
+use Rattle.std.proofs.Common.{◌≡◌, refl, sym, ap, subst, ◌∙◌, ℕ, suc, ◌+◌, ◌<◌, ◌≤◌, Bool, true, false, true≢false, T, cond, ◌&&◌, ◌||◌, List, [], ◌∷◌, ◌++◌, length, take, drop, get_or, Bor, Option, Some, None, is_some, unwrap_or, eqb, arith}
 use Rattle.std.specs.FinMap.{is_sorted}
 use Rattle.std.specs.FinMap.Entries.{same_entries}
-use Rattle.std.specs.List.{AllByRecursion}
+use Rattle.std.specs.List.{AllByRecursion, find}
+use Rattle.std.specs.Option.{option_map, option_copied}
+use Rattle.std.proofs.lemmas.List.Folds.{list_any-append}
 use Rattle.std.specs.List.Sorted.{IsStrictlySortedBy}
 use Rattle.std.specs.Cmp.{IsTotalOrder}
 use Rattle.std.specs.Ordering.{nat_cmp, ordering_then, ordering_reverse, match_ordering}
 use Rattle.std.specs.declared.cmp.Ordering.{Ordering}
 use Rattle.std.specs.declared.cmp.Ordering.TheVariants.{Less, Equal, Greater}
 use Rattle.std.proofs.lemmas.Bool.{eqb-true}
+use Rattle.std.proofs.lemmas.Bool.Decides.{nat_tests}
 use Rattle.std.proofs.lemmas.Cmp.{nat_cmp_total, on_total, then_total, tied_itself}
 use Rattle.std.proofs.lemmas.Map.Lookups.{exact_unsigned}
-use Rattle.std.proofs.lemmas.List.{take_more, take_all, take-append-le}
+use Rattle.std.proofs.lemmas.List.{take_more, take_all, take-append-drop, take-append-le}
 use Rattle.value.specs.declared.value.Value.{Value}
 use Rattle.value.specs.Order.{value_cmp, value_cmp-total, value_cmp-exact}
 use Rattle.schema.specs.declared.row.Row.{Row}
 use Rattle.schema.specs.declared.changes.Change.{Change}
 use Rattle.schema.specs.declared.tables.Tables.{Tables}
-use Rattle.schema.specs.Changing.{change_cmp, put_change}
+use Rattle.schema.specs.Changing.{change_cmp, change_of, new_row, put_change}
 use Rattle.schema.specs.Plain.{same, rows_of, row_at, put_in, put_all}
 use Rattle.schema.proofs.PlainLemmas.{IsOrdered, touches, left_by, length-put_in, length-put_all, row_at-put_in, row_at-put_all, put_in-ordered, put_all-ordered, put_all-append, same_value}
 use Rattle.schema.proofs.InsertingLemmas.{sorted_from}
-use Rattle.plain.specs.Merged.{AreInKeyOrder, AreMerged}
+use Rattle.plain.specs.Merged.{AreInKeyOrder, AreMerged, is_changed}
 
 both_of : (a b : Bool) → (a && b) ≡ true → (a ≡ true) × (b ≡ true)
 both_of true b e = (refl, e)
@@ -35,6 +38,22 @@ tied_parts : (a b : Ordering) → ordering_then a b ≡ Equal → (a ≡ Equal) 
 tied_parts Less b e = cc
 tied_parts Equal b e = (refl, e)
 tied_parts Greater b e = cc
+
+pub copied-some : {X : Type 0} (r : Option (Bor X)) → is_some r ≡ is_some (option_copied r)
+copied-some None = refl
+copied-some (Some b) = refl
+
+eqb-flip : (a b : ℕ) → eqb a b ≡ eqb b a
+eqb-flip a b = grind (arith, nat_tests)
+
+either_more : (a b c : Bool) → (a || (b || c)) ≡ (b || (a || c))
+either_more true true c = refl
+either_more true false c = refl
+either_more false b c = refl
+
+either_same : (a b c : Bool) → a ≡ b → (a || c) ≡ (a || (b || c))
+either_same true b c e = refl
+either_same false b c e = ap (λ d. d || c) e
 
 module _ {A : Type 0} where
   -- ---- the order of changes
@@ -176,15 +195,63 @@ module _ {A : Type 0} where
       go t q true = refl
       go t q false = refl
 
+  -- ---- by key
+
+  -- a change is of the key
+  abbrev is_at : ℕ → Value A → Change A → Bool
+  is_at t k x = eqb t x.table && same k x.key
+
+  at_alike : (t : ℕ) (k : Value A) (x y : Change A) → x.table ≡ y.table → x.key ≡ y.key → is_at t k x ≡ is_at t k y
+  at_alike t k x y tables keys = ap (λ n. eqb t n && same k x.key) tables ∙ ap (λ v. eqb t y.table && same k v) keys
+
+  -- with one more put over those of its key
+  changed-put : (t : ℕ) (k : Value A) (ys : List (Change A)) (x : Change A) → is_changed t k (put_change ys x) ≡ (is_at t k x || is_changed t k ys)
+  changed-put t k [] x = refl
+  changed-put t k (y ∷ ys) x = by_order (change_cmp x y) refl (changed-put t k ys x)
+    where
+      by_order : (o : Ordering) → change_cmp x y ≡ o → is_changed t k (put_change ys x) ≡ (is_at t k x || is_changed t k ys)
+          → is_changed t k (match_ordering o (x ∷ y ∷ ys) (x ∷ ys) (y ∷ put_change ys x)) ≡ (is_at t k x || (is_at t k y || is_changed t k ys))
+      by_order Less e rest = refl
+      by_order Equal e rest = let p = same_place x y e in either_same (is_at t k x) (is_at t k y) (is_changed t k ys) (at_alike t k x y p.0 p.1)
+      by_order Greater e rest = ap (λ b. is_at t k y || b) rest ∙ either_more (is_at t k y) (is_at t k x) (is_changed t k ys)
+
+  changed-next : (t : ℕ) (k : Value A) (ys xs : List (Change A)) (x : Change A) → is_changed t k ys ≡ is_changed t k xs → is_changed t k (put_change ys x) ≡ is_changed t k (xs ++ x ∷ [])
+  changed-next t k ys xs x e =
+      changed-put t k ys x ∙ ap (λ b. is_at t k x || b) e ∙ last (is_at t k x) (is_changed t k xs) ∙ sym (list_any-append (is_at t k) xs (x ∷ []))
+    where
+      last : (a b : Bool) → (a || b) ≡ (b || (a || false))
+      last true true = refl
+      last true false = refl
+      last false true = refl
+      last false false = refl
+
+  -- what is looked up among them
+  pub found-changed : (t : ℕ) (k : Value A) (ys : List (Change A)) → is_some (change_of ys t k) ≡ is_changed t k ys
+  found-changed t k [] = refl
+  found-changed t k (y ∷ ys) = ap (λ b. is_some (option_map new_row (cond (b && same k y.key) (Some y) (find (λ x. eqb x.table t && same k x.key) ys)))) (eqb-flip y.table t) ∙ go (is_at t k y) (found-changed t k ys)
+    where
+      go : (b : Bool) → is_some (change_of ys t k) ≡ is_changed t k ys
+          → is_some (option_map new_row (cond b (Some y) (find (λ x. eqb x.table t && same k x.key) ys))) ≡ (b || is_changed t k ys)
+      go true e = refl
+      go false e = e
+
+  -- those that are merged and the others
+  pub changed-all : (t : ℕ) (k : Value A) (ys xs : List (Change A)) (n : ℕ) → AreMerged ys (take n xs) → (is_changed t k ys || is_changed t k (drop n xs)) ≡ is_changed t k xs
+  changed-all t k ys xs n m =
+      ap (λ b. b || is_changed t k (drop n xs)) (m.keys t k) ∙ sym (list_any-append (is_at t k) (take n xs) (drop n xs)) ∙ ap (is_changed t k) (take-append-drop n xs)
+
   -- ---- merging
 
   pub merged-none : AreMerged {A = A} [] []
   unfolding IsStrictlySortedBy
-  merged-none = record { by_key = tt; same = λ X order. refl }
+  merged-none = record { by_key = tt; keys = λ t k. refl; same = λ X order. refl }
 
   pub merged-next : (ys xs : List (Change A)) (n : ℕ) (x : Change A) → n < length xs → x ≡ get_or xs n x → AreMerged ys (take n xs) → AreMerged (put_change ys x) (take (n + 1) xs)
   merged-next ys xs n x lt at m = record {
     by_key = put-sorted ys x m.by_key;
+    keys = λ t k.
+        changed-next t k ys (take n xs) x (m.keys t k)
+        ∙ ap (is_changed t k) (sym (take_more xs n x lt ∙ ap (λ z. take n xs ++ z ∷ []) (sym at)));
     same = λ X order.
         put_over ys x X m.by_key order ∙ ap (put_in x) (m.same X order)
         ∙ sym (ap (λ zs. put_all zs X) (take_more xs n x lt ∙ ap (λ z. take n xs ++ z ∷ []) (sym at)) ∙ put_all-append (take n xs) (x ∷ []) X);

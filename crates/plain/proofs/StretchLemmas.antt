@@ -1,9 +1,9 @@
--- What is asked of the transactions around a stretch is what is asked of all.
-use Rattle.std.proofs.Common.{◌≡◌, refl, sym, ap, subst, ◌∙◌, ℕ, zero, suc, ◌+◌, ◌-◌, ◌<◌, ◌≤◌, min, max, Bool, true, false, true≢false, cond, not, ◌&&◌, ◌||◌, List, [], ◌∷◌, ◌++◌, length, take, drop, get_or, fold, eqb, nat_lt, nat_le, Option, Some, None, is_some, arith, map, slice_get}
+-- Stretches stay what they are, and what is asked of the transactions around one is what is asked of all.
+use Rattle.std.proofs.Common.{◌≡◌, refl, sym, ap, subst, ◌∙◌, ℕ, zero, suc, ◌+◌, ◌-◌, ◌<◌, ◌≤◌, min, max, Bool, true, false, true≢false, cond, not, ◌&&◌, ◌||◌, List, [], ◌∷◌, ◌++◌, length, take, drop, get_or, set, fold, eqb, nat_lt, nat_le, Option, Some, None, is_some, arith, map, slice_get}
 use Rattle.std.specs.List.{AllByRecursion, filter, find, list_any}
 use Rattle.std.specs.Option.{option_map, option_or}
 use Rattle.std.proofs.lemmas.Bool.Decides.{nat_tests}
-use Rattle.std.proofs.lemmas.List.{drop-append-le, drop-drop, drop-map, get_or-drop, length-append, length-drop, length-map, length-take, map-append, take-append-drop, take-append-le, take-map}
+use Rattle.std.proofs.lemmas.List.{drop-append-le, drop-drop, drop-map, get_or-drop, length-append, length-drop, length-map, length-take, map-append, take_more, take-append-drop, take-append-le, take-map}
 use Rattle.std.proofs.Math.Seq.{take-append_seam}
 use Rattle.std.proofs.lemmas.List.Elements.{filter-append}
 use Rattle.std.proofs.lemmas.List.Folds.{find-append, list_any-append}
@@ -15,7 +15,7 @@ use Rattle.history.specs.Transactions.{Standing, Open, Doomed, Failed, Aborted, 
 use Rattle.history.specs.Answer.{is_taken}
 use Rattle.plain.specs.declared.stretch.Stretch.{Stretch}
 use Rattle.plain.specs.Ledger.{AreNumbered, nothing, turned_at, txn_at}
-use Rattle.plain.specs.Stretches.{HoldsStretch, IsAround, IsPast, between, no_stretch}
+use Rattle.plain.specs.Stretches.{HoldStretches, HoldsStretch, IsAmongOpen, IsAround, IsPassed, IsPast, between, has_place, joined, none_at, without}
 use Rattle.plain.specs.Versions.{least_snapshot}
 use Rattle.plain.proofs.WalkLemmas.{take_next}
 
@@ -35,6 +35,10 @@ not_less a b h = grind (arith, nat_tests)
 not_equal : (a b : ℕ) → a < b → eqb a b ≡ false
 not_equal a b h = grind (arith, nat_tests)
 
+neither : (a b : Bool) → (a || b) ≡ false → (a ≡ false) × (b ≡ false)
+neither true b e = absurd (true≢false e)
+neither false b e = (refl, e)
+
 pub empty_is : {X : Type 0} (xs : List X) → eqb (length xs) 0 ≡ true → xs ≡ []
 empty_is [] e = refl
 empty_is (x ∷ xs) e = absurd (let p = Rattle.std.proofs.lemmas.Bool.eqb-true (length (x ∷ xs)) 0 e in omega arith)
@@ -53,10 +57,6 @@ all-append P (x ∷ xs) ys a b = (a.0, all-append P xs ys a.1 b)
 pub all-mapped : {X : Type 0} (P Q : X → Type 0) → ((x : X) → P x → Q x) → (xs : List X) → AllByRecursion P xs → AllByRecursion Q xs
 all-mapped P Q so [] a = tt
 all-mapped P Q so (x ∷ xs) a = (so x a.0, all-mapped P Q so xs a.1)
-
-all-both : {X : Type 0} (P Q : X → Type 0) (xs : List X) → AllByRecursion P xs → AllByRecursion Q xs → AllByRecursion (λ x. P x × Q x) xs
-all-both P Q [] a b = tt
-all-both P Q (x ∷ xs) a b = ((a.0, b.0), all-both P Q xs a.1 b.1)
 
 pub all-front : {X : Type 0} (P : X → Type 0) (xs ys : List X) → AllByRecursion P (xs ++ ys) → AllByRecursion P xs
 all-front P [] ys a = tt
@@ -92,16 +92,6 @@ slice_get-front [] ys i h = absurd (omega arith)
 slice_get-front (x ∷ xs) ys zero h = refl
 slice_get-front (x ∷ xs) ys (suc i) h = slice_get-front xs ys i (omega arith)
 
-slice_get-back : {X : Type 0} (xs ys : List X) (i : ℕ) → slice_get (xs ++ ys) (length xs + i) ≡ slice_get ys i
-slice_get-back [] ys i = ap (slice_get ys) (zero-add i)
-  where
-    zero-add : (n : ℕ) → 0 + n ≡ n
-    zero-add n = omega arith
-slice_get-back (x ∷ xs) ys i = ap (slice_get (x ∷ (xs ++ ys))) (next (length xs) i) ∙ slice_get-back xs ys i
-  where
-    next : (m n : ℕ) → suc m + n ≡ suc (m + n)
-    next m n = omega arith
-
 found-some : {X : Type 0} (xs : List X) (i : ℕ) (o p : Option X) → i < length xs → o ≡ slice_get xs i → option_or o p ≡ slice_get xs i
 found-some [] i o p h e = absurd (omega arith)
 found-some (x ∷ xs) zero o p h e = ap (λ q. option_or q p) e
@@ -116,26 +106,19 @@ front-first {X} {Y} h p f b r e some = go (find p f) e ∙ sym (ap (option_map h
     go None q = absurd (true≢false (sym some ∙ ap is_some q))
     go (Some x) q = q
 
-pub back-first : {X Y : Type 0} (h : X → Y) (p : X → Bool) (f b : List X) (r s : Option Y) → r ≡ option_map h (find p f) → is_some r ≡ false → s ≡ option_map h (find p b) → s ≡ option_map h (find p (f ++ b))
-back-first {X} {Y} h p f b r s e none found = found ∙ go (find p f) e ∙ sym (ap (option_map h) (find-append p f b))
-  where
-    go : (o : Option X) → r ≡ option_map h o → option_map h (find p b) ≡ option_map h (option_or o (find p b))
-    go None q = refl
-    go (Some x) q = absurd (true≢false (sym (ap is_some q) ∙ none))
+pub none-found : {X Y : Type 0} (h : X → Y) (o : Option X) (r : Option Y) → r ≡ option_map h o → is_some r ≡ false → o ≡ None
+none-found h None r e none = refl
+none-found h (Some x) r e none = absurd (true≢false (sym (ap is_some e) ∙ none))
 
 -- what each of these leaves as it is
 fold-none : {X B : Type 0} (g : B → X → B) (xs : List X) → AllByRecursion (λ x. (z : B) → g z x ≡ z) xs → (z : B) → fold g z xs ≡ z
 fold-none g [] a z = refl
 fold-none g (x ∷ xs) a z = ap (λ y. fold g y xs) (a.0 z) ∙ fold-none g xs a.1 z
 
-fold-between : {X B : Type 0} (g : B → X → B) (f p b : List X) → AllByRecursion (λ x. (z : B) → g z x ≡ z) p → (z : B) → fold g z (f ++ b) ≡ fold g z (f ++ (p ++ b))
+pub fold-between : {X B : Type 0} (g : B → X → B) (f p b : List X) → AllByRecursion (λ x. (z : B) → g z x ≡ z) p → (z : B) → fold g z (f ++ b) ≡ fold g z (f ++ (p ++ b))
 fold-between g f p b a z =
     fold-append g z f b
     ∙ sym (fold-append g z f (p ++ b) ∙ fold-append g (fold g z f) p b ∙ ap (λ y. fold g y b) (fold-none g p a (fold g z f)))
-
-fold-alike : {X B : Type 0} (g h : B → X → B) → ((z : B) (x : X) → g z x ≡ h z x) → (xs : List X) (z : B) → fold g z xs ≡ fold h z xs
-fold-alike g h so [] z = refl
-fold-alike g h so (x ∷ xs) z = ap (λ y. fold g y xs) (so z x) ∙ fold-alike g h so xs (h z x)
 
 closed : (st : Standing) → is_owed st ≡ false → is_open st ≡ false
 closed Open e = e
@@ -144,11 +127,45 @@ closed Failed e = refl
 closed Aborted e = refl
 closed Done e = refl
 
+take-none : {X : Type 0} (k : ℕ) → take {A = X} k [] ≡ []
+take-none zero = refl
+take-none (suc k) = refl
+
+take-add : {X : Type 0} (m n : ℕ) (xs : List X) → take (m + n) xs ≡ take m xs ++ take n (drop m xs)
+take-add zero n xs = ap (λ k. take k xs) (let e : 0 + n ≡ n = omega arith in e)
+take-add (suc m) n [] = take-none (suc m + n) ∙ sym (take-none n)
+take-add (suc m) n (x ∷ xs) = ap (λ k. take k (x ∷ xs)) (let e : suc m + n ≡ suc (m + n) = omega arith in e) ∙ ap (λ ys. x ∷ ys) (take-add m n xs)
+
+-- what holds of each holds of that at a place, of those with one set, and of the first ones
+pub all-at : {X : Type 0} (P : X → Type 0) (xs : List X) (i : ℕ) (d : X) → i < length xs → AllByRecursion P xs → P (get_or xs i d)
+all-at P [] i d lt all = absurd (omega arith)
+all-at P (x ∷ xs) zero d lt all = all.0
+all-at P (x ∷ xs) (suc i) d lt all = all-at P xs i d (omega arith) all.1
+
+pub all-set : {X : Type 0} (P : X → Type 0) (xs : List X) (i : ℕ) (y : X) → P y → AllByRecursion P xs → AllByRecursion P (set xs i y)
+all-set P [] i y one all = tt
+all-set P (x ∷ xs) zero y one all = (one, all.1)
+all-set P (x ∷ xs) (suc i) y one all = (all.0, all-set P xs i y one all.1)
+
+pub all-take : {X : Type 0} (P : X → Type 0) (k : ℕ) (xs : List X) → AllByRecursion P xs → AllByRecursion P (take k xs)
+all-take P zero xs all = tt
+all-take P (suc k) [] all = tt
+all-take P (suc k) (x ∷ xs) all = (all.0, all-take P k xs all.1)
+
+-- a place behind one more
+pub ends-more : (ss : List Stretch) (i k m : ℕ) (d : Stretch) → i < length ss → AllByRecursion (λ s. s.to ≤ k) (take i ss) → m ≡ max (get_or ss i d).to k → AllByRecursion (λ s. s.to ≤ m) (take (i + 1) ss)
+ends-more ss i k m d lt all e =
+    subst (AllByRecursion (λ s. s.to ≤ m)) (sym (take_more ss i d lt))
+    (all-append (λ s. s.to ≤ m) (take i ss) (get_or ss i d ∷ []) (all-mapped (λ s. s.to ≤ k) (λ s. s.to ≤ m) (λ s h. omega (arith, e, h)) (take i ss) all) (omega (arith, e), tt))
+
 module _ {A : Type 0} where
   -- ---- stretches
 
-  pub none-held : (ts : List (Txn A)) → HoldsStretch no_stretch ts
-  none-held ts = record { order = omega arith; within = omega arith; past = tt }
+  empty-between : (n : ℕ) (ts : List (Txn A)) → between n n ts ≡ []
+  empty-between n ts = ap (λ k. take k (drop n ts)) (let e : n - n ≡ 0 = omega arith in e)
+
+  pub none-held : (n : ℕ) (ts : List (Txn A)) → n ≤ length ts → HoldsStretch (none_at n) ts
+  none-held n ts le = record { order = omega arith; within = le; past = subst (AllByRecursion (IsPast 0 (0 + 1))) (sym (empty-between n ts)) tt }
 
   -- the transactions before, in and behind a stretch
   three-parts : (ts : List (Txn A)) (f t : ℕ) → f ≤ t → ts ≡ take f ts ++ (between f t ts ++ drop t ts)
@@ -161,19 +178,43 @@ module _ {A : Type 0} where
   later-past : (n m p q : ℕ) → n ≤ m → p ≤ q → (u : Txn A) → IsPast n p u → IsPast m q u
   later-past n m p q le lt u h = record { over = h.over; seen = (let k = h.seen in omega arith); begun = (let k = h.begun in omega arith); ended = (let k = h.ended in omega arith) }
 
-  pub around-held : (s : Stretch) (ts f b : List (Txn A)) (snapshot place : ℕ) → HoldsStretch s ts → s.newest ≤ snapshot → s.until < place → f ≡ take s.from ts → b ≡ drop s.to ts → IsAround snapshot place ts f b
-  around-held s ts f b snapshot place h le lt front back = record {
-    between = between s.from s.to ts;
-    whole = three-parts ts s.from s.to h.order ∙ ap (λ us. us ++ (between s.from s.to ts ++ drop s.to ts)) (sym front) ∙ ap (λ us. f ++ (between s.from s.to ts ++ us)) (sym back);
+  -- ---- one walk
+
+  pub passed-here : (s : Stretch) (ts : List (Txn A)) (snapshot place at : ℕ) → HoldsStretch s ts → at ≤ s.from → s.from < s.to → s.newest ≤ snapshot → s.until < place → IsPassed snapshot place at s ts
+  passed-here s ts snapshot place at h behind long le lt = record {
+    behind = behind;
+    order = h.order;
+    further = omega arith;
+    within = h.within;
     past = all-mapped (IsPast s.newest (s.until + 1)) (IsPast snapshot place) (later-past s.newest snapshot (s.until + 1) place le (omega arith)) (between s.from s.to ts) h.past;
   }
 
-  pub around-all : (ts f b : List (Txn A)) (n snapshot place : ℕ) → f ≡ take n ts → b ≡ drop n ts → IsAround snapshot place ts f b
-  around-all ts f b n snapshot place front back = record {
-    between = [];
-    whole = sym (ap (λ us. us ++ b) front ∙ ap (λ us. take n ts ++ us) back ∙ take-append-drop n ts);
-    past = tt;
+  -- none is passed, and it ends
+  pub passed-end : (ts : List (Txn A)) (snapshot place at : ℕ) → at < length ts → IsPassed snapshot place at (none_at (length ts)) ts
+  passed-end ts snapshot place at lt = record {
+    behind = omega arith;
+    order = omega arith;
+    further = lt;
+    within = omega arith;
+    past = subst (AllByRecursion (IsPast snapshot place)) (sym (empty-between (length ts) ts)) tt;
   }
+
+  pub around-passed : (s : Stretch) (ts left piece : List (Txn A)) (snapshot place at : ℕ) → IsPassed snapshot place at s ts → left ≡ drop at ts → piece ≡ take (s.from - at) left → IsAround snapshot place (drop at ts) piece (drop s.to ts)
+  around-passed s ts left piece snapshot place at h rest first = record {
+    between = between s.from s.to ts;
+    whole = sym (take-append-drop (s.from - at) (drop at ts)) ∙ ap (λ us. us ++ drop (s.from - at) (drop at ts)) (sym (first ∙ ap (take (s.from - at)) rest)) ∙ ap (λ us. piece ++ us) behind;
+    past = h.past;
+  }
+    where
+      together : s.from + (s.to - s.from) ≡ s.to
+      together = let o = h.order in omega arith
+
+      beyond : at + (s.from - at) ≡ s.from
+      beyond = let o = h.behind in omega arith
+
+      behind : drop (s.from - at) (drop at ts) ≡ between s.from s.to ts ++ drop s.to ts
+      behind = drop-drop (s.from - at) at ts ∙ ap (λ n. drop n ts) beyond
+          ∙ sym (ap (λ us. between s.from s.to ts ++ us) (sym (drop-drop (s.to - s.from) s.from ts ∙ ap (λ n. drop n ts) together)) ∙ take-append-drop (s.to - s.from) (drop s.from ts))
 
   -- ---- questions
 
@@ -191,25 +232,8 @@ module _ {A : Type 0} where
       ap (find q) r.whole ∙ find-append q f (r.between ++ b) ∙ found-some f i (find q f) (find q (r.between ++ b)) h e
       ∙ sym (slice_get-front f (r.between ++ b) i h) ∙ ap (λ us. slice_get us i) (sym r.whole)
 
-  pub found-back : (q : Txn A → Bool) (snapshot place : ℕ) → ((u : Txn A) → IsPast snapshot place u → q u ≡ false) → (ts f b : List (Txn A)) (i : ℕ) → IsAround snapshot place ts f b → find q f ≡ None → find q b ≡ slice_get b i
-      → find q ts ≡ slice_get ts (length ts - length b + i)
-  found-back q snapshot place so ts f b i r none e =
-      sym (find-around q snapshot place so ts f b r) ∙ ap (λ o. option_or o (find q b)) none ∙ e
-      ∙ sym (slice_get-back (f ++ r.between) b i)
-      ∙ ap (λ us. slice_get us (length (f ++ r.between) + i)) (Rattle.std.proofs.Common.append_assoc f r.between b ∙ sym r.whole)
-      ∙ ap (slice_get ts) (ap (λ n. n + i) counted)
-    where
-      counted : length (f ++ r.between) ≡ length ts - length b
-      counted = let p = ap length r.whole in let a = length-append f (r.between ++ b) in let d = length-append r.between b in let k = length-append f r.between in omega arith
-
-  pub found-nowhere : (q : Txn A → Bool) (snapshot place : ℕ) → ((u : Txn A) → IsPast snapshot place u → q u ≡ false) → (ts f b : List (Txn A)) → IsAround snapshot place ts f b → find q f ≡ None → find q b ≡ None → find q ts ≡ None
-  found-nowhere q snapshot place so ts f b r none behind = sym (find-around q snapshot place so ts f b r) ∙ ap (λ o. option_or o (find q b)) none ∙ behind
-
   pub first-front : (q : Txn A → Bool) (snapshot place : ℕ) (ts f b : List (Txn A)) (x : Txn A) → IsAround snapshot place ts f b → Some x ≡ find q f → Some x ≡ find q ts
   first-front q snapshot place ts f b x r e = ap (λ o. option_or o (find q (r.between ++ b))) e ∙ sym (ap (find q) r.whole ∙ find-append q f (r.between ++ b))
-
-  pub first-back : (q : Txn A → Bool) (snapshot place : ℕ) → ((u : Txn A) → IsPast snapshot place u → q u ≡ false) → (ts f b : List (Txn A)) (x : Txn A) → IsAround snapshot place ts f b → None ≡ find q f → Some x ≡ find q b → Some x ≡ find q ts
-  first-back q snapshot place so ts f b x r none e = e ∙ ap (λ o. option_or o (find q b)) none ∙ find-around q snapshot place so ts f b r
 
   pub got_place : (ts : List (Txn A)) (n : ℕ) → n < length ts → slice_get ts n ≡ Some (txn_at ts n)
   got_place [] n h = absurd (omega arith)
@@ -274,6 +298,23 @@ module _ {A : Type 0} where
           go true e = absurd (true≢false (sym (owed u e) ∙ h.over))
           go false e = refl
 
+  least-min : (q : Txn A → Bool) (m n : ℕ) (xs : List (Txn A)) → least_snapshot q (min m n) xs ≡ min m (least_snapshot q n xs)
+  least-min q m n [] = refl
+  least-min q m n (x ∷ xs) = go (q x) (least_snapshot q (min m n) xs) (least_snapshot q n xs) (least-min q m n xs)
+    where
+      go : (c : Bool) (a b : ℕ) → a ≡ min m b → cond c (min x.snapshot a) a ≡ min m (cond c (min x.snapshot b) b)
+      go true a b e = omega (arith, e)
+      go false a b e = e
+
+  pub least-swap : (q : Txn A → Bool) (n : ℕ) (xs ys : List (Txn A)) → least_snapshot q (least_snapshot q n xs) ys ≡ least_snapshot q (least_snapshot q n ys) xs
+  least-swap q n xs [] = refl
+  least-swap q n xs (y ∷ ys) = go (q y) (least-swap q n xs ys)
+    where
+      go : (c : Bool) → least_snapshot q (least_snapshot q n xs) ys ≡ least_snapshot q (least_snapshot q n ys) xs
+          → cond c (min y.snapshot (least_snapshot q (least_snapshot q n xs) ys)) (least_snapshot q (least_snapshot q n xs) ys) ≡ least_snapshot q (cond c (min y.snapshot (least_snapshot q n ys)) (least_snapshot q n ys)) xs
+      go true e = ap (min y.snapshot) e ∙ sym (least-min q y.snapshot (least_snapshot q n ys) xs)
+      go false e = e
+
   -- ---- keys
 
   part-append : (t : Txn A) (xs ys : List (Txn A)) → min (first_part node edge t xs) (first_part node edge t ys) ≡ first_part node edge t (xs ++ ys)
@@ -330,7 +371,7 @@ module _ {A : Type 0} where
       ∙ take-append-le (t - f) (drop f xs) ys (let e = length-drop f xs in omega arith)
 
   -- some come behind it
-  pub held-append : (s : Stretch) (ts more : List (Txn A)) → HoldsStretch s ts → HoldsStretch s (ts ++ more)
+  held-append : (s : Stretch) (ts more : List (Txn A)) → HoldsStretch s ts → HoldsStretch s (ts ++ more)
   held-append s ts more h = record {
     order = h.order;
     within = (let e = length-append ts more in let w = h.within in omega arith);
@@ -346,10 +387,10 @@ module _ {A : Type 0} where
   }
 
   -- those before its end stay
-  pub held-rest : (s : Stretch) (ts more : List (Txn A)) → HoldsStretch s ts → HoldsStretch s (take s.to ts ++ more)
-  held-rest s ts more h =
-      held-append s (take s.to ts) more
-      (held-front s (take s.to ts) (drop s.to ts) (let e = length-take s.to ts in let w = h.within in omega arith) (subst (HoldsStretch s) (sym (take-append-drop s.to ts)) h))
+  held-rest : (s : Stretch) (k : ℕ) (ts more : List (Txn A)) → s.to ≤ k → k ≤ length ts → HoldsStretch s ts → HoldsStretch s (take k ts ++ more)
+  held-rest s k ts more le within h =
+      held-append s (take k ts) more
+      (held-front s (take k ts) (drop k ts) (let e = length-take k ts in omega arith) (subst (HoldsStretch s) (sym (take-append-drop k ts)) h))
 
   drop-turned : (g : Txn A → Txn A) (ts : List (Txn A)) (at from : ℕ) → at < from → drop from (turned_at at g ts) ≡ drop from ts
   drop-turned g [] at from h = refl
@@ -377,17 +418,13 @@ module _ {A : Type 0} where
           behind : nat_lt at t ≡ false → f + (t - f) ≤ at
           behind q = let p : t ≤ at = grind (arith, nat_tests) in omega arith
 
-  -- the transaction at a place is turned
-  pub held-turned : (s : Stretch) (g : Txn A → Txn A) (ts : List (Txn A)) (at : ℕ) → HoldsStretch s ts → HoldsStretch (cond (nat_le s.from at && nat_lt at s.to) no_stretch s) (turned_at at g ts)
-  held-turned s g ts at h = go (nat_le s.from at && nat_lt at s.to) refl
-    where
-      go : (b : Bool) → (nat_le s.from at && nat_lt at s.to) ≡ b → HoldsStretch (cond b no_stretch s) (turned_at at g ts)
-      go true e = none-held (turned_at at g ts)
-      go false e = record {
-        order = h.order;
-        within = (let w = h.within in let q = Rattle.plain.proofs.LedgerLemmas.length-turned_at g ts at in omega arith);
-        past = subst (AllByRecursion (IsPast s.newest (s.until + 1))) (sym (between-turned g ts at s.from s.to h.order e)) h.past;
-      }
+  -- a transaction that isn't in it is turned
+  held-turned : (s : Stretch) (g : Txn A → Txn A) (ts : List (Txn A)) (at : ℕ) → HoldsStretch s ts → has_place at s ≡ false → HoldsStretch s (turned_at at g ts)
+  held-turned s g ts at h e = record {
+    order = h.order;
+    within = (let w = h.within in let q = Rattle.plain.proofs.LedgerLemmas.length-turned_at g ts at in omega arith);
+    past = subst (AllByRecursion (IsPast s.newest (s.until + 1))) (sym (between-turned g ts at s.from s.to h.order e)) h.past;
+  }
 
   past-stays : (n p place : ℕ) (causes : List Cause) (u : Txn A) → IsPast n p u → doomed_by place causes u ≡ u
   past-stays n p place causes u h = ap (λ b. doomed_with place (cond b (find (λ c. eqb c.b.0 u.number) causes) None) u) (past-not_open n p u h)
@@ -395,28 +432,8 @@ module _ {A : Type 0} where
   past-doomed : (n p place : ℕ) (causes : List Cause) (u : Txn A) → IsPast n p u → IsPast n p (doomed_by place causes u)
   past-doomed n p place causes u h = subst (IsPast n p) (sym (past-stays n p place causes u h)) h
 
-  -- those around a stretch are doomed, what is in it stays
-  pub doomed-around : (s : Stretch) (place : ℕ) (causes : List Cause) (ts front rest middle back front-after back-after : List (Txn A)) → HoldsStretch s ts
-      → front ≡ take s.from ts → rest ≡ drop s.from ts → middle ≡ take (s.to - s.from) rest → back ≡ drop (s.to - s.from) rest
-      → front-after ≡ map (doomed_by place causes) front → back-after ≡ map (doomed_by place causes) back
-      → front-after ++ (middle ++ back-after) ≡ map (doomed_by place causes) ts
-  doomed-around s place causes ts front rest middle back front-after back-after h front-is rest-is middle-is back-is front-doomed back-doomed =
-      ap (λ us. us ++ (middle ++ back-after)) (front-doomed ∙ ap (map (doomed_by place causes)) front-is)
-      ∙ ap (λ us. map (doomed_by place causes) (take s.from ts) ++ (us ++ back-after)) (middle-is ∙ ap (take (s.to - s.from)) rest-is ∙ sym (stay (between s.from s.to ts) h.past))
-      ∙ ap (λ us. map (doomed_by place causes) (take s.from ts) ++ (map (doomed_by place causes) (between s.from s.to ts) ++ us)) (back-doomed ∙ ap (map (doomed_by place causes)) (back-is ∙ ap (drop (s.to - s.from)) rest-is ∙ drop-drop (s.to - s.from) s.from ts ∙ ap (λ n. drop n ts) together))
-      ∙ ap (λ us. map (doomed_by place causes) (take s.from ts) ++ us) (sym (map-append (doomed_by place causes) (between s.from s.to ts) (drop s.to ts)))
-      ∙ sym (map-append (doomed_by place causes) (take s.from ts) (between s.from s.to ts ++ drop s.to ts))
-      ∙ ap (map (doomed_by place causes)) (sym (three-parts ts s.from s.to h.order))
-    where
-      together : s.from + (s.to - s.from) ≡ s.to
-      together = let o = h.order in omega arith
-
-      stay : (xs : List (Txn A)) → AllByRecursion (IsPast s.newest (s.until + 1)) xs → map (doomed_by place causes) xs ≡ xs
-      stay [] a = refl
-      stay (x ∷ xs) a = ap (λ y. y ∷ map (doomed_by place causes) xs) (past-stays s.newest (s.until + 1) place causes x a.0) ∙ ap (λ ys. x ∷ ys) (stay xs a.1)
-
   -- open ones are doomed
-  pub held-doomed : (s : Stretch) (place : ℕ) (causes : List Cause) (ts : List (Txn A)) → HoldsStretch s ts → HoldsStretch s (map (doomed_by place causes) ts)
+  held-doomed : (s : Stretch) (place : ℕ) (causes : List Cause) (ts : List (Txn A)) → HoldsStretch s ts → HoldsStretch s (map (doomed_by place causes) ts)
   held-doomed s place causes ts h = record {
     order = h.order;
     within = (let w = h.within in let q = length-map ts (doomed_by place causes) in omega arith);
@@ -446,8 +463,58 @@ module _ {A : Type 0} where
       longer = ap (λ k. take k (drop s.from ts)) (let o = h.order in omega arith)
           ∙ take_next (drop s.from ts) (s.to - s.from) u (let e = length-drop s.from ts in let o = h.order in omega arith) there
 
-  pub behind-at : (ts more : List (Txn A)) (k i : ℕ) (u : Txn A) → more ≡ drop k ts → u ≡ get_or more i u → u ≡ get_or ts (k + i) u
-  behind-at ts more k i u e at = at ∙ ap (λ us. get_or us i u) e ∙ get_or-drop k ts i u
+  -- one right behind it
+  pub held-joined : (s t : Stretch) (ts : List (Txn A)) → HoldsStretch s ts → HoldsStretch t ts → s.to ≡ t.from → HoldsStretch (joined s t) ts
+  held-joined s t ts h k e = record {
+    order = (let o = h.order in let p = k.order in omega arith);
+    within = k.within;
+    past = subst (AllByRecursion (IsPast (max s.newest t.newest) (max s.until t.until + 1))) (sym parts)
+        (all-append (IsPast (max s.newest t.newest) (max s.until t.until + 1)) (between s.from s.to ts) (between t.from t.to ts)
+        (all-mapped (IsPast s.newest (s.until + 1)) (IsPast (max s.newest t.newest) (max s.until t.until + 1)) (later-past s.newest (max s.newest t.newest) (s.until + 1) (max s.until t.until + 1) (omega arith) (omega arith)) (between s.from s.to ts) h.past)
+        (all-mapped (IsPast t.newest (t.until + 1)) (IsPast (max s.newest t.newest) (max s.until t.until + 1)) (later-past t.newest (max s.newest t.newest) (t.until + 1) (max s.until t.until + 1) (omega arith) (omega arith)) (between t.from t.to ts) k.past));
+  }
+    where
+      together : s.from + (s.to - s.from) ≡ t.from
+      together = let o = h.order in omega (arith, e)
+
+      longer : t.to - s.from ≡ (s.to - s.from) + (t.to - t.from)
+      longer = let o = h.order in let p = k.order in omega (arith, e)
+
+      parts : between s.from t.to ts ≡ between s.from s.to ts ++ between t.from t.to ts
+      parts = ap (λ n. take n (drop s.from ts)) longer
+          ∙ take-add (s.to - s.from) (t.to - t.from) (drop s.from ts)
+          ∙ ap (λ us. between s.from s.to ts ++ take (t.to - t.from) us) (drop-drop (s.to - s.from) s.from ts ∙ ap (λ n. drop n ts) together)
+
+  -- ---- several stretches
+
+  pub stretches-append : (ss : List Stretch) (ts more : List (Txn A)) → HoldStretches ss ts → HoldStretches ss (ts ++ more)
+  stretches-append ss ts more all = all-mapped (λ s. HoldsStretch s ts) (λ s. HoldsStretch s (ts ++ more)) (λ s h. held-append s ts more h) ss all
+
+  pub stretches-doomed : (ss : List Stretch) (place : ℕ) (causes : List Cause) (ts : List (Txn A)) → HoldStretches ss ts → HoldStretches ss (map (doomed_by place causes) ts)
+  stretches-doomed ss place causes ts all = all-mapped (λ s. HoldsStretch s ts) (λ s. HoldsStretch s (map (doomed_by place causes) ts)) (λ s h. held-doomed s place causes ts h) ss all
+
+  -- those before a place that is behind them stay
+  pub stretches-rest : (ss : List Stretch) (k : ℕ) (ts more : List (Txn A)) → k ≤ length ts → AllByRecursion (λ s. s.to ≤ k) ss → HoldStretches ss ts → HoldStretches ss (take k ts ++ more)
+  stretches-rest [] k ts more le ends all = tt
+  stretches-rest (s ∷ ss) k ts more le ends all = (held-rest s k ts more ends.0 le all.0, stretches-rest ss k ts more le ends.1 all.1)
+
+  turned-out : (ss : List Stretch) (g : Txn A → Txn A) (ts : List (Txn A)) (at : ℕ) → list_any (has_place at) ss ≡ false → HoldStretches ss ts → HoldStretches ss (turned_at at g ts)
+  turned-out [] g ts at e all = tt
+  turned-out (s ∷ ss) g ts at e all =
+      let o = neither (has_place at s) (list_any (has_place at) ss) e in
+      (held-turned s g ts at all.0 o.0, turned-out ss g ts at o.1 all.1)
+
+  -- the transaction at a place is turned
+  pub stretches-turned : (ss : List Stretch) (g : Txn A → Txn A) (ts : List (Txn A)) (at : ℕ) → HoldStretches ss ts → HoldStretches (without at ss) (turned_at at g ts)
+  stretches-turned ss g ts at all = go (list_any (has_place at) ss) refl
+    where
+      go : (b : Bool) → list_any (has_place at) ss ≡ b → HoldStretches (cond b [] ss) (turned_at at g ts)
+      go true e = tt
+      go false e = turned-out ss g ts at e all
+
+  pub stretches-where : (b : Bool) (ss : List Stretch) (ts : List (Txn A)) → HoldStretches ss ts → HoldStretches (cond b [] ss) ts
+  stretches-where true ss ts all = tt
+  stretches-where false ss ts all = all
 
   -- ---- dooms
 
@@ -461,38 +528,54 @@ module _ {A : Type 0} where
       above k m (u ∷ us) a le = ((λ e. absurd (let p = a.0 in omega arith)), above u.number m us a.2 (let p = a.0 in omega arith))
   alone n m (t ∷ ts) (suc i) h lt = (λ e. absurd (let p = Rattle.plain.proofs.LedgerLemmas.number_at t.number m ts i nothing h.2 (omega arith) in omega arith), alone t.number m ts i h.2 (omega arith))
 
-  -- what is past is neither the committer nor live
-  pub dooms-around : (ts f b : List (Txn A)) (at n place m : ℕ) → IsAround n place ts f b → AreNumbered 0 m ts → at < length ts → is_open (txn_at ts at).standing ≡ true
-      → dooms node reads_from (f ++ b) (txn_at ts at) ≡ dooms node reads_from ts (txn_at ts at)
-  dooms-around ts f b at n place m r numbered within o =
-      fold-alike (with_doom node reads_from (f ++ b) c) (with_doom node reads_from ts c) (λ z x. ap (λ d. z ++ Rattle.std.specs.Option.option_to_list d) (same z x)) (f ++ b) []
-      ∙ fold-between (with_doom node reads_from ts c) f r.between b (all-mapped (IsPast n place) (λ u. (z : List Cause) → with_doom node reads_from ts c z u ≡ z) unchanged r.between r.past) []
-      ∙ ap (fold (with_doom node reads_from ts c) []) (sym r.whole)
+  -- an open one at a place
+  pub is-among : (m : ℕ) (ts : List (Txn A)) (i : ℕ) → AreNumbered 0 m ts → i < length ts → is_open (txn_at ts i).standing ≡ true → IsAmongOpen (txn_at ts i) ts
+  is-among m ts i h lt o = record { active = o; alone = alone 0 m ts i h lt }
+
+  not-live : (c : Txn A) (n p : ℕ) (u : Txn A) → IsPast n p u → is_live node reads_from c u ≡ false
+  not-live c n p u h =
+      ap (λ x. not (eqb u.number c.number) && x && Rattle.history.specs.Transactions.is_read_write u.mode) (past-not_open n p u h)
+      ∙ ap (λ x. x && Rattle.history.specs.Transactions.is_read_write u.mode) (and_false (not (eqb u.number c.number)))
+
+  -- what is past is doomed by none
+  pub dooms-none : (ts : List (Txn A)) (c : Txn A) (n p : ℕ) (us : List (Txn A)) → AllByRecursion (IsPast n p) us → AllByRecursion (λ u. (z : List Cause) → with_doom node reads_from ts c z u ≡ z) us
+  dooms-none ts c n p us all = all-mapped (IsPast n p) (λ u. (z : List Cause) → with_doom node reads_from ts c z u ≡ z) unchanged us all
     where
-      c : Txn A
-      c = txn_at ts at
+      unchanged : (u : Txn A) → IsPast n p u → (z : List Cause) → with_doom node reads_from ts c z u ≡ z
+      unchanged u h z = ap (λ x. z ++ Rattle.std.specs.Option.option_to_list (cond (x && reads_from u c) (Rattle.value.specs.Isolation.cause_from node reads_from u c (find (is_first node reads_from c z u) ts)) None)) (not-live c n p u h) ∙ Rattle.std.proofs.lemmas.List.append-nil z
 
-      not-live : (u : Txn A) → IsPast n place u → is_live node reads_from c u ≡ false
-      not-live u h = ap (λ x. not (eqb u.number c.number) && x && Rattle.history.specs.Transactions.is_read_write u.mode) (past-not_open n place u h) ∙ ap (λ x. x && Rattle.history.specs.Transactions.is_read_write u.mode) (and_false (not (eqb u.number c.number)))
+  -- what is past is no first before a pivot, since it is neither live nor the committer
+  firsts-none : (c x : Txn A) (z : List Cause) (n p : ℕ) → is_open c.standing ≡ true → (us : List (Txn A)) → AllByRecursion (IsPast n p) us → AllByRecursion (λ u. u.number ≡ c.number → u ≡ c) us
+      → AllByRecursion (λ u. is_first node reads_from c z x u ≡ false) us
+  firsts-none c x z n p o [] past alone = tt
+  firsts-none c x z n p o (u ∷ us) past alone = (not-first, firsts-none c x z n p o us past.1 alone.1)
+    where
+      apart : (y : Bool) → eqb u.number c.number ≡ y → y ≡ false
+      apart true e = absurd (true≢false (sym o ∙ ap (λ (v : Txn A). is_open v.standing) (sym (alone.0 (Rattle.std.proofs.lemmas.Bool.eqb-true u.number c.number e))) ∙ past-not_open n p u past.0))
+      apart false e = refl
 
-      unchanged : (u : Txn A) → IsPast n place u → (z : List Cause) → with_doom node reads_from ts c z u ≡ z
-      unchanged u h z = ap (λ x. z ++ Rattle.std.specs.Option.option_to_list (cond (x && reads_from u c) (Rattle.value.specs.Isolation.cause_from node reads_from u c (find (is_first node reads_from c z u) ts)) None)) (not-live u h) ∙ Rattle.std.proofs.lemmas.List.append-nil z
-
-      others : AllByRecursion (λ u. IsPast n place u × (u.number ≡ c.number → u ≡ c)) r.between
-      others = all-both (IsPast n place) (λ u. u.number ≡ c.number → u ≡ c) r.between r.past
-          (all-front (λ u. u.number ≡ c.number → u ≡ c) r.between b (all-back (λ u. u.number ≡ c.number → u ≡ c) f (r.between ++ b) (subst (AllByRecursion (λ u. u.number ≡ c.number → u ≡ c)) r.whole (alone 0 m ts at numbered within))))
-
-      not-first : (z : List Cause) (x u : Txn A) → IsPast n place u × (u.number ≡ c.number → u ≡ c) → is_first node reads_from c z x u ≡ false
-      not-first z x u h =
-          ap (λ y. not (eqb u.number x.number) && (not (not (eqb u.number c.number)) || y && not (is_doomed node reads_from z u)) && reads_from u x) (not-live u h.0)
+      not-first : is_first node reads_from c z x u ≡ false
+      not-first =
+          ap (λ y. not (eqb u.number x.number) && (not (not (eqb u.number c.number)) || y && not (is_doomed node reads_from z u)) && reads_from u x) (not-live c n p u past.0)
           ∙ ap (λ y. not (eqb u.number x.number) && (not (not y) || false) && reads_from u x) (apart (eqb u.number c.number) refl)
           ∙ ap (λ y. y && reads_from u x) (and_false (not (eqb u.number x.number)))
-        where
-          apart : (y : Bool) → eqb u.number c.number ≡ y → y ≡ false
-          apart true e = absurd (true≢false (sym o ∙ ap (λ (v : Txn A). is_open v.standing) (sym (h.1 (Rattle.std.proofs.lemmas.Bool.eqb-true u.number c.number e))) ∙ past-not_open n place u h.0))
-          apart false e = refl
 
-      same : (z : List Cause) (x : Txn A) → doom_of node reads_from (f ++ b) c z x ≡ doom_of node reads_from ts c z x
-      same z x = ap (λ y. cond (is_live node reads_from c x && reads_from x c) (Rattle.value.specs.Isolation.cause_from node reads_from x c y) None)
-          (find-append (is_first node reads_from c z x) f b ∙ find-between (is_first node reads_from c z x) f r.between b (all-mapped (λ u. IsPast n place u × (u.number ≡ c.number → u ≡ c)) (λ u. is_first node reads_from c z x u ≡ false) (not-first z x) r.between others)
-          ∙ ap (find (is_first node reads_from c z x)) (sym r.whole))
+  all-drop : (P : Txn A → Type 0) (k : ℕ) (ts : List (Txn A)) → AllByRecursion P ts → AllByRecursion P (drop k ts)
+  all-drop P k ts all = all-back P (take k ts) (drop k ts) (subst (AllByRecursion P) (sym (take-append-drop k ts)) all)
+
+  -- what holds of each holds of those that a walk comes to, and of those that it passes over
+  pub all-piece : (P : Txn A → Type 0) (n p k : ℕ) (ts f b : List (Txn A)) → IsAround n p (drop k ts) f b → AllByRecursion P ts → AllByRecursion P f
+  all-piece P n p k ts f b r all = all-front P f (r.between ++ b) (subst (AllByRecursion P) r.whole (all-drop P k ts all))
+
+  pub all-passed : (P : Txn A → Type 0) (n p k : ℕ) (ts f b : List (Txn A)) (r : IsAround n p (drop k ts) f b) → AllByRecursion P ts → AllByRecursion P r.between
+  all-passed P n p k ts f b r all = all-front P r.between b (all-back P f (r.between ++ b) (subst (AllByRecursion P) r.whole (all-drop P k ts all)))
+
+  -- the first before a pivot, of those behind a piece that has none
+  pub firsts-further : (c x : Txn A) (z : List Cause) (n p k : ℕ) (ts f b : List (Txn A)) (r : Option (Txn A)) → IsAmongOpen c ts → IsAround n p (drop k ts) f b → find (is_first node reads_from c z x) f ≡ None
+      → find (is_first node reads_from c z x) (drop k ts) ≡ r → find (is_first node reads_from c z x) b ≡ r
+  firsts-further c x z n p k ts f b r among around none e =
+      ap (λ o. option_or o (find q b)) (sym none) ∙ find-between q f around.between b (firsts-none c x z n p among.active around.between around.past (all-passed (λ u. u.number ≡ c.number → u ≡ c) n p k ts f b around among.alone))
+      ∙ ap (find q) (sym around.whole) ∙ e
+    where
+      q : Txn A → Bool
+      q = is_first node reads_from c z x

@@ -5,6 +5,7 @@ ghost use Rattle.value.specs.Refusals.{out_of_memory};
 ghost use Rattle.plain.specs.Runs.{adds};
 ghost use Rattle.plain.specs.Ledger.{turned_at};
 
+use crate::stretch::leave_without;
 use crate::transaction::Transaction;
 use crate::world::World;
 use schema::changes::Change;
@@ -100,7 +101,7 @@ impl<A: Allocator> World<A> {
         ensures memory { IfErr result (λ e. e ≡ out_of_memory) }
     {
         add_at(alloc, &mut self.transactions, at, added)?;
-        self.past = self.past.without(at);
+        leave_without(&mut self.past, at);
         self.place += 1;
         Ok(())
     }

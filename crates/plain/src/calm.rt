@@ -7,10 +7,10 @@ ghost use Rattle.history.specs.Transactions.{is_owed, is_read_write as spec_writ
 ghost use Rattle.plain.specs.Calm as spec;
 ghost use Rattle.plain.specs.Calm.{is_active_at};
 ghost use Rattle.plain.specs.Courses.{on_course};
-ghost use Rattle.plain.specs.Stretches.{HoldsStretch};
+ghost use Rattle.plain.specs.Stretches.{HoldStretches};
 
 use crate::course::Course;
-use crate::stretch::{Stretch, around};
+use crate::stretch::{Stretch, Walk};
 use crate::transaction::{Transaction, is_read_write};
 use std::alloc::Allocator;
 use value::refusal::Mode;
@@ -33,26 +33,32 @@ fn any_active<A: Allocator>(transactions: &[Transaction<A>], place: u64) -> bool
         .any(|transaction| was_active(transaction, place))
 }
 
-// Whether one was, where a stretch of those that were over before the place is passed over.
+// Whether one was, where stretches of those that were over before the place are passed over.
 fn any_active_around<A: Allocator>(
     transactions: &[Transaction<A>],
-    past: Stretch,
+    past: &[Stretch],
     place: u64,
 ) -> bool
-    requires { HoldsStretch past transactions.now }
+    requires { HoldStretches past.now transactions.now }
     ensures { result ≡ list_any (is_active_at place) transactions.now }
 {
-    let (front, back) = around(transactions, past, u64::MAX, place);
-    any_active(front, place) || any_active(back, place)
+    let mut walk = Walk::new();
+    while walk.at < transactions.len() {
+        let piece = walk.piece(transactions, past, u64::MAX, place);
+        if any_active(piece, place) {
+            return true;
+        }
+    }
+    false
 }
 
 /// Whether no read-write transaction was active at a place. It takes no memory.
 pub(crate) fn is_calm<A: Allocator>(
     transactions: &[Transaction<A>],
-    past: Stretch,
+    past: &[Stretch],
     place: u64,
 ) -> bool
-    requires { HoldsStretch past transactions.now }
+    requires { HoldStretches past.now transactions.now }
     ensures { result ≡ not (list_any (is_active_at place) transactions.now) }
 {
     !any_active_around(transactions, past, place)
@@ -62,11 +68,11 @@ pub(crate) fn is_calm<A: Allocator>(
 /// read-write transaction was active. It takes no memory.
 pub(crate) fn begins_calm<A: Allocator>(
     transactions: &[Transaction<A>],
-    past: Stretch,
+    past: &[Stretch],
     mode: Mode,
     place: u64,
 ) -> bool
-    requires { HoldsStretch past transactions.now }
+    requires { HoldStretches past.now transactions.now }
     ensures { result ≡ (not (spec_writes mode) && not (list_any (is_active_at place) transactions.now)) }
 {
     !is_read_write(mode) && is_calm(transactions, past, place)
@@ -119,13 +125,19 @@ fn any_uses<A: Allocator>(transactions: &[Transaction<A>], place: u64) -> bool
         .any(|transaction| uses(transaction, place))
 }
 
-// Whether one does, where a stretch of those that are over is passed over.
-fn is_in_use<A: Allocator>(transactions: &[Transaction<A>], past: Stretch, place: u64) -> bool
-    requires { HoldsStretch past transactions.now }
+// Whether one does, where stretches of those that are over are passed over.
+fn is_in_use<A: Allocator>(transactions: &[Transaction<A>], past: &[Stretch], place: u64) -> bool
+    requires { HoldStretches past.now transactions.now }
     ensures { result ≡ spec.is_in_use transactions.now place }
 {
-    let (front, back) = around(transactions, past, u64::MAX, u64::MAX);
-    any_uses(front, place) || any_uses(back, place)
+    let mut walk = Walk::new();
+    while walk.at < transactions.len() {
+        let piece = walk.piece(transactions, past, u64::MAX, u64::MAX);
+        if any_uses(piece, place) {
+            return true;
+        }
+    }
+    false
 }
 
 /// Leaves the places from which transactions have their snapshots that their sessions have still to
@@ -133,9 +145,9 @@ fn is_in_use<A: Allocator>(transactions: &[Transaction<A>], past: Stretch, place
 pub(crate) fn keep_in_use<A: Allocator>(
     places: &mut Vec<u64, A>,
     transactions: &[Transaction<A>],
-    past: Stretch,
+    past: &[Stretch],
 )
-    requires { HoldsStretch past transactions.now }
+    requires { HoldStretches past.now transactions.now }
     ensures { places.new.items ≡ filter (spec.is_in_use transactions.now) places.old.items }
 {
     let mut kept = 0;

@@ -15,7 +15,7 @@ ghost use Rattle.plain.specs.Answers.{both};
 ghost use Rattle.plain.specs.Courses.{on_course};
 ghost use Rattle.mvrows.specs.Versions.{AreInOrder, TablesAreBelow};
 ghost use Rattle.plain.specs.Ledger.{after_owned, committed_by, turned_at, txn_at, world_on};
-ghost use Rattle.plain.specs.Stretches.{HoldsStretch};
+ghost use Rattle.plain.specs.Stretches.{HoldStretches};
 ghost use Rattle.plain.specs.Structures.{StructuresHold};
 ghost use Rattle.plain.specs.Versions.{AreCurrent, HasSameCommits, IsInstalled, StayShown, lowest_of, needed_of, next_commit, owed_snapshots};
 
@@ -29,7 +29,7 @@ use crate::least::{Which, least_owed};
 use crate::owed::owed_snapshots;
 use crate::own::OwnChanges;
 use crate::reply::of_cause;
-use crate::stretch::{Stretch, around};
+use crate::stretch::{Stretch, Walk, leave_without, without};
 use crate::transaction::{Standing, Transaction, is_read_write};
 use crate::world::{World, turn};
 use history::event::Action;
@@ -72,44 +72,40 @@ fn doom_all<A: Allocator>(transactions: &mut [Transaction<A>], causes: &[Cause],
     }
 }
 
-// They are so among the transactions around a stretch, of which none is open.
-fn doom_around<A: Allocator>(
-    transactions: &mut Vec<Transaction<A>, A>,
-    past: Stretch,
-    causes: &[Cause],
-    place: u64,
-)
-    requires { HoldsStretch past transactions.old.items }
+// They are so where there are any causes, which few commits have.
+fn doom_any<A: Allocator>(transactions: &mut Vec<Transaction<A>, A>, causes: &[Cause], place: u64)
     ensures { transactions.new.items ≡ map (doomed_by place causes.now) transactions.old.items }
 {
-    if causes.is_empty() {
-        return;
+    if !causes.is_empty() {
+        doom_all(transactions.as_mut_slice(), causes, place);
     }
-    let (front, rest) = transactions.split_at_mut(past.from);
-    let (_, back) = rest.split_at_mut(past.to - past.from);
-    doom_all(front, causes, place);
-    doom_all(back, causes, place);
 }
 
 // Whether the transaction at a place has an edge to another.
-fn has_edge_from<A: Allocator>(transactions: &[Transaction<A>], past: Stretch, at: usize) -> bool
-    requires past { HoldsStretch past transactions.now }
+fn has_edge_from<A: Allocator>(transactions: &[Transaction<A>], past: &[Stretch], at: usize) -> bool
+    requires past { HoldStretches past.now transactions.now }
     requires within { at < length transactions.now }
     ensures { result ≡ list_any (edge (txn_at transactions.now at)) transactions.now }
 {
     let reader = &transactions[at];
-    let (front, back) = around(transactions, past, reader.snapshot, u64::MAX);
-    has_any_edge(reader, front) || has_any_edge(reader, back)
+    let mut walk = Walk::new();
+    while walk.at < transactions.len() {
+        let piece = walk.piece(transactions, past, reader.snapshot, u64::MAX);
+        if has_any_edge(reader, piece) {
+            return true;
+        }
+    }
+    false
 }
 
 // The dangerous structure that is named, where each one has the transaction at a place as its first or
 // its middle.
 fn cause_of_all<A: Allocator>(
     transactions: &[Transaction<A>],
-    past: Stretch,
+    past: &[Stretch],
     at: usize,
 ) -> Option<Cause>
-    requires past { HoldsStretch past transactions.now }
+    requires past { HoldStretches past.now transactions.now }
     requires within { at < length transactions.now }
     requires committer { StructuresHold node edge (txn_at transactions.now at) transactions.now }
     ensures { result ≡ first_cause node edge transactions.now }
@@ -125,11 +121,11 @@ fn cause_of_all<A: Allocator>(
 // where each one has it as its first or its middle. The transactions stay; it takes no memory.
 fn try_course<A: Allocator>(
     transactions: &mut Vec<Transaction<A>, A>,
-    past: Stretch,
+    past: &[Stretch],
     at: usize,
     course: Course,
 ) -> Option<Cause>
-    requires past { HoldsStretch past transactions.old.items }
+    requires past { HoldStretches past.now transactions.old.items }
     requires within { at < length transactions.old.items }
     requires committer { StructuresHold node edge (on_course course (txn_at transactions.old.items at))
         (turned_at at (on_course course) transactions.old.items) }
@@ -138,7 +134,7 @@ fn try_course<A: Allocator>(
 {
     let before = transactions[at].course();
     turn(transactions, at, course);
-    let cause = cause_of_all(transactions.as_slice(), past.without(at), at);
+    let cause = cause_of_all(transactions.as_slice(), without(past, at), at);
     turn(transactions, at, before);
     cause
 }
@@ -147,12 +143,12 @@ fn try_course<A: Allocator>(
 // The transactions stay; it takes no memory.
 fn lowest_with<A: Allocator>(
     transactions: &mut Vec<Transaction<A>, A>,
-    past: Stretch,
+    past: &[Stretch],
     at: usize,
     course: Course,
     most: u64,
 ) -> u64
-    requires past { HoldsStretch past transactions.old.items }
+    requires past { HoldStretches past.now transactions.old.items }
     requires within { at < length transactions.old.items }
     ensures least { result ≡ lowest_of most (turned_at at (on_course course) transactions.old.items) }
     ensures same { transactions.new.items ≡ transactions.old.items }
@@ -161,7 +157,7 @@ fn lowest_with<A: Allocator>(
     turn(transactions, at, course);
     let least = least_owed(
         transactions.as_slice(),
-        past.without(at),
+        without(past, at),
         Which::Owed,
         &[],
         most,
@@ -175,11 +171,11 @@ fn lowest_with<A: Allocator>(
 fn snapshots_with<A: Allocator>(
     alloc: A,
     transactions: &mut Vec<Transaction<A>, A>,
-    past: Stretch,
+    past: &[Stretch],
     at: usize,
     course: Course,
 ) -> Result<Vec<u64, A>, Refusal>
-    requires past { HoldsStretch past transactions.old.items }
+    requires past { HoldStretches past.now transactions.old.items }
     requires within { at < length transactions.old.items }
     ensures ok { IfOk result (λ snapshots. snapshots.items ≡
         owed_snapshots (turned_at at (on_course course) transactions.old.items)) }
@@ -188,7 +184,7 @@ fn snapshots_with<A: Allocator>(
 {
     let before = transactions[at].course();
     turn(transactions, at, course);
-    let snapshots = owed_snapshots(alloc, transactions.as_slice(), past.without(at));
+    let snapshots = owed_snapshots(alloc, transactions.as_slice(), without(past, at));
     turn(transactions, at, before);
     snapshots
 }
@@ -287,10 +283,10 @@ impl<A: Allocator> World<A> {
     {
         self.base.commits += 1;
         self.place += 1;
-        self.past = self.past.without(at);
+        leave_without(&mut self.past, at);
         keep_calm(&mut self.calm, &self.transactions[at], committed);
         turn(&mut self.transactions, at, committed);
-        doom_around(&mut self.transactions, self.past, causes, self.place);
+        doom_any(&mut self.transactions, causes, self.place);
     }
 
     // The least snapshot that may still be read after the transaction at a place has committed.
@@ -301,7 +297,13 @@ impl<A: Allocator> World<A> {
         ensures same { self.new ≡ self.old }
     {
         let number = self.commits() + 1;
-        lowest_with(&mut self.transactions, self.past, at, committed, number)
+        lowest_with(
+            &mut self.transactions,
+            self.past.as_slice(),
+            at,
+            committed,
+            number,
+        )
     }
 
     // The snapshots that may still be read after the transaction at a place has committed.
@@ -317,7 +319,13 @@ impl<A: Allocator> World<A> {
         ensures same { self.new ≡ self.old }
         ensures memory { IfErr result (λ e. e ≡ out_of_memory) }
     {
-        snapshots_with(alloc, &mut self.transactions, self.past, at, committed)
+        snapshots_with(
+            alloc,
+            &mut self.transactions,
+            self.past.as_slice(),
+            at,
+            committed,
+        )
     }
 
     // The structures by which the commit of the open transaction at a place dooms others.
@@ -329,8 +337,7 @@ impl<A: Allocator> World<A> {
         ensures memory { IfErr result (λ e. e ≡ out_of_memory) }
     {
         let all = self.transactions.as_slice();
-        let (front, back) = around(all, self.past, u64::MAX, u64::MAX);
-        dooms(alloc, front, back, &all[at])
+        dooms(alloc, all, self.past.as_slice(), &all[at])
     }
 
     // COMMIT of the open read-write transaction at a place, which makes no structure.
@@ -408,7 +415,7 @@ impl<A: Allocator> World<A> {
     {
         // Naming a field tells what the type keeps true.
         let _place = self.place;
-        try_course(&mut self.transactions, self.past, at, committed)
+        try_course(&mut self.transactions, self.past.as_slice(), at, committed)
     }
 
     // A refused COMMIT of the open transaction at a place. It takes no memory.

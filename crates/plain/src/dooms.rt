@@ -1,12 +1,16 @@
 //! The open transactions that a commit dooms: each is the middle of a structure that it closes.
 
-ghost use Rattle.std.specs.Prelude.{◌≡◌, ◌++◌, find, fold, IfOk, IfErr, OnOk};
+ghost use Rattle.std.specs.Prelude.{◌≡◌, find, fold, IfOk, IfErr, OnOk};
 ghost use Rattle.std.specs.Option.{option_map};
 ghost use Rattle.value.specs.Isolation as spec;
 ghost use Rattle.value.specs.Refusals.{out_of_memory};
+ghost use Rattle.history.specs.Transactions.{node, reads_from};
+ghost use Rattle.plain.specs.Stretches.{HoldStretches, IsAmongOpen};
 
 use crate::isolation::structure;
 use crate::party::{Facts, Party};
+use crate::stretch::{Stretch, Walk};
+use crate::transaction::Transaction;
 use std::alloc::Allocator;
 use value::refusal::{Cause, Refusal};
 
@@ -55,95 +59,110 @@ fn first_among<T: Party>(
     None
 }
 
-// The facts of the least of two lists that may stand first before the pivot.
-fn first_before<T: Party>(
-    front: &[T],
-    back: &[T],
-    committer: &T,
+// The facts of the first of all that may stand first before the pivot.
+fn first_before<A: Allocator>(
+    all: &[Transaction<A>],
+    past: &[Stretch],
+    committer: &Transaction<A>,
     causes: &[Cause],
-    pivot: &T,
+    pivot: &Transaction<A>,
 ) -> Option<Facts>
-    ensures { result
-        ≡ option_map T.node (find (spec.is_first T.node T.reads committer.now causes.now pivot.now)
-        (front.now ++ back.now)) }
+    requires past { HoldStretches past.now all.now }
+    requires committer { IsAmongOpen committer.now all.now }
+    ensures { result ≡ option_map node (find (spec.is_first node reads_from committer.now causes.now pivot.now) all.now) }
 {
-    let first = first_among(front, committer, causes, pivot);
-    if first.is_some() {
-        return first;
+    let mut walk = Walk::new();
+    while walk.at < all.len() {
+        let piece = walk.piece(all, past, u64::MAX, u64::MAX);
+        let first = first_among(piece, committer, causes, pivot);
+        if first.is_some() {
+            return first;
+        }
     }
-    first_among(back, committer, causes, pivot)
+    None
 }
 
 // The structure by which a commit dooms the pivot, if there is one.
-fn doom_of<T: Party>(
-    front: &[T],
-    back: &[T],
-    committer: &T,
+fn doom_of<A: Allocator>(
+    all: &[Transaction<A>],
+    past: &[Stretch],
+    committer: &Transaction<A>,
     causes: &[Cause],
-    pivot: &T,
+    pivot: &Transaction<A>,
 ) -> Option<Cause>
-    ensures { result
-        ≡ spec.doom_of T.node T.reads (front.now ++ back.now) committer.now causes.now pivot.now }
+    requires past { HoldStretches past.now all.now }
+    requires committer { IsAmongOpen committer.now all.now }
+    ensures { result ≡ spec.doom_of node reads_from all.now committer.now causes.now pivot.now }
 {
     if !is_live(committer, pivot) || !pivot.reads_from(committer) {
         return None;
     }
-    match first_before(front, back, committer, causes, pivot) {
+    match first_before(all, past, committer, causes, pivot) {
         Some(first) => Some(structure(first, pivot.facts(), committer.facts())),
         None => None,
     }
 }
 
 // Adds the structure by which a commit dooms the pivot, if there is one.
-fn push_doom<T: Party, A: Allocator>(
-    front: &[T],
-    back: &[T],
-    committer: &T,
+fn push_doom<A: Allocator>(
+    all: &[Transaction<A>],
+    past: &[Stretch],
+    committer: &Transaction<A>,
     causes: &mut Vec<Cause, A>,
-    pivot: &T,
+    pivot: &Transaction<A>,
 ) -> Result<(), Refusal>
+    requires past { HoldStretches past.now all.now }
+    requires committer { IsAmongOpen committer.now all.now }
     ensures ok { OnOk result (causes.new.items ≡
-        spec.with_doom T.node T.reads (front.now ++ back.now) committer.now causes.old.items pivot.now) }
+        spec.with_doom node reads_from all.now committer.now causes.old.items pivot.now) }
     ensures memory { IfErr result (λ e. e ≡ out_of_memory) }
 {
-    if let Some(cause) = doom_of(front, back, committer, causes.as_slice(), pivot) {
+    if let Some(cause) = doom_of(all, past, committer, causes.as_slice(), pivot) {
         causes.push(cause)?;
     }
     Ok(())
 }
 
 // Adds the structures by which a commit dooms these pivots.
-fn push_dooms<T: Party, A: Allocator>(
-    front: &[T],
-    back: &[T],
-    committer: &T,
+fn push_dooms<A: Allocator>(
+    all: &[Transaction<A>],
+    past: &[Stretch],
+    committer: &Transaction<A>,
     causes: &mut Vec<Cause, A>,
-    pivots: &[T],
+    pivots: &[Transaction<A>],
 ) -> Result<(), Refusal>
+    requires past { HoldStretches past.now all.now }
+    requires committer { IsAmongOpen committer.now all.now }
     ensures ok { OnOk result (causes.new.items ≡
-        fold (spec.with_doom T.node T.reads (front.now ++ back.now) committer.now) causes.old.items pivots.now) }
+        fold (spec.with_doom node reads_from all.now committer.now) causes.old.items pivots.now) }
     ensures memory { IfErr result (λ e. e ≡ out_of_memory) }
 {
     for pivot in pivots {
-        push_doom(front, back, committer, causes, pivot)?;
+        push_doom(all, past, committer, causes, pivot)?;
     }
     Ok(())
 }
 
-/// The structures by which a commit dooms open transactions, each the one in its middle, of the
-/// transactions of two lists, one behind the other, in the order of their numbers.
-pub fn dooms<T: Party, A: Allocator>(
+/// The structures by which the commit of an open transaction dooms others, each the one in its
+/// middle, of transactions in the order of their numbers. Stretches of those that are over are passed
+/// over.
+pub(crate) fn dooms<A: Allocator>(
     alloc: A,
-    front: &[T],
-    back: &[T],
-    committer: &T,
+    all: &[Transaction<A>],
+    past: &[Stretch],
+    committer: &Transaction<A>,
 ) -> Result<Vec<Cause, A>, Refusal>
+    requires past { HoldStretches past.now all.now }
+    requires committer { IsAmongOpen committer.now all.now }
     ensures ok { IfOk result (λ causes. causes.items ≡
-        spec.dooms T.node T.reads (front.now ++ back.now) committer.now) }
+        spec.dooms node reads_from all.now committer.now) }
     ensures memory { IfErr result (λ e. e ≡ out_of_memory) }
 {
     let mut causes = Vec::new(alloc);
-    push_dooms(front, back, committer, &mut causes, front)?;
-    push_dooms(front, back, committer, &mut causes, back)?;
+    let mut walk = Walk::new();
+    while walk.at < all.len() {
+        let piece = walk.piece(all, past, u64::MAX, u64::MAX);
+        push_dooms(all, past, committer, &mut causes, piece)?;
+    }
     Ok(causes)
 }

@@ -15,6 +15,7 @@ use crate::answered::Answered;
 use crate::calm::keep_calm;
 use crate::course::Course;
 use crate::snapshots::ExportedSnapshot;
+use crate::stretch::leave_without;
 use crate::transaction::Transaction;
 use crate::world::{World, turn};
 use history::event::Action;
@@ -61,7 +62,7 @@ impl<A: Allocator> World<A> {
         ensures memory { IfErr result (λ e. e ≡ out_of_memory) }
     {
         self.exports.push(exported)?;
-        self.past = self.past.without(at);
+        leave_without(&mut self.past, at);
         keep_calm(&mut self.calm, &self.transactions[at], course);
         turn(&mut self.transactions, at, course);
         self.place += 1;

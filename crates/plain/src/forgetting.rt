@@ -1,19 +1,19 @@
 //! What is forgotten: transactions that no later question asks for, and identifiers that don't live.
 
-ghost use Rattle.std.specs.Prelude.{◌≡◌, ◌≤◌, ◌<◌, ◌^◌, ◌&&◌, ◌++◌, drop, length, take};
+ghost use Rattle.std.specs.Prelude.{◌≡◌, ◌≤◌, ◌<◌, ◌^◌, ◌&&◌, ◌++◌, [], drop, if◌then◌else◌, length, take};
 ghost use Rattle.std.specs.List.{filter, list_any};
 ghost use Rattle.history.specs.Needed as spec;
 ghost use Rattle.history.specs.Transactions.{edge, is_living as spec_living};
 ghost use Rattle.plain.specs.Forgetting.{IsThinned, is_left, is_needed_among, least_of_recent, oldest_of};
 ghost use Rattle.plain.specs.Ledger.{AreNumbered, txn_at};
-ghost use Rattle.plain.specs.Stretches.{HoldsStretch};
+ghost use Rattle.plain.specs.Stretches.{HoldStretches};
 ghost use Rattle.plain.specs.Versions.{lowest};
 
 use crate::calm::keep_in_use;
 use crate::isolation::has_edge;
 use crate::least::{Which, is_recent, least_owed, least_snapshot};
 use crate::snapshots::{ExportedSnapshot, is_living};
-use crate::stretch::{Stretch, grown};
+use crate::stretch::{Stretch, end_of, grow};
 use crate::transaction::{Transaction, is_read_write};
 use crate::world::World;
 use std::alloc::Allocator;
@@ -146,14 +146,24 @@ pub(crate) fn keep_living<A: Allocator>(
 // The snapshot from which on questions are asked, where these places are calm.
 fn oldest_of<A: Allocator>(
     transactions: &[Transaction<A>],
-    past: Stretch,
+    past: &[Stretch],
     calm: &[u64],
     commits: u64,
 ) -> u64
-    requires { HoldsStretch past transactions.now }
+    requires { HoldStretches past.now transactions.now }
     ensures { result ≡ oldest_of calm.now commits transactions.now }
 {
     least_owed(transactions, past, Which::HoldingBack, calm, commits)
+}
+
+// Leaves no stretch where all transactions are looked at anew: nothing new can be forgotten in one
+// else.
+fn clear_where<A: Allocator>(past: &mut Vec<Stretch, A>, anew: bool)
+    ensures { past.new.items ≡ (if anew then [] else past.old.items) }
+{
+    if anew {
+        past.clear();
+    }
 }
 
 impl<A: Allocator> World<A> {
@@ -164,23 +174,11 @@ impl<A: Allocator> World<A> {
     {
         least_owed(
             self.transactions.as_slice(),
-            self.past,
+            self.past.as_slice(),
             Which::Owed,
             &[],
             self.base.commits,
         )
-    }
-
-    // The stretch before which nothing new can be forgotten: none where questions are asked from
-    // another snapshot on than when all were last looked at.
-    fn looked_at(&self, oldest: u64) -> Stretch
-        ensures { HoldsStretch result self.now.txns }
-    {
-        if oldest == self.reached {
-            self.past
-        } else {
-            Stretch::none()
-        }
     }
 
     /// Forgets the transactions that no later question asks for, and the identifiers that don't live.
@@ -190,19 +188,24 @@ impl<A: Allocator> World<A> {
     {
         let oldest = oldest_of(
             self.transactions.as_slice(),
-            self.past,
+            self.past.as_slice(),
             self.calm.as_slice(),
             self.base.commits,
         );
-        let past = self.looked_at(oldest);
+        clear_where(&mut self.past, oldest != self.reached);
+        let from = end_of(self.transactions.as_slice(), self.past.as_slice());
         let transactions = self.base.transactions + self.transactions.len() as u64;
         let identifiers = self.base.identifiers + self.exports.len() as u64;
         keep_living(&mut self.exports, self.transactions.as_slice());
-        keep_needed(&mut self.transactions, oldest, past.to);
+        keep_needed(&mut self.transactions, oldest, from);
         self.base.transactions = transactions - self.transactions.len() as u64;
         self.base.identifiers = identifiers - self.exports.len() as u64;
-        self.past = grown(self.transactions.as_slice(), past, self.place);
-        keep_in_use(&mut self.calm, self.transactions.as_slice(), self.past);
+        grow(&mut self.past, self.transactions.as_slice(), self.place);
+        keep_in_use(
+            &mut self.calm,
+            self.transactions.as_slice(),
+            self.past.as_slice(),
+        );
         self.reached = oldest;
     }
 }

@@ -1,12 +1,11 @@
 //! Conflicts between transactions, dangerous structures among them, and where they stand in the
 //! serial order, over a list of them.
 
-ghost use Rattle.std.specs.Prelude.{◌≡◌, ◌++◌, ◌&&◌, if◌then◌else◌, min, nat_lt};
+ghost use Rattle.std.specs.Prelude.{◌≡◌, ◌&&◌, if◌then◌else◌, min, nat_lt};
 ghost use Rattle.std.specs.List.{filter, list_any};
 ghost use Rattle.std.specs.Option.{option_map};
 ghost use Rattle.value.specs.Isolation.{bound, earliest, edge_of, first_part, is_dangerous, serial_key, structure, write_key};
 ghost use Rattle.plain.specs.Earliest.{first_of, first_of_both};
-ghost use Rattle.plain.specs.Structures.{closed_pair};
 
 use crate::party::{Facts, Party};
 use value::refusal::{Cause, TxnNo};
@@ -67,8 +66,8 @@ fn first_of(before: Option<Facts>, next: Facts) -> Facts
     }
 }
 
-// The first to commit of those before and those behind.
-fn first_of_both(before: Option<Facts>, behind: Option<Facts>) -> Option<Facts>
+/// The first to commit of those before and those behind.
+pub(crate) fn first_of_both(before: Option<Facts>, behind: Option<Facts>) -> Option<Facts>
     ensures { result ≡ first_of_both before behind }
 {
     match behind {
@@ -77,8 +76,8 @@ fn first_of_both(before: Option<Facts>, behind: Option<Facts>) -> Option<Facts>
     }
 }
 
-// Of the transactions that close a structure on two others, the first to commit.
-fn last_among<T: Party>(first: &T, pivot: &T, transactions: &[T]) -> Option<Facts>
+/// Of the transactions that close a structure on two others, the first to commit.
+pub(crate) fn last_among<T: Party>(first: &T, pivot: &T, transactions: &[T]) -> Option<Facts>
     ensures { result
         ≡ option_map T.node (earliest T.node (edge_of T.node T.reads)
         (filter (is_dangerous T.node (edge_of T.node T.reads) first.now pivot.now) transactions.now)) }
@@ -92,37 +91,11 @@ fn last_among<T: Party>(first: &T, pivot: &T, transactions: &[T]) -> Option<Fact
     last
 }
 
-// The same of two lists, one behind the other.
-fn last_of<T: Party>(first: &T, pivot: &T, front: &[T], back: &[T]) -> Option<Facts>
-    ensures { result
-        ≡ option_map T.node (earliest T.node (edge_of T.node T.reads)
-        (filter (is_dangerous T.node (edge_of T.node T.reads) first.now pivot.now) (front.now ++ back.now))) }
-{
-    first_of_both(
-        last_among(first, pivot, front),
-        last_among(first, pivot, back),
-    )
-}
-
-// Whether a transaction committed, and has an edge to another.
-fn is_followed<T: Party>(first: &T, pivot: &T) -> bool
+/// Whether a transaction committed, and has an edge to another.
+pub(crate) fn is_followed<T: Party>(first: &T, pivot: &T) -> bool
     ensures { result ≡ ((T.node first.now).committed && edge_of T.node T.reads first.now pivot.now) }
 {
     first.facts().committed && has_edge(first, pivot)
-}
-
-/// The structure of two transactions and the first to commit that closes it, if there is one, of the
-/// transactions of two lists, one behind the other.
-pub fn cause_between<T: Party>(first: &T, pivot: &T, front: &[T], back: &[T]) -> Option<Cause>
-    ensures { result ≡ closed_pair T.node (edge_of T.node T.reads) (front.now ++ back.now) first.now pivot.now }
-{
-    if !is_followed(first, pivot) {
-        return None;
-    }
-    match last_of(first, pivot, front, back) {
-        Some(last) => Some(structure(first.facts(), pivot.facts(), last)),
-        None => None,
-    }
 }
 
 /// Whether a transaction has an edge to one of these.

@@ -6,11 +6,11 @@ ghost use Rattle.std.specs.Option.{option_copied, option_map};
 ghost use Rattle.value.specs.Isolation.{edge_of, first_part, serial_key};
 ghost use Rattle.history.specs.Transactions.{edge, is_done, node};
 ghost use Rattle.plain.specs.Keys.{committed_at, keyed, parts};
-ghost use Rattle.plain.specs.Stretches.{HoldsStretch};
+ghost use Rattle.plain.specs.Stretches.{HoldStretches};
 
 use crate::isolation::{commit_of, lesser, write_key};
 use crate::party::Party;
-use crate::stretch::{Stretch, around};
+use crate::stretch::{Stretch, Walk};
 use crate::transaction::{Transaction, is_read_write};
 use crate::world::World;
 use history::key::SerialKey;
@@ -52,26 +52,31 @@ fn first_committed<T: Party>(transaction: &T, transactions: &[T]) -> u64
 }
 
 // The least of a transaction's commit number and of those of committed ones below it to which it has
-// an edge; a stretch of those whose commits it sees is passed over.
+// an edge; stretches of those whose commits it sees are passed over.
 fn first_around<A: Allocator>(
     transactions: &[Transaction<A>],
-    past: Stretch,
+    past: &[Stretch],
     transaction: &Transaction<A>,
 ) -> u64
-    requires { HoldsStretch past transactions.now }
+    requires { HoldStretches past.now transactions.now }
     ensures { result ≡ first_part node edge transaction.now (filter (λ t. is_done t.standing) transactions.now) }
 {
-    let (front, back) = around(transactions, past, transaction.snapshot, u64::MAX);
-    first_committed(transaction, front).min(first_committed(transaction, back))
+    let mut least = commit_of(transaction);
+    let mut walk = Walk::new();
+    while walk.at < transactions.len() {
+        let piece = walk.piece(transactions, past, transaction.snapshot, u64::MAX);
+        least = first_committed(transaction, piece).min(least);
+    }
+    least
 }
 
 // Where a committed transaction stands in the serial order of the committed ones of these.
 fn key_among<A: Allocator>(
     transactions: &[Transaction<A>],
-    past: Stretch,
+    past: &[Stretch],
     transaction: &Transaction<A>,
 ) -> (u64, u8, u64)
-    requires { HoldsStretch past transactions.now }
+    requires { HoldStretches past.now transactions.now }
     ensures { result ≡ serial_key node edge (filter (λ t. is_done t.standing) transactions.now) transaction.now }
 {
     if is_read_write(transaction.mode) {
@@ -88,10 +93,10 @@ fn key_among<A: Allocator>(
 /// memory.
 pub fn key<A: Allocator>(
     transactions: &[Transaction<A>],
-    past: Stretch,
+    past: &[Stretch],
     transaction: &Transaction<A>,
 ) -> SerialKey
-    requires { HoldsStretch past transactions.now }
+    requires { HoldStretches past.now transactions.now }
     ensures { parts result ≡ serial_key node edge (filter (λ t. is_done t.standing) transactions.now) transaction.now }
 {
     let (first, rank, last) = key_among(transactions, past, transaction);
@@ -101,10 +106,10 @@ pub fn key<A: Allocator>(
 // A transaction's number, with its key among these.
 fn with_key<A: Allocator>(
     transactions: &[Transaction<A>],
-    past: Stretch,
+    past: &[Stretch],
     transaction: &Transaction<A>,
 ) -> (TxnNo, SerialKey)
-    requires { HoldsStretch past transactions.now }
+    requires { HoldStretches past.now transactions.now }
     ensures { keyed result ≡ (
       transaction.now.number,
       serial_key node edge
@@ -136,24 +141,24 @@ fn find_among<A: Allocator>(transactions: &[Transaction<A>], place: u64) -> Opti
     None
 }
 
-/// The transaction of these that committed as the event at a place, with its key among them; a
-/// stretch of those that were over before is passed over. It takes no memory.
+/// The transaction of these that committed as the event at a place, with its key among them;
+/// stretches of those that were over before are passed over. It takes no memory.
 pub fn find_commit<A: Allocator>(
     transactions: &[Transaction<A>],
-    past: Stretch,
+    past: &[Stretch],
     place: u64,
 ) -> Option<(TxnNo, SerialKey)>
-    requires { HoldsStretch past transactions.now }
+    requires { HoldStretches past.now transactions.now }
     ensures { option_map keyed result ≡ committed_at place transactions.now }
 {
-    let (front, back) = around(transactions, past, u64::MAX, place);
-    if let Some(found) = find_among(front, place) {
-        return Some(with_key(transactions, past, found));
+    let mut walk = Walk::new();
+    while walk.at < transactions.len() {
+        let piece = walk.piece(transactions, past, u64::MAX, place);
+        if let Some(found) = find_among(piece, place) {
+            return Some(with_key(transactions, past, found));
+        }
     }
-    match find_among(back, place) {
-        Some(found) => Some(with_key(transactions, past, found)),
-        None => None,
-    }
+    None
 }
 
 impl<A: Allocator> World<A> {
@@ -162,6 +167,10 @@ impl<A: Allocator> World<A> {
     pub fn last_commit(&self) -> Option<(TxnNo, SerialKey)>
         ensures { option_map keyed result ≡ committed_at self.now.place self.now.txns }
     {
-        find_commit(self.transactions.as_slice(), self.past, self.place)
+        find_commit(
+            self.transactions.as_slice(),
+            self.past.as_slice(),
+            self.place,
+        )
     }
 }

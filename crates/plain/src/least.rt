@@ -6,10 +6,10 @@ ghost use Rattle.history.specs.Needed as spec;
 ghost use Rattle.plain.specs.Calm.{is_safe_from};
 ghost use Rattle.plain.specs.Forgetting.{holds_back, is_looked_at};
 ghost use Rattle.history.specs.Transactions.{Txn as AnyTxn, is_owed};
-ghost use Rattle.plain.specs.Stretches.{HoldsStretch};
+ghost use Rattle.plain.specs.Stretches.{HoldStretches};
 ghost use Rattle.plain.specs.Versions.{least_snapshot};
 
-use crate::stretch::{Stretch, around};
+use crate::stretch::{Stretch, Walk};
 use crate::transaction::{Transaction, is_read_write};
 use std::alloc::Allocator;
 
@@ -101,19 +101,24 @@ pub fn least_snapshot<A: Allocator>(
     least
 }
 
-/// The same of transactions that their sessions have still to end, where a stretch of those that are
-/// over is passed over.
+/// The same of transactions that their sessions have still to end, where stretches of those that are
+/// over are passed over.
 pub fn least_owed<A: Allocator>(
     transactions: &[Transaction<A>],
-    past: Stretch,
+    past: &[Stretch],
     which: Which,
     calm: &[u64],
     most: u64,
 ) -> u64
-    requires past { HoldsStretch past transactions.now }
+    requires past { HoldStretches past.now transactions.now }
     requires owed { (u : AnyTxn A) → is_looked_at calm.now which u ≡ true → is_owed u.standing ≡ true }
     ensures { result ≡ least_snapshot (is_looked_at calm.now which) most transactions.now }
 {
-    let (front, back) = around(transactions, past, u64::MAX, u64::MAX);
-    least_snapshot(front, which, calm, least_snapshot(back, which, calm, most))
+    let mut least = most;
+    let mut walk = Walk::new();
+    while walk.at < transactions.len() {
+        let piece = walk.piece(transactions, past, u64::MAX, u64::MAX);
+        least = least_snapshot(piece, which, calm, least);
+    }
+    least
 }

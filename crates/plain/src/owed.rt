@@ -2,10 +2,10 @@
 
 ghost use Rattle.std.specs.Prelude.{◌≡◌, ◌++◌, IfOk, IfErr, OnOk};
 ghost use Rattle.value.specs.Refusals.{out_of_memory};
-ghost use Rattle.plain.specs.Stretches.{HoldsStretch};
+ghost use Rattle.plain.specs.Stretches.{HoldStretches};
 ghost use Rattle.plain.specs.Versions.{owed_snapshots};
 
-use crate::stretch::{Stretch, around};
+use crate::stretch::{Stretch, Walk};
 use crate::transaction::Transaction;
 use std::alloc::Allocator;
 use value::refusal::Refusal;
@@ -26,20 +26,22 @@ fn push_owed<A: Allocator>(
     Ok(())
 }
 
-/// The snapshots of those of these transactions that their sessions have still to end. A stretch of
-/// those that are over is passed over.
+/// The snapshots of those of these transactions that their sessions have still to end. Stretches
+/// of those that are over are passed over.
 pub(crate) fn owed_snapshots<A: Allocator>(
     alloc: A,
     transactions: &[Transaction<A>],
-    past: Stretch,
+    past: &[Stretch],
 ) -> Result<Vec<u64, A>, Refusal>
-    requires { HoldsStretch past transactions.now }
+    requires { HoldStretches past.now transactions.now }
     ensures ok { IfOk result (λ snapshots. snapshots.items ≡ owed_snapshots transactions.now) }
     ensures memory { IfErr result (λ e. e ≡ out_of_memory) }
 {
-    let (front, back) = around(transactions, past, u64::MAX, u64::MAX);
     let mut snapshots = Vec::new(alloc);
-    push_owed(&mut snapshots, front)?;
-    push_owed(&mut snapshots, back)?;
+    let mut walk = Walk::new();
+    while walk.at < transactions.len() {
+        let piece = walk.piece(transactions, past, u64::MAX, u64::MAX);
+        push_owed(&mut snapshots, piece)?;
+    }
     Ok(snapshots)
 }

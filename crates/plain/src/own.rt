@@ -1,13 +1,13 @@
 //! What a transaction has written, and what its statements come to on tables with that put in.
 
-ghost use Rattle.std.specs.Prelude.{◌≡◌, ◌≤◌, ◌++◌, [], true, length, take, OnOk, OnErr, IfOk, IfErr};
+ghost use Rattle.std.specs.Prelude.{◌≡◌, ◌==◌, ◌≤◌, ◌++◌, ◌&&◌, [], true, length, take, drop, OnOk, OnErr, IfOk, IfErr};
 ghost use Rattle.value.specs.Refusals.{out_of_memory};
 ghost use Rattle.schema.specs.Changing.{put_change};
-ghost use Rattle.schema.specs.Plain.{put_all};
+ghost use Rattle.schema.specs.Plain.{put_all, same};
 ghost use Rattle.statement.specs.Evaluation.{outcome};
 ghost use Rattle.statement.specs.Fits.{Fits};
 ghost use Rattle.statement.specs.Walk.{are_of};
-ghost use Rattle.plain.specs.Merged.{AreInKeyOrder, AreMerged};
+ghost use Rattle.plain.specs.Merged.{AreInKeyOrder, AreMerged, is_changed};
 
 use crate::added::{append_reserved, reserve};
 use schema::catalog::Catalog;
@@ -28,8 +28,8 @@ use value::value::Value;
 #[derive(Drop)]
 pub struct OwnChanges<A: Allocator = Global> {
     list: Vec<Change<A>, A>,
-    // The first of the list by their keys, of each key the last. The others come to them when a
-    // statement next asks.
+    // The first of the list by their keys, of each key the last. The others come to them when they
+    // are many, or a statement next asks.
     merged: Changes<A>,
     count: usize,
 }
@@ -45,6 +45,9 @@ impl<A: Allocator> Model for OwnChanges<A> {
 
     ghost invariant = { λ o. (o.count ≤ length o.list.items) × AreMerged o.merged (take o.count o.list.items) };
 }
+
+// So few changes are looked through, and not by their keys.
+const FEW: usize = 16;
 
 // Puts in a copy of a change, over any of its key.
 fn put_over<A: Allocator + Copy>(
@@ -87,6 +90,36 @@ fn merge_rest<A: Allocator + Copy>(
     Ok(())
 }
 
+// Whether one of merged changes is of the key of a change.
+fn has_merged<A: Allocator>(merged: &Changes<A>, change: &Change<A>) -> bool
+    ensures { result ≡ is_changed change.now.table change.now.key merged.now }
+{
+    merged.get(change.table(), change.key()).is_some()
+}
+
+// Whether two changes are of one key of one table.
+fn is_of_same_key<A: Allocator>(change: &Change<A>, written: &Change<A>) -> bool
+    ensures { result ≡ (change.now.table == written.now.table && same change.now.key written.now.key) }
+{
+    change.table() == written.table() && change.key() == written.key()
+}
+
+// Whether one of these changes is of the key of a change.
+fn has_among<A: Allocator>(written: &[Change<A>], change: &Change<A>) -> bool
+    ensures { result ≡ is_changed change.now.table change.now.key written.now }
+{
+    written.iter().any(|own| is_of_same_key(change, own))
+}
+
+// Whether one of the changes behind so many is of the key of a change.
+fn has_behind<A: Allocator>(list: &[Change<A>], count: usize, change: &Change<A>) -> bool
+    requires { count ≤ length list.now }
+    ensures { result ≡ is_changed change.now.table change.now.key (drop count list.now) }
+{
+    let (_, rest) = list.split_at(count);
+    has_among(rest, change)
+}
+
 // What comes of a statement on the tables of a reader.
 fn evaluate_on<A: Allocator + Copy, R: RowsReader<A>>(
     alloc: A,
@@ -126,14 +159,50 @@ impl<A: Allocator> OwnChanges<A> {
         self.list.as_slice()
     }
 
+    /// Whether one of them is of the key of a change. It takes no memory.
+    pub(crate) fn has_key_of(&self, change: &Change<A>) -> bool
+        ensures { result ≡ is_changed change.now.table change.now.key self.now }
+    {
+        has_merged(&self.merged, change) || has_behind(self.list.as_slice(), self.count, change)
+    }
+
+    // Merges them all.
+    fn catch_up(&mut self, alloc: A) -> Result<(), Refusal>
+    where
+        A: Copy,
+        ensures same { self.new ≡ self.old }
+        ensures memory { IfErr result (λ e. e ≡ out_of_memory) }
+    {
+        merge_rest(
+            alloc,
+            &mut self.merged,
+            &mut self.count,
+            self.list.as_slice(),
+        )
+    }
+
+    // Merges them where many aren't. Where there is no memory for it, they stay as they are.
+    fn merge_many(&mut self, alloc: A)
+    where
+        A: Copy,
+        ensures { self.new ≡ self.old }
+    {
+        if self.list.len() - self.count > FEW {
+            let _ = self.catch_up(alloc);
+        }
+    }
+
     /// Adds changes at the end.
-    pub(crate) fn append(&mut self, changes: Vec<Change<A>, A>) -> Result<(), Refusal>
+    pub(crate) fn append(&mut self, alloc: A, changes: Vec<Change<A>, A>) -> Result<(), Refusal>
+    where
+        A: Copy,
         ensures ok { OnOk result (self.new ≡ self.old ++ changes.items) }
         ensures err { OnErr result (self.new ≡ self.old) }
         ensures memory { IfErr result (λ e. e ≡ out_of_memory) }
     {
         reserve(&mut self.list, changes.len())?;
         append_reserved(&mut self.list, changes);
+        self.merge_many(alloc);
         Ok(())
     }
 
@@ -150,8 +219,24 @@ impl<A: Allocator> OwnChanges<A> {
         Ok(merged)
     }
 
-    /// The changes by their keys, of each key the last, as a list of its own.
+    /// The changes by their keys, of each key the last, as a list of its own. Many stay merged.
     pub(crate) fn last_changes(&mut self, alloc: A) -> Result<Vec<Change<A>, A>, Refusal>
+    where
+        A: Copy,
+        ensures ok { IfOk result (λ list. AreMerged list.items self.old) }
+        ensures same { self.new ≡ self.old }
+        ensures memory { IfErr result (λ e. e ≡ out_of_memory) }
+    {
+        if self.list.len() > FEW {
+            let merged = self.merge(alloc)?;
+            Ok(merged.into_list(alloc)?)
+        } else {
+            self.move_merged(alloc)
+        }
+    }
+
+    // The changes by their keys, of each key the last, moved out: no change is merged then.
+    fn move_merged(&mut self, alloc: A) -> Result<Vec<Change<A>, A>, Refusal>
     where
         A: Copy,
         ensures ok { IfOk result (λ list. AreMerged list.items self.old) }

@@ -129,7 +129,7 @@ impl<A: Allocator> World<A> {
         ensures { (c : Catalog) (X : Tables A) →
             AnswersOrNoMemory result (reader_on (versions_at rows.now) (kept_current c X self.now session)) }
     {
-        match find_current(self.transactions.as_slice(), self.past, session) {
+        match find_current(self.transactions.as_slice(), self.past.as_slice(), session) {
             Some(at) => self.transactions[at].reader(alloc, rows),
             None => Err(Refusal::of_code(Code::NoActiveSqlTransaction)),
         }

@@ -83,7 +83,7 @@ impl<A: Allocator> OwnReads<A> {
     {
         reserve(&mut self.list, reads.len())?;
         self.locks.read(alloc, reads.as_slice())?;
-        if let Err(refusal) = written.append(changes) {
+        if let Err(refusal) = written.append(alloc, changes) {
             self.locks.undo();
             return Err(refusal);
         }

@@ -184,7 +184,7 @@ impl<A: Allocator> World<A> {
         ensures err { OnErr result (self.new ≡ self.old) }
         ensures memory { IfErr result (λ e. e ≡ out_of_memory) }
     {
-        match find_current(self.transactions.as_slice(), self.past, session) {
+        match find_current(self.transactions.as_slice(), self.past.as_slice(), session) {
             Some(at) => self.record_owned(alloc, catalog, rows, at, action, reply),
             None => self.join(alloc, session, action),
         }

@@ -1,12 +1,11 @@
 //! Rows that a transaction would write, and another has written.
 
-ghost use Rattle.std.specs.Prelude.{◌≡◌, ◌==◌, ◌&&◌};
+ghost use Rattle.std.specs.Prelude.{◌≡◌};
 ghost use Rattle.std.specs.List.{list_any};
-ghost use Rattle.schema.specs.Plain.{same};
 ghost use Rattle.history.specs.Answer as spec;
-ghost use Rattle.plain.specs.Stretches.{HoldsStretch};
+ghost use Rattle.plain.specs.Stretches.{HoldStretches};
 
-use crate::stretch::{Stretch, around};
+use crate::stretch::{Stretch, Walk};
 use crate::transaction::Transaction;
 use schema::changes::Change;
 use std::alloc::Allocator;
@@ -18,19 +17,12 @@ fn is_unseen<A: Allocator>(transaction: &Transaction<A>, other: &Transaction<A>)
     other.standing.is_open() || transaction.snapshot < other.commit
 }
 
-// Whether two changes are of one key of one table.
-fn is_of_same_key<A: Allocator>(change: &Change<A>, written: &Change<A>) -> bool
-    ensures { result ≡ (change.now.table == written.now.table && same change.now.key written.now.key) }
-{
-    change.table() == written.table() && change.key() == written.key()
-}
-
-// Whether the other has inserted, updated or deleted the key of the change.
+// Whether the other has inserted, updated or deleted the key of the change: by its keys, where it has
+// many.
 fn has_written<A: Allocator>(other: &Transaction<A>, change: &Change<A>) -> bool
     ensures { result ≡ spec.has_written other.now change.now }
 {
-    let written = other.changes.as_slice();
-    written.iter().any(|own| is_of_same_key(change, own))
+    other.changes.has_key_of(change)
 }
 
 // Whether another transaction, of which this one sees nothing, has written the key.
@@ -71,17 +63,23 @@ fn meets_any<A: Allocator>(
 }
 
 /// Whether the transaction would write a key that another has written, of which it sees nothing
-/// (PostgreSQL's "first updater wins"; here nobody waits). A stretch of those whose commits it sees is
+/// (PostgreSQL's "first updater wins"; here nobody waits). Stretches of those whose commits it sees are
 /// passed over. It takes no memory.
 pub fn meets_another<A: Allocator>(
     transactions: &[Transaction<A>],
-    past: Stretch,
+    past: &[Stretch],
     transaction: &Transaction<A>,
     changes: &[Change<A>],
 ) -> bool
-    requires { HoldsStretch past transactions.now }
+    requires { HoldStretches past.now transactions.now }
     ensures { result ≡ list_any (λ x. list_any (λ u. spec.is_taken transaction.now u x) transactions.now) changes.now }
 {
-    let (front, back) = around(transactions, past, transaction.snapshot, u64::MAX);
-    meets_any(front, transaction, changes) || meets_any(back, transaction, changes)
+    let mut walk = Walk::new();
+    while walk.at < transactions.len() {
+        let piece = walk.piece(transactions, past, transaction.snapshot, u64::MAX);
+        if meets_any(piece, transaction, changes) {
+            return true;
+        }
+    }
+    false
 }

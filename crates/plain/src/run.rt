@@ -185,7 +185,7 @@ impl<A: Allocator> World<A> {
         } = outcome;
         let list = changes.into_list(alloc)?;
         let all = self.transactions.as_slice();
-        if meets_another(all, self.past, transaction, list.as_slice()) {
+        if meets_another(all, self.past.as_slice(), transaction, list.as_slice()) {
             return Ok(Ran::Refused(Refusal {
                 code: Code::SerializationFailure,
                 place: Place::Row,

@@ -64,8 +64,14 @@ impl<A: Allocator> World<A> {
         let place = self.place + 1;
         let number = self.base.transactions + self.transactions.len() as u64 + 1;
         let commits = self.commits();
-        let calm = begins_calm(self.transactions.as_slice(), self.past, mode, place);
+        let calm = begins_calm(
+            self.transactions.as_slice(),
+            self.past.as_slice(),
+            mode,
+            place,
+        );
         self.calm.reserve(1)?;
+        self.past.reserve(1)?;
         self.transactions.reserve(1)?;
         self.transactions.push_reserved(Transaction::begun(
             alloc, session, mode, number, place, commits,

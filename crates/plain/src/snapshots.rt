@@ -2,9 +2,9 @@
 
 ghost use Rattle.std.specs.Prelude.{◌≡◌, ◌==◌, ◌&&◌, ◌<◌, find, length, slice_get, None, IfSome, IfNone};
 ghost use Rattle.history.specs.Transactions.{is_living, is_of, is_open};
-ghost use Rattle.plain.specs.Stretches.{HoldsStretch};
+ghost use Rattle.plain.specs.Stretches.{HoldStretches};
 
-use crate::stretch::{Stretch, around};
+use crate::stretch::{Stretch, Walk};
 use crate::transaction::Transaction;
 use history::session_id::SessionId;
 use std::alloc::Allocator;
@@ -57,26 +57,27 @@ fn find_among<A: Allocator>(transactions: &[Transaction<A>], session: SessionId)
     None
 }
 
-/// The place of the session's transaction, which it has still to end; a stretch of those that are
-/// over is passed over. It takes no memory.
+/// The place of the session's transaction, which it has still to end; stretches of those that are
+/// over are passed over. It takes no memory.
 pub fn find_current<A: Allocator>(
     transactions: &[Transaction<A>],
-    past: Stretch,
+    past: &[Stretch],
     session: SessionId,
 ) -> Option<usize>
-    requires { HoldsStretch past transactions.now }
+    requires { HoldStretches past.now transactions.now }
     ensures some { IfSome result (λ i. find (is_of session) transactions.now ≡ slice_get transactions.now i) }
     ensures within { IfSome result (λ i. i < length transactions.now) }
     ensures none { IfNone result (find (is_of session) transactions.now ≡ None) }
 {
-    let (front, back) = around(transactions, past, u64::MAX, u64::MAX);
-    if let Some(at) = find_among(front, session) {
-        return Some(at);
+    let mut walk = Walk::new();
+    while walk.at < transactions.len() {
+        let from = walk.at;
+        let piece = walk.piece(transactions, past, u64::MAX, u64::MAX);
+        if let Some(at) = find_among(piece, session) {
+            return Some(from + at);
+        }
     }
-    match find_among(back, session) {
-        Some(at) => Some(transactions.len() - back.len() + at),
-        None => None,
-    }
+    None
 }
 
 // Whether a transaction is the exporter, and open still.

@@ -106,7 +106,7 @@ impl<A: Allocator> World<A> {
         ensures memory { IfErr result (λ e. e ≡ out_of_memory) }
         ensures taken { OnErr result (takes_memory action.now ≡ true) }
     {
-        match find_current(self.transactions.as_slice(), self.past, session) {
+        match find_current(self.transactions.as_slice(), self.past.as_slice(), session) {
             Some(at) => self.step_owned(alloc, catalog, rows, at, action),
             None => self.join(alloc, session, action),
         }

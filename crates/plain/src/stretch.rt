@@ -1,7 +1,8 @@
 //! Stretches of transactions that are over, which most questions pass over.
 
-ghost use Rattle.std.specs.Prelude.{◌≡◌, ◌≤◌, ◌+◌, ◌&&◌, if◌then◌else◌, nat_le, nat_lt, length, max, ◌<◌, ◌^◌, IsTrue};
-ghost use Rattle.plain.specs.Stretches.{HoldsStretch, IsAround, IsPast, no_stretch};
+ghost use Rattle.std.specs.Prelude.{◌≡◌, ◌≤◌, ◌<◌, ◌+◌, ◌&&◌, drop, length, max, ◌^◌, IsTrue};
+ghost use Rattle.std.specs.List.{AllByRecursion, list_any};
+ghost use Rattle.plain.specs.Stretches.{HoldStretches, HoldsStretch, IsAround, IsPassed, IsPast, has_place, joined, none_at, without};
 
 use crate::least::{Which, least_snapshot};
 use crate::transaction::Transaction;
@@ -21,26 +22,15 @@ pub struct Stretch {
 }
 
 impl Stretch {
-    /// A stretch of none.
-    pub fn none() -> Stretch
-        ensures { result ≡ no_stretch }
+    // A stretch of none at a place.
+    fn none_at(place: usize) -> Stretch
+        ensures { result ≡ none_at place }
     {
         Stretch {
-            from: 0,
-            to: 0,
+            from: place,
+            to: place,
             newest: 0,
             until: 0,
-        }
-    }
-
-    /// The stretch where the transaction at a place may change: none, where it is one of it.
-    pub fn without(self, at: usize) -> Stretch
-        ensures { result ≡ (if nat_le self.from at && nat_lt at self.to then no_stretch else self) }
-    {
-        if self.from <= at && at < self.to {
-            Stretch::none()
-        } else {
-            self
         }
     }
 
@@ -63,30 +53,132 @@ impl Stretch {
             until: self.until.max(place),
         }
     }
-}
 
-/// The transactions before and behind a stretch, where all commits and snapshots of it are numbers up
-/// to that of a snapshot and it was over before a place; else all of them, and none.
-pub fn around<A: Allocator>(
-    transactions: &[Transaction<A>],
-    stretch: Stretch,
-    snapshot: u64,
-    place: u64,
-) -> (&[Transaction<A>], &[Transaction<A>])
-    requires { HoldsStretch stretch transactions.now }
-    ensures { IsAround snapshot place transactions.now result.0.now result.1.now }
-{
-    if stretch.newest <= snapshot && stretch.until < place {
-        let (front, _) = transactions.split_at(stretch.from);
-        let (_, back) = transactions.split_at(stretch.to);
-        (front, back)
-    } else {
-        transactions.split_at(transactions.len())
+    // The stretch and one right behind it as one.
+    fn joined(self, behind: Stretch) -> Stretch
+        ensures { result ≡ joined self behind }
+    {
+        Stretch {
+            from: self.from,
+            to: behind.to,
+            newest: self.newest.max(behind.newest),
+            until: self.until.max(behind.until),
+        }
+    }
+
+    // Whether the transaction at a place is one of it.
+    fn has_place(self, at: usize) -> bool
+        ensures { result ≡ has_place at self }
+    {
+        self.from <= at && at < self.to
     }
 }
 
-// So many more transactions behind a stretch than in it are worth another stretch.
-const FEW: usize = 64;
+// Whether the transaction at a place is in one of these stretches.
+fn is_in_one(past: &[Stretch], at: usize) -> bool
+    ensures { result ≡ list_any (has_place at) past.now }
+{
+    past.iter().any(|stretch| stretch.has_place(at))
+}
+
+/// The stretches where the transaction at a place may change: none, where it is in one.
+pub fn without(past: &[Stretch], at: usize) -> &[Stretch]
+    ensures { result.now ≡ without at past.now }
+{
+    if is_in_one(past, at) {
+        let (none, _) = past.split_at(0);
+        none
+    } else {
+        past
+    }
+}
+
+/// Leaves the stretches, where the transaction at a place is in none; else none of them.
+pub(crate) fn leave_without<A: Allocator>(past: &mut Vec<Stretch, A>, at: usize)
+    ensures { past.new.items ≡ without at past.old.items }
+{
+    if is_in_one(past.as_slice(), at) {
+        past.clear();
+    }
+}
+
+/// A walk over transactions from the front, which passes over stretches.
+#[derive(Clone, Copy)]
+pub struct Walk {
+    /// The place of the first that it hasn't come to.
+    pub at: usize,
+    // Of the stretches the place of the first that it hasn't come to.
+    next: usize,
+}
+
+impl Walk {
+    /// At the first transaction.
+    pub fn new() -> Walk
+        ensures { result.at ≡ 0 }
+    {
+        Walk { at: 0, next: 0 }
+    }
+
+    // Whether a stretch isn't behind the walk, and all of it is past to a snapshot and at a place.
+    fn may_pass(self, stretch: Stretch, snapshot: u64, place: u64) -> bool
+        ensures { IsTrue result → (self.at ≤ stretch.from) × (stretch.from < stretch.to) ×
+            (stretch.newest ≤ snapshot) × (stretch.until < place) }
+    {
+        self.at <= stretch.from
+            && stretch.from < stretch.to
+            && stretch.newest <= snapshot
+            && stretch.until < place
+    }
+
+    // The next stretch that is passed over; one of none at the end where there is none.
+    fn passed<A: Allocator>(
+        &mut self,
+        transactions: &[Transaction<A>],
+        past: &[Stretch],
+        snapshot: u64,
+        place: u64,
+    ) -> Stretch
+        requires held { HoldStretches past.now transactions.now }
+        requires within { self.old.at < length transactions.now }
+        ensures passed { IsPassed snapshot place self.old.at result transactions.now }
+        ensures same { self.new.at ≡ self.old.at }
+    {
+        while self.next < past.len() {
+            let stretch = past[self.next];
+            self.next += 1;
+            if self.may_pass(stretch, snapshot, place) {
+                return stretch;
+            }
+        }
+        Stretch::none_at(transactions.len())
+    }
+
+    /// The next transactions that it comes to, up to a stretch of those that were over before a place,
+    /// and whose commits and snapshots are numbers up to that of a snapshot: that is passed over.
+    pub fn piece<'t, A: Allocator>(
+        &mut self,
+        transactions: &'t [Transaction<A>],
+        past: &[Stretch],
+        snapshot: u64,
+        place: u64,
+    ) -> &'t [Transaction<A>]
+        requires held { HoldStretches past.now transactions.now }
+        requires within { self.old.at < length transactions.now }
+        ensures around { IsAround snapshot place (drop self.old.at transactions.now) result.now
+            (drop self.new.at transactions.now) }
+        ensures further { self.old.at < self.new.at }
+        ensures within { self.new.at ≤ length transactions.now }
+    {
+        let passed = self.passed(transactions, past, snapshot, place);
+        let (_, left) = transactions.split_at(self.at);
+        let (piece, _) = left.split_at(passed.from - self.at);
+        self.at = passed.to;
+        piece
+    }
+}
+
+// So many transactions are worth a stretch.
+const ENOUGH: usize = 8;
 
 // Whether a transaction was over with the event at a place, and neither its commit nor its snapshot is
 // a number above that of a snapshot.
@@ -99,55 +191,31 @@ fn is_past<A: Allocator>(transaction: &Transaction<A>, snapshot: u64, place: u64
         && transaction.end <= place
 }
 
-// The place at which the longest stretch of transactions that are over begins.
-fn longest<A: Allocator>(transactions: &[Transaction<A>]) -> usize
-    ensures { result ≤ length transactions.now }
+// The least snapshot of those from a place on that their sessions have still to end.
+fn least_behind<A: Allocator>(transactions: &[Transaction<A>], at: usize) -> u64
+    requires { at ≤ length transactions.now }
+    ensures { result < 2 ^ 64 }
 {
-    let mut longest = 0;
-    let mut most = 0;
-    let mut from = 0;
-    for (at, transaction) in transactions.iter().enumerate() {
-        if transaction.standing.is_owed() {
-            from = at + 1;
-        } else if at - from >= most {
-            longest = from;
-            most = at - from + 1;
-        }
-    }
-    longest
+    let (_, behind) = transactions.split_at(at);
+    least_snapshot(behind, Which::Owed, &[], u64::MAX)
 }
 
-// The stretch, or one of none at a better place, where many transactions are behind it.
-fn placed<A: Allocator>(transactions: &[Transaction<A>], stretch: Stretch) -> Stretch
-    requires { HoldsStretch stretch transactions.now }
-    ensures { HoldsStretch result transactions.now }
-{
-    if transactions.len() - stretch.to <= stretch.to - stretch.from + FEW {
-        return stretch;
-    }
-    let from = longest(transactions);
-    Stretch {
-        from,
-        to: from,
-        newest: 0,
-        until: 0,
-    }
-}
-
-/// A stretch with as many more behind it as were over with the event at a place, and whose commits
-/// every later one sees that isn't over.
-pub(crate) fn grown<A: Allocator>(
+// A stretch with as many more behind it, up to a limit, as were over with the event at a place, and
+// whose commits and snapshots are numbers up to that of a snapshot.
+fn grown<A: Allocator>(
     transactions: &[Transaction<A>],
     stretch: Stretch,
+    limit: usize,
+    snapshot: u64,
     place: u64,
 ) -> Stretch
-    requires { HoldsStretch stretch transactions.now }
+    requires held { HoldsStretch stretch transactions.now }
+    requires limit { limit ≤ length transactions.now }
     ensures { HoldsStretch result transactions.now }
 {
-    let mut stretch = placed(transactions, stretch);
-    let (_, behind) = transactions.split_at(stretch.to);
-    let snapshot = least_snapshot(behind, Which::Owed, &[], u64::MAX);
-    for transaction in behind {
+    let mut stretch = stretch;
+    while stretch.to < limit {
+        let transaction = &transactions[stretch.to];
         if !is_past(transaction, snapshot, place) {
             return stretch;
         }
@@ -155,4 +223,119 @@ pub(crate) fn grown<A: Allocator>(
         stretch = stretch.with(newest, place);
     }
     stretch
+}
+
+// The first enough in a row from a place on that were over with the event at another, and whose
+// commits and snapshots all see behind them that aren't: the place of the first, and that behind the
+// last.
+fn first_row<A: Allocator>(
+    transactions: &[Transaction<A>],
+    end: usize,
+    place: u64,
+) -> (usize, usize)
+    ensures { (result.0 ≤ result.1) × (result.1 ≤ length transactions.now) }
+{
+    let mut at = transactions.len();
+    let mut to = at;
+    let mut found = (at, at);
+    let mut least = u64::MAX;
+    while at > end {
+        at -= 1;
+        let transaction = &transactions[at];
+        if !is_past(transaction, least, place) {
+            to = at;
+            least = lesser_owed(least, transaction);
+        } else if to - at >= ENOUGH {
+            found = (at, to);
+        }
+    }
+    found
+}
+
+// The lesser of a number and of a transaction's snapshot, where its session has still to end it.
+fn lesser_owed<A: Allocator>(least: u64, transaction: &Transaction<A>) -> u64
+    ensures { result ≤ least }
+{
+    if transaction.standing.is_owed() {
+        least.min(transaction.snapshot)
+    } else {
+        least
+    }
+}
+
+/// A place behind all stretches.
+pub(crate) fn end_of<A: Allocator>(transactions: &[Transaction<A>], past: &[Stretch]) -> usize
+    requires { HoldStretches past.now transactions.now }
+    ensures within { result ≤ length transactions.now }
+    ensures behind { AllByRecursion (λ s. s.to ≤ result) past.now }
+{
+    let mut end = 0;
+    for stretch in past {
+        end = stretch.to.max(end);
+    }
+    end
+}
+
+// The last stretch gets those behind it that were over with the event at a place.
+fn grow_last<A: Allocator>(past: &mut Vec<Stretch, A>, transactions: &[Transaction<A>], place: u64)
+    requires { HoldStretches past.old.items transactions.now }
+    ensures { HoldStretches past.new.items transactions.now }
+{
+    let count = past.len();
+    if count > 0 {
+        let last = past[count - 1];
+        let snapshot = least_behind(transactions, last.to);
+        past[count - 1] = grown(transactions, last, transactions.len(), snapshot, place);
+    }
+}
+
+// The last two stretches as one, where all between them were over with the event at a place.
+fn join_last<A: Allocator>(past: &mut Vec<Stretch, A>, transactions: &[Transaction<A>], place: u64)
+    requires { HoldStretches past.old.items transactions.now }
+    ensures { HoldStretches past.new.items transactions.now }
+{
+    let count = past.len();
+    if count > 1 {
+        let last = past[count - 1];
+        let snapshot = least_behind(transactions, last.to);
+        let before = grown(transactions, past[count - 2], last.from, snapshot, place);
+        if before.to == last.from {
+            past[count - 2] = before.joined(last);
+            past.truncate(count - 1);
+        }
+    }
+}
+
+// One more stretch, where there is room for it, and enough were over in a row behind the others.
+fn begin_another<A: Allocator>(
+    past: &mut Vec<Stretch, A>,
+    transactions: &[Transaction<A>],
+    place: u64,
+)
+    requires { HoldStretches past.old.items transactions.now }
+    ensures { HoldStretches past.new.items transactions.now }
+{
+    let end = end_of(transactions, past.as_slice());
+    if transactions.len() - end > ENOUGH && past.len() < past.capacity() {
+        let (from, to) = first_row(transactions, end, place);
+        if from < to {
+            let none = Stretch::none_at(from);
+            past.push_reserved(grown(transactions, none, to, u64::MAX, place));
+        }
+    }
+}
+
+/// The stretches get those that were over with the event at a place, and whose commits every later one
+/// sees that isn't over. It takes no memory.
+pub(crate) fn grow<A: Allocator>(
+    past: &mut Vec<Stretch, A>,
+    transactions: &[Transaction<A>],
+    place: u64,
+)
+    requires { HoldStretches past.old.items transactions.now }
+    ensures { HoldStretches past.new.items transactions.now }
+{
+    grow_last(past, transactions, place);
+    join_last(past, transactions, place);
+    begin_another(past, transactions, place);
 }

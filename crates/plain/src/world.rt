@@ -7,7 +7,7 @@ ghost use Rattle.plain.specs.Ledger.{turned_at};
 use crate::calm::keep_calm;
 use crate::course::Course;
 use crate::snapshots::ExportedSnapshot;
-use crate::stretch::Stretch;
+use crate::stretch::{Stretch, leave_without};
 use crate::transaction::Transaction;
 use history::base::Base;
 use std::alloc::{Allocator, Global};
@@ -21,8 +21,8 @@ pub struct World<A: Allocator = Global> {
     pub(crate) transactions: Vec<Transaction<A>, A>,
     pub(crate) exports: Vec<ExportedSnapshot, A>,
     pub(crate) place: u64,
-    // Those of the transactions that most questions pass over.
-    pub(crate) past: Stretch,
+    // Those of the transactions that most questions pass over. They get room when a transaction begins.
+    pub(crate) past: Vec<Stretch, A>,
     // The snapshot from which on questions were asked when all were last looked at.
     pub(crate) reached: u64,
     // Places of the events at which no read-write transaction was active: readers whose snapshots were
@@ -33,7 +33,7 @@ pub struct World<A: Allocator = Global> {
 impl<A: Allocator> Model for World<A> {
     ghost use Rattle.plain.specs.Ledger.{Ledger, IsCounted};
     ghost use Rattle.plain.specs.Calm.{AreCalm};
-    ghost use Rattle.plain.specs.Stretches.{HoldsStretch};
+    ghost use Rattle.plain.specs.Stretches.{HoldStretches};
 
     ghost Value = { Ledger A };
 
@@ -46,7 +46,7 @@ impl<A: Allocator> Model for World<A> {
 
     ghost invariant = { λ w. IsCounted
         (record { base = w.base; txns = w.transactions.items; exports = w.exports.items; place = w.place }) ×
-        HoldsStretch w.past w.transactions.items × AreCalm w.calm.items w.place w.transactions.items };
+        HoldStretches w.past.items w.transactions.items × AreCalm w.calm.items w.place w.transactions.items };
 }
 
 // Takes the transaction at a place to a course.
@@ -74,7 +74,7 @@ impl<A: Allocator> World<A> {
             transactions: Vec::new(alloc),
             exports: Vec::new(alloc),
             place: base.events,
-            past: Stretch::none(),
+            past: Vec::new(alloc),
             reached: base.commits,
             calm: Vec::new(alloc),
         }
@@ -97,7 +97,7 @@ impl<A: Allocator> World<A> {
           place = self.old.place + 1;
         } }
     {
-        self.past = self.past.without(at);
+        leave_without(&mut self.past, at);
         keep_calm(&mut self.calm, &self.transactions[at], course);
         turn(&mut self.transactions, at, course);
         self.place += 1;

@@ -9,7 +9,7 @@ use Rattle.script.specs.declared.script.Line.{Line}
 use Rattle.script.specs.declared.script.Step.{Step}
 use Rattle.script.specs.declared.script.Step.TheVariants as step
 use Rattle.program.specs.Beginnings.{BeginsWith}
-use Rattle.program.specs.Freely.{AreJoined, ArePrinted, AreServed, AreTold, IsAmong, IsAtLine, ScriptHasRunFreely, SessionsHaveRun, fresh}
+use Rattle.program.specs.Freely.{AreJoined, ArePrinted, AreServed, AreTold, HasPlayed, IsAmong, IsAtLine, ScriptHasRunFreely, SessionsHaveRun, fresh}
 use Rattle.program.specs.Printed.{Adds, IsFlushed, Printed}
 use Rattle.schema.specs.Definition.{Catalog}
 use Rattle.schema.specs.declared.tables.Tables.{Tables}
@@ -57,7 +57,7 @@ of_both (Ok x) P Q R f p q = f x p q
 of_both (Err e) P Q R f p q = p
 
 -- sessions of which each has ended print what all tell
-pub all_printed : {A X V F : Type 0} (o : Opening A) (most : ℕ) (ls : List (Line A)) (xs ys : List X) (items : V → List ℕ) (pass : X → Known A) (lines : X → List (Line A)) (told : X → Result V F) (s : ℕ) (t : List ℕ) → length ys ≡ length xs → ((i : ℕ) (d : X) → i < length xs → IfOk (told (get_or ys i d)) (λ v. AreTold o most (lines (get_or xs i d)) (pass (get_or xs i d)) (items v) (pass (get_or ys i d)))) → ((k : ℕ) (p : Known A) → slice_get (map pass xs) k ≡ Some p → p ≡ fresh (s + k)) → All (λ x. lines x ≡ ls) xs → AreJoined items (map told ys) t → ArePrinted o most ls s (map pass ys) t
+pub all_printed : {A X V F : Type 0} (o : Opening A) (most : ℕ) (ls : List (Line A)) (xs ys : List X) (items : V → List ℕ) (pass : X → Known A) (lines : X → List (Line A)) (told : X → Result V F) (s : ℕ) (t : List ℕ) → length ys ≡ length xs → ((i : ℕ) (d : X) → i < length xs → IfOk (told (get_or ys i d)) (λ v. HasPlayed o most (lines (get_or xs i d)) (pass (get_or xs i d)) (items v) (pass (get_or ys i d)))) → ((k : ℕ) (p : Known A) → slice_get (map pass xs) k ≡ Some p → p ≡ fresh (s + k)) → All (λ x. lines x ≡ ls) xs → AreJoined items (map told ys) t → ArePrinted o most ls s (map pass ys) t
 all_printed o most ls [] [] items pass lines told s t e each new same joined = joined
 all_printed o most ls [] (y ∷ ys) items pass lines told s t e each new same joined = absurd (omega (arith, e))
 all_printed o most ls (x ∷ xs) [] items pass lines told s t e each new same joined = absurd (omega (arith, e))
@@ -68,8 +68,8 @@ all_printed {A} {X} {V} {F} o most ls (x ∷ xs) (y ∷ ys) items pass lines tol
 
     go : (r : Result V F) → told y ≡ r → AreJoined items (r ∷ map told ys) t → ((rest : List ℕ) → AreJoined items (map told ys) rest → ArePrinted o most ls (suc s) (map pass ys) rest) → ArePrinted o most ls s (pass y ∷ map pass ys) t
     go (Ok v) is j more =
-        let played : AreTold o most (lines x) (pass x) (items v) (pass y) = subst (λ (k : Result V F). IfOk k (λ u. AreTold o most (lines x) (pass x) (items u) (pass y))) is (each 0 x (omega arith)) in
-        (items v, j.0, subst (λ p. AreTold o most ls p (items v) (pass y)) first (subst (λ l. AreTold o most l (pass x) (items v) (pass y)) (same 0 x (omega arith)) played), more j.0 j.1, j.2)
+        let played : HasPlayed o most (lines x) (pass x) (items v) (pass y) = subst (λ (k : Result V F). IfOk k (λ u. HasPlayed o most (lines x) (pass x) (items u) (pass y))) is (each 0 x (omega arith)) in
+        (items v, j.0, subst (λ p. HasPlayed o most ls p (items v) (pass y)) first (subst (λ l. HasPlayed o most l (pass x) (items v) (pass y)) (same 0 x (omega arith)) played), more j.0 j.1, j.2)
     go (Err f) is j more = absurd j
 
 -- a step that is of one of some sessions is of one of more

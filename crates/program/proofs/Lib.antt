@@ -1,6 +1,7 @@
 pub mod AskedLemmas
 pub mod EndLemmas
 pub mod FreelyLemmas
+pub mod KeepLemmas
 pub mod LineLemmas
 pub mod OutcomeLemmas
 pub mod PrintLemmas
@@ -8,3 +9,4 @@ pub mod RestoredLemmas
 pub mod RunLemmas
 pub mod StepsLemmas
 pub mod StopLemmas
+pub mod WriteLemmas

@@ -1,5 +1,5 @@
 -- What comes of a dump that a script asks for, and what is printed of it (this project's own choice).
-use Rattle.std.specs.Prelude.{◌≡◌, ℕ, List, [], Option, Some, None, Result, Ok, Err}
+use Rattle.std.specs.Prelude.{◌≡◌, ◌⊎◌, ℕ, List, [], Option, Some, None, Result, Ok, Err}
 use Rattle.value.specs.Refusals.{AnswersOrNoMemory, out_of_memory}
 use Rattle.statement.specs.declared.reply.Reply.TheVariants.{Refused}
 use Rattle.history.specs.Opening.{Recorded}
@@ -17,17 +17,17 @@ dump_text s (Err (Dump Memory)) = Some (reply_text {A = Unit {0}} s (Refused out
 dump_text s (Err (Dump Device)) = None
 
 module _ {A : Type 0} where
-  -- Session s asked for a dump after the history h, to an empty file: it is whole, or the session may view no tables, or the file failed. Memory may be wanting for it at any time.
+  -- Session s asked for a dump after the history h, to an empty file: it is whole, or the session may view no tables, or the file failed, before it had taken all or when it was to be kept. Memory may be wanting for it at any time.
   abbrev pub IsDumped : Recorded A → ℕ → Result (Unit {0}) BackupFault → Type 0
   IsDumped h s (Ok done) = (written : List ℕ) × IsWhole h s [] written
   IsDumped h s (Err (View e)) = AnswersOrNoMemory (Err e) (viewed h s)
   IsDumped h s (Err (Dump Memory)) = Unit {0}
-  IsDumped h s (Err (Dump Device)) = (written : List ℕ) × (failures : ℕ) × IsNone h s [] 0 (Dump Device) written failures
+  IsDumped h s (Err (Dump Device)) = ((written : List ℕ) × (failures : ℕ) × IsNone h s [] 0 (Dump Device) written failures) ⊎ ((written : List ℕ) × IsWhole h s [] written)
 
   -- The text is what is printed of a dump that session s asked for after the history h.
   abbrev pub TellsDump : Recorded A → ℕ → List ℕ → Type 0
   TellsDump h s text = (done : Result (Unit {0}) BackupFault) × IsDumped h s done × (dump_text s done ≡ Some text)
 
-  -- A file of this path was opened in which nothing was, and session s's backup was written to it whole.
+  -- A file of this path was made for which nothing was kept, and then session s's backup was kept for it, whole.
   abbrev pub IsDumpedTo : {Out : Type 0} → (Out → List ℕ) → (Out → List ℕ) → Recorded A → ℕ → List ℕ → Type 0
-  IsDumpedTo {Out} path_of taken h s path = (made : Out) × (path_of made ≡ path) × (taken made ≡ []) × (file : Out) × IsWhole h s (taken made) (taken file)
+  IsDumpedTo {Out} path_of kept h s path = (made : Out) × (path_of made ≡ path) × (kept made ≡ []) × (file : Out) × IsWhole h s (kept made) (kept file)

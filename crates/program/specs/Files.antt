@@ -17,6 +17,6 @@ abbrev pub IsFileFault : List ℕ → Fault → Type 0
 IsFileFault path (fault.Device failed) = failed.now ≡ path
 IsFileFault path _ = ⊥
 
--- A file of this path was opened in which nothing was, and these bytes were written.
+-- A file of this path was made for which nothing was kept, and then these bytes were.
 abbrev pub IsWritten : {Out : Type 0} → (Out → List ℕ) → (Out → List ℕ) → List ℕ → List ℕ → Type 0
-IsWritten {Out} path_of taken path bytes = (made : Out) × (path_of made ≡ path) × (taken made ≡ []) × (file : Out) × (taken file ≡ bytes)
+IsWritten {Out} path_of kept path bytes = (made : Out) × (path_of made ≡ path) × (kept made ≡ []) × (file : Out) × (kept file ≡ bytes)

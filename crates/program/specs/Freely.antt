@@ -6,7 +6,7 @@ use Rattle.statement.specs.declared.reply.Reply.{Reply}
 use Rattle.history.specs.Opening.{Opening, Recorded, zero_base}
 use Rattle.history.specs.Answer.{IsLegal}
 use Rattle.pass.specs.Knowing.{Known}
-use Rattle.server.specs.Calls.{HasClosed, HasPolled, IsCall}
+use Rattle.server.specs.Calls.{HasClosed, HasLeft, HasPolled, IsCall}
 use Rattle.request.specs.declared.request.Request.{Request}
 use Rattle.request.specs.Requests.{asked}
 use Rattle.backup.specs.Backed.{seen_by}
@@ -68,10 +68,14 @@ module _ {A : Type 0} where
   AreTold o most [] p text q = (text ≡ []) × (q ≡ p)
   AreTold o most (l ∷ ls) p text q = (middle : Known A) × (first rest : List ℕ) × IsAtLine o most l.step p first middle × AreTold o most ls middle rest q × (text ≡ first ++ rest)
 
+  -- The text is what is printed of the lines. Behind the last one the session has left: a transaction that it had open was rolled back, and of that nothing is printed.
+  unfoldable pub HasPlayed : Opening A → ℕ → List (Line A) → Known A → List ℕ → Known A → Type 0
+  HasPlayed o most ls p text q = (middle : Known A) × AreTold o most ls p text middle × HasLeft o most middle q
+
   -- The text is what is printed of the lines that sessions s, s + 1, .. did, one session after the other: each from nothing seen to what its pass knows.
   abbrev pub ArePrinted : Opening A → ℕ → List (Line A) → ℕ → List (Known A) → List ℕ → Type 0
   ArePrinted o most ls s [] text = text ≡ []
-  ArePrinted o most ls s (q ∷ qs) text = (first rest : List ℕ) × AreTold o most ls (fresh s) first q × ArePrinted o most ls (suc s) qs rest × (text ≡ first ++ rest)
+  ArePrinted o most ls s (q ∷ qs) text = (first rest : List ℕ) × HasPlayed o most ls (fresh s) first q × ArePrinted o most ls (suc s) qs rest × (text ≡ first ++ rest)
 
   -- The text is what is printed of the lines that sessions 1, 2, .. did, and that the serial order is one. Each line is of one of them. There is one legal history of this opening, with room for so many events: it begins with what each session has seen, and has of it just what it did.
   pub record AreServed (o : Opening A) (most : ℕ) (ls : List (Line A)) (text : List ℕ) : Type 0 where

@@ -3,6 +3,8 @@
 ghost use Rattle.std.specs.Prelude.{◌≡◌, ◌≢◌};
 ghost use Rattle.program.specs.Ends as spec;
 
+use crate::faulty::words_of_dump;
+use crate::shown::Shown;
 use std::io::Write;
 use thiserror::Error;
 use value::refusal::Code;
@@ -17,7 +19,7 @@ pub enum Fault<'p> {
     #[error("dump line {line}: {code}")]
     Dump { line: u64, code: Code },
     /// A file or a standard stream that couldn't be read or written.
-    #[error("device: {path}")]
+    #[error("device: {}", Shown(path))]
     Device { path: &'p str },
 }
 
@@ -61,12 +63,21 @@ impl<'p> Fault<'p> {
     }
 }
 
-/// Tells a fault in a line, and how the program ends for it.
+// What is told where memory was wanting.
+const NO_MEMORY: &str = "out of memory";
+
+/// Tells a fault in a line, and in another that memory was wanting or what is wrong in a dump; and how the program ends
+/// for it.
 pub(crate) fn tell<E: Write>(fault: &Fault<'_>, err: &mut E) -> Status
     ensures kind { result ≡ spec.status fault.now }
     ensures no_usage { result ≢ Status.Usage }
 {
     let _ = writeln!(err, "{fault}");
+    let _ = match fault {
+        Fault::Script { line: 0 } => writeln!(err, "{NO_MEMORY}"),
+        Fault::Dump { line, code } => writeln!(err, "{}", words_of_dump(*line, *code)),
+        _ => Ok(()),
+    };
     fault.status()
 }
 

@@ -11,7 +11,8 @@ mod seat;
 mod serving;
 mod sinks;
 
-use crate::fault::{Fault, Status, end, tell};
+use crate::explaining::{end_script, tell_line};
+use crate::fault::{Fault, Status, tell};
 use crate::files::Files;
 use crate::machine::Machine;
 use crate::output::{Printer, print_whole};
@@ -77,7 +78,7 @@ impl<'m, F: Files<Global> + Sync, T: Threads + Wait + Sync> Machine<'m, F, T, Gl
             most_events,
             printer,
         );
-        end(done, err)
+        end_script(self.alloc, most_events, done, err)
     }
 
     /// Does the script of a path, or of standard input, with each session on a thread of its own. Prints
@@ -99,9 +100,10 @@ impl<'m, F: Files<Global> + Sync, T: Threads + Wait + Sync> Machine<'m, F, T, Gl
             Ok(bytes) => bytes,
             Err(fault) => return tell(&fault, err),
         };
-        match read_script(self.alloc, Schedule::Free, bytes.as_slice()) {
+        let text = bytes.as_slice();
+        match read_script(self.alloc, Schedule::Free, text) {
             Ok(script) => self.serve_script(script, most_events, printer, err),
-            Err(fault) => tell(&Fault::Script { line: fault.line }, err),
+            Err(fault) => tell_line(self.alloc, Schedule::Free, text, fault.line, err),
         }
     }
 }

@@ -3,19 +3,27 @@
 #![tactic(auto)]
 
 mod dumping;
+mod explaining;
 mod fault;
+mod faulty;
 pub mod files;
 mod free;
 pub mod host;
+mod keeping;
 pub mod late;
 mod machine;
+pub mod naming;
 mod ordering;
 mod output;
 pub mod progress;
+pub mod reasons;
+pub mod replacing;
 mod restoring;
 mod run;
 mod sessions;
+mod shown;
 mod steps;
 mod task;
 pub mod words;
 mod workers;
+mod writing;

@@ -9,9 +9,6 @@ use std::alloc::Allocator;
 use std::io::Write;
 use std::marker::Model;
 
-/// How many bytes are held back before they are written.
-const MOST_HELD: usize = 1 << 16;
-
 /// Why something wasn't printed.
 #[derive(Clone, Copy, Debug, PartialEq, Eq)]
 pub(crate) enum PrintError {
@@ -21,11 +18,13 @@ pub(crate) enum PrintError {
     Memory,
 }
 
-/// Standard output, written in large parts.
+/// Standard output, written in parts that end where a text ends.
 #[derive(Drop)]
 pub(crate) struct Printer<'o, W: Write, A: Allocator> {
     out: &'o mut W,
     held: Vec<u8, A>,
+    // How many bytes are held back at most.
+    most_held: usize,
     has_failed: bool,
 }
 
@@ -45,12 +44,13 @@ impl<'o, W: Write, A: Allocator> Model for Printer<'o, W, A> {
 
 impl<'o, W: Write, A: Allocator> Printer<'o, W, A> {
     /// Nothing is printed yet.
-    pub(crate) fn new(alloc: A, out: &'o mut W) -> Printer<'o, W, A>
+    pub(crate) fn new(alloc: A, out: &'o mut W, most_held: usize) -> Printer<'o, W, A>
         ensures { result ≡ unprinted out.entry.ghost_name (W.contents out.old) }
     {
         Printer {
             out,
             held: Vec::new(alloc),
+            most_held,
             has_failed: false,
         }
     }
@@ -65,7 +65,7 @@ impl<'o, W: Write, A: Allocator> Printer<'o, W, A> {
         if self.held.extend_from_slice(text).is_err() {
             return Err(PrintError::Memory);
         }
-        if self.held.len() > MOST_HELD {
+        if self.held.len() > self.most_held {
             self.flush()?;
         }
         Ok(())
@@ -96,6 +96,7 @@ impl<'o, W: Write, A: Allocator> Printer<'o, W, A> {
         let Printer {
             out,
             held: _,
+            most_held: _,
             has_failed: _,
         } = self;
         out

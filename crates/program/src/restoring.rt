@@ -13,6 +13,7 @@ ghost use Rattle.program.specs.Stops.{IsUnrestored};
 
 use crate::fault::Fault;
 use crate::files::Files;
+use crate::keeping::keep_file;
 use crate::machine::Machine;
 use crate::ordering::append;
 use crate::output::{Printer, print_whole};
@@ -140,7 +141,7 @@ where
         out: &'p str,
     ) -> Result<(), Fault<'p>>
         requires { length tables.now ≡ length catalog.now }
-        ensures written { OnOk result (IsWritten F.Out.path F.Out.taken out.entry.now
+        ensures written { OnOk result (IsWritten F.Out.path F.Out.kept out.entry.now
             (dump_text catalog.now tables.now)) }
         ensures fault { IfErr result (λ f. (f ≡ Fault.Dump 0 Code.OutOfMemory) ⊎ IsFileFault out.entry.now f) }
     {
@@ -154,7 +155,7 @@ where
         );
         shown.clear();
         match dumped {
-            Ok(()) => Ok(()),
+            Ok(()) => keep_file(&mut file, out),
             Err(DumpFault::Memory) => Err(NO_MEMORY),
             Err(DumpFault::Device) => Err(Fault::Device { path: out }),
         }
@@ -171,7 +172,7 @@ where
         printer: &mut Printer<'_, W, A>,
     ) -> Result<(), Fault<'p>>
         requires { is_sound catalog.now tables.now ≡ true }
-        ensures written { OnOk result (IsWritten F.Out.path F.Out.taken out.entry.now
+        ensures written { OnOk result (IsWritten F.Out.path F.Out.kept out.entry.now
             (dump_text catalog.now tables.now)) }
         ensures printed { OnOk result (Adds printer.old printer.new (restored_text catalog.now tables.now)) }
         ensures flushed { OnOk result (IsFlushed printer.new) }
@@ -196,7 +197,7 @@ where
         printer: &mut Printer<'_, W, A>,
     ) -> Result<(), Fault<'p>>
         ensures done { OnOk result (IsRestored A (F.held self.now.files.now) (F.input self.now.files.now) F.Out.path
-            F.Out.taken path.entry.now out.entry.now printer.old printer.new) }
+            F.Out.kept path.entry.now out.entry.now printer.old printer.new) }
         ensures stopped { OnErr result (Prints printer.old printer.new []) }
         ensures fault { IfErr result (λ f. IsUnrestored A
             (read_of (F.held self.now.files.now) (F.input self.now.files.now) path.entry.now) path.entry.now

@@ -14,7 +14,8 @@ ghost use Rattle.program.specs.Printed.{Adds, IsFlushed, Prints};
 ghost use Rattle.program.specs.Runs.{HasRun, HasStopped, PathHasRun, ScriptHasRun, ScriptHasStopped, begun};
 ghost use Rattle.program.specs.Stops.{PathHasStopped};
 
-use crate::fault::{Fault, Status, end, tell};
+use crate::explaining::{end_script, tell_line};
+use crate::fault::{Fault, Status, tell};
 use crate::files::{Files, ReadError};
 use crate::machine::Machine;
 use crate::output::{Printer, fault_of_print};
@@ -254,7 +255,7 @@ where
     {
         let (catalog, opens, lines) = script.into_parts();
         let done = self.do_script(catalog, opens.as_ref(), lines.as_slice(), way, printer);
-        end(done, err)
+        end_script(self.alloc, way.most_events, done, err)
     }
 
     /// Does the script of a path, or of standard input, prints what is shown of it, and tells on `err`
@@ -276,9 +277,10 @@ where
             Ok(bytes) => bytes,
             Err(fault) => return tell(&fault, err),
         };
-        match read_script(self.alloc, Schedule::InOrder, bytes.as_slice()) {
+        let text = bytes.as_slice();
+        match read_script(self.alloc, Schedule::InOrder, text) {
             Ok(script) => self.do_read(script, way, printer, err),
-            Err(fault) => tell(&Fault::Script { line: fault.line }, err),
+            Err(fault) => tell_line(self.alloc, Schedule::InOrder, text, fault.line, err),
         }
     }
 }

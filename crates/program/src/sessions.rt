@@ -1,6 +1,7 @@
 //! What a script's lines do, one after the other, to a core.
 
-ghost use Rattle.std.specs.Prelude.{◌≡◌, ◌⊎◌, IfErr, IfOk, OnOk};
+ghost use Rattle.std.specs.Prelude.{◌≡◌, ◌⊎◌, [], IfErr, IfOk, OnOk};
+ghost use Rattle.backup.specs.Backed.{IsWhole};
 ghost use Rattle.program.specs.Dumps.{IsDumped, IsDumpedTo, TellsDump};
 ghost use Rattle.program.specs.Lines.{Replies, Tells};
 ghost use Rattle.program.specs.Files.{IsFileFault};
@@ -10,6 +11,7 @@ ghost use Rattle.script.specs.Printing.{reply_text};
 use crate::dumping::dump_text;
 use crate::fault::Fault;
 use crate::files::Files;
+use crate::keeping::keep_dumped;
 use crate::machine::Machine;
 use backup::{BackupFault, dump_session};
 use dumpplan::NoGate;
@@ -92,19 +94,20 @@ where
     F: Files<A>,
     T: Threads + Wait + Sync,
 {
-    // Writes a dump of a session's safe snapshot to a file.
-    fn dump_to_file(
+    // Writes a dump of a session's safe snapshot to a file in which nothing is.
+    fn write_dump(
         &self,
         core: &Core<A>,
         session: SessionId,
         request: &DumpRequest<A>,
+        file: &mut F::Out,
     ) -> Result<(), BackupFault>
+        requires empty { F.Out.taken file.old ≡ [] }
+        requires sound { F.Out.failures file.old ≡ 0 }
         ensures dumped { IsDumped core.now session result }
-        ensures file { OnOk result (IsDumpedTo F.Out.path F.Out.taken core.now session request.now.path) }
+        ensures whole { OnOk result (IsWhole core.now session [] (F.Out.taken file.new)) }
+        ensures sound { OnOk result (F.Out.failures file.new ≡ 0) }
     {
-        let Ok(mut file) = self.files.create(self.alloc, request.path.as_str()) else {
-            return Err(BackupFault::Dump(DumpFault::Memory));
-        };
         dump_session(
             self.rt,
             self.alloc,
@@ -112,9 +115,26 @@ where
             session,
             request.jobs,
             request.rows,
-            &mut file,
+            file,
             &NoGate,
         )
+    }
+
+    // Dumps a session's safe snapshot to a path's file, which is kept where it is whole.
+    fn dump_to_file(
+        &self,
+        core: &Core<A>,
+        session: SessionId,
+        request: &DumpRequest<A>,
+    ) -> Result<(), BackupFault>
+        ensures dumped { IsDumped core.now session result }
+        ensures file { OnOk result (IsDumpedTo F.Out.path F.Out.kept core.now session request.now.path) }
+    {
+        let Ok(mut file) = self.files.create(self.alloc, request.path.as_str()) else {
+            return Err(BackupFault::Dump(DumpFault::Memory));
+        };
+        let dumped = self.write_dump(core, session, request, &mut file);
+        keep_dumped(&mut file, dumped)
     }
 
     // Does a dump of a session's safe snapshot, and gives what is printed of it.

@@ -18,6 +18,11 @@ const MOST_EVENTS: u32 = 100_000;
 
 const VERSION: &str = "0.1.0";
 
+// What the help tells of the commands that have their words to themselves.
+const OTHER_COMMANDS: &str = "Commands with a help of their own (pgserial COMMAND --help):
+  explore  Do a script in every interleaving of its sessions, and count what comes of it
+  check    Tell whether some serial order explains a recorded transcript";
+
 /// What the command line asks for.
 #[derive(Drop)]
 pub(crate) enum Task<'w> {
@@ -139,6 +144,7 @@ fn pgserial<'w>(alloc: Global) -> Result<Command<'w>, AllocError>
         .about("An in-memory relational server whose transactions are serializable")
         .bin_name("pgserial")?
         .version(VERSION)
+        .after_help(OTHER_COMMANDS)
         .no_binary_name(true)
         .subcommand_required(true)
         .subcommand(run_command)?

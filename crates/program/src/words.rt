@@ -33,13 +33,14 @@ where
     T: Threads + Wait + Sync,
     ensures usage { result ≢ Status.Usage }
     ensures done { result ≡ Status.Done →
-        IsDoneOn A Global (F.held machine.now.files.now) (F.input machine.now.files.now) F.Out.path F.Out.taken
+        IsDoneOn A Global (F.held machine.now.files.now) (F.input machine.now.files.now) F.Out.path F.Out.kept
         task.entry (W.contents out.old) (W.contents out.new) }
     ensures stopped { result ≢ Status.Done →
         IsStoppedOn A (F.held machine.now.files.now) (F.input machine.now.files.now) task.entry result
         (W.contents out.old) (W.contents out.new) }
 {
-    let mut printer = Printer::new(machine.alloc, out);
+    let most_held = machine.files.most_held();
+    let mut printer = Printer::new(machine.alloc, out, most_held);
     let status = match task {
         Task::Run { script, way } => machine.run_file(script, way, &mut printer, err),
         Task::Free {
@@ -107,7 +108,7 @@ where
     ensures mistake { AreMistaken (faults (map (λ w. w.now) words.entry.now)) → (result ≡ Status.Usage) ⊎
         (result ≡ Status.Refused) }
     ensures did { result ≡ Status.Done →
-        HasDone A Global (F.held machine.now.files.now) (F.input machine.now.files.now) F.Out.path F.Out.taken
+        HasDone A Global (F.held machine.now.files.now) (F.input machine.now.files.now) F.Out.path F.Out.kept
         (map (λ w. w.now) words.entry.now) (W.contents out.old) (W.contents out.new) }
     ensures stopped { result ≢ Status.Done →
         IsUndone A (F.held machine.now.files.now) (F.input machine.now.files.now)
@@ -119,11 +120,18 @@ where
     }
 }
 
+// Tells why a file has failed, where that is known.
+fn tell_reason<E: Write>(status: Status, reason: Option<&str>, err: &mut E) {
+    if let (Status::Device, Some(reason)) = (status, reason) {
+        let _ = writeln!(err, "{reason}");
+    }
+}
+
 /// Does what the words behind the program's name ask for, over these files, and gives the exit
 /// status: 0 where it was done, refused statements included; 1 where a script or a dump is refused, or
 /// memory was wanting; 2 for mistaken words; 3 where a file or standard output failed. Why it wasn't 0 is told
-/// in a line on `err`. The parser of words and sessions that run freely take their memory of
-/// `words_memory`, all else of `alloc`.
+/// in a line on `err`, and behind it for a person what is wrong and what would be right. The parser of words
+/// and sessions that run freely take their memory of `words_memory`, all else of `alloc`.
 pub fn run_words<A, F, W, E, T>(
     rt: &T,
     words_memory: Global,
@@ -143,12 +151,14 @@ where
     ensures usage { result ≡ 2 → MayBeMistaken (faults (map (λ w. w.now) words.entry.now)) }
     ensures mistake { AreMistaken (faults (map (λ w. w.now) words.entry.now)) → (result ≡ 2) ⊎ (result ≡ 1) }
     ensures did { result ≡ 0 →
-        HasDone A Global (F.held files.now) (F.input files.now) F.Out.path F.Out.taken
+        HasDone A Global (F.held files.now) (F.input files.now) F.Out.path F.Out.kept
         (map (λ w. w.now) words.entry.now) (W.contents out.old) (W.contents out.new) }
     ensures stopped { result ≢ 0 →
         HasEnded A (F.held files.now) (F.input files.now) (map (λ w. w.now) words.entry.now) result
         (W.contents out.old) (W.contents out.new) }
 {
     let machine = Machine { rt, alloc, files };
-    done(&machine, words_memory, words, out, err).code()
+    let status = done(&machine, words_memory, words, out, err);
+    tell_reason(status, files.reason(), err);
+    status.code()
 }

@@ -68,7 +68,7 @@ pub fn status_of<R: Abort + AllocGlobal + Sync + Threads + Wait, W: Write>(
     Ok((status, writes.load(Ordering::SeqCst)))
 }
 
-/// Asserts how the program ends, and what it prints on standard output and on standard error.
+/// Asserts how the program ends, what it prints on standard output, and on standard error in its first lines.
 pub fn assert_ends<R: Abort + AllocGlobal + Sync + Threads + Wait>(
     rt: &R,
     given: Given<'_>,
@@ -78,7 +78,8 @@ pub fn assert_ends<R: Abort + AllocGlobal + Sync + Threads + Wait>(
     let mut err = Vec::new(rt.alloc());
     let (status, _writes) = status_of(rt, given, &mut out, &mut err)?;
     assert!(rt; out.as_slice() == want.1.as_bytes(), "{out:?}");
-    assert!(rt; err.as_slice() == want.2.as_bytes(), "{err:?}");
+    assert!(rt; err.as_slice().starts_with(want.2.as_bytes()), "{err:?}");
+    assert!(rt; err.is_empty() == want.2.is_empty(), "{err:?}");
     assert_eq!(rt; status, want.0);
     Ok(())
 }

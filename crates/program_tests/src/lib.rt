@@ -15,4 +15,6 @@ mod memory;
 #[cfg(test)]
 mod pieces;
 #[cfg(test)]
+mod replacing;
+#[cfg(test)]
 mod worked;

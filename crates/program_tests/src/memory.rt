@@ -4,8 +4,9 @@ ghost use Rattle.std.specs.Prelude.{◌≡◌, ◌+◌, ◌++◌, length, map};
 
 use collector::{Device, DeviceError};
 use http_server::Log;
-use program::files::{Files, OutFile, ReadError, Stored};
+use program::files::{Files, OutFile, Placed, ReadError, Stored};
 use std::alloc::{AllocError, Global};
+use std::mem;
 use std::sync::atomic::{AtomicBool, AtomicU64, Ordering};
 
 /// Files with their bytes, what standard input has, the one path whose file takes anything, the bytes that it takes,
@@ -30,6 +31,7 @@ pub struct MemoryFile<'f> {
     path: String,
     taken: Log<u8, ()>,
     failed: Log<(), ()>,
+    kept: Log<u8, ()>,
 }
 
 impl<'f> MemoryFile<'f> {
@@ -72,6 +74,15 @@ impl<'f> Device for MemoryFile<'f> {
         }
         self.fail();
         Err(DeviceError)
+    }
+}
+
+impl<'f> Placed for MemoryFile<'f> {
+    ghost kept = { λ f. map (λ p. p.0) f.kept.items };
+
+    fn keep(&mut self) -> Result<(), DeviceError> {
+        self.kept = mem::replace(&mut self.taken, Log::new());
+        Ok(())
     }
 }
 
@@ -127,6 +138,7 @@ impl<'f> Files<Global> for MemoryFiles<'f> {
             path: String::from_str(alloc, path)?,
             taken: Log::new(),
             failed: Log::new(),
+            kept: Log::new(),
         })
     }
 }

@@ -1,3 +1,4 @@
 pub mod Commands
 pub mod Printing
 pub mod Scripts
+pub mod Telling

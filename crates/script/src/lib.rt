@@ -3,9 +3,13 @@
 #![tactic(auto)]
 
 pub mod command;
+mod creating;
 pub mod error;
 pub mod fault;
+mod finding;
 pub mod printing;
+mod reason;
 pub mod schedule;
 pub mod script;
+pub mod telling;
 mod words;

@@ -136,14 +136,14 @@ fn is_passed_over(line: &[u8]) -> bool
 }
 
 // Whether a line begins with a digit.
-fn begins_with_digit(line: &[u8]) -> bool
+pub(crate) fn begins_with_digit(line: &[u8]) -> bool
     ensures { result ≡ is_ascii_digit (slice_index line.now 0) }
 {
     !line.is_empty() && line[0].is_ascii_digit()
 }
 
 // Whether a line begins with `OPEN `.
-fn begins_with_open(line: &[u8]) -> bool
+pub(crate) fn begins_with_open(line: &[u8]) -> bool
     ensures { result ≡ bytes_eq (take 5 line.now) (codes "OPEN ") }
 {
     line[..line.len().min(5)] == b"OPEN "[..]
@@ -173,7 +173,7 @@ impl<A: Allocator> Script<A> {
     }
 
     // Whether neither a session's line nor an OPEN has come.
-    fn takes_tables(&self) -> bool
+    pub(crate) fn takes_tables(&self) -> bool
         ensures { result ≡ spec.takes_tables self.now }
     {
         self.opens.is_none() && self.lines.is_empty()

@@ -88,8 +88,8 @@ fn word_length(text: &[u8]) -> usize
     end
 }
 
-// The letters, digits and `_` that the text begins with.
-fn first_word(text: &[u8]) -> &[u8]
+/// The letters, digits and `_` that the text begins with.
+pub fn first_word(text: &[u8]) -> &[u8]
     ensures { result.now ≡ spec.first_word text.now }
 {
     &text[..word_length(text)]

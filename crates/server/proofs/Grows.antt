@@ -8,12 +8,13 @@ use Rattle.value.specs.Refusals.{of_code, out_of_memory}
 use Rattle.statement.specs.declared.reply.Reply.{Reply}
 use Rattle.statement.specs.declared.reply.Reply.TheVariants.{Wait, Refused}
 use Rattle.history.specs.declared.event.Action.{Action}
-use Rattle.history.specs.declared.event.Action.TheVariants.{Poll}
+use Rattle.history.specs.declared.event.Action.TheVariants.{Poll, Rollback}
 use Rattle.history.specs.declared.event.Record.{Record}
 use Rattle.plain.specs.Courses.{takes_memory}
 use Rattle.pass.specs.Knowing.{Known}
 use Rattle.pass.proofs.Prefixes.{prefix_trans}
-use Rattle.server.specs.Calls.{AreFresh, WasRecorded, WasLeft, IsCall, HasWaited, HasClosed}
+use Rattle.history.specs.Opening.{Opening}
+use Rattle.server.specs.Calls.{AreFresh, WasRecorded, WasLeft, IsCall, HasLeft, HasWaited, HasClosed}
 
 replicate_push : {T : Type 0} (n : ℕ) (x : T) → replicate n x ++ x ∷ [] ≡ replicate (suc n) x
 replicate_push zero x = refl
@@ -63,3 +64,11 @@ module _ {A : Type 0} where
 
   pub closed_push : (records : List (Record A)) (xs : List (Known A)) (p : Known A) → All (λ q. HasClosed q records) xs → HasClosed p records → All (λ q. HasClosed q records) (xs ++ p ∷ [])
   closed_push records xs p all one = All-append (λ q. HasClosed q records) xs (p ∷ []) all (All-cons (λ q. HasClosed q records) p [] one (All-nil (λ q. HasClosed q records)))
+
+  -- a ROLLBACK behind a look is one of the session that has looked
+  pub call_after : (o : Opening A) (most : ℕ) (p m q : Known A) (r : Reply A) → m.session ≡ p.session → m.mine ≡ p.mine → IsCall most m Rollback r q → HasLeft o most p q
+  call_after o most p m q r same kept call = inr (r, (call.0 ∙ same, go call.1))
+    where
+      go : ((before : List (Record A)) × WasRecorded m Rollback r before q) ⊎ WasLeft most m Rollback r q → ((before : List (Record A)) × WasRecorded p Rollback r before q) ⊎ WasLeft most p Rollback r q
+      go (inl was) = inl (was.0, record { seen = was.1.seen ∙ ap (λ (k : ℕ). was.0 ++ record { session = k; action = Rollback; reply = r } ∷ []) same; mine = was.1.mine ∙ ap (λ l. l ++ (Rollback, r) ∷ []) kept })
+      go (inr left) = inr (record { reason = left.reason; mine = left.mine ∙ kept })

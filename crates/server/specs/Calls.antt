@@ -1,15 +1,16 @@
 -- What calls of a server leave in a pass.
-use Rattle.std.specs.Prelude.{ℕ, suc, ◌≡◌, ◌≢◌, ◌⊎◌, ◌==◌, nat_lt, Bool, true, false, ◌||◌, List, [], ◌∷◌, ◌++◌, length, replicate, slice_get, Some, All}
+use Rattle.std.specs.Prelude.{ℕ, suc, ◌≡◌, ◌≢◌, ◌⊎◌, ◌==◌, nat_lt, Bool, true, false, ◌||◌, List, [], ◌∷◌, ◌++◌, length, replicate, slice_get, Some, Err, All}
 use mathlib.Core.List.{IsPrefix}
-use Rattle.value.specs.declared.refusal.Code.TheVariants.{ProgramLimitExceeded}
+use Rattle.value.specs.declared.refusal.Code.TheVariants.{NoActiveSqlTransaction, ProgramLimitExceeded}
 use Rattle.value.specs.Refusals.{of_code, out_of_memory}
+use Rattle.value.specs.declared.refusal.Refusal.{Refusal}
 use Rattle.statement.specs.declared.reply.Reply.{Reply}
 use Rattle.statement.specs.declared.reply.Reply.TheVariants.{Committed, RolledBack, Wait, Refused}
 use Rattle.history.specs.declared.event.Action.{Action}
-use Rattle.history.specs.declared.event.Action.TheVariants.{Poll}
+use Rattle.history.specs.declared.event.Action.TheVariants.{Poll, Rollback}
 use Rattle.history.specs.declared.event.Record.{Record}
 use Rattle.history.specs.Opening.{Opening, Recorded}
-use Rattle.history.specs.Answer.{IsLegal, of_session}
+use Rattle.history.specs.Answer.{IsLegal, of_session, view_answer}
 use Rattle.plain.specs.Courses.{takes_memory}
 use Rattle.pass.specs.Knowing.{Known}
 
@@ -47,6 +48,14 @@ module _ {A : Type 0} where
   -- A call for action a was answered with r, and the pass that knew p knows q.
   abbrev pub IsCall : ℕ → Known A → Action A → Reply A → Known A → Type 0
   IsCall most p a r q = (q.session ≡ p.session) × (((before : List (Record A)) × WasRecorded p a r before q) ⊎ WasLeft most p a r q)
+
+  -- The session has no transaction after these events.
+  abbrev pub HasNone : Opening A → List (Record A) → ℕ → Type 0
+  HasNone o es s = (e : Refusal) × (view_answer o es s ≡ Err e) × (e.code ≡ NoActiveSqlTransaction)
+
+  -- The pass that knew p knows q: its session has no transaction after what it then has seen, and has done no more; or its ROLLBACK was called.
+  abbrev pub HasLeft : Opening A → ℕ → Known A → Known A → Type 0
+  HasLeft o most p q = (HasNone o q.seen q.session × (q.session ≡ p.session) × (q.mine ≡ p.mine)) ⊎ ((r : Reply A) × IsCall most p Rollback r q)
 
   -- So far the session has done n polls more, and each was answered to wait.
   pub record HasWaited (p q : Known A) (n : ℕ) : Type 0 where

@@ -1,12 +1,12 @@
 //! What lies under the lock.
 
-ghost use Rattle.std.specs.Prelude.{◌≡◌, false, [], All};
+ghost use Rattle.std.specs.Prelude.{◌≡◌, true, false, [], All};
 ghost use Rattle.value.specs.Refusals.{AnswersOrNoMemory};
 ghost use Rattle.statement.specs.Evaluation.{writes};
 ghost use Rattle.statement.specs.Fits.{Fits};
 ghost use Rattle.history.specs.Answer.{Allowed, reader_answer, view_answer};
 ghost use Rattle.pass.specs.Knowing.{HasLooked, HasSeen};
-ghost use Rattle.server.specs.Calls.{IsCall, IsClosed};
+ghost use Rattle.server.specs.Calls.{HasLeft, HasNone, IsCall, IsClosed};
 ghost use Rattle.server.specs.Doings.{IsAllowedFor, IsFoundSince, action_of};
 ghost use Rattle.server.specs.Holds.{IsFirstHold};
 
@@ -164,6 +164,32 @@ impl<'w, J: Naming<A>, A: Allocator> Locked<'w, J, A> {
         self.keeper.show(pass);
         let session = pass.session();
         self.core.view(alloc, session)
+    }
+
+    // Whether the pass's session has no transaction, after the history that the pass then has seen.
+    fn has_none(&mut self, alloc: A, pass: &mut Pass<'w, J, A>) -> bool
+    where
+        A: Copy,
+        ensures looked { HasLooked J.opening pass.old pass.new }
+        ensures none { result ≡ true → HasNone J.opening pass.new.seen pass.new.session }
+    {
+        match self.view(alloc, pass) {
+            Err(refusal) => refusal.code == Code::NoActiveSqlTransaction,
+            Ok(_) => false,
+        }
+    }
+
+    // Rolls the transaction of the pass's session back, where it has one. That is refused only where the history is
+    // full, which answers everybody so.
+    pub(crate) fn leave(&mut self, alloc: A, pass: &mut Pass<'w, J, A>)
+    where
+        A: Copy,
+        ensures seen { HasSeen J.opening pass.old pass.new }
+        ensures left { HasLeft J.opening J.most pass.old pass.new }
+    {
+        if !self.has_none(alloc, pass) {
+            let _ = self.call(alloc, pass, Action::Rollback);
+        }
     }
 
     // The core, whose history has what each pass has seen and done.

@@ -7,7 +7,7 @@ ghost use Rattle.history.specs.Opening.{opening_refusal, zero_base};
 ghost use Rattle.history.specs.Answer.{Allowed, view_answer};
 ghost use Rattle.pass.specs.Knowing.{HasLooked, HasSeen};
 ghost use Rattle.request.specs.Requests.{asked};
-ghost use Rattle.server.specs.Calls.{AreOpened, HasPolled, IsCall, IsClosed, is_no_count, may_end};
+ghost use Rattle.server.specs.Calls.{AreOpened, HasLeft, HasPolled, IsCall, IsClosed, is_no_count, may_end};
 
 use crate::locked::Locked;
 use dumpplan::NoGate;
@@ -235,6 +235,20 @@ impl<'w, J: Naming<A>, A: Allocator> Server<'w, J, A> {
             locked = self.ended.wait(rt, locked);
         }
         unreachable!()
+    }
+
+    /// Rolls the transaction of the pass's session back, where it has one, as the end of its
+    /// connection does, and wakes the sessions that wait for it. ROLLBACK takes no memory; a full
+    /// history has no room for it, and answers 54000 to everybody who waits. The session may call
+    /// again, and is then in no transaction.
+    pub fn leave<R: Wait>(&self, rt: &R, alloc: A, pass: &mut Pass<'w, J, A>)
+    where
+        A: Copy,
+        ensures seen { HasSeen J.opening pass.old pass.new }
+        ensures left { HasLeft J.opening J.most pass.old pass.new }
+    {
+        self.locked.lock(rt).leave(alloc, pass);
+        self.ended.notify_all();
     }
 
     /// The tables at the snapshot of the transaction of the pass's session, where that is known to

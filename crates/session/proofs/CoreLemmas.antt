@@ -186,7 +186,7 @@ module _ {A : Type 0} where
     checkpoint_many most e f = checkpoint_with most true e ∙ ap (λ b. cond {A = Result (Opening A) Refusal} b (Err (of_code code.ProgramLimitExceeded)) (Ok (opening_after (w h l k)))) f
 
     module _ (rows : List (VersionedRows A)) (held : HoldsRows h l rows) where
-      tables_now : shown l.base.commits rows ≡ tables_at (w h l k) (commits (w h l k))
+      pub tables_now : shown l.base.commits rows ≡ tables_at (w h l k) (commits (w h l k))
       tables_now = held.shown l.base.commits (ap (λ b. b || is_owed_at l.base.commits l.txns) (le-leb l.base.commits l.base.commits (omega arith))) ∙ ap (tables_at (w h l k)) (r h l k).commits
 
       opening_is : (c : Catalog) (X : Tables A) (b : Base) → c ≡ h.opening.catalog → b ≡ record { transactions = l.base.transactions + length l.txns; commits = l.base.commits; identifiers = l.base.identifiers + length l.exports; events = l.place }

@@ -340,8 +340,9 @@ impl<A: Allocator> Core<A> {
         self.world.view(alloc, &self.rows, session)
     }
 
-    // A core that goes on from the tables and the numbers of this one.
-    fn next(&self, alloc: A, max_events: u32) -> Result<Core<A>, Refusal>
+    /// A core that goes on, for `max_events` events, from the tables and the numbers that this one has come to, as
+    /// `checkpoint` makes it; this one stays. It is refused as that is.
+    pub fn next(&self, alloc: A, max_events: u32) -> Result<Core<A>, Refusal>
     where
         A: Copy,
         ensures { AnswersOrNoMemory result (from_opening max_events

@@ -1,6 +1,6 @@
 //! What a session's line does, on its thread.
 
-ghost use Rattle.std.specs.Prelude.{◌≡◌, ◌++◌, IfOk, OnOk};
+ghost use Rattle.std.specs.Prelude.{◌≡◌, ◌++◌, [], IfOk, OnOk};
 ghost use Rattle.backup.specs.Backed.{seen_by};
 ghost use Rattle.program.specs.Dumps.{IsDumped};
 ghost use Rattle.program.specs.Freely.{AreTold, IsAtLine, IsCallTold, IsDumpTold, IsTold, IsWaitTold};
@@ -8,6 +8,7 @@ ghost use Rattle.program.specs.Freely.{AreTold, IsAtLine, IsCallTold, IsDumpTold
 use crate::dumping::dump_text;
 use crate::fault::Fault;
 use crate::free::sinks::Sinks;
+use crate::keeping::keep_dumped;
 use crate::sessions::printed_reply;
 use backup::{BackupFault, dump_safe};
 use dumpplan::NoGate;
@@ -75,7 +76,33 @@ where
     S: Sinks,
     T: Threads + Wait + Sync,
 {
-    // Writes a dump of the safe snapshot of a pass's session to a file.
+    // Writes a dump of the safe snapshot of a pass's session to a file in which nothing is.
+    fn write_dump(
+        &self,
+        pass: &mut Pass<'w, J>,
+        request: &DumpRequest,
+        file: &mut S::Out,
+    ) -> Result<(), BackupFault>
+        requires empty { S.Out.taken file.old ≡ [] }
+        requires sound { S.Out.failures file.old ≡ 0 }
+        ensures dumped { IsDumped (seen_by J.opening J.most pass.new) pass.new.session result }
+        ensures sound { OnOk result (S.Out.failures file.new ≡ 0) }
+        ensures session { pass.new.session ≡ pass.old.session }
+        ensures mine { pass.new.mine ≡ pass.old.mine }
+    {
+        dump_safe(
+            self.rt,
+            self.alloc,
+            self.server,
+            pass,
+            request.jobs,
+            request.rows,
+            file,
+            &NoGate,
+        )
+    }
+
+    // Dumps the safe snapshot of a pass's session to a path's file, which is kept where it is whole.
     fn dump_to_file(&self, pass: &mut Pass<'w, J>, request: &DumpRequest) -> Result<(), BackupFault>
         ensures dumped { IsDumped (seen_by J.opening J.most pass.new) pass.new.session result }
         ensures session { pass.new.session ≡ pass.old.session }
@@ -84,16 +111,8 @@ where
         let Ok(mut file) = self.sinks.create(self.alloc, request.path.as_str()) else {
             return Err(BackupFault::Dump(DumpFault::Memory));
         };
-        dump_safe(
-            self.rt,
-            self.alloc,
-            self.server,
-            pass,
-            request.jobs,
-            request.rows,
-            &mut file,
-            &NoGate,
-        )
+        let dumped = self.write_dump(pass, request, &mut file);
+        keep_dumped(&mut file, dumped)
     }
 
     // Does a dump, and gives what is printed of it.

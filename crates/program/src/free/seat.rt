@@ -1,7 +1,7 @@
 //! A session on its thread.
 
 ghost use Rattle.std.specs.Prelude.{◌≡◌, ◌∷◌, ◌++◌, [], Err, OnOk, IfOk, IfErr, IsOkAnd};
-ghost use Rattle.program.specs.Freely.{AreTold};
+ghost use Rattle.program.specs.Freely.{HasPlayed};
 
 use crate::fault::Fault;
 use crate::free::commands::{Client, append};
@@ -46,9 +46,11 @@ impl<'p, 's, 'w, J: Naming<Global>, S: Sinks> Seat<'p, 's, 'w, J, S> {
         }
     }
 
-    /// Does the session's lines, in their order. It stops at a fault.
+    /// Does the session's lines, in their order. It stops at a fault. Then the session leaves, whether or
+    /// not all its lines were done: no transaction of it stays behind for which others would wait.
+    #[tactic(auto, unfolding(crate::specs::Freely::HasPlayed))]
     pub(crate) fn play<T: Threads + Wait + Sync>(&mut self, rt: &T, alloc: Global)
-        ensures { IfOk self.new.told (λ text. AreTold J.opening J.most self.old.lines.now self.old.pass text.items
+        ensures { IfOk self.new.told (λ text. HasPlayed J.opening J.most self.old.lines.now self.old.pass text.items
             self.new.pass) }
     {
         let client = Client {
@@ -58,6 +60,7 @@ impl<'p, 's, 'w, J: Naming<Global>, S: Sinks> Seat<'p, 's, 'w, J, S> {
             sinks: self.sinks,
         };
         self.told = client.tell_lines(&mut self.pass, self.lines);
+        self.server.leave(rt, alloc, &mut self.pass);
     }
 
     /// Adds its pass, and what is printed of it, to those of the sessions before it; or tells why it has

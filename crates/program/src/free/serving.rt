@@ -6,7 +6,7 @@ ghost use Rattle.std.specs.Fork.{AcceptsEach, ChangesEach};
 ghost use Rattle.schema.specs.Plain.{is_sound};
 ghost use Rattle.history.specs.Opening.{zero_base};
 ghost use Rattle.server.specs.Calls.{AreFresh};
-ghost use Rattle.program.specs.Freely.{AreJoined, ArePrinted, AreServed, AreTold, IsAmong};
+ghost use Rattle.program.specs.Freely.{AreJoined, ArePrinted, AreServed, HasPlayed, IsAmong};
 
 use crate::fault::Fault;
 use crate::free::seat::Seat;
@@ -132,7 +132,7 @@ where
     ensures count { length result.items ≡ length seats.entry.items }
     ensures each { (i : ℕ) (d : _) → i < length seats.entry.items →
         IfOk (slice_index_or result.items i d).told
-        (λ v. AreTold J.opening J.most (slice_index_or seats.entry.items i d).lines.now
+        (λ v. HasPlayed J.opening J.most (slice_index_or seats.entry.items i d).lines.now
         (slice_index_or seats.entry.items i d).pass v.items (slice_index_or result.items i d).pass) }
 {
     changed(

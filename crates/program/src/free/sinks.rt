@@ -2,15 +2,15 @@
 
 ghost use Rattle.std.specs.Prelude.{◌≡◌, [], IfOk};
 
-use crate::files::Files;
-use collector::Device;
+use crate::files::{Files, Placed};
 use std::alloc::{AllocError, Global};
 
 /// Where sessions on threads dump to. It is `Files` without a type parameter and without what is read.
 pub(crate) trait Sinks: Sync {
-    type Out: Device + Send + Drop;
+    type Out: Placed + Send + Drop;
 
-    /// A device that opens a path's file at its first write, and has taken nothing yet.
+    /// A device that is opened at its first write, has taken nothing yet, and takes the place of a path's file
+    /// when it is kept.
     fn create(&self, alloc: Global, path: &str) -> Result<Self::Out, AllocError>
         ensures empty { IfOk result (λ file. Self.Out.taken file ≡ []) }
         ensures sound { IfOk result (λ file. Self.Out.failures file ≡ 0) };

@@ -3,7 +3,7 @@ use Rattle.plain.specs.Courses.{on_course}
 use Rattle.plain.specs.Ledger.{turned_at}
 use Rattle.plain.specs.Versions.{lowest_of}
 use Rattle.plain.proofs.LedgerLemmas.{length-turned_at, turned_at-again, turned_at-same}
-use Rattle.plain.proofs.StretchLemmas.{held-turned}
+use Rattle.plain.proofs.StretchLemmas.{stretches-turned}
 use Rattle.plain.proofs.commit.lowest_with.Goals as goal
 
 pub turn-requires-2 : goal.turn-requires-2
@@ -20,4 +20,4 @@ returns-clause-same g c =
 
 pub least_owed-least-requires-clause-past : goal.least_owed-least-requires-clause-past
 least_owed-least-requires-clause-past g c =
-    rw (c.as_slice.ensures.value, c.turn.ensures, c.without.ensures) (held-turned c.args.past (on_course c.args.course) c.args.transactions.now.items c.args.at c.requires.past)
+    rw (c.as_slice.ensures.value, c.turn.ensures, c.without.ensures) (stretches-turned c.args.past.now (on_course c.args.course) c.args.transactions.now.items c.args.at c.requires.past)

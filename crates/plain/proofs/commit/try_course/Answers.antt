@@ -5,12 +5,12 @@ use Rattle.plain.specs.Courses.{on_course}
 use Rattle.plain.specs.Ledger.{turned_at, txn_at}
 use Rattle.plain.specs.Structures.{StructuresHold}
 use Rattle.plain.proofs.LedgerLemmas.{length-turned_at, turned_at-again, turned_at-same}
-use Rattle.plain.proofs.StretchLemmas.{at-turned, held-turned}
+use Rattle.plain.proofs.StretchLemmas.{at-turned, stretches-turned}
 use Rattle.plain.proofs.commit.try_course.Goals as goal
 
 pub cause_of_all-cause-requires-clause-past : goal.cause_of_all-cause-requires-clause-past
 cause_of_all-cause-requires-clause-past g c =
-    rw (c.as_slice.ensures.value, c.turn.ensures, c.without.ensures) (held-turned c.args.past (on_course c.args.course) c.args.transactions.now.items c.args.at c.requires.past)
+    rw (c.as_slice.ensures.value, c.turn.ensures, c.without.ensures) (stretches-turned c.args.past.now (on_course c.args.course) c.args.transactions.now.items c.args.at c.requires.past)
 
 pub cause_of_all-cause-requires-clause-within : goal.cause_of_all-cause-requires-clause-within
 cause_of_all-cause-requires-clause-within g c = rw (c.as_slice.ensures.value, c.turn.ensures, length-turned_at) c.requires.within

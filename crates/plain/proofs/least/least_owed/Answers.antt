@@ -1,11 +1,19 @@
-use Rattle.std.proofs.Common.{ap, ◌∙◌}
+use Rattle.std.proofs.Common.{arith, ◌≤◌, drop, length}
 use Rattle.plain.specs.Forgetting.{is_looked_at}
 use Rattle.plain.specs.Versions.{least_snapshot}
-use Rattle.plain.proofs.StretchLemmas.{least-around}
+use Rattle.plain.proofs.PieceLemmas.{least-ended, least-further}
 use Rattle.plain.proofs.least.least_owed.Goals as goal
+
+pub loop-walk-preserved : goal.loop-walk-preserved
+loop-walk-preserved g c =
+    let ts = c.args.transactions.now in
+    let at = c.loop-walk.walk.at in
+    let f = c.piece-piece.result.now in
+    let b = drop c.piece-piece.new.self.at ts in
+    (c.piece-piece.ensures.within, least-further (is_looked_at c.args.calm.now c.args.which) 18446744073709551615 18446744073709551615 c.requires.owed (drop at ts) f b c.loop-walk.least c.least_snapshot-least.result (least_snapshot (is_looked_at c.args.calm.now c.args.which) c.args.most ts) c.piece-piece.ensures.around c.least_snapshot-least.ensures c.loop-walk.invariant.1)
 
 pub returns : goal.returns
 returns g c =
-    let test = is_looked_at c.args.calm.now c.args.which in
-    c.least_snapshot-2.ensures ∙ ap (λ n. least_snapshot test n c.around.result.0.now) c.least_snapshot.ensures
-    ∙ least-around test c.args.most _ _ c.requires.owed c.args.transactions.now c.around.result.0.now c.around.result.1.now c.around.ensures
+    let ts = c.args.transactions.now in
+    let past : length ts ≤ c.loop-walk.walk.at = omega (arith, c.loop-walk-test.false) in
+    least-ended (is_looked_at c.args.calm.now c.args.which) ts c.loop-walk.walk.at c.loop-walk.least (least_snapshot (is_looked_at c.args.calm.now c.args.which) c.args.most ts) past c.loop-walk.invariant.1

@@ -1,14 +1,14 @@
 use Rattle.std.proofs.Common.{ap, refl, sym, subst, ◌∙◌, ◌≤◌, ◌+◌, ◌-◌, length, arith}
-use Rattle.std.specs.List.{filter}
+use Rattle.std.specs.List.{AllByRecursion, filter}
 use Rattle.history.specs.Transactions.{is_living}
 use Rattle.plain.specs.Calm.{AreCalm}
 use Rattle.plain.specs.Forgetting.{IsThinned, is_left, oldest_of}
 use Rattle.plain.specs.Ledger.{Ledger}
-use Rattle.plain.specs.Stretches.{HoldsStretch}
+use Rattle.plain.specs.Stretches.{HoldStretches}
 use Rattle.plain.proofs.CalmLemmas.{calm-fewer, calm-filtered}
 use Rattle.plain.proofs.ForgettingLemmas.{counted-thinned, filter-shorter, left_whole}
 use Rattle.plain.proofs.LedgerLemmas.{numbered-more}
-use Rattle.plain.proofs.StretchLemmas.{held-rest}
+use Rattle.plain.proofs.StretchLemmas.{stretches-rest, stretches-where}
 use Rattle.plain.proofs.world.World.forget.Goals as goal
 
 pub overflow_sub-self : goal.overflow_sub-self
@@ -27,9 +27,9 @@ invariant_of-self g c =
     let xs = c.self.inside.exports.items in
     let fewer : length c.keep_needed.new.transactions.items ≤ length ts = rw c.keep_needed.ensures (filter-shorter _ ts) in
     let less : length c.keep_living.new.exports.items ≤ length xs = rw c.keep_living.ensures (filter-shorter _ xs) in (
-      counted-thinned (record { base = c.self.inside.base; txns = ts; exports = xs; place = c.self.inside.place }) _ (is_left c.looked_at-past.result.to c.oldest_of-oldest.result ts) c.self.invariant.0 c.keep_needed.ensures
+      counted-thinned (record { base = c.self.inside.base; txns = ts; exports = xs; place = c.self.inside.place }) _ (is_left c.end_of-from.result c.oldest_of-oldest.result ts) c.self.invariant.0 c.keep_needed.ensures
           (omega (arith, fewer, c.len.ensures, c.len-3.ensures)) refl (omega (arith, less, c.len-2.ensures, c.len-4.ensures)) refl,
-      subst (HoldsStretch c.grown-self-inside.result) c.as_slice-4.ensures.value c.grown-self-inside.ensures,
+      subst (HoldStretches c.grow.new.past.items) c.as_slice-7.ensures.value c.grow.ensures,
       subst (λ ps. AreCalm ps c.self.inside.place c.keep_needed.new.transactions.items) (sym c.keep_in_use.ensures)
           (calm-fewer _ c.self.inside.calm.items c.self.inside.place c.keep_needed.new.transactions.items
           (subst (AreCalm c.self.inside.calm.items c.self.inside.place) (sym c.keep_needed.ensures) (calm-filtered _ c.self.inside.calm.items c.self.inside.place ts c.self.invariant.2))),
@@ -49,12 +49,12 @@ returns g c =
       place = c.self.inside.place;
     } in
     subst (λ (l : Ledger _). IsThinned l thinned) c.self.view_is (record {
-      passed = c.looked_at-past.result.to;
+      passed = c.end_of-from.result;
       calm = c.self.inside.calm.items;
       are_calm = c.self.invariant.2;
-      txns = c.keep_needed.ensures ∙ ap (λ n. filter (is_left c.looked_at-past.result.to n ts) ts)
-          (c.oldest_of-oldest.ensures ∙ ap (λ us. oldest_of c.as_slice-2.result.now base.commits us) c.as_slice.ensures.value ∙ ap (λ ps. oldest_of ps base.commits ts) c.as_slice-2.ensures.value);
-      exports = c.keep_living.ensures ∙ ap (λ us. filter (is_living us) xs) c.as_slice-3.ensures.value;
+      txns = c.keep_needed.ensures ∙ ap (λ n. filter (is_left c.end_of-from.result n ts) ts)
+          (c.oldest_of-oldest.ensures ∙ ap (λ us. oldest_of c.as_slice-3.result.now base.commits us) c.as_slice.ensures.value ∙ ap (λ ps. oldest_of ps base.commits ts) c.as_slice-3.ensures.value);
+      exports = c.keep_living.ensures ∙ ap (λ us. filter (is_living us) xs) c.as_slice-6.ensures.value;
       transactions = omega (arith, fewer, c.len.ensures, c.len-3.ensures);
       commits = refl;
       identifiers = omega (arith, less, c.len-2.ensures, c.len-4.ensures);
@@ -67,11 +67,24 @@ keep_needed-requires-clause-numbered g c =
     let h = c.self.invariant.0 in
     numbered-more 0 (c.self.inside.base.transactions + length c.self.inside.transactions.items) 18446744073709551616 c.self.inside.transactions.items (omega (arith, h.transactions, h.fits)) h.numbered
 
-pub grown-self-inside-requires : goal.grown-self-inside-requires
-grown-self-inside-requires g c =
+pub end_of-from-requires : goal.end_of-from-requires
+end_of-from-requires g c =
     let ts = c.self.inside.transactions.items in
-    let past = c.looked_at-past.result in
-    let held : HoldsStretch past ts = subst (λ (l : Ledger _). HoldsStretch past l.txns) (sym c.self.view_is) c.looked_at-past.ensures in
-    subst (HoldsStretch past)
-    (sym (c.as_slice-4.ensures.value ∙ c.keep_needed.ensures ∙ left_whole _ past.to c.oldest_of-oldest.result ts c.self.invariant.0.numbered held.within))
-    (held-rest past ts _ held)
+    let held : HoldStretches c.clear_where.new.past.items ts = subst (λ ss. HoldStretches ss ts) (sym c.clear_where.ensures) (stretches-where _ c.self.inside.past.items ts c.self.invariant.1) in
+    rw (c.as_slice-4.ensures.value, c.as_slice-5.ensures.value) held
+
+pub grow-requires : goal.grow-requires
+grow-requires g c =
+    let ts = c.self.inside.transactions.items in
+    let from = c.end_of-from.result in
+    let ss = c.clear_where.new.past.items in
+    let held : HoldStretches ss ts = subst (λ xs. HoldStretches xs ts) (sym c.clear_where.ensures) (stretches-where _ c.self.inside.past.items ts c.self.invariant.1) in
+    let within : from ≤ length ts = omega (arith, c.end_of-from.ensures.within, ap length c.as_slice-4.ensures.value) in
+    let ends : AllByRecursion (λ s. s.to ≤ from) ss = subst (AllByRecursion (λ s. s.to ≤ from)) c.as_slice-5.ensures.value c.end_of-from.ensures.behind in
+    subst (HoldStretches ss)
+    (sym (c.as_slice-7.ensures.value ∙ c.keep_needed.ensures ∙ left_whole _ from c.oldest_of-oldest.result ts c.self.invariant.0.numbered within))
+    (stretches-rest ss from ts _ within ends held)
+
+pub keep_in_use-requires : goal.keep_in_use-requires
+keep_in_use-requires g c =
+    rw (c.as_slice-8.ensures.value, c.as_slice-9.ensures.value) (subst (HoldStretches c.grow.new.past.items) c.as_slice-7.ensures.value c.grow.ensures)

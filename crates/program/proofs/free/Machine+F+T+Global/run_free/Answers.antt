@@ -10,9 +10,9 @@ returns-in-Ok-read_script-clause-done g c told = (
   c.in-Ok.bytes.items,
   c.in-Ok-read_script.script,
   c.in-Ok.ensures.read,
-  subst (λ b. said Free b ≡ Ok c.in-Ok-read_script.script) c.as_slice.ensures.value c.in-Ok-read_script.ensures,
+  subst (λ b. said Free b ≡ Ok c.in-Ok-read_script.script) c.as_slice-text.ensures.value c.in-Ok-read_script.ensures,
   c.serve_script.ensures.done told,
 )
 
 pub returns-clause-stopped : goal.returns-clause-stopped
-returns-clause-stopped g c other = (fault.Script c.in-Err-read_script.fault.line, c.tell-in-Err-read_script.ensures.kind, prints_none c.args.printer.now)
+returns-clause-stopped g c other = (fault.Script c.in-Err-read_script.fault.line, c.tell_line.ensures, prints_none c.args.printer.now)

@@ -7,7 +7,7 @@ pub returns-clause-done : goal.returns-clause-done
 returns-clause-done g c told =
     script_has_run_freely _ c.args.most_events c.args.script _ _ c.as_slice.result.now c.args.printer.now c.do_sessions-done.new.printer
     c.into_parts-catalog.ensures.catalog (c.as_ref.ensures.value ∙ c.into_parts-catalog.ensures.opens) (c.as_slice.ensures.value ∙ c.into_parts-catalog.ensures.lines)
-    (was_done c.do_sessions-done.result c.end.result _ c.end.ensures.kind c.do_sessions-done.ensures.done told)
+    (was_done c.do_sessions-done.result c.end_script.result _ c.end_script.ensures.kind c.do_sessions-done.ensures.done told)
 
 pub returns-clause-stopped : goal.returns-clause-stopped
-returns-clause-stopped g c other = was_stopped c.do_sessions-done.result c.end.result _ c.end.ensures.kind (on_err c.do_sessions-done.result _ c.do_sessions-done.ensures.stopped) other
+returns-clause-stopped g c other = was_stopped c.do_sessions-done.result c.end_script.result _ c.end_script.ensures.kind (on_err c.do_sessions-done.result _ c.do_sessions-done.ensures.stopped) other

@@ -1,0 +1,132 @@
+//! The command, over any files.
+
+ghost use Rattle.std.specs.Prelude.{◌≡◌, ◌≤◌};
+ghost use Rattle.command_check.specs.Statuses as spec;
+
+use crate::fault::{Fault, tell};
+use crate::judge::{Judgement, Machine, judge, read_path};
+use crate::task::{Task, read_words};
+use crate::telling::{judgement_text, write_all};
+use clap::Error;
+use clap::error::ErrorKind;
+use orders::search::Answer;
+use program::files::Files;
+use std::alloc::{Allocator, Global};
+use std::io::Write;
+use std::thread::Threads;
+use transcript::opening::{Opening, read_opening};
+
+// The exit status of an answer.
+fn status_of<A: Allocator>(answer: &Answer<A>) -> u8
+    ensures { result ≡ spec.status_of answer.now }
+{
+    match answer {
+        Answer::Yes(_) => 0,
+        Answer::No => 5,
+        Answer::Unknown => 4,
+    }
+}
+
+// Tells a judgement.
+fn tell_judgement<A, W, E>(alloc: A, judgement: &Judgement<A>, out: &mut W, err: &mut E) -> u8
+where
+    A: Allocator + Copy,
+    W: Write,
+    E: Write,
+    ensures { result ≤ 5 }
+{
+    let Ok(text) = judgement_text(alloc, judgement) else {
+        return tell(Fault::Memory, err);
+    };
+    match write_all(text.as_slice(), out) {
+        Ok(()) => status_of(&judgement.answer),
+        Err(fault) => tell(fault, err),
+    }
+}
+
+// Judges the text of a transcript, and tells the judgement.
+fn check_text<A, F, W, E, T>(
+    machine: &Machine<'_, F, T, A>,
+    text: &[u8],
+    task: Task<'_>,
+    out: &mut W,
+    err: &mut E,
+) -> u8
+where
+    A: Allocator + Copy + Send + Sync,
+    F: Files<A>,
+    W: Write,
+    E: Write,
+    T: Threads + Sync,
+    ensures { result ≤ 5 }
+{
+    let Opening { catalog, opens, .. } = match read_opening(machine.alloc, text) {
+        Ok(opening) => opening,
+        Err(fault) => return tell(Fault::Transcript(fault), err),
+    };
+    match judge(machine, catalog, opens.as_ref(), text, task) {
+        Ok(judgement) => tell_judgement(machine.alloc, &judgement, out, err),
+        Err(fault) => tell(fault, err),
+    }
+}
+
+// Prints the help that the words ask for.
+fn show_help<W: Write, E: Write>(help: &Error, out: &mut W, err: &mut E) -> u8
+    ensures { result ≤ 5 }
+{
+    match write!(out, "{help}") {
+        Ok(()) => 0,
+        Err(_) => tell(Fault::Device("-"), err),
+    }
+}
+
+// Tells a mistake in the words, or that memory was wanting for them; or shows the help that they ask for.
+fn tell_words<W: Write, E: Write>(error: &Error, out: &mut W, err: &mut E) -> u8
+    ensures { result ≤ 5 }
+{
+    match error.kind() {
+        ErrorKind::OutOfMemory => tell(Fault::Memory, err),
+        ErrorKind::DisplayHelp | ErrorKind::DisplayVersion => show_help(error, out, err),
+        _ => {
+            let _ = write!(err, "{error}");
+            2
+        }
+    }
+}
+
+/// Does what the words behind `pgserial check` ask for, over these files, and gives the exit status: 0 where some order
+/// explains what the transcript tells, 5 where none does, 4 where the steps ran out; 1 where the transcript or its dump
+/// is refused, or memory was wanting; 2 for mistaken words; 3 where a file or standard output failed. The order and
+/// the answer are written to `out`, why there is none to `err`.
+pub fn check_words<A, F, W, E, T>(
+    rt: &T,
+    words_memory: Global,
+    alloc: A,
+    words: &[&str],
+    files: &F,
+    out: &mut W,
+    err: &mut E,
+) -> u8
+where
+    A: Allocator + Copy + Send + Sync,
+    F: Files<A>,
+    W: Write,
+    E: Write,
+    T: Threads + Sync,
+    ensures within { result ≤ 5 }
+{
+    let task = match read_words(words_memory, words) {
+        Ok(task) => task,
+        Err(error) => return tell_words(&error, out, err),
+    };
+    match read_path(alloc, files, task.transcript) {
+        Ok(text) => check_text(
+            &Machine { rt, alloc, files },
+            text.as_slice(),
+            task,
+            out,
+            err,
+        ),
+        Err(fault) => tell(fault, err),
+    }
+}

@@ -1,0 +1,7 @@
+use Rattle.std.proofs.Common.{◌≡◌, ◌++◌}
+use Rattle.explore.specs.Texts.{replies_of}
+use Rattle.explore.proofs.replies.append_replies.Given as goal
+
+-- the sessions so far
+abbrev pub invariant-loop-place : goal.invariant-loop-place
+invariant-loop-place g l = l.text.items ≡ l.fn.text.items ++ replies_of l.place l.entries

@@ -1,0 +1,109 @@
+-- What is explored: the lines of sessions, in every interleaving, each from the state that one setup has come to.
+-- Source: PostgreSQL's isolation tester (src/test/isolation/README), whose permutations are of its sessions' steps; the setup is done before each.
+use Rattle.std.specs.Prelude.{◌≡◌, ℕ, zero, suc, ◌-◌, ◌==◌, if◌then◌else◌, Option, Some, None, Result, Ok, Err, List, [], ◌∷◌, ◌++◌, length, sum, map}
+use Rattle.std.specs.List.{filter}
+use Rattle.value.specs.declared.refusal.Refusal.{Refusal}
+use Rattle.history.specs.declared.event.Action.{Action}
+use Rattle.history.specs.declared.event.Record.{Record}
+use Rattle.history.specs.Opening.{Recorded}
+use Rattle.history.specs.Answer.{IsLegal, answer, checkpoint_answer}
+use Rattle.serial.specs.Serializable.{IsSerializable}
+use Rattle.session.specs.Core.{from_opening, recorded}
+use Rattle.request.specs.Requests.{asked}
+use Rattle.interleave.specs.Interleavings.{interleavings}
+use Rattle.explore.specs.declared.plan.Line.{Line}
+use Rattle.explore.specs.Texts.{outcome_text}
+
+-- The history that the setup has come to, and the lines that are explored, each with its session.
+pub record Explored (A : Type 0) : Type 0 where
+  pub setup : Recorded A
+  pub lines : List (Line A)
+
+-- the place of a session among all: sessions count from 1, places from 0
+abbrev pub place_of : ℕ → ℕ
+place_of s = s - 1
+
+-- how many sessions there may be
+abbrev pub sessions : ℕ
+sessions = 64
+
+module _ {A : Type 0} where
+  -- ---- the lines of a session
+
+  -- how many lines the session at a place has
+  abbrev pub lines_of : ℕ → List (Line A) → ℕ
+  lines_of p lines = length (filter (λ l. place_of l.session == p) lines)
+
+  -- how many each of the first n has
+  unfoldable pub line_counts : List (Line A) → ℕ → List ℕ
+  line_counts lines zero = []
+  line_counts lines (suc p) = line_counts lines p ++ lines_of p lines ∷ []
+
+  -- a line, where none is to be passed over before it; else what the later lines have
+  abbrev pub this_or_later : ℕ → Line A → Option (Line A) → Option (Line A)
+  this_or_later zero l later = Some l
+  this_or_later (suc k) l later = later
+
+  -- the line of the session at a place, behind k others of its own
+  abbrev pub own_line : ℕ → ℕ → List (Line A) → Option (Line A)
+  own_line p k [] = None
+  own_line p k (l ∷ lines) = if place_of l.session == p then this_or_later k l (own_line p (k - 1) lines) else own_line p k lines
+
+  -- how many of the events are of the session at a place
+  abbrev pub events_of : ℕ → List (Record A) → ℕ
+  events_of p es = length (filter (λ e. place_of e.session == p) es)
+
+  -- ---- a run
+
+  -- the history with a session's request, answered
+  abbrev pub answered : Recorded A → ℕ → Action A → Recorded A
+  answered h s a = recorded h s a (answer h.opening h.records s a)
+
+  -- with a line done, where there is one
+  abbrev pub done : Recorded A → Option (Line A) → Recorded A
+  done h None = h
+  done h (Some l) = answered h l.session (asked h.opening.catalog l.request)
+
+  -- After a turn of the session at a place: its next line is done, the one behind as many as it has done.
+  abbrev pub after_turn : List (Line A) → Recorded A → ℕ → Recorded A
+  after_turn lines h p = done h (own_line p (events_of p h.records) lines)
+
+  -- after the turns of an order
+  abbrev pub after_turns : List (Line A) → Recorded A → List ℕ → Recorded A
+  after_turns lines h [] = h
+  after_turns lines h (p ∷ order) = after_turns lines (after_turn lines h p) order
+
+  -- ---- what is explored
+
+  -- how many turns an interleaving has
+  abbrev pub turns_of : Explored A → ℕ
+  turns_of e = sum (line_counts e.lines sessions)
+
+  -- the history that each run begins with: it goes on from the tables and the numbers that the setup has come to, as after a checkpoint
+  abbrev pub beginning : Explored A → Result (Recorded A) Refusal
+  beginning e = from_opening (turns_of e) (checkpoint_answer e.setup.opening e.setup.records (turns_of e))
+
+  -- all orders of the sessions' lines in which each session keeps its own
+  abbrev pub schedules : Explored A → List (List ℕ)
+  schedules e = interleavings (line_counts e.lines sessions)
+
+  -- the outcome of a schedule from this beginning
+  abbrev pub outcome_from : List (Line A) → List ℕ → Result (Recorded A) Refusal → List ℕ
+  outcome_from lines order (Ok h) = outcome_text (after_turns lines h order)
+  outcome_from lines order (Err r) = []
+
+  -- The outcome of a schedule: the text of the history that it comes to.
+  unfoldable pub outcome : Explored A → List ℕ → List ℕ
+  outcome e order = outcome_from e.lines order (beginning e)
+
+  -- the setup has come to a state with which runs can begin
+  abbrev pub CanBegin : Explored A → Type 0
+  CanBegin e = (h : Recorded A) × (beginning e ≡ Ok h)
+
+  -- the history that a schedule comes to
+  abbrev pub RunsTo : Explored A → List ℕ → Recorded A → Type 0
+  RunsTo e order k = (h : Recorded A) × (beginning e ≡ Ok h) × (k ≡ after_turns e.lines h order)
+
+-- A serial order explains the text: it is that of a history in which each reply is the answer, and which has one.
+abbrev pub IsExplained : Type 0 → List ℕ → Type 0
+IsExplained A text = (h : Recorded A) × IsLegal h × IsSerializable h.opening h.records × (text ≡ outcome_text h)

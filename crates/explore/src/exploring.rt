@@ -1,0 +1,95 @@
+//! Every schedule, run, and the outcomes counted.
+
+ghost use Rattle.std.specs.Prelude.{◌≡◌, ◌≤◌, ◌++◌, map, length, IfOk, OnOk};
+ghost use Rattle.history.specs.Answer.{IsLegal};
+ghost use Rattle.interleave.specs.Interleavings.{interleavings};
+ghost use Rattle.tally.specs.Outcomes.{outcomes};
+ghost use Rattle.explore.specs.Explored.{IsExplained, RunsTo, outcome, schedules, turns_of};
+ghost use Rattle.explore.specs.Texts.{outcome_text, state_text};
+
+use crate::plan::Plan;
+use crate::replies::append_replies;
+use crate::running::do_turns;
+use crate::states::append_tables;
+use interleave::interleavings::Interleavings;
+use interleave::laws::as_many_turns;
+use serial::laws::legal_histories_are_serializable;
+use session::sessions::Core;
+use std::alloc::{AllocError, Allocator};
+use tally::outcomes::{Outcome, count_outcomes};
+use tally::runs::Runs;
+use value::refusal::Refusal;
+
+// Appends the committed tables of a core.
+fn append_state<A: Allocator + Copy>(core: &Core<A>, text: &mut Vec<u8, A>) -> Result<(), Refusal>
+    ensures { OnOk result (text.new.items ≡ text.old.items ++ state_text core.now) }
+{
+    let committed = core.committed();
+    append_tables(&committed, core.history().catalog(), text)?;
+    Ok(())
+}
+
+// The text of what a core's history comes to.
+fn outcome_text<A: Allocator + Copy>(alloc: A, core: &Core<A>) -> Result<Vec<u8, A>, Refusal>
+    ensures { IfOk result (λ text. text.items ≡ outcome_text core.now) }
+{
+    let mut text = Vec::new(alloc);
+    append_replies(alloc, core.history().records(), &mut text)?;
+    append_state(core, &mut text)?;
+    Ok(text)
+}
+
+impl<A: Allocator + Copy> Plan<A> {
+    /// The core that a schedule comes to.
+    pub fn run_order(&self, alloc: A, order: &[usize]) -> Result<Core<A>, Refusal>
+        requires { length order.now ≤ turns_of self.now }
+        ensures ran { IfOk result (λ core. RunsTo self.now order.now core) }
+        ensures legal { IfOk result (λ core. IsLegal core) }
+    {
+        let mut core = self.begin(alloc)?;
+        do_turns(alloc, &mut core, self.lines(), order)?;
+        core.is_legal();
+        Ok(core)
+    }
+
+    /// The outcome of a schedule. Want of memory is the only refusal.
+    pub fn outcome_of(&self, alloc: A, order: &[usize]) -> Result<Vec<u8, A>, Refusal>
+        requires { length order.now ≤ turns_of self.now }
+        ensures outcome { IfOk result (λ text. text.items ≡ outcome self.now order.now) }
+        ensures explained { IfOk result (λ text. IsExplained A text.items) }
+    {
+        let core = self.run_order(alloc, order)?;
+        legal_histories_are_serializable::<A>();
+        let text = outcome_text(alloc, &core)?;
+        Ok(text)
+    }
+}
+
+impl<A: Allocator + Copy> Runs<A> for Plan<A> {
+    ghost use Rattle.explore.specs.Explored.{outcome, turns_of};
+
+    ghost outcome = { λ plan order. outcome plan order };
+
+    ghost most = { λ plan. turns_of plan };
+
+    fn run(&self, alloc: A, order: &[usize]) -> Result<Vec<u8, A>, AllocError> {
+        match self.outcome_of(alloc, order) {
+            Ok(text) => Ok(text),
+            Err(_) => Err(AllocError),
+        }
+    }
+}
+
+/// Runs every schedule of a plan's lines, each from the setup's state: all outcomes, each with the number of schedules
+/// that come to it and the first of them, in the order of these. Want of memory is the only refusal.
+pub fn explore<A: Allocator + Copy>(
+    alloc: A,
+    plan: &Plan<A>,
+    all: &Interleavings<A>,
+) -> Result<Vec<Outcome<A>, A>, AllocError>
+    requires { interleavings all.now ≡ schedules plan.now }
+    ensures { IfOk result (λ found. found.items ≡ outcomes (map (outcome plan.now) (schedules plan.now))) }
+{
+    as_many_turns();
+    count_outcomes(alloc, plan, all)
+}

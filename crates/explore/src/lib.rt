@@ -1,0 +1,9 @@
+//! Every interleaving of a script's sessions, run from one setup, and what they come to, counted.
+
+#![tactic(auto)]
+
+pub mod exploring;
+pub mod plan;
+mod replies;
+mod running;
+mod states;

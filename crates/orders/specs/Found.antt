@@ -1,0 +1,23 @@
+-- What the search tells.
+use Rattle.schema.specs.Definition.{Catalog}
+use Rattle.schema.specs.declared.tables.Tables.{Tables}
+use Rattle.std.specs.Prelude.{List}
+use Rattle.orders.specs.declared.search.Answer.{Answer}
+use Rattle.orders.specs.declared.search.Answer.TheVariants.{Yes, No, Unknown}
+use Rattle.orders.specs.declared.search.Progress.{Progress}
+use Rattle.orders.specs.declared.search.Progress.TheVariants.{More, Found, Exhausted}
+use Rattle.orders.specs.Walks.{Standing, IsFound, IsWalk}
+use Rattle.orders.specs.Explains.{Trace, Explains, Unexplained}
+
+module _ {A : Type 0} where
+  -- Yes gives an order that explains what was recorded; no says that none does; unknown says nothing.
+  abbrev pub Tells : Catalog → Tables A → List (Trace A) → Answer A → Type 0
+  Tells c X ts (Yes order) = Explains c X ts order.items
+  Tells c X ts No = Unexplained c X ts
+  Tells c X ts Unknown = Unit {0}
+
+  -- How a search has gone on, and where it stands: there is more to try, an order is found, or there is none.
+  abbrev pub HasGone : Catalog → Tables A → List (Trace A) → Progress → Standing A → Type 0
+  HasGone c X ts More w = IsWalk c X ts w
+  HasGone c X ts Found w = IsFound c X ts w
+  HasGone c X ts Exhausted w = Unexplained c X ts

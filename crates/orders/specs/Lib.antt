@@ -1,0 +1,4 @@
+pub mod Explains
+pub mod Found
+pub mod Turns
+pub mod Walks

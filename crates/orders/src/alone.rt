@@ -1,0 +1,161 @@
+//! A transaction, run alone.
+
+ghost use Rattle.std.specs.Prelude.{◌≡◌, true, Some, None, map, if◌then◌else◌, IfOk, IfErr, MatchOption};
+ghost use Rattle.std.specs.Option.{option_map};
+ghost use Rattle.value.specs.Refusals.{out_of_memory};
+ghost use Rattle.schema.specs.Plain.{is_sound, put_all};
+ghost use Rattle.statement.specs.Evaluation.{outcome};
+ghost use Rattle.statement.specs.Fits.{fits};
+ghost use Rattle.orders.specs.Explains.{agrees, alone, are_fit};
+ghost use Rattle.orders.specs.Turns.{came_to};
+
+use crate::agree::agree;
+use crate::transaction::Answered;
+use schema::catalog::Catalog;
+use schema::changes::Change;
+use schema::tables::Tables;
+use statement::evaluate::evaluate;
+use statement::reply::Reply;
+use std::alloc::Allocator;
+use value::refusal::Refusal;
+
+/// What came of a transaction that was run alone.
+#[derive(Drop)]
+pub enum Turn<A: Allocator> {
+    /// One of its statements got an answer that doesn't agree with what was recorded.
+    Differs,
+    /// All agree, and the tables stay as they are.
+    Reads,
+    /// All agree, and these are the tables after it.
+    Writes(Tables<A>),
+}
+
+// Does a statement again: what it changes, where it gets an answer that agrees.
+fn answer<A: Allocator + Copy>(
+    alloc: A,
+    catalog: &Catalog<A>,
+    tables: &Tables<A>,
+    answered: &Answered<A>,
+) -> Result<Option<Vec<Change<A>, A>>, Refusal>
+    requires fits { fits catalog.now answered.now.statement ≡ true }
+    requires sound { is_sound catalog.now tables.now ≡ true }
+    ensures ok { IfOk result (λ changes. option_map (λ v. v.items) changes ≡
+        (if agrees (outcome catalog.now answered.now.statement tables.now).reply answered.now.reply
+        then Some (outcome catalog.now answered.now.statement tables.now).changes else None)) }
+    ensures memory { IfErr result (λ e. e ≡ out_of_memory) }
+{
+    let outcome = evaluate(alloc, catalog, &answered.statement, tables)?;
+    if !agree(&outcome.reply, &answered.reply) {
+        return Ok(None);
+    }
+    let changes = outcome.changes.into_list(alloc)?;
+    Ok(Some(changes))
+}
+
+// The tables with the changes put in.
+fn changed<A: Allocator + Copy>(
+    alloc: A,
+    tables: &Tables<A>,
+    changes: &[Change<A>],
+) -> Result<Tables<A>, Refusal>
+    ensures ok { IfOk result (λ t. t ≡ put_all changes.now tables.now) }
+    ensures memory { IfErr result (λ e. e ≡ out_of_memory) }
+{
+    let mut own = tables.copy(alloc)?;
+    own.apply_all(alloc, changes)?;
+    Ok(own)
+}
+
+// Goes on with a transaction that has written: from the tables with the changes put in.
+fn write_alone<A: Allocator + Copy>(
+    alloc: A,
+    catalog: &Catalog<A>,
+    tables: &Tables<A>,
+    changes: &[Change<A>],
+    statements: &[Answered<A>],
+) -> Result<Turn<A>, Refusal>
+    requires fits { are_fit catalog.now (map (λ a. (a.statement, a.reply)) statements.now) ≡ true }
+    requires sound { is_sound catalog.now (put_all changes.now tables.now) ≡ true }
+    ensures ok { IfOk result (λ turn. came_to tables.now turn ≡
+        alone catalog.now (map (λ a. (a.statement, a.reply)) statements.now) (put_all changes.now tables.now)) }
+    ensures memory { IfErr result (λ e. e ≡ out_of_memory) }
+{
+    let mut own = changed(alloc, tables, changes)?;
+    let mut left = statements;
+    while let [answered, rest @ ..] = left {
+        let Some(more) = answer(alloc, catalog, &own, answered)? else {
+            return Ok(Turn::Differs);
+        };
+        own.apply_all(alloc, more.as_slice())?;
+        left = rest;
+    }
+    Ok(Turn::Writes(own))
+}
+
+/// Runs a transaction's statements alone, one after the other.
+pub fn run_alone<A: Allocator + Copy>(
+    alloc: A,
+    catalog: &Catalog<A>,
+    tables: &Tables<A>,
+    statements: &[Answered<A>],
+) -> Result<Turn<A>, Refusal>
+    requires fits { are_fit catalog.now (map (λ a. (a.statement, a.reply)) statements.now) ≡ true }
+    requires sound { is_sound catalog.now tables.now ≡ true }
+    ensures ok { IfOk result (λ turn. came_to tables.now turn ≡
+        alone catalog.now (map (λ a. (a.statement, a.reply)) statements.now) tables.now) }
+    ensures memory { IfErr result (λ e. e ≡ out_of_memory) }
+{
+    let mut left = statements;
+    while let [answered, rest @ ..] = left {
+        let Some(changes) = answer(alloc, catalog, tables, answered)? else {
+            return Ok(Turn::Differs);
+        };
+        if !changes.is_empty() {
+            return write_alone(alloc, catalog, tables, changes.as_slice(), rest);
+        }
+        left = rest;
+    }
+    Ok(Turn::Reads)
+}
+
+// The answer that a statement gets.
+fn reply_to<A: Allocator + Copy>(
+    alloc: A,
+    catalog: &Catalog<A>,
+    tables: &Tables<A>,
+    answered: &Answered<A>,
+) -> Result<Reply<A>, Refusal>
+    requires fits { fits catalog.now answered.now.statement ≡ true }
+    requires sound { is_sound catalog.now tables.now ≡ true }
+    ensures ok { IfOk result (λ r. r ≡ (outcome catalog.now answered.now.statement tables.now).reply) }
+    ensures memory { IfErr result (λ e. e ≡ out_of_memory) }
+{
+    let outcome = evaluate(alloc, catalog, &answered.statement, tables)?;
+    Ok(outcome.reply)
+}
+
+/// The first statement, by its place, that gets an answer that doesn't agree with what was recorded, and that answer.
+pub fn first_difference<A: Allocator + Copy>(
+    alloc: A,
+    catalog: &Catalog<A>,
+    tables: &Tables<A>,
+    statements: &[Answered<A>],
+) -> Result<Option<(usize, Reply<A>)>, Refusal>
+    requires fits { are_fit catalog.now (map (λ a. (a.statement, a.reply)) statements.now) ≡ true }
+    requires sound { is_sound catalog.now tables.now ≡ true }
+    ensures memory { IfErr result (λ e. e ≡ out_of_memory) }
+{
+    let mut own = tables.copy(alloc)?;
+    let mut left = statements;
+    let mut place = 0;
+    while let [answered, rest @ ..] = left {
+        let Some(more) = answer(alloc, catalog, &own, answered)? else {
+            let reply = reply_to(alloc, catalog, &own, answered)?;
+            return Ok(Some((place, reply)));
+        };
+        own.apply_all(alloc, more.as_slice())?;
+        left = rest;
+        place += 1;
+    }
+    Ok(None)
+}

@@ -1,0 +1,12 @@
+//! Whether some order of transactions explains what their clients were answered: each is run again alone, one after the
+//! other.
+
+#![tactic(auto)]
+
+mod agree;
+mod alone;
+pub mod search;
+pub mod stop;
+mod time;
+pub mod transaction;
+mod walk;

@@ -1,0 +1,202 @@
+//! Where no order goes on: the longest that was found, and what hinders the others.
+
+ghost use Rattle.std.specs.Prelude.{◌≡◌, true, IfOk, IfErr, IfSome};
+ghost use Rattle.value.specs.Refusals.{out_of_memory};
+ghost use Rattle.schema.specs.Plain.{is_sound};
+ghost use Rattle.orders.specs.Explains.{all_fit, are_fit};
+
+use crate::alone::first_difference;
+use crate::search::{Progress, advance};
+use crate::time::{is_complete, precedes};
+use crate::transaction::Transaction;
+use crate::walk::Walk;
+use schema::catalog::Catalog;
+use schema::tables::Tables;
+use statement::reply::Reply;
+use std::alloc::{Allocator, Global};
+use value::refusal::Refusal;
+
+/// Why a transaction can't come next.
+#[derive(Drop)]
+pub enum Hindrance<A: Allocator = Global> {
+    /// The one at this place had ended before it began.
+    Time(usize),
+    /// Its statement at this place gets this answer alone, which doesn't agree with what was recorded.
+    Answer(usize, Reply<A>),
+    /// It could come next, and nothing comes of it that is longer.
+    Nothing,
+}
+
+/// A transaction that isn't in the order, by its place, and why it can't come next there.
+#[derive(Drop)]
+pub struct Hindered<A: Allocator = Global> {
+    pub place: usize,
+    pub hindrance: Hindrance<A>,
+}
+
+/// The longest order that was found, and why no other transaction comes next.
+#[derive(Drop)]
+pub struct Stop<A: Allocator = Global> {
+    pub order: Vec<usize, A>,
+    pub hindered: Vec<Hindered<A>, A>,
+}
+
+// After how many steps the search first stands farthest.
+fn farthest<A: Allocator + Copy>(
+    alloc: A,
+    catalog: &Catalog<A>,
+    tables: &Tables<A>,
+    transactions: &[Transaction<A>],
+    steps: u64,
+) -> Result<u64, Refusal>
+    requires fit { all_fit catalog.now transactions.now ≡ true }
+    requires sound { is_sound catalog.now tables.now ≡ true }
+    ensures memory { IfErr result (λ e. e ≡ out_of_memory) }
+{
+    let own = tables.copy(alloc)?;
+    let count = transactions.len();
+    let mut walk = Walk::start(alloc, own, count)?;
+    if is_complete(transactions, walk.done()) {
+        return Ok(0);
+    }
+    let mut best = 0;
+    let mut at = 0;
+    for step in 0..steps {
+        match advance(alloc, catalog, transactions, &mut walk)? {
+            Progress::More => {}
+            Progress::Found | Progress::Exhausted => return Ok(at),
+        }
+        if walk.len() > best {
+            best = walk.len();
+            at = step + 1;
+        }
+    }
+    Ok(at)
+}
+
+// Where the search stands after so many steps, where it hasn't ended.
+fn stand_at<A: Allocator + Copy>(
+    alloc: A,
+    catalog: &Catalog<A>,
+    tables: &Tables<A>,
+    transactions: &[Transaction<A>],
+    steps: u64,
+) -> Result<Option<Walk<A>>, Refusal>
+    requires fit { all_fit catalog.now transactions.now ≡ true }
+    requires sound { is_sound catalog.now tables.now ≡ true }
+    ensures sound { IfOk result (λ o. IfSome o (λ w. is_sound catalog.now w.tables ≡ true)) }
+    ensures memory { IfErr result (λ e. e ≡ out_of_memory) }
+{
+    let own = tables.copy(alloc)?;
+    let count = transactions.len();
+    let mut walk = Walk::start(alloc, own, count)?;
+    if is_complete(transactions, walk.done()) {
+        return Ok(None);
+    }
+    for _ in 0..steps {
+        match advance(alloc, catalog, transactions, &mut walk)? {
+            Progress::More => {}
+            Progress::Found | Progress::Exhausted => return Ok(None),
+        }
+    }
+    Ok(Some(walk))
+}
+
+// The first transaction that isn't done, and had ended before this one began.
+fn first_before<A: Allocator>(
+    transactions: &[Transaction<A>],
+    done: &[bool],
+    transaction: &Transaction<A>,
+) -> Option<usize> {
+    for (place, (other, is_done)) in transactions.iter().zip(done).enumerate() {
+        if !*is_done && precedes(other, transaction) {
+            return Some(place);
+        }
+    }
+    None
+}
+
+// Why a transaction can't come next where these are done, which came to these tables.
+fn hindrance_of<A: Allocator + Copy>(
+    alloc: A,
+    catalog: &Catalog<A>,
+    tables: &Tables<A>,
+    before: Option<usize>,
+    transaction: &Transaction<A>,
+) -> Result<Hindrance<A>, Refusal>
+    requires fits { are_fit catalog.now transaction.now.statements ≡ true }
+    requires sound { is_sound catalog.now tables.now ≡ true }
+    ensures memory { IfErr result (λ e. e ≡ out_of_memory) }
+{
+    if let Some(place) = before {
+        return Ok(Hindrance::Time(place));
+    }
+    match first_difference(alloc, catalog, tables, transaction.statements.as_slice())? {
+        Some((place, reply)) => Ok(Hindrance::Answer(place, reply)),
+        None => Ok(Hindrance::Nothing),
+    }
+}
+
+// Why the transaction at a place can't come next.
+fn hindered_at<A: Allocator + Copy>(
+    alloc: A,
+    catalog: &Catalog<A>,
+    transactions: &[Transaction<A>],
+    walk: &Walk<A>,
+    place: usize,
+) -> Result<Hindrance<A>, Refusal>
+    requires fit { all_fit catalog.now transactions.now ≡ true }
+    requires sound { is_sound catalog.now walk.now.tables ≡ true }
+    ensures memory { IfErr result (λ e. e ≡ out_of_memory) }
+{
+    match transactions.get(place) {
+        Some(transaction) => {
+            let before = first_before(transactions, walk.done(), transaction);
+            hindrance_of(alloc, catalog, walk.tables(), before, transaction)
+        }
+        None => Ok(Hindrance::Nothing),
+    }
+}
+
+// Why each that isn't done can't come next.
+fn all_hindered<A: Allocator + Copy>(
+    alloc: A,
+    catalog: &Catalog<A>,
+    transactions: &[Transaction<A>],
+    walk: &Walk<A>,
+) -> Result<Vec<Hindered<A>, A>, Refusal>
+    requires fit { all_fit catalog.now transactions.now ≡ true }
+    requires sound { is_sound catalog.now walk.now.tables ≡ true }
+    ensures memory { IfErr result (λ e. e ≡ out_of_memory) }
+{
+    let mut hindered = Vec::new(alloc);
+    for (place, is_done) in walk.done().iter().enumerate() {
+        if !*is_done {
+            let hindrance = hindered_at(alloc, catalog, transactions, walk, place)?;
+            hindered.push(Hindered { place, hindrance })?;
+        }
+    }
+    Ok(hindered)
+}
+
+/// The longest order that a search of so many steps finds, and why no other transaction comes next; none where the
+/// search finds an order that explains what was recorded.
+pub fn find_stop<A: Allocator + Copy>(
+    alloc: A,
+    catalog: &Catalog<A>,
+    tables: &Tables<A>,
+    transactions: &[Transaction<A>],
+    steps: u64,
+) -> Result<Option<Stop<A>>, Refusal>
+    requires fit { all_fit catalog.now transactions.now ≡ true }
+    requires sound { is_sound catalog.now tables.now ≡ true }
+    ensures memory { IfErr result (λ e. e ≡ out_of_memory) }
+{
+    let at = farthest(alloc, catalog, tables, transactions, steps)?;
+    let Some(walk) = stand_at(alloc, catalog, tables, transactions, at)? else {
+        return Ok(None);
+    };
+    let order = walk.places(alloc)?;
+    let hindered = all_hindered(alloc, catalog, transactions, &walk)?;
+    Ok(Some(Stop { order, hindered }))
+}

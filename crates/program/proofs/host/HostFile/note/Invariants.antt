@@ -1,6 +1,0 @@
-use Rattle.std.proofs.Common.{◌≡◌, ◌++◌, map, take}
-use Rattle.program.proofs.host.HostFile.note.Given as goal
-
--- the bytes so far are noted
-abbrev pub invariant-loop-byte : goal.invariant-loop-byte
-invariant-loop-byte l = (map (λ p. p.0) l.self.taken.items ≡ map (λ p. p.0) l.fn.self.taken.items ++ take l.byte-index l.bytes) × (l.self.failed ≡ l.fn.self.failed)

@@ -1,0 +1,61 @@
+//! What is told of a refused script or dump behind its first line, for a person.
+
+ghost use Rattle.std.specs.Prelude.{◌≡◌, ◌≢◌};
+ghost use Rattle.program.specs.Ends as spec;
+
+use crate::fault::{Fault, Status, end, tell};
+use history::event::Record;
+use history::key::SerialKey;
+use script::schedule::Schedule;
+use script::telling::explain;
+use std::alloc::Allocator;
+use std::io::Write;
+use value::refusal::TxnNo;
+
+/// Tells the first faulty line of a script, and why it is refused.
+pub(crate) fn tell_line<A: Allocator + Copy, E: Write>(
+    alloc: A,
+    schedule: Schedule,
+    text: &[u8],
+    number: u64,
+    err: &mut E,
+) -> Status
+    ensures { result ≡ Status.Refused }
+{
+    let status = tell(&Fault::Script { line: number }, err);
+    if number == 0 {
+        return status;
+    }
+    if let Ok(words) = explain(alloc, schedule, text, number) {
+        let _ = err.write_all(words.as_slice());
+        let _ = err.write_all(b"\n");
+    }
+    status
+}
+
+// Whether memory holds so many events.
+fn holds_events<A: Allocator + Copy>(alloc: A, most_events: u32) -> bool {
+    let records = Vec::<Record<A>, A>::with_capacity(alloc, most_events as usize);
+    let keys = Vec::<(TxnNo, SerialKey), A>::with_capacity(alloc, most_events as usize);
+    records.is_ok() && keys.is_ok()
+}
+
+/// How a script that was read has ended, with its fault told where there is one. Where memory was wanting that hasn't
+/// so many events, it is told as that.
+pub(crate) fn end_script<A: Allocator + Copy, E: Write>(
+    alloc: A,
+    most_events: u32,
+    done: Result<(), Fault<'_>>,
+    err: &mut E,
+) -> Status
+    ensures kind { result ≡ spec.end done.entry }
+    ensures no_usage { result ≢ Status.Usage }
+{
+    let is_memory = matches!(done, Err(Fault::Script { line: 0 }));
+    if !is_memory || holds_events(alloc, most_events) {
+        return end(done, err);
+    }
+    let _ = writeln!(err, "script line 0");
+    let _ = writeln!(err, "no room for {most_events} events (--events)");
+    Status::Refused
+}

@@ -1,0 +1,130 @@
+//! Standard output, on which a person reads the names of codes.
+
+ghost use Rattle.std.specs.Prelude.{◌≤◌, length};
+
+use std::io::{self, IsTerminal, Write};
+use std::str;
+
+// The greatest number of bytes of a line that is looked at.
+const MOST_LOOKED_AT: usize = 64;
+
+/// Standard output. Where it is a terminal, a reply that is an error is followed by its code's name in words.
+#[derive(Drop)]
+pub struct NamingOutput<'r> {
+    rt: &'r HostRuntime,
+    is_terminal: bool,
+    // How the line begins that isn't ended yet.
+    line: [u8; MOST_LOOKED_AT],
+    length: usize,
+}
+
+// What is told of a code.
+fn words_of(code: &str) -> &'static str {
+    match code {
+        "22003" => " (numeric_value_out_of_range: 64 bits don't hold it)",
+        "22021" => " (character_not_in_repertoire: it isn't UTF-8, or has the zero byte)",
+        "22P02" => " (invalid_text_representation: it is no value of the column's kind)",
+        "22P04" => " (bad_copy_file_format: the dump hasn't its form)",
+        "23502" => " (not_null_violation: a value is due)",
+        "23503" =>
+            " (foreign_key_violation: the row that is referenced isn't there, or this one is referenced)",
+        "23505" => " (unique_violation: the key is there already)",
+        "25001" => " (active_sql_transaction: the transaction has begun)",
+        "25006" => " (read_only_sql_transaction: it may not write)",
+        "25P01" => " (no_active_sql_transaction: BEGIN comes first)",
+        "25P02" => " (in_failed_sql_transaction: ROLLBACK comes first)",
+        "40001" => " (serialization_failure: run the transaction again)",
+        "42601" => " (syntax_error: this is no statement)",
+        "42703" => " (undefined_column: the table has no such column)",
+        "42804" => " (datatype_mismatch: it is of another kind than the column)",
+        "42P01" => " (undefined_table: there is no such table)",
+        "42P07" => " (duplicate_table: there is a table of this name already)",
+        "53200" => " (out_of_memory: nothing has changed)",
+        "54000" => " (program_limit_exceeded: a limit, or the history is full)",
+        "55000" => " (object_not_in_prerequisite_state: not yet, or not in this mode)",
+        _ => "",
+    }
+}
+
+// What is told of a line: of a refusal, with a session's number or without one.
+fn words_behind(line: &str) -> &'static str {
+    let mut words = line.split(' ');
+    let is_error = match words.next() {
+        Some("ERROR") => true,
+        _ => words.next() == Some("ERROR"),
+    };
+    match words.next() {
+        Some(code) if is_error => words_of(code),
+        _ => "",
+    }
+}
+
+// How many bytes of some are of their first line, with its newline.
+fn line_length(bytes: &[u8]) -> usize
+    ensures { result ≤ length bytes.now }
+{
+    match bytes.iter().position(|byte| *byte == b'\n') {
+        Some(at) => at.saturating_add(1).min(bytes.len()),
+        None => bytes.len(),
+    }
+}
+
+impl<'r> NamingOutput<'r> {
+    /// The standard output of a runtime.
+    pub fn new(rt: &'r HostRuntime) -> NamingOutput<'r> {
+        NamingOutput {
+            rt,
+            is_terminal: rt.stdout().is_terminal(),
+            line: [0; MOST_LOOKED_AT],
+            length: 0,
+        }
+    }
+
+    // Looks at a piece of a line.
+    fn look_at(&mut self, piece: &[u8]) {
+        for byte in piece {
+            if let Some(place) = self.line.get_mut(self.length) {
+                *place = *byte;
+                self.length = self.length.saturating_add(1);
+            }
+        }
+    }
+
+    // Writes the rest of a line, and what is told of it.
+    fn end_line(&mut self, rest: &[u8]) -> io::Result<()> {
+        self.look_at(rest);
+        let line = self.line.get(..self.length).unwrap_or(&[]);
+        let words = words_behind(str::from_utf8(line).unwrap_or(""));
+        self.length = 0;
+        let mut out = self.rt.stdout();
+        out.write_all(rest)?;
+        out.write_all(words.as_bytes())?;
+        out.write_all(b"\n")
+    }
+
+    // Writes a piece of a line, or the rest of it with its newline.
+    fn write_piece(&mut self, piece: &[u8]) -> io::Result<()> {
+        match piece {
+            [rest @ .., last] if *last == b'\n' => self.end_line(rest),
+            _ => {
+                self.look_at(piece);
+                self.rt.stdout().write_all(piece)
+            }
+        }
+    }
+}
+
+impl<'r> Write for NamingOutput<'r> {
+    fn write(&mut self, buf: &[u8]) -> io::Result<usize> {
+        if !self.is_terminal {
+            return self.rt.stdout().write(buf);
+        }
+        let length = line_length(buf);
+        self.write_piece(&buf[..length])?;
+        Ok(length)
+    }
+
+    fn flush(&mut self) -> io::Result<()> {
+        self.rt.stdout().flush()
+    }
+}

@@ -1,0 +1,6 @@
+use Rattle.std.proofs.Common.{◌≡◌}
+use Rattle.shell.proofs.OpeningLemmas.{both}
+use Rattle.shell.proofs.shell.open_by.Goals as goal
+
+pub returns-else-way-clause-told : goal.returns-else-way-clause-told
+returns-else-way-clause-told g c = rw c.if-way.false (both _ _ c.begin.result c.begin.ensures.held c.begin.ensures.told)

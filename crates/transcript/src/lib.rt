@@ -1,0 +1,13 @@
+//! What a transcript tells: the tables that it begins with, and what its transactions asked and were answered.
+
+#![tactic(auto)]
+
+mod ask;
+pub mod fault;
+pub mod lines;
+pub mod opening;
+mod reader;
+mod said;
+mod session;
+pub mod traces;
+mod words;

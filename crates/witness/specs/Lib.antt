@@ -1,0 +1,4 @@
+pub mod Edges
+pub mod Holds
+pub mod Items
+pub mod Trails

@@ -1,0 +1,59 @@
+//! What a transaction did, event by event.
+
+use history::session_id::SessionId;
+use schema::changes::Change;
+use statement::outcome::Mark;
+use statement::reading::Reading;
+use std::alloc::{Allocator, Global};
+use std::marker::Model;
+
+/// What a transaction had done by an event of its own: the event's place, and of what it read and
+/// wrote in all how much it had read and written then.
+#[derive(Clone, Copy, Debug, PartialEq, Eq)]
+pub struct Moment {
+    pub place: u64,
+    pub reads: usize,
+    pub changes: usize,
+    pub marks: usize,
+}
+
+/// What a transaction did. Places are those of events, transactions and commits are numbered.
+#[derive(Drop)]
+pub struct Trace<A: Allocator = Global> {
+    pub session: SessionId,
+    pub number: u64,
+    pub read_write: bool,
+    /// The place of its BEGIN.
+    pub begin: u64,
+    /// It sees the commits up to this number.
+    pub snapshot: u64,
+    /// The number of its commit; 0 where it has none.
+    pub commit: u64,
+    /// What its statements read.
+    pub reads: Vec<Reading<A>, A>,
+    /// What its statements wrote.
+    pub changes: Vec<Change<A>, A>,
+    /// The references of the rows that they wrote, before and after.
+    pub marks: Vec<Mark<A>, A>,
+    /// Those of its statements, in their order.
+    pub moments: Vec<Moment, A>,
+}
+
+impl<A: Allocator> Model for Trace<A> {
+    ghost use Rattle.witness.specs.Trails.{Trail};
+
+    ghost Value = { Trail A };
+
+    ghost view = { λ t. record {
+      session = t.session;
+      number = t.number;
+      read_write = t.read_write;
+      begin = t.begin;
+      snapshot = t.snapshot;
+      commit = t.commit;
+      reads = t.reads.items;
+      changes = t.changes.items;
+      marks = t.marks.items;
+      moments = t.moments.items;
+    } };
+}
