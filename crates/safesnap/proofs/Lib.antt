@@ -1,1 +1,3 @@
 mod WatchLemmas
+pub mod UnspoiltLemmas
+pub mod Spoilt

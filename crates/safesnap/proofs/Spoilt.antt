@@ -1,0 +1,180 @@
+-- A snapshot can't become safe where the key of a commit above it stands at or before it, and only there.
+use Rattle.std.proofs.Common.{◌≡◌, refl, sym, ap, ◌∙◌, ℕ, ◌+◌, ◌<◌, ◌≤◌, Bool, true, false, cond, ◌&&◌, ◌⊎◌, inl, inr, List, [], ◌∷◌, length, nat_lt, nat_le, arith}
+use Rattle.std.proofs.lemmas.Bool.Decides.{nat_tests}
+use Rattle.std.specs.List.{list_any}
+use Rattle.value.specs.Isolation.{write_key}
+use Rattle.value.proofs.IsolationLemmas.{In, Out, f, first_part-cases, first_part-edge}
+use Rattle.value.proofs.SerialLemmas.{NumberedFrom}
+use Rattle.value.proofs.SortLemmas.{In-sorted, sorted-In}
+use Rattle.conflict.proofs.Lists.{In-any, In-filter, In-map, and_true, any-In, both_true, clash, filter-In, is_false, map-In, or_right}
+use Rattle.history.specs.Transactions.{Txn, World, commits, edge, is_done, is_open, is_read_write, is_spoilt, node, was_active}
+use Rattle.history.specs.Transactions as history
+use Rattle.history.specs.Serial.{committed, in_commit_order, key, keys_by_commit}
+use Rattle.serial.proofs.EndsSeen.{EndsSeen}
+use Rattle.serial.proofs.SafeReaders.{active_above}
+use Rattle.serial.proofs.SerialTheorem.{IsGood, edge_parts, isolated_world}
+use Rattle.safesnap.specs.Unspoilt.{is_spoilt_by, spoils}
+
+is_less : (a b : ℕ) → nat_lt a b ≡ true → a < b
+is_less a b e = grind (arith, nat_tests)
+
+is_least : (a b : ℕ) → nat_le a b ≡ true → a ≤ b
+is_least a b e = grind (arith, nat_tests)
+
+less_so : (a b : ℕ) → a < b → nat_lt a b ≡ true
+less_so a b h = grind (arith, nat_tests)
+
+least_so : (a b : ℕ) → a ≤ b → nat_le a b ≡ true
+least_so a b h = grind (arith, nat_tests)
+
+compared : (a b : ℕ) → (a ≤ b) ⊎ (b < a)
+compared a b = grind arith
+
+same_test : (a b : Bool) → (a ≡ true → b ≡ true) → (b ≡ true → a ≡ true) → a ≡ b
+same_test true b f g = sym (f refl)
+same_test false true f g = g refl
+same_test false false f g = refl
+
+module _ {A : Type 0} where
+  upto : (n : ℕ) (ts : List (Txn A)) (u : Txn A) → NumberedFrom (λ (t : Txn A). t.commit) n ts → In u ts → u.commit ≤ n + length ts
+  upto n [] u h k = absurd k
+  upto n (t ∷ ts) u h (inl p) = omega (arith, h.0, ap (λ (y : Txn A). y.commit) p)
+  upto n (t ∷ ts) u h (inr k) = omega (arith, upto (n + 1) ts u h.1 k)
+
+  -- a number with its key
+  abbrev entry : World A → Txn A → ℕ × (ℕ × ℕ × ℕ)
+  entry w t = (t.number, key w t)
+
+  abbrev by_end : Txn A → ℕ × ℕ × ℕ
+  by_end t = (t.end, 0, 0)
+
+  -- its commit spoils the snapshot
+  record Spoiler (w : World A) (n : ℕ) (u : Txn A) : Type 0 where
+    among : In u (committed w)
+    writes : is_read_write u.mode ≡ true
+    first : f node edge u (committed w) ≤ n
+    above : n < u.commit
+
+  module _ (w : World A) (g : IsGood w) where
+    key-In : (u : Txn A) → In u (committed w) → In (entry w u) (keys_by_commit w)
+    key-In u i = map-In (entry w) u (in_commit_order w) (sorted-In by_end u (committed w) i)
+
+    In-key : (x : ℕ × (ℕ × ℕ × ℕ)) → In x (keys_by_commit w) → (u : Txn A) × In u (committed w) × (x ≡ entry w u)
+    In-key x i = let p = In-map (entry w) x (in_commit_order w) i in (p.0, In-sorted by_end p.0 (committed w) p.1, p.2)
+
+    writes_key : (n : ℕ) (u : Txn A) → is_read_write u.mode ≡ true → spoils n (key w u) ≡ (nat_le (f node edge u (committed w)) n && nat_lt n u.commit)
+    writes_key n u r = ap (λ b. spoils n (cond b (write_key (f node edge u (committed w)) u.commit) (u.snapshot, 2, u.end))) r ∙ by_test (f node edge u (committed w)) (nat_lt (f node edge u (committed w)) u.commit)
+      where
+        by_test : (m : ℕ) (b : Bool) → spoils n (cond b (m, 0, u.commit) (m, 1, u.commit)) ≡ (nat_le m n && nat_lt n u.commit)
+        by_test m true = refl
+        by_test m false = refl
+
+    reads_key : (n : ℕ) (u : Txn A) → is_read_write u.mode ≡ false → spoils n (key w u) ≡ false
+    reads_key n u r = ap (λ b. spoils n (cond b (write_key (f node edge u (committed w)) u.commit) (u.snapshot, 2, u.end))) r
+
+    spoiler : (n : ℕ) → is_spoilt_by (keys_by_commit w) n ≡ true → (u : Txn A) × Spoiler w n u
+    spoiler n e = of (any-In (λ (k : ℕ × (ℕ × ℕ × ℕ)). spoils n k.1) (keys_by_commit w) e)
+      where
+        of : (x : ℕ × (ℕ × ℕ × ℕ)) × In x (keys_by_commit w) × (spoils n x.1 ≡ true) → (u : Txn A) × Spoiler w n u
+        of x = by_mode (is_read_write u.mode) refl
+          where
+            p : (u : Txn A) × In u (committed w) × (x.0 ≡ entry w u)
+            p = In-key x.0 x.1
+
+            u : Txn A
+            u = p.0
+
+            e' : spoils n (key w u) ≡ true
+            e' = sym (ap (λ (y : ℕ × (ℕ × ℕ × ℕ)). spoils n y.1) p.2) ∙ x.2
+
+            by_mode : (b : Bool) → is_read_write u.mode ≡ b → (v : Txn A) × Spoiler w n v
+            by_mode true r =
+                let q = both_true (nat_le (f node edge u (committed w)) n) (nat_lt n u.commit) (sym (writes_key n u r) ∙ e') in
+                (u, record { among = p.1; writes = r; first = is_least (f node edge u (committed w)) n q.0; above = is_less n u.commit q.1 })
+            by_mode false r = clash (spoils n (key w u)) e' (reads_key n u r)
+
+    logged : (n : ℕ) (u : Txn A) → Spoiler w n u → In u w.log
+    logged n u s = (isolated_world w g).log_all u s.among s.writes
+
+    -- no commit is above all commits
+    pub none_above : (n : ℕ) → commits w ≤ n → is_spoilt_by (keys_by_commit w) n ≡ false
+    none_above n l = is_false (is_spoilt_by (keys_by_commit w) n) (λ e. let s = spoiler n e in let m = upto w.base.commits w.log s.0 g.numbered.in_order (logged n s.0 s.1) in let a = s.1.above in omega (arith, l, m, a))
+
+    module _ (ends : EndsSeen w) (t : Txn A) (i : In t w.txns) where
+      abbrev n : ℕ
+      n = t.snapshot
+
+      committed_too : (u v : Txn A) → In v w.txns → edge u v ≡ true → In v (committed w)
+      committed_too u v j e = go (g.numbered.kind v j)
+        where
+          go : In v w.log ⊎ (v.commit ≡ 0) × (is_done v.standing ≡ true → is_read_write v.mode ≡ false) → In v (committed w)
+          go (inl k) = filter-In (λ (y : Txn A). is_done y.standing) v w.txns j (g.numbered.logged v k).1
+          go (inr k) = absurd (let l = (edge_parts u v e).1 in omega (arith, l, k.0))
+
+      told : is_spoilt w.txns t ≡ true → is_spoilt_by (keys_by_commit w) n ≡ true
+      told e = of (any-In (λ u. was_active t u && history.spoils w.txns t u) w.txns e)
+        where
+          of : (u : Txn A) × In u w.txns × ((was_active t u && history.spoils w.txns t u) ≡ true) → is_spoilt_by (keys_by_commit w) n ≡ true
+          of u = last (any-In (λ v. edge u.0 v && nat_le v.commit n) w.txns q.1)
+            where
+              p : (was_active t u.0 ≡ true) × (history.spoils w.txns t u.0 ≡ true)
+              p = both_true (was_active t u.0) (history.spoils w.txns t u.0) u.2
+
+              q : (is_done u.0.standing ≡ true) × (list_any (λ v. edge u.0 v && nat_le v.commit n) w.txns ≡ true)
+              q = both_true (is_done u.0.standing) (list_any (λ v. edge u.0 v && nat_le v.commit n) w.txns) p.1
+
+              above : In u.0 w.log × (is_read_write u.0.mode ≡ true) × (n < u.0.commit)
+              above = active_above w g t i ends u.0 u.1 p.0 q.0
+
+              among : In u.0 (committed w)
+              among = filter-In (λ (y : Txn A). is_done y.standing) u.0 w.txns u.1 q.0
+
+              last : (v : Txn A) × In v w.txns × ((edge u.0 v && nat_le v.commit n) ≡ true) → is_spoilt_by (keys_by_commit w) n ≡ true
+              last v =
+                  let r = both_true (edge u.0 v.0) (nat_le v.0.commit n) v.2 in
+                  let l = first_part-edge node edge u.0 v.0 (committed w) (committed_too u.0 v.0 v.1 r.0) r.0 in
+                  let m = is_least v.0.commit n r.1 in
+                  In-any (λ (k : ℕ × (ℕ × ℕ × ℕ)). spoils n k.1) (keys_by_commit w) (entry w u.0) (key-In u.0 among)
+                  (writes_key n u.0 above.1 ∙ and_true _ _ (least_so (f node edge u.0 (committed w)) n (omega (arith, l, m))) (less_so n u.0.commit above.2))
+
+      tells : is_spoilt_by (keys_by_commit w) n ≡ true → is_spoilt w.txns t ≡ true
+      tells e = of (spoiler n e)
+        where
+          of : (u : Txn A) × Spoiler w n u → is_spoilt w.txns t ≡ true
+          of u = out (first_part-cases node edge u.0 (committed w))
+            where
+              s : Spoiler w n u.0
+              s = u.1
+
+              inside : In u.0 w.txns × (is_done u.0.standing ≡ true)
+              inside = In-filter (λ (y : Txn A). is_done y.standing) u.0 w.txns s.among
+
+              out : (f node edge u.0 (committed w) ≡ u.0.commit) ⊎ Out node edge u.0 (committed w) (f node edge u.0 (committed w)) → is_spoilt w.txns t ≡ true
+              out (inl p) = absurd (let a = s.first in let b = s.above in omega (arith, p, a, b))
+              out (inr o) = In-any (λ y. was_active t y && history.spoils w.txns t y) w.txns u.0 inside.0 (and_true _ _ active spoils_it)
+                where
+                  v : Txn A
+                  v = o.to
+
+                  shown : v.commit ≤ n
+                  shown = let a = s.first in let b = o.least in omega (arith, a, b)
+
+                  begun : u.0.begin < t.taken
+                  begun = side (compared t.taken u.0.begin)
+                    where
+                      side : (t.taken ≤ u.0.begin) ⊎ (u.0.begin < t.taken) → u.0.begin < t.taken
+                      side (inl l) = absurd (let a = (g.stands.txns t i).behind u.0 inside.0 s.writes l in let b = (edge_parts u.0 v o.is_edge).1 in omega (arith, a, b, shown))
+                      side (inr l) = l
+
+                  ended : t.taken < u.0.end
+                  ended = (g.stands.txns t i).ahead u.0 (logged n u.0 s) s.above
+
+                  active : was_active t u.0 ≡ true
+                  active = and_true _ _ (and_true _ _ s.writes (less_so u.0.begin t.taken begun)) (or_right (is_open u.0.standing) _ (less_so t.taken u.0.end ended))
+
+                  spoils_it : history.spoils w.txns t u.0 ≡ true
+                  spoils_it = and_true _ _ inside.1 (In-any (λ y. edge u.0 y && nat_le y.commit n) w.txns v (In-filter (λ (y : Txn A). is_done y.standing) v w.txns o.in_list).0 (and_true _ _ o.is_edge (least_so v.commit n shown)))
+
+      -- a snapshot can't become safe where one of the keys tells so
+      pub spoilt_is : is_spoilt w.txns t ≡ is_spoilt_by (keys_by_commit w) n
+      spoilt_is = same_test (is_spoilt w.txns t) (is_spoilt_by (keys_by_commit w) n) told tells
