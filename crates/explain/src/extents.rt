@@ -32,6 +32,15 @@ fn append_end<A: Allocator>(key: Option<&Key<A>>, text: &mut Vec<u8, A>) -> Resu
     }
 }
 
+// What stands between the ends of a range, where it has both.
+fn between<A: Allocator>(lower: &End<A>, upper: &End<A>) -> &'static str {
+    if matches!(lower, End::Open) || matches!(upper, End::Open) {
+        ""
+    } else {
+        " and "
+    }
+}
+
 impl<'h, A: Allocator> Account<'h, A> {
     // Appends a column's name, a sign and a key, as in `id = 1`.
     fn append_compared(
@@ -74,7 +83,7 @@ impl<'h, A: Allocator> Account<'h, A> {
         self.append_compared(table, 0, " = ", key, text)
     }
 
-    // Appends a range's lower end.
+    // Appends a range's lower end, where it has one.
     fn append_lower(
         &self,
         table: TableNo,
@@ -84,13 +93,13 @@ impl<'h, A: Allocator> Account<'h, A> {
         ensures memory { IfErr result (λ e. e ≡ out_of_memory) }
     {
         match end {
-            End::Open => append_word("up", text),
+            End::Open => Ok(()),
             End::Closed(key) => self.append_compared(table, 0, " >= ", key, text),
             End::Without(key) => self.append_compared(table, 0, " > ", key, text),
         }
     }
 
-    // Appends a range's upper end.
+    // Appends a range's upper end, where it has one.
     fn append_upper(
         &self,
         table: TableNo,
@@ -100,19 +109,13 @@ impl<'h, A: Allocator> Account<'h, A> {
         ensures memory { IfErr result (λ e. e ≡ out_of_memory) }
     {
         match end {
-            End::Open => append_word(" and all above", text),
-            End::Closed(key) => {
-                append_word(", ", text)?;
-                self.append_compared(table, 0, " <= ", key, text)
-            }
-            End::Without(key) => {
-                append_word(", ", text)?;
-                self.append_compared(table, 0, " < ", key, text)
-            }
+            End::Open => Ok(()),
+            End::Closed(key) => self.append_compared(table, 0, " <= ", key, text),
+            End::Without(key) => self.append_compared(table, 0, " < ", key, text),
         }
     }
 
-    // Appends a range of a table's keys.
+    // Appends a range of a table's keys, as in `t id >= 1 and id < 5`.
     fn append_range(
         &self,
         table: TableNo,
@@ -123,8 +126,9 @@ impl<'h, A: Allocator> Account<'h, A> {
         ensures memory { IfErr result (λ e. e ≡ out_of_memory) }
     {
         append_word(self.table(table), text)?;
-        append_word(" from ", text)?;
+        append_word(" ", text)?;
         self.append_lower(table, lower, text)?;
+        append_word(between(lower, upper), text)?;
         self.append_upper(table, upper, text)
     }
 

@@ -113,11 +113,6 @@ impl<A: Allocator> Course<A> {
         &self.core
     }
 
-    /// For each record of the history the line that asked for it.
-    pub fn lines(&self) -> &[u64] {
-        self.lines.as_slice()
-    }
-
     // Notes the line of the last record, where it has none.
     fn note(&mut self, line: u64) -> Result<(), Refusal>
         ensures same { self.new ≡ self.old }

@@ -3,16 +3,11 @@ use Rattle.std.specs.Prelude.{◌≡◌, ◌⊎◌, ℕ, ◌==◌, Bool, true, f
 use Rattle.std.specs.List.{list_all}
 use Rattle.value.specs.declared.refusal.Refusal.{Refusal}
 use Rattle.value.specs.Codes.{sqlstate}
-use Rattle.value.specs.Refusals.{out_of_memory}
 use Rattle.schema.specs.Definition.{Catalog}
 use Rattle.schema.specs.Inserting.{empty_tables}
-use Rattle.statement.specs.declared.reply.Reply.{Reply}
-use Rattle.statement.specs.declared.reply.Reply.TheVariants.{Refused}
 use Rattle.history.specs.Opening.{Recorded, zero_base}
-use Rattle.session.specs.Core.{IsStep, IsCheckpoint}
-use Rattle.request.specs.declared.request.Request.{Request}
-use Rattle.request.specs.Requests.{asked, is_text}
-use Rattle.script.specs.Printing.{reply_text}
+use Rattle.session.specs.Core.{IsCheckpoint}
+use Rattle.asking.specs.Asking.{Tells}
 use Rattle.script.specs.Telling.{is_printable}
 use Rattle.script.specs.Scripts.{Said, is_passed_over, said}
 use Rattle.script.specs.declared.command.Command.{Command}
@@ -51,18 +46,6 @@ pub record Held (A : Type 0) : Type 0 where
   pub most : ℕ
 
 module _ {A : Type 0} where
-  -- memory was wanting to parse a text, before there was an event: the history is as it was
-  abbrev pub IsUnread : Recorded A → Recorded A → Request A → Reply A → Type 0
-  IsUnread h k q r = (is_text q ≡ true) × (r ≡ Refused out_of_memory) × (k ≡ h)
-
-  -- What session s asked for was answered with r, and the history h has become k: by the event that it asks for.
-  abbrev pub Replies : Recorded A → Recorded A → ℕ → Request A → Reply A → Type 0
-  Replies h k s q r = IsStep h k s (asked h.opening.catalog q) r ⊎ IsUnread h k q r
-
-  -- What is answered to it: its reply, under its session's number.
-  abbrev pub Tells : Recorded A → Recorded A → ℕ → Request A → List ℕ → Type 0
-  Tells h k s q text = (r : Reply A) × Replies h k s q r × (text ≡ reply_text s r)
-
   -- The history h is refused a line: it is as it was.
   abbrev pub Refuses : Recorded A → Recorded A → List ℕ → Type 0
   Refuses h k text = (k ≡ h) × IsRefusal text
@@ -103,6 +86,10 @@ module _ {A : Type 0} where
   -- the history of some tables without rows, before any event
   abbrev pub begun : Catalog → ℕ → Recorded A
   begun c most = record { opening = record { catalog = c; tables = empty_tables c; base = zero_base }; records = []; most = most }
+
+  -- what a shell holds whose server runs on a core
+  abbrev pub running : Recorded A → ℕ → Held A
+  running h most = record { created = []; core = Some h; most = most }
 
   -- what a shell holds before its server runs
   abbrev pub opening : List ℕ → ℕ → Held A

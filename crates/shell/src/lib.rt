@@ -2,6 +2,9 @@
 
 #![tactic(auto)]
 
+mod handling;
 mod running;
 pub mod shell;
+pub mod tables;
+pub mod told;
 mod wording;

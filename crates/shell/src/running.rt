@@ -4,38 +4,20 @@ ghost use Rattle.std.specs.Prelude.{◌≡◌, ◌⊎◌, Ok, Err, codes, IfOk, 
 ghost use Rattle.value.specs.Refusals.{out_of_memory};
 ghost use Rattle.script.specs.Scripts.{said};
 ghost use Rattle.script.specs.declared.schedule.Schedule.TheVariants.{InOrder};
-ghost use Rattle.shell.specs.Shells.{Does, DoesLine, GoesOn, IsRefusal, Replies, Runs, RunsUnless, Stays, Tells, ended};
+ghost use Rattle.asking.specs.Asking.{Replies, Tells};
+ghost use Rattle.shell.specs.Shells.{Does, DoesLine, GoesOn, IsRefusal, Runs, RunsUnless, Stays, ended};
 
 use crate::wording::{refuse, refuse_checkpoint, refuse_line, with_line};
-use history::event::Event;
+use asking::reply_to;
 use history::session_id::SessionId;
 use request::request::Request;
-use schema::catalog::Catalog;
 use script::command::Command;
 use script::printing::reply_text;
 use script::schedule::Schedule;
 use script::script::{Line, Script, Step, read_script};
 use session::sessions::Core;
-use statement::reply::Reply;
 use std::alloc::Allocator;
 use value::refusal::{Code, Refusal};
-use value::text::Text;
-
-// The reply to what a session asks for. Where memory is wanting to parse a text, that is told to the
-// session alone.
-fn reply_to<A: Allocator + Copy>(
-    alloc: A,
-    core: &mut Core<A>,
-    session: SessionId,
-    request: &Request<A>,
-) -> Reply<A>
-    ensures { Replies core.old core.new session request.now result }
-{
-    match request.action(alloc, core.history().catalog()) {
-        Ok(action) => core.step(alloc, Event { session, action }),
-        Err(refusal) => Reply::Refused(refusal),
-    }
-}
 
 // Does what a session asks for, and gives what is answered.
 fn do_request<A: Allocator + Copy>(

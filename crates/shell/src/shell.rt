@@ -1,11 +1,12 @@
 //! A shell: what it holds, and its answer to each line.
 
 ghost use Rattle.std.specs.Prelude.{◌≡◌, ◌++◌, [], Some, None, Ok, IfOk, IfErr};
+ghost use Rattle.std.specs.Option.{option_copied};
 ghost use Rattle.value.specs.Refusals.{out_of_memory};
 ghost use Rattle.script.specs.Scripts as script_spec;
 ghost use Rattle.script.specs.Scripts.{said};
 ghost use Rattle.script.specs.declared.schedule.Schedule.TheVariants.{InOrder};
-ghost use Rattle.shell.specs.Shells.{Answers, AnswersIn, Begins, DoesLineInto, IsRefusal, Opens, OpensUnless, RunsInto, begun, created_text, ended, opening};
+ghost use Rattle.shell.specs.Shells.{Answers, AnswersIn, Begins, DoesLineInto, IsRefusal, Opens, OpensUnless, RunsInto, begun, created_text, ended, opening, running};
 
 use crate::running::{do_line, run_line};
 use crate::wording::{refuse, refuse_line, with_line};
@@ -260,6 +261,38 @@ impl<A: Allocator + Copy> Shell<A> {
             core: None,
             most_events,
         }
+    }
+
+    /// A shell whose server runs on a core, with room for so many events from its next checkpoint on.
+    pub fn on(alloc: A, core: Core<A>, most_events: u32) -> Shell<A>
+        ensures { result ≡ running core most_events }
+    {
+        Shell {
+            created: Vec::new(alloc),
+            core: Some(core),
+            most_events,
+        }
+    }
+
+    /// The core, once the server runs.
+    pub fn core(&self) -> Option<&Core<A>>
+        ensures { option_copied result ≡ self.now.core }
+    {
+        self.core.as_ref()
+    }
+
+    /// The lines so far that create tables or are passed over, until the server runs.
+    pub fn created(&self) -> &[u8]
+        ensures { result.now ≡ self.now.created }
+    {
+        self.created.as_slice()
+    }
+
+    /// For how many events a checkpoint gives room.
+    pub fn most_events(&self) -> u32
+        ensures { result ≡ self.now.most }
+    {
+        self.most_events
     }
 
     /// The answer to a line, which stands here without its newline, and the shell that goes on. Out of memory is
