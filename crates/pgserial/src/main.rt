@@ -5,8 +5,11 @@
 #![tactic(auto)]
 
 use command_check::words::check_words;
+use command_draw::words::draw_words;
 use command_explore::words::explore_words;
+use command_why::words::why_words;
 use program::host::HostFiles;
+use program::machine::Machine;
 use program::naming::NamingOutput;
 use program::reasons::SystemErrors;
 use program::words::run_words;
@@ -16,6 +19,13 @@ use std::process::ExitCode;
 use std::sync::Wait;
 use std::thread::Threads;
 use std::{env, io};
+
+// What the help tells of the commands that have their words to themselves.
+const OTHER_COMMANDS: &str = "Commands with a help of their own (pgserial COMMAND --help):
+  explore  Do a script in every interleaving of its sessions, and count what comes of it
+  check    Tell whether some serial order explains a recorded transcript
+  draw     Draw a script's run as a picture
+  run SCRIPT --why  Tell behind each serialization failure which rows met";
 
 // The words behind the program's name.
 fn words(rt: &HostRuntime) -> io::Result<Vec<String>> {
@@ -67,10 +77,19 @@ fn do_words<R: Threads + Wait + Sync, W: Write, E: Write>(
         [command, rest @ ..] => (*command, rest),
         [] => ("", words),
     };
+    let machine = Machine {
+        rt,
+        words_memory: alloc,
+        alloc,
+        files,
+        other_commands: OTHER_COMMANDS,
+    };
     match command {
         "check" => check_words(rt, alloc, alloc, rest, files, out, err),
+        "draw" => draw_words(&machine, rest, out, err),
         "explore" => explore_words(alloc, alloc, rest, files, out, err),
-        _ => run_words(rt, alloc, alloc, words, files, out, err),
+        "run" if rest.contains(&"--why") => why_words(&machine, rest, out, err),
+        _ => run_words(&machine, words, out, err),
     }
 }
 

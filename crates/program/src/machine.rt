@@ -1,13 +1,20 @@
-//! What a script is done with.
+//! What a command is done with.
 
 ghost use Rattle.std.specs.Prelude.{◌≡◌};
 
-/// The threads, the memory and the files that a script or a dump is done with.
+use std::alloc::Global;
+
+/// The threads, the memory and the files that a command is done with.
 #[derive(Drop)]
-pub(crate) struct Machine<'m, F, T, A> {
-    pub(crate) rt: &'m T,
-    pub(crate) alloc: A,
-    pub(crate) files: &'m F,
+pub struct Machine<'m, F, T, A> {
+    pub rt: &'m T,
+    /// What the parser of words, and sessions that run freely, take their memory of.
+    pub words_memory: Global,
+    /// What all else takes its memory of.
+    pub alloc: A,
+    pub files: &'m F,
+    /// What the help tells of the commands that have their words to themselves.
+    pub other_commands: &'m str,
 }
 
 impl<'m, F, T, A> Machine<'m, F, T, A> {
@@ -17,8 +24,10 @@ impl<'m, F, T, A> Machine<'m, F, T, A> {
     {
         Machine {
             rt: self.rt,
+            words_memory: self.words_memory,
             alloc,
             files: self.files,
+            other_commands: self.other_commands,
         }
     }
 }

@@ -8,7 +8,7 @@ const MOST_SHOWN: usize = 200;
 
 /// A path of which 200 bytes at most are shown, and whose control characters are shown by their numbers.
 #[derive(Clone, Copy)]
-pub(crate) struct Shown<'p>(pub(crate) &'p str);
+pub struct Shown<'p>(pub &'p str);
 
 impl<'p> fmt::Display for Shown<'p> {
     fn fmt<W: Write>(&self, f: &mut fmt::Formatter<W>) -> fmt::Result {

@@ -18,11 +18,6 @@ const MOST_EVENTS: u32 = 100_000;
 
 const VERSION: &str = "0.1.0";
 
-// What the help tells of the commands that have their words to themselves.
-const OTHER_COMMANDS: &str = "Commands with a help of their own (pgserial COMMAND --help):
-  explore  Do a script in every interleaving of its sessions, and count what comes of it
-  check    Tell whether some serial order explains a recorded transcript";
-
 /// What the command line asks for.
 #[derive(Drop)]
 pub(crate) enum Task<'w> {
@@ -119,7 +114,7 @@ fn out<'w>(alloc: Global) -> Arg<'w>
 }
 
 // The program, with its commands.
-fn pgserial<'w>(alloc: Global) -> Result<Command<'w>, AllocError>
+fn pgserial<'w>(alloc: Global, other_commands: &'w str) -> Result<Command<'w>, AllocError>
     ensures { IfOk result (λ c. app_of c ≡ spec.pgserial) }
 {
     let run_command = Command::new(alloc, "run")
@@ -144,7 +139,7 @@ fn pgserial<'w>(alloc: Global) -> Result<Command<'w>, AllocError>
         .about("An in-memory relational server whose transactions are serializable")
         .bin_name("pgserial")?
         .version(VERSION)
-        .after_help(OTHER_COMMANDS)
+        .after_help(other_commands)
         .no_binary_name(true)
         .subcommand_required(true)
         .subcommand(run_command)?
@@ -154,12 +149,16 @@ fn pgserial<'w>(alloc: Global) -> Result<Command<'w>, AllocError>
 }
 
 // What the parser makes of some words.
-fn matches_of<'w>(alloc: Global, words: &'w [&'w str]) -> Result<ArgMatches<'w>, Error>
+fn matches_of<'w>(
+    alloc: Global,
+    other_commands: &'w str,
+    words: &'w [&'w str],
+) -> Result<ArgMatches<'w>, Error>
     ensures command { IfOk result (λ m. subcommand_rows_of m ≡
         subcommand_of spec.pgserial (map (λ w. w.now) words.entry.now)) }
     ensures fails { FailsBy (fault_of spec.pgserial (map (λ w. w.now) words.entry.now)) result }
 {
-    let program = pgserial(alloc)?;
+    let program = pgserial(alloc, other_commands)?;
     program.try_get_matches_from(words)
 }
 
@@ -263,13 +262,17 @@ fn task_of<'w>(matches: &ArgMatches<'w>) -> Task<'w>
 
 /// What the words, behind the program's name, ask for. No word at all asks for the script on
 /// standard input. The error is a mistake in the words, `--help`, `--version`, or want of memory.
-pub(crate) fn read_words<'w>(alloc: Global, words: &'w [&'w str]) -> Result<Task<'w>, Error>
+pub(crate) fn read_words<'w>(
+    alloc: Global,
+    other_commands: &'w str,
+    words: &'w [&'w str],
+) -> Result<Task<'w>, Error>
     ensures asked { IfOk result (λ r. asked.AsksFor (asked.command_of (map (λ w. w.now) words.entry.now)) r) }
     ensures fails { FailsBy (spec.faults (map (λ w. w.now) words.entry.now)) result }
 {
     if words.is_empty() {
         return Ok(from_input());
     }
-    let matches = matches_of(alloc, words)?;
+    let matches = matches_of(alloc, other_commands, words)?;
     Ok(task_of(&matches))
 }

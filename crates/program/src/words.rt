@@ -20,7 +20,6 @@ use std::thread::Threads;
 // Does what the words ask for.
 fn do_task<A, F, W, E, T>(
     machine: &Machine<'_, F, T, A>,
-    words_memory: Global,
     task: Task<'_>,
     out: &mut W,
     err: &mut E,
@@ -47,7 +46,7 @@ where
             script,
             most_events,
         } => {
-            let machine = machine.with_memory(words_memory);
+            let machine = machine.with_memory(machine.words_memory);
             machine.run_free(script, most_events, &mut printer, err)
         }
         Task::Restore { dump, jobs, out } => {
@@ -93,7 +92,6 @@ fn tell_words<W: Write, E: Write>(error: &Error, out: &mut W, err: &mut E) -> St
 // Does what the words ask for, or tells why it doesn't.
 fn done<A, F, W, E, T>(
     machine: &Machine<'_, F, T, A>,
-    words_memory: Global,
     words: &[&str],
     out: &mut W,
     err: &mut E,
@@ -114,9 +112,9 @@ where
         IsUndone A (F.held machine.now.files.now) (F.input machine.now.files.now)
         (map (λ w. w.now) words.entry.now) result (W.contents out.old) (W.contents out.new) }
 {
-    match read_words(words_memory, words) {
+    match read_words(machine.words_memory, machine.other_commands, words) {
         Err(error) => tell_words(&error, out, err),
-        Ok(task) => do_task(machine, words_memory, task, out, err),
+        Ok(task) => do_task(machine, task, out, err),
     }
 }
 
@@ -127,17 +125,13 @@ fn tell_reason<E: Write>(status: Status, reason: Option<&str>, err: &mut E) {
     }
 }
 
-/// Does what the words behind the program's name ask for, over these files, and gives the exit
+/// Does what the words behind the program's name ask for, over the machine's files, and gives the exit
 /// status: 0 where it was done, refused statements included; 1 where a script or a dump is refused, or
 /// memory was wanting; 2 for mistaken words; 3 where a file or standard output failed. Why it wasn't 0 is told
-/// in a line on `err`, and behind it for a person what is wrong and what would be right. The parser of words
-/// and sessions that run freely take their memory of `words_memory`, all else of `alloc`.
+/// in a line on `err`, and behind it for a person what is wrong and what would be right.
 pub fn run_words<A, F, W, E, T>(
-    rt: &T,
-    words_memory: Global,
-    alloc: A,
+    machine: &Machine<'_, F, T, A>,
     words: &[&str],
-    files: &F,
     out: &mut W,
     err: &mut E,
 ) -> u8
@@ -151,14 +145,13 @@ where
     ensures usage { result ≡ 2 → MayBeMistaken (faults (map (λ w. w.now) words.entry.now)) }
     ensures mistake { AreMistaken (faults (map (λ w. w.now) words.entry.now)) → (result ≡ 2) ⊎ (result ≡ 1) }
     ensures did { result ≡ 0 →
-        HasDone A Global (F.held files.now) (F.input files.now) F.Out.path F.Out.kept
+        HasDone A Global (F.held machine.now.files.now) (F.input machine.now.files.now) F.Out.path F.Out.kept
         (map (λ w. w.now) words.entry.now) (W.contents out.old) (W.contents out.new) }
     ensures stopped { result ≢ 0 →
-        HasEnded A (F.held files.now) (F.input files.now) (map (λ w. w.now) words.entry.now) result
+        HasEnded A (F.held machine.now.files.now) (F.input machine.now.files.now) (map (λ w. w.now) words.entry.now) result
         (W.contents out.old) (W.contents out.new) }
 {
-    let machine = Machine { rt, alloc, files };
-    let status = done(&machine, words_memory, words, out, err);
-    tell_reason(status, files.reason(), err);
+    let status = done(machine, words, out, err);
+    tell_reason(status, machine.files.reason(), err);
     status.code()
 }

@@ -1,6 +1,7 @@
 //! What the program is given, and how it must end.
 
 use crate::memory::MemoryFiles;
+use program::machine::Machine;
 use program::words::run_words;
 use std::io::Write;
 use std::process::Abort;
@@ -55,15 +56,14 @@ pub fn status_of<R: Abort + AllocGlobal + Sync + Threads + Wait, W: Write>(
         is_whole: &is_whole,
         writes: &writes,
     };
-    let status = run_words(
+    let machine = Machine {
         rt,
-        rt.alloc(),
-        rt.alloc(),
-        words.as_slice(),
-        &files,
-        out,
-        err,
-    );
+        words_memory: rt.alloc(),
+        alloc: rt.alloc(),
+        files: &files,
+        other_commands: "",
+    };
+    let status = run_words(&machine, words.as_slice(), out, err);
     assert!(rt; is_whole.load(Ordering::SeqCst), "{}", given.words);
     Ok((status, writes.load(Ordering::SeqCst)))
 }

@@ -128,7 +128,7 @@ fn after(next: Next, token: Token) -> Result<Next, Reason> {
 }
 
 /// The first token of a line that no CREATE TABLE has there, and what is wrong with it.
-pub fn wrong_token<A: Allocator>(
+pub(crate) fn wrong_token<A: Allocator>(
     alloc: A,
     line: &[u8],
 ) -> Result<Option<(Token, Reason)>, AllocError>

@@ -13,19 +13,19 @@ use value::refusal::Code;
 
 /// What is wrong, and the bytes of the line where it is; none where these tell nothing.
 #[derive(Clone, Copy)]
-pub struct Found<'l> {
-    pub shown: &'l [u8],
-    pub reason: Reason,
+pub(crate) struct Found<'l> {
+    pub(crate) shown: &'l [u8],
+    pub(crate) reason: Reason,
 }
 
 impl<'l> Found<'l> {
     /// A reason that shows nothing of the line.
-    pub fn of(reason: Reason) -> Found<'l> {
+    pub(crate) fn of(reason: Reason) -> Found<'l> {
         Found { shown: b"", reason }
     }
 
     /// A reason that shows some of it.
-    pub fn at(shown: &'l [u8], reason: Reason) -> Found<'l> {
+    pub(crate) fn at(shown: &'l [u8], reason: Reason) -> Found<'l> {
         Found { shown, reason }
     }
 }
@@ -129,7 +129,7 @@ fn found_in_create<A: Allocator + Copy>(
 }
 
 /// What is wrong with a line that is text.
-pub fn found_in_line<A: Allocator + Copy>(
+pub(crate) fn found_in_line<A: Allocator + Copy>(
     alloc: A,
     schedule: Schedule,
     before: Script<A>,

@@ -4,7 +4,7 @@ ghost use Rattle.std.specs.Prelude.{◌≡◌};
 
 /// Why a line of a script may not stand where it stands.
 #[derive(Clone, Copy, Debug, PartialEq, Eq)]
-pub enum Reason {
+pub(crate) enum Reason {
     NoNewline,
     ByteOrderMark,
     NotText,
@@ -40,7 +40,7 @@ pub enum Reason {
 
 impl Reason {
     /// What is wrong, and what would be right.
-    pub fn text(self) -> &'static str {
+    pub(crate) fn text(self) -> &'static str {
         match self {
             Reason::NoNewline => "the last line isn't ended by a newline",
             Reason::ByteOrderMark => "a byte order mark: UTF-8 is written without one here",

@@ -1,0 +1,81 @@
+//! What the words of the command line ask for.
+
+use clap::builder::ValueParser;
+use clap::{Arg, ArgAction, Command, Error};
+use std::alloc::{AllocError, Global};
+
+// How many events a history has room for, where nothing is said.
+const MOST_EVENTS: u32 = 100_000;
+
+/// A script that is drawn, and to what file.
+#[derive(Clone, Copy, Debug, PartialEq, Eq)]
+pub(crate) struct Task<'w> {
+    pub(crate) script: &'w str,
+    pub(crate) out: &'w str,
+    /// Whether the graph of transactions is written in place of the picture.
+    pub(crate) is_dot: bool,
+    pub(crate) most_events: u32,
+}
+
+// The script's file.
+fn script<'w>(alloc: Global) -> Arg<'w> {
+    Arg::new(alloc, "SCRIPT")
+        .required(true)
+        .action(ArgAction::Set)
+        .help("The script's file; - is standard input")
+}
+
+// The file that is written.
+fn out<'w>(alloc: Global) -> Arg<'w> {
+    Arg::new(alloc, "out")
+        .long("out")
+        .value_name("FILE")
+        .required(true)
+        .action(ArgAction::Set)
+        .help("The file that the picture is written to")
+}
+
+// That the graph is written.
+fn dot<'w>(alloc: Global) -> Arg<'w> {
+    Arg::new(alloc, "dot")
+        .long("dot")
+        .action(ArgAction::SetTrue)
+        .help("Write the graph of transactions for graphviz in place of the picture")
+}
+
+// How many events there is room for.
+fn events<'w>(alloc: Global) -> Arg<'w> {
+    Arg::new(alloc, "events")
+        .long("events")
+        .value_name("N")
+        .action(ArgAction::Set)
+        .value_parser(ValueParser::signed(1, 4_294_967_295))
+        .help("How many events the history has room for; 100000 where it isn't given")
+}
+
+// The command.
+fn draw<'w>(alloc: Global) -> Result<Command<'w>, AllocError> {
+    let draw = Command::new(alloc, "draw")
+        .about(
+            "Do the session lines of a script, and draw its transactions and what they read of each other's writes",
+        )
+        .bin_name("pgserial draw")?
+        .no_binary_name(true)
+        .arg(script(alloc))?
+        .arg(out(alloc))?
+        .arg(dot(alloc))?
+        .arg(events(alloc))?;
+    Ok(draw)
+}
+
+/// What the words behind `draw` ask for. The error is a mistake in the words, `--help`, or want of memory.
+pub(crate) fn read_words<'w>(alloc: Global, words: &'w [&'w str]) -> Result<Task<'w>, Error> {
+    let command = draw(alloc)?;
+    let matches = command.try_get_matches_from(words)?;
+    Ok(Task {
+        script: matches.get_str("SCRIPT").unwrap_or("-"),
+        out: matches.get_str("out").unwrap_or("-"),
+        is_dot: matches.get_flag("dot"),
+        most_events: matches.get_one::<u32>("events").unwrap_or(MOST_EVENTS),
+    })
+}

@@ -1,0 +1,32 @@
+-- How it is told that a script isn't done (this project's own choice).
+use Rattle.std.specs.Prelude.{◌≡◌, ◌⊎◌, ℕ, List, Option, Some, None, Err}
+use Rattle.value.specs.declared.refusal.Code.TheVariants.{OutOfMemory}
+use Rattle.restore.specs.Reading.{read_dump}
+use Rattle.restore.specs.declared.error.RestoreFault.{RestoreFault}
+use Rattle.program.specs.Files.{IsAllOf}
+use Rattle.script_files.specs.declared.fault.Fault.{Fault}
+use Rattle.script_files.specs.declared.fault.Fault.TheVariants as fault
+
+-- the exit status: what was read is refused, or a file failed
+abbrev pub status : Fault → ℕ
+status (fault.Script line) = 1
+status (fault.Dump line c) = 1
+status (fault.Device path) = 3
+
+-- the failure of the file of this path
+abbrev pub IsFileFault : List ℕ → Fault → Type 0
+IsFileFault path (fault.Device failed) = failed.now ≡ path
+IsFileFault path _ = ⊥
+
+-- these bytes are no dump: its first faulty line, with its code; or memory was wanting
+abbrev pub IsUnread : (A : Type 0) → List ℕ → Fault → Type 0
+IsUnread A bytes f = (f ≡ fault.Dump 0 OutOfMemory) ⊎ ((e : RestoreFault) × (read_dump {A = A} bytes ≡ Err e) × (f ≡ fault.Dump e.line e.code))
+
+-- The dump of a path, of which this is known, wasn't read: its file has failed, or it is faulty, or memory was wanting.
+abbrev pub IsUnopened : (A : Type 0) → Option (List ℕ) → List ℕ → Fault → Type 0
+IsUnopened A known path f = (f ≡ fault.Dump 0 OutOfMemory) ⊎ IsFileFault path f ⊎ ((bytes : List ℕ) × IsAllOf known bytes × IsUnread A bytes f)
+
+-- Why a script hasn't begun: its dump wasn't read, or memory was wanting, or there is to be room for no event.
+abbrev pub IsUnbegun : (A : Type 0) → (List ℕ → Option (List ℕ)) → Option (List ℕ) → Fault → Type 0
+IsUnbegun A held None f = f ≡ fault.Script 0
+IsUnbegun A held (Some path) f = (f ≡ fault.Script 0) ⊎ IsUnopened A (held path) path f
