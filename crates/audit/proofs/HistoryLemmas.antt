@@ -23,9 +23,9 @@ use Rattle.history.specs.Serial.{InTurn, IsSerial, IsSerialList, committed}
 use Rattle.history.specs.Events.{start, world_of}
 use Rattle.history.specs.Answer.{Legal, is_refused}
 use Rattle.history.proofs.Alone.{Along, In-filter}
-use Rattle.serial.proofs.SerialTheorem.{IsGood, good_start, good_world, sound_proper}
+use Rattle.serial.proofs.order.SerialTheorem.{IsGood, good_start, good_world, sound_proper}
 use Rattle.audit.specs.Course.{Track, course_of, gone_on, is_its, is_committed, is_imported, course_begun, at_first, begins, with_record, courses_after}
-use Rattle.serial.proofs.Histories.{run-catalog}
+use Rattle.serial.proofs.legal.Histories.{run-catalog}
 use Rattle.audit.specs.Replay.{are_fit, replays}
 use Rattle.audit.proofs.TrackLemmas.{all-courses, run-base}
 use Rattle.audit.proofs.OrderLemmas.{Fine, Answered, goes-again, goes-through}

@@ -18,8 +18,8 @@ use Rattle.history.specs.Transactions.{Txn, is_done}
 use Rattle.history.specs.Answer.{is_refused}
 use Rattle.history.specs.Serial.{Alone, InTurn, InTime, precedes}
 use Rattle.history.proofs.Alone.{In-filter, filter-In}
-use Rattle.serial.proofs.Legal.{found}
-use Rattle.serial.proofs.SafePrefix.{all_by, by_all}
+use Rattle.serial.proofs.legal.Legal.{found}
+use Rattle.serial.proofs.safe.Prefix.{all_by, by_all}
 use Rattle.audit.specs.Course.{Track, course_of}
 use Rattle.audit.specs.Same.{same_answer}
 use Rattle.audit.specs.Replay.{answers_again, end_of, latest_with, goes_next, without, replays}

@@ -9,7 +9,7 @@ use Rattle.value.proofs.IsolationLemmas.{Below, In}
 use Rattle.value.proofs.SortLemmas.{Apart, Below-asym, Below-trans, InOrder, In-sorted, Tied, key_order, same_order, sorted-In, sorted-InOrder}
 use Rattle.history.specs.Transactions.{Txn, World}
 use Rattle.history.specs.Serial.{committed, in_commit_order, key, keys_by_commit, serial_order, with_keys}
-use Rattle.serial.proofs.SerialTheorem.{IsGood, isolated_world}
+use Rattle.serial.proofs.order.SerialTheorem.{IsGood, isolated_world}
 use Rattle.session.proofs.CommitOrder.{by_end, ordered}
 use Rattle.plain.specs.Keys.{keyed}
 use Rattle.audit.specs.Sorting.{Entry, comes_before, key_of}

@@ -17,10 +17,10 @@ use Rattle.history.specs.Transactions.{Standing, Open, Doomed, Failed, Aborted, 
 use Rattle.history.specs.Events.{goes_on, ended, moved, told, settled, turned_from, import, begun, causes, doomed_by, replaced, without_transaction, followed, follows, run}
 use Rattle.history.specs.declared.base.Base.{Base}
 use Rattle.history.specs.Answer.{reply_in, reply_of, reply_from, open_reply, import_reply, commit_reply, cause_of, doomed, failed, refuses, IsAnswered}
-use Rattle.serial.proofs.Legal.{found}
-use Rattle.serial.proofs.Dooms.{Fate, Spared, Over, fate}
-use Rattle.serial.proofs.Numbers.{polled_keeps}
-use Rattle.serial.proofs.SerialTheorem.{IsGood, good_run}
+use Rattle.serial.proofs.legal.Legal.{found}
+use Rattle.serial.proofs.structures.Dooms.{Fate, Spared, Over, fate}
+use Rattle.serial.proofs.legal.Numbers.{polled_keeps}
+use Rattle.serial.proofs.order.SerialTheorem.{IsGood, good_run}
 use Rattle.audit.specs.Course.{Track, course_of, gone_on, is_its, course_begun, at_first, begins, with_record, courses_after}
 
 open_parts : (st : Standing) → is_open st ≡ true → (is_owed st ≡ true) × (is_done st ≡ false)

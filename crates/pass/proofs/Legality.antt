@@ -4,7 +4,7 @@ use Rattle.schema.specs.Plain.{is_sound}
 use Rattle.history.specs.declared.event.Record.{Record}
 use Rattle.history.specs.Opening.{Opening}
 use Rattle.history.specs.Answer.{Allowed, Legal, answer}
-use Rattle.serial.proofs.Histories.{Legal-start, Legal-push}
+use Rattle.serial.proofs.legal.Histories.{Legal-start, Legal-push}
 
 module _ {A : Type 0} where
   -- a legal history opened with sound tables

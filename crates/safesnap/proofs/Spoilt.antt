@@ -10,9 +10,9 @@ use Rattle.conflict.proofs.Lists.{In-any, In-filter, In-map, and_true, any-In, b
 use Rattle.history.specs.Transactions.{Txn, World, commits, edge, is_done, is_open, is_read_write, is_spoilt, node, was_active}
 use Rattle.history.specs.Transactions as history
 use Rattle.history.specs.Serial.{committed, in_commit_order, key, keys_by_commit}
-use Rattle.serial.proofs.EndsSeen.{EndsSeen}
-use Rattle.serial.proofs.SafeReaders.{active_above}
-use Rattle.serial.proofs.SerialTheorem.{IsGood, edge_parts, isolated_world}
+use Rattle.serial.proofs.legal.EndsSeen.{EndsSeen}
+use Rattle.serial.proofs.safe.Readers.{active_above}
+use Rattle.serial.proofs.order.SerialTheorem.{IsGood, edge_parts, isolated_world}
 use Rattle.safesnap.specs.Unspoilt.{is_spoilt_by, spoils}
 
 is_less : (a b : ℕ) → nat_lt a b ≡ true → a < b

@@ -14,11 +14,11 @@ use Rattle.history.specs.Opening.{Recorded}
 use Rattle.history.specs.Transactions.{Txn, World, Exported_snapshot, commits, current}
 use Rattle.history.specs.Events.{begun, causes, exports_after, followed, replaced, turned, txns_after, without_transaction}
 use Rattle.history.specs.Needed.{kept_of}
-use Rattle.serial.proofs.Dooms.{length-doomed}
-use Rattle.serial.proofs.EndsSeen.{ends_seen}
-use Rattle.serial.proofs.Lowest.{HasBegun}
-use Rattle.serial.proofs.Numbers.{length-replaced}
-use Rattle.serial.proofs.NeededEvents.{exports_alike, log_alike, txns_alike}
+use Rattle.serial.proofs.structures.Dooms.{length-doomed}
+use Rattle.serial.proofs.legal.EndsSeen.{ends_seen}
+use Rattle.serial.proofs.needed.Lowest.{HasBegun}
+use Rattle.serial.proofs.legal.Numbers.{length-replaced}
+use Rattle.serial.proofs.needed.Events.{exports_alike, log_alike, txns_alike}
 use Rattle.plain.specs.Ledger.{Ledger, after_owned, kept, kept_after, ready, ready_for}
 use Rattle.session.specs.Core.{IsKept}
 use Rattle.session.proofs.Kept.{HasOwn, counted_rest, length_map, same_counted, same_exports, same_turned_all}

@@ -14,10 +14,10 @@ use Rattle.history.specs.Transactions.{Standing, Open, Doomed, Failed, Aborted, 
 use Rattle.history.specs.Events.{begun, causes, ended, followed, follows, goes_on, import, moved, replaced, settled, told, turned, turned_from, txns_after, with_snapshot, without_transaction}
 use Rattle.plain.specs.Keys.{committed_at}
 use Rattle.session.specs.Core.{is_commit}
-use Rattle.serial.proofs.Legal.{current_in}
-use Rattle.serial.proofs.Dooms.{Fate, Spared, Over, In-doomed}
-use Rattle.serial.proofs.Numbers.{In-replaced}
-use Rattle.serial.proofs.SerialTheorem.{IsGood}
+use Rattle.serial.proofs.legal.Legal.{current_in}
+use Rattle.serial.proofs.structures.Dooms.{Fate, Spared, Over, In-doomed}
+use Rattle.serial.proofs.legal.Numbers.{In-replaced}
+use Rattle.serial.proofs.order.SerialTheorem.{IsGood}
 
 not_so : (b : Bool) → (b ≡ true → ⊥) → b ≡ false
 not_so true f = absurd (f refl)

@@ -16,10 +16,10 @@ use Rattle.history.specs.Serial.{Stays, committed, in_commit_order, key, keys_by
 use Rattle.history.specs.Answer.{Legal}
 use Rattle.history.proofs.Alone.{In-filter, filter-In}
 use Rattle.plain.specs.Keys.{committed_at}
-use Rattle.serial.proofs.Legal.{found}
-use Rattle.serial.proofs.Later.{legal_begins, legal_stays}
-use Rattle.serial.proofs.SafePrefix.{by_all}
-use Rattle.serial.proofs.SerialTheorem.{IsGood, good_world, isolated_world}
+use Rattle.serial.proofs.legal.Legal.{found}
+use Rattle.serial.proofs.legal.Later.{legal_begins, legal_stays}
+use Rattle.serial.proofs.safe.Prefix.{by_all}
+use Rattle.serial.proofs.order.SerialTheorem.{IsGood, good_world, isolated_world}
 
 is_least : (a b : ℕ) → nat_le a b ≡ true → a ≤ b
 is_least a b e = grind (arith, nat_tests)

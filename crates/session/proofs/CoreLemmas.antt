@@ -29,9 +29,9 @@ use Rattle.history.specs.Checkpoint.{base_after, opening_after}
 use Rattle.history.specs.Serial.{keys_by_commit}
 use Rattle.history.specs.Answer.{Allowed, answer, checkpoint_answer, reply_in, reply_of}
 use Rattle.history.specs.Needed.{kept_of}
-use Rattle.serial.proofs.Histories.{Legal-push, Legal-start}
-use Rattle.serial.proofs.AlwaysSound.{always_sound}
-use Rattle.serial.proofs.NeededReplies.{owed_stays}
+use Rattle.serial.proofs.legal.Histories.{Legal-push, Legal-start}
+use Rattle.serial.proofs.legal.AlwaysSound.{always_sound}
+use Rattle.serial.proofs.needed.Replies.{owed_stays}
 use Rattle.mvrows.specs.Versions.{VersionedRows, shown, shown_rows}
 use Rattle.plain.specs.declared.answered.Answered.{Answered}
 use Rattle.plain.specs.Answers.{both}

@@ -19,11 +19,11 @@ use Rattle.history.specs.declared.event.Action.TheVariants.{Begin}
 use Rattle.statement.specs.declared.reply.Reply.TheVariants.{Begun}
 use Rattle.history.specs.Answer.{Allowed, reply_in}
 use Rattle.history.specs.Needed.{Keeps, is_needed, kept_of}
-use Rattle.serial.proofs.Lowest.{HasBegun, commits_later, exporters_begun, lived_before}
-use Rattle.serial.proofs.NeededFrom.{oldest_later}
-use Rattle.serial.proofs.NeededKeys.{good_next, last_kept}
-use Rattle.serial.proofs.NeededLater.{needed_later}
-use Rattle.serial.proofs.SafePrefix.{all_by, by_all}
+use Rattle.serial.proofs.needed.Lowest.{HasBegun, commits_later, exporters_begun, lived_before}
+use Rattle.serial.proofs.needed.From.{oldest_later}
+use Rattle.serial.proofs.needed.Keys.{good_next, last_kept}
+use Rattle.serial.proofs.needed.Later.{needed_later}
+use Rattle.serial.proofs.safe.Prefix.{all_by, by_all}
 use Rattle.plain.specs.Keys.{committed_at}
 use Rattle.plain.specs.Ledger.{Ledger, kept, kept_after, kept_current, ready_for, world_on}
 use Rattle.session.specs.Core.{IsKept}

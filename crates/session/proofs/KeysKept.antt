@@ -8,8 +8,8 @@ use Rattle.value.proofs.IsolationLemmas.{In}
 use Rattle.conflict.proofs.Lists.{both_true, clash, find-alike, find-In, is_false}
 use Rattle.history.specs.Transactions.{Txn, World, edge, is_done, is_read_write, node}
 use Rattle.history.specs.Needed.{Keeps, kept_of}
-use Rattle.serial.proofs.SerialTheorem.{IsGood}
-use Rattle.serial.proofs.NeededKeys.{same_key}
+use Rattle.serial.proofs.order.SerialTheorem.{IsGood}
+use Rattle.serial.proofs.needed.Keys.{same_key}
 use Rattle.plain.specs.Keys.{committed_at}
 use Rattle.plain.specs.Ledger.{kept}
 

@@ -22,14 +22,14 @@ use Rattle.history.specs.Transactions.{Standing, Open, Doomed, Failed, Aborted, 
 use Rattle.history.specs.Events.{numbered, replaced, start, world}
 use Rattle.history.specs.Answer.{answer, committing, reader_answer, reader_from, reader_of, reply_of, view_answer, view_from, view_of}
 use Rattle.history.specs.Needed.{HoldCommitter, kept_of, thin}
-use Rattle.serial.proofs.Legal.{current_in}
-use Rattle.serial.proofs.AlwaysSound.{own_sound}
-use Rattle.serial.proofs.Histories.{run-catalog}
-use Rattle.serial.proofs.SafePrefix.{all_by, by_all}
-use Rattle.serial.proofs.SerialTheorem.{IsGood, good_world}
-use Rattle.serial.proofs.NeededCause.{hold_committer, kept_replaced}
-use Rattle.serial.proofs.NeededReplies.{current_of_kept, living_of_kept, owed_stays}
-use Rattle.serial.proofs.NeededWorld.{replies_kept}
+use Rattle.serial.proofs.legal.Legal.{current_in}
+use Rattle.serial.proofs.legal.AlwaysSound.{own_sound}
+use Rattle.serial.proofs.legal.Histories.{run-catalog}
+use Rattle.serial.proofs.safe.Prefix.{all_by, by_all}
+use Rattle.serial.proofs.order.SerialTheorem.{IsGood, good_world}
+use Rattle.serial.proofs.needed.Cause.{hold_committer, kept_replaced}
+use Rattle.serial.proofs.needed.Replies.{current_of_kept, living_of_kept, owed_stays}
+use Rattle.serial.proofs.needed.World.{replies_kept}
 use Rattle.mvrows.specs.Versions.{VersionedRows, shown}
 use Rattle.plain.specs.Ledger.{Ledger, kept, kept_current, ready_for, with_own, world_on}
 use Rattle.plain.specs.Runs.{HoldsCommitter, HoldsCurrent, IsFoundFor}

@@ -19,7 +19,7 @@ use Rattle.history.specs.Transactions.{Done, Txn, World, commits, current, is_ow
 use Rattle.history.specs.Events.{ended, followed, follows, log_after, numbered, without_transaction}
 use Rattle.history.specs.Answer.{Allowed, reply_in}
 use Rattle.history.specs.Needed.{kept_of}
-use Rattle.serial.proofs.Lowest.{AllRead, commits_later, read_later}
+use Rattle.serial.proofs.needed.Lowest.{AllRead, commits_later, read_later}
 use Rattle.mvrows.specs.Versions.{VersionedRows, shown}
 use Rattle.plain.specs.Ledger.{Ledger, committed_by, kept, kept_current}
 use Rattle.plain.specs.Versions.{StayShown, is_owed_at, may_be_read}

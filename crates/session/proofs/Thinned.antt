@@ -7,12 +7,12 @@ use Rattle.conflict.proofs.Lists.{In-any, In-filter, and_true, any-In, both_true
 use Rattle.history.specs.Opening.{Recorded}
 use Rattle.history.specs.Transactions.{Txn, World, Exported_snapshot, edge, is_done, is_living, is_open, is_owed, is_pending, is_read_write, is_spoilt, spoils, was_active}
 use Rattle.history.specs.Needed.{IsOldest, Keeps, is_late_reader, is_needed, is_recent, is_safe_reader, is_settled, kept_of, needed_numbers}
-use Rattle.serial.proofs.EndsSeen.{ends_seen}
-use Rattle.serial.proofs.NeededCause.{oldest_is, open_owed}
-use Rattle.serial.proofs.NeededQuestions.{any-kept, safe_of_kept}
-use Rattle.serial.proofs.NeededRaised.{needed_too, raised}
-use Rattle.serial.proofs.SafePrefix.{all_by, by_all}
-use Rattle.serial.proofs.SerialTheorem.{good_world}
+use Rattle.serial.proofs.legal.EndsSeen.{ends_seen}
+use Rattle.serial.proofs.needed.Cause.{oldest_is, open_owed}
+use Rattle.serial.proofs.needed.Questions.{any-kept, safe_of_kept}
+use Rattle.serial.proofs.needed.Raised.{needed_too, raised}
+use Rattle.serial.proofs.safe.Prefix.{all_by, by_all}
+use Rattle.serial.proofs.order.SerialTheorem.{good_world}
 use Rattle.mvrows.specs.Versions.{VersionedRows, TablesAreBelow}
 use Rattle.plain.specs.Calm.{AreCalm, is_active_at, is_safe_from, was_taken_at}
 use Rattle.plain.specs.Forgetting.{IsThinned, holds_back, is_left, number_before, oldest}
@@ -104,7 +104,7 @@ module _ {A : Type 0} where
             p = both_true (not (is_read_write u.mode)) (u.known || was_taken_at t.calm u) e
 
             reads : is_read_write u.mode ≡ false
-            reads = Rattle.serial.proofs.NeededCause.was_not (is_read_write u.mode) p.0
+            reads = Rattle.serial.proofs.needed.Cause.was_not (is_read_write u.mode) p.0
 
             from : (r h l k).oldest ≤ u.snapshot
             from = oldest_is old (good_world h.opening h.records k.legal) u i o (r h l k).oldest (r h l k).keep (r h l k).keeps s

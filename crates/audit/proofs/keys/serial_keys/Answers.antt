@@ -1,5 +1,5 @@
 use Rattle.history.specs.Events.{world}
-use Rattle.serial.proofs.SerialTheorem.{good_world}
+use Rattle.serial.proofs.order.SerialTheorem.{good_world}
 use Rattle.audit.proofs.SortingLemmas.{if-both, sorted_keys}
 use Rattle.audit.proofs.keys.serial_keys.Goals as goal
 

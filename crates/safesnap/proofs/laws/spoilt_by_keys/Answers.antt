@@ -1,8 +1,8 @@
 use Rattle.history.specs.Transactions.{commits}
 use Rattle.history.specs.Events.{world_of}
-use Rattle.serial.proofs.EndsSeen.{ends_seen}
-use Rattle.serial.proofs.Legal.{current_in}
-use Rattle.serial.proofs.SerialTheorem.{good_world}
+use Rattle.serial.proofs.legal.EndsSeen.{ends_seen}
+use Rattle.serial.proofs.legal.Legal.{current_in}
+use Rattle.serial.proofs.order.SerialTheorem.{good_world}
 use Rattle.std.proofs.Common.{arith}
 use Rattle.safesnap.proofs.Spoilt.{none_above, spoilt_is}
 use Rattle.safesnap.proofs.laws.spoilt_by_keys.Goals as goal

@@ -1,4 +1,4 @@
-use Rattle.serial.proofs.AlwaysSound.{always_sound}
+use Rattle.serial.proofs.legal.AlwaysSound.{always_sound}
 use Rattle.serial.proofs.laws.always_sound.Goals as goal
 
 pub returns : goal.returns

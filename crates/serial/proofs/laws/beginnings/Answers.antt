@@ -1,4 +1,4 @@
-use Rattle.serial.proofs.Later.{legal_begins}
+use Rattle.serial.proofs.legal.Later.{legal_begins}
 use Rattle.serial.proofs.laws.beginnings.Goals as goal
 
 pub returns : goal.returns

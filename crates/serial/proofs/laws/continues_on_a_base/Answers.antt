@@ -1,4 +1,4 @@
-use Rattle.serial.proofs.BaseOrder.{continues_on, opens}
+use Rattle.serial.proofs.base.Order.{continues_on, opens}
 use Rattle.serial.proofs.laws.continues_on_a_base.Goals as goal
 
 pub returns-clause-opens : goal.returns-clause-opens

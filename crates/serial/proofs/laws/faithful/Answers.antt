@@ -1,4 +1,4 @@
-use Rattle.serial.proofs.DoneFromSnapshot.{all_done}
+use Rattle.serial.proofs.legal.DoneFromSnapshot.{all_done}
 use Rattle.serial.proofs.laws.faithful.Goals as goal
 
 pub returns : goal.returns

@@ -1,4 +1,4 @@
-use Rattle.serial.proofs.Histories.{Legal-start, Legal-push}
+use Rattle.serial.proofs.legal.Histories.{Legal-start, Legal-push}
 use Rattle.serial.proofs.laws.grows.Goals as goal
 
 pub returns-clause-start : goal.returns-clause-start

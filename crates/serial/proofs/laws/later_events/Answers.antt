@@ -1,4 +1,4 @@
-use Rattle.serial.proofs.Later.{legal_stays}
+use Rattle.serial.proofs.legal.Later.{legal_stays}
 use Rattle.serial.proofs.laws.later_events.Goals as goal
 
 pub returns : goal.returns

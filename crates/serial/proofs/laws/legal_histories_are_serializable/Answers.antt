@@ -1,4 +1,4 @@
-use Rattle.serial.proofs.Promised.{legal_serializable}
+use Rattle.serial.proofs.order.Promised.{legal_serializable}
 use Rattle.serial.proofs.laws.legal_histories_are_serializable.Goals as goal
 
 pub returns : goal.returns

@@ -1,4 +1,4 @@
-use Rattle.serial.proofs.Histories.{of_session-push}
+use Rattle.serial.proofs.legal.Histories.{of_session-push}
 use Rattle.serial.proofs.laws.of_one_session.Goals as goal
 
 pub returns : goal.returns

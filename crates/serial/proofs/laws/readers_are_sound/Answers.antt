@@ -1,4 +1,4 @@
-use Rattle.serial.proofs.ViewSound.{reader_sound}
+use Rattle.serial.proofs.views.Sound.{reader_sound}
 use Rattle.serial.proofs.laws.readers_are_sound.Goals as goal
 
 pub returns : goal.returns

@@ -1,4 +1,4 @@
-use Rattle.serial.proofs.Elsewhere.{readers_stay}
+use Rattle.serial.proofs.views.Elsewhere.{readers_stay}
 use Rattle.serial.proofs.laws.readers_stay.Goals as goal
 
 pub returns : goal.returns

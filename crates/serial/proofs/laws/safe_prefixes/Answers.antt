@@ -1,4 +1,4 @@
-use Rattle.serial.proofs.SafePrefix.{safe_are_safe}
+use Rattle.serial.proofs.safe.Prefix.{safe_are_safe}
 use Rattle.serial.proofs.laws.safe_prefixes.Goals as goal
 
 pub returns : goal.returns

@@ -1,4 +1,4 @@
-use Rattle.serial.proofs.SafeCommits.{begun_safe, safe_committed}
+use Rattle.serial.proofs.safe.Commits.{begun_safe, safe_committed}
 use Rattle.serial.proofs.laws.safe_readers.Goals as goal
 
 pub returns : goal.returns

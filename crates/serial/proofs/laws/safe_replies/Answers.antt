@@ -1,4 +1,4 @@
-use Rattle.serial.proofs.SafeReply.{safe_reply}
+use Rattle.serial.proofs.safe.Reply.{safe_reply}
 use Rattle.serial.proofs.laws.safe_replies.Goals as goal
 
 pub returns : goal.returns

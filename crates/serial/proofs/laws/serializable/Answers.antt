@@ -1,4 +1,4 @@
-use Rattle.serial.proofs.SerialTheorem.{legal_serial}
+use Rattle.serial.proofs.order.SerialTheorem.{legal_serial}
 use Rattle.serial.proofs.laws.serializable.Goals as goal
 
 pub returns : goal.returns

@@ -1,4 +1,4 @@
-use Rattle.serial.proofs.NeededCause.{hold_committer}
+use Rattle.serial.proofs.needed.Cause.{hold_committer}
 use Rattle.serial.proofs.laws.structures_hold_the_committer.Goals as goal
 
 pub returns : goal.returns

@@ -1,4 +1,4 @@
-use Rattle.serial.proofs.ViewSafe.{view_is_backup}
+use Rattle.serial.proofs.views.Safe.{view_is_backup}
 use Rattle.serial.proofs.laws.views_are_backups.Goals as goal
 
 pub returns : goal.returns

@@ -1,4 +1,4 @@
-use Rattle.serial.proofs.ViewSound.{view_sound}
+use Rattle.serial.proofs.views.Sound.{view_sound}
 use Rattle.serial.proofs.laws.views_are_sound.Goals as goal
 
 pub returns : goal.returns

@@ -1,9 +1,9 @@
 use Rattle.history.specs.Events.{world_of}
-use Rattle.serial.proofs.NeededLater.{needed_later, shrunk}
-use Rattle.serial.proofs.NeededEvents.{follows_kept}
-use Rattle.serial.proofs.NeededRaised.{least_is, least_kept, raised}
-use Rattle.serial.proofs.NeededFrom.{oldest_later}
-use Rattle.serial.proofs.NeededQuestions.{oldest_told}
+use Rattle.serial.proofs.needed.Later.{needed_later, shrunk}
+use Rattle.serial.proofs.needed.Events.{follows_kept}
+use Rattle.serial.proofs.needed.Raised.{least_is, least_kept, raised}
+use Rattle.serial.proofs.needed.From.{oldest_later}
+use Rattle.serial.proofs.needed.Questions.{oldest_told}
 use Rattle.serial.proofs.laws.what_is_dropped_never_matters_again.Goals as goal
 
 pub returns : goal.returns

@@ -1,8 +1,8 @@
-use Rattle.serial.proofs.NeededCause.{cause_kept}
-use Rattle.serial.proofs.NeededQuestions.{key_kept, pending_kept, spoilt_kept}
-use Rattle.serial.proofs.NeededReplies.{current_of_kept, dooms_kept, living_of_kept, taken_kept}
+use Rattle.serial.proofs.needed.Cause.{cause_kept}
+use Rattle.serial.proofs.needed.Questions.{key_kept, pending_kept, spoilt_kept}
+use Rattle.serial.proofs.needed.Replies.{current_of_kept, dooms_kept, living_of_kept, taken_kept}
 use Rattle.history.specs.Events.{world_of}
-use Rattle.serial.proofs.NeededWorld.{replies_kept}
+use Rattle.serial.proofs.needed.World.{replies_kept}
 use Rattle.serial.proofs.laws.what_is_kept_answers_alike.Goals as goal
 
 pub returns : goal.returns

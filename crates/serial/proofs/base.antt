@@ -1,0 +1,4 @@
+pub mod Based
+pub mod OnBase
+pub mod FollowsBase
+pub mod Order

@@ -1,0 +1,5 @@
+pub mod Play
+mod Worked
+mod Legal
+mod Pivots
+mod Sources

@@ -1,0 +1,9 @@
+pub mod Legal
+pub mod Histories
+pub mod Numbers
+pub mod Later
+pub mod Faithful
+pub mod EndsSeen
+pub mod InTime
+pub mod AlwaysSound
+pub mod DoneFromSnapshot

@@ -1,0 +1,12 @@
+pub mod Structures
+pub mod Cause
+pub mod Questions
+pub mod Later
+pub mod Replies
+pub mod World
+pub mod Events
+pub mod Raised
+pub mod Oldest
+pub mod From
+pub mod Keys
+pub mod Lowest

@@ -1,0 +1,2 @@
+pub mod SerialTheorem
+pub mod Promised

@@ -1,0 +1,3 @@
+pub mod Dooms
+pub mod FirstUpdater
+pub mod NoneDangerous

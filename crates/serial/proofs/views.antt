@@ -1,0 +1,4 @@
+pub mod Safe
+pub mod Sound
+pub mod Elsewhere
+pub mod Sourced
