@@ -1,6 +1,6 @@
 use Rattle.std.proofs.Common.{◌≡◌, true, subst, sym}
 use Rattle.schema.specs.Plain.{is_sound}
-use Rattle.restore.proofs.ReadingLemmas.{empty_is_sound}
+use Rattle.restore.proofs.stepwise.Reading.{empty_is_sound}
 use Rattle.command_explore.proofs.setup.empty_tables.Goals as goal
 
 pub returns-in-Ok : goal.returns-in-Ok

@@ -3,8 +3,8 @@ use Rattle.std.specs.Borrow.{Bor}
 use Rattle.std.specs.Option.{option_copied}
 use Rattle.std.proofs.lemmas.Result.{err_from_is_err_and}
 use Rattle.restore.specs.CreateLine.{parts_of}
-use Rattle.restore.proofs.CreateLemmas.{others-next, others-fail, nothing_left}
-use Rattle.restore.proofs.StepLemmas.{front_with, goes_on, fails_with, is_done}
+use Rattle.restore.proofs.words.Create.{others-next, others-fail, nothing_left}
+use Rattle.restore.proofs.stepwise.Refusals.{front_with, goes_on, fails_with, is_done}
 use Rattle.restore.proofs.create.columns.Goals as goal
 
 pub returns-in_err-column : goal.returns-in_err-column

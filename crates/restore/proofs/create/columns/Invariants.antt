@@ -2,8 +2,8 @@ use Rattle.std.proofs.Common.{◌≡◌, ◌==◌}
 use Rattle.std.specs.List.{slice_split}
 use Rattle.std.specs.Option.{option_copied}
 use Rattle.restore.specs.CreateLine.{parts_of, other_columns, columns}
-use Rattle.restore.proofs.CreateLemmas.{part_left}
-use Rattle.restore.proofs.StepLemmas.{front_with}
+use Rattle.restore.proofs.words.Create.{part_left}
+use Rattle.restore.proofs.stepwise.Refusals.{front_with}
 use Rattle.restore.proofs.create.columns.Given as goal
 
 -- the columns so far, and those that are left

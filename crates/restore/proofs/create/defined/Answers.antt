@@ -2,7 +2,7 @@ use Rattle.std.proofs.Common.{ap}
 use Rattle.schema.specs.Adding.{defined}
 use Rattle.copytext.proofs.ValueLemmas.{ok_answer}
 use Rattle.restore.specs.CreateLine.{well_formed}
-use Rattle.restore.proofs.CreateLemmas.{answered}
+use Rattle.restore.proofs.words.Create.{answered}
 use Rattle.restore.proofs.create.defined.Goals as goal
 
 pub returns-in-Ok : goal.returns-in-Ok

@@ -1,5 +1,5 @@
 use Rattle.std.proofs.Common.{sym, ◌∙◌}
-use Rattle.restore.proofs.CreateLemmas.{not_name, other_name}
+use Rattle.restore.proofs.words.Create.{not_name, other_name}
 use Rattle.restore.proofs.create.name_of.Goals as goal
 use Rattle.restore.proofs.create.name_of.Goals.{in_default-via-in-Ok+else-is_name, in_default-via-in_default}
 

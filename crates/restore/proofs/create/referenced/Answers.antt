@@ -1,6 +1,6 @@
 use Rattle.std.proofs.Common.{sym}
 use Rattle.std.proofs.lemmas.Result.{err_from_is_err_and}
-use Rattle.restore.proofs.CreateLemmas.{reference-is, reference-fails, not_empty}
+use Rattle.restore.proofs.words.Create.{reference-is, reference-fails, not_empty}
 use Rattle.restore.proofs.create.referenced.Goals as goal
 
 pub returns-in_err-name : goal.returns-in_err-name

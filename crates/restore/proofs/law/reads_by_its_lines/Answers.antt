@@ -4,7 +4,7 @@ use Rattle.schema.specs.declared.tables.Tables.{Tables}
 use Rattle.restore.specs.declared.error.RestoreFault.{RestoreFault}
 use Rattle.restore.specs.Faults.{first_fault}
 use Rattle.restore.specs.Reading.{lines_of, ended_lines, said_by, unless_faulty}
-use Rattle.restore.proofs.FirstFaultLemmas.{is_first, first_is, none_is, is_none}
+use Rattle.restore.proofs.faults.First.{is_first, first_is, none_is, is_none}
 use Rattle.restore.proofs.law.reads_by_its_lines.Goals as goal
 
 module _ {A : Type 0} where

@@ -1,7 +1,7 @@
 use Rattle.std.proofs.Common.{true, false, sym, ◌∙◌}
 use Rattle.dumpplan.specs.Lines.{dump_of}
-use Rattle.restore.proofs.DumpAgain.{dump_again}
-use Rattle.restore.proofs.WholeLemmas.{dump_agrees}
+use Rattle.restore.proofs.again.Dump.{dump_again}
+use Rattle.restore.proofs.faults.Whole.{dump_agrees}
 use Rattle.restore.proofs.law.reads_what_is_dumped.Goals as goal
 
 pub returns-clause-counted : goal.returns-clause-counted

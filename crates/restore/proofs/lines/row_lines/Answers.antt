@@ -1,6 +1,6 @@
 use Rattle.std.proofs.Common.{◌++◌, ◌∷◌, [], Bor, List, ℕ, ap, sym, subst, ◌∙◌, arith}
 use Rattle.restore.specs.Lines.{AreRowLines}
-use Rattle.restore.proofs.PieceLemmas.{row_lines-first, row_lines-more}
+use Rattle.restore.proofs.taking.Pieces.{row_lines-first, row_lines-more}
 use Rattle.restore.proofs.lines.row_lines.Goals as goal
 
 pub loop-left-init : goal.loop-left-init

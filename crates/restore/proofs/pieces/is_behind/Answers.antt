@@ -2,7 +2,7 @@ use Rattle.std.proofs.Common.{find}
 use Rattle.std.specs.Ordering.{is_le}
 use Rattle.value.specs.Order.{value_cmp}
 use Rattle.schema.specs.Plain.{rows_of}
-use Rattle.restore.proofs.BehindLemmas.{none_found}
+use Rattle.restore.proofs.taking.Behind.{none_found}
 use Rattle.restore.proofs.pieces.is_behind.Goals as goal
 
 pub returns : goal.returns

@@ -1,7 +1,7 @@
 use Rattle.std.proofs.Common.{subst, sym}
-use Rattle.restore.proofs.BehindLemmas.{put_gives, put_sound}
+use Rattle.restore.proofs.taking.Behind.{put_gives, put_sound}
 use Rattle.restore.specs.Rows.{AreStillThere}
-use Rattle.restore.proofs.StillThere.{still-put}
+use Rattle.restore.proofs.taking.StillThere.{still-put}
 use Rattle.restore.proofs.pieces.put_read.Goals as goal
 
 pub returns-clause-row : goal.returns-clause-row

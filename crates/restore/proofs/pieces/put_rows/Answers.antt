@@ -2,10 +2,10 @@ use Rattle.std.proofs.Common.{ap, arith, length}
 use Rattle.std.proofs.lemmas.List.{nil_from_length}
 use Rattle.schema.specs.Definition.{columns_of}
 use Rattle.schema.specs.Plain.{rows_of}
-use Rattle.restore.proofs.FollowedLemmas.{followed-first}
-use Rattle.restore.proofs.PieceLemmas.{inserting-first, inserted-next, inserted-stops, inserted-all}
-use Rattle.restore.proofs.StillThere.{still-same, still-on}
-use Rattle.restore.proofs.TakingLemmas.{next_is, followed-on, kept-first, kept-next}
+use Rattle.restore.proofs.taking.Followed.{followed-first}
+use Rattle.restore.proofs.taking.Pieces.{inserting-first, inserted-next, inserted-stops, inserted-all}
+use Rattle.restore.proofs.taking.StillThere.{still-same, still-on}
+use Rattle.restore.proofs.taking.Taking.{next_is, followed-on, kept-first, kept-next}
 use Rattle.restore.proofs.pieces.put_rows.Goals as goal
 
 pub loop-row-init : goal.loop-row-init

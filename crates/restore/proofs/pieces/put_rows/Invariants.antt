@@ -5,9 +5,9 @@ use Rattle.schema.specs.Plain.{is_sound, rows_of}
 use Rattle.restore.specs.Lines.{is_row_line}
 use Rattle.restore.specs.Reading.{kinds_of}
 use Rattle.restore.specs.Rows.{AreRead, AreStillThere}
-use Rattle.restore.proofs.FollowedLemmas.{IsFollowed}
-use Rattle.restore.proofs.PieceLemmas.{IsInserting}
-use Rattle.restore.proofs.TakingLemmas.{IsKept}
+use Rattle.restore.proofs.taking.Followed.{IsFollowed}
+use Rattle.restore.proofs.taking.Pieces.{IsInserting}
+use Rattle.restore.proofs.taking.Taking.{IsKept}
 use Rattle.restore.proofs.pieces.put_rows.Given as goal
 
 -- the rows so far, and those left, which may be put behind them

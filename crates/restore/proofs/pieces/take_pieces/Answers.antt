@@ -3,8 +3,8 @@ use Rattle.std.proofs.lemmas.List.{nil_from_length}
 use Rattle.std.proofs.lemmas.Result.{err_from_is_err_and}
 use Rattle.schema.specs.Definition.{columns_of}
 use Rattle.restore.specs.Rows.{MayRise}
-use Rattle.restore.proofs.StillThere.{may_first, may_rest, may_still}
-use Rattle.restore.proofs.TakingLemmas.{taking-first, taking-next, taking-stops, taking-all, keeping-first, keeping-next}
+use Rattle.restore.proofs.taking.StillThere.{may_first, may_rest, may_still}
+use Rattle.restore.proofs.taking.Taking.{taking-first, taking-next, taking-stops, taking-all, keeping-first, keeping-next}
 use Rattle.restore.proofs.pieces.take_pieces.Goals as goal
 
 pub loop-piece-init : goal.loop-piece-init

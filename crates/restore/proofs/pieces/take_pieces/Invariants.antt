@@ -5,7 +5,7 @@ use Rattle.schema.specs.Plain.{is_sound}
 use Rattle.restore.specs.Lines.{is_row_line}
 use Rattle.restore.specs.Reading.{kinds_of}
 use Rattle.restore.specs.Rows.{ArePieces, MayRise}
-use Rattle.restore.proofs.TakingLemmas.{IsTaking, IsKeeping}
+use Rattle.restore.proofs.taking.Taking.{IsTaking, IsKeeping}
 use Rattle.restore.proofs.pieces.take_pieces.Given as goal
 
 -- the pieces so far, and those left

@@ -1,5 +1,5 @@
 use Rattle.std.proofs.Common.{◌∙◌}
-use Rattle.restore.proofs.ReadingLemmas.{copies}
+use Rattle.restore.proofs.stepwise.Reading.{copies}
 use Rattle.restore.proofs.reading.read_copy_line.Goals as goal
 
 pub returns-in-Ok : goal.returns-in-Ok

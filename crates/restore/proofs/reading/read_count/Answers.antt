@@ -1,6 +1,6 @@
 use Rattle.std.proofs.Common.{◌∙◌, ap}
 use Rattle.dumpplan.specs.Lines.{rows_line}
-use Rattle.restore.proofs.ReadingLemmas.{counts}
+use Rattle.restore.proofs.stepwise.Reading.{counts}
 use Rattle.restore.proofs.reading.read_count.Goals as goal
 
 pub returns-in-Ok : goal.returns-in-Ok

@@ -2,7 +2,7 @@ use Rattle.std.proofs.Common.{◌≡◌, true, subst}
 use Rattle.schema.specs.Plain.{is_sound}
 use Rattle.schema.specs.declared.tables.Tables.{Tables}
 use Rattle.restore.specs.declared.error.RestoreFault.{RestoreFault}
-use Rattle.restore.proofs.ReadingLemmas.{done_same, empty_is_sound}
+use Rattle.restore.proofs.stepwise.Reading.{done_same, empty_is_sound}
 use Rattle.restore.proofs.reading.read_dump.Goals as goal
 
 pub returns-clause-sound : goal.returns-clause-sound

@@ -1,6 +1,6 @@
 use Rattle.std.proofs.Common.{length, Ok, Err, sym}
 use Rattle.std.proofs.lemmas.Result.{err_from_is_err_and}
-use Rattle.restore.proofs.ReadingLemmas.{ends, at_end, reads_at, past_end}
+use Rattle.restore.proofs.stepwise.Reading.{ends, at_end, reads_at, past_end}
 use Rattle.restore.proofs.reading.read_end.Goals as goal
 
 pub returns-in_err-rest : goal.returns-in_err-rest

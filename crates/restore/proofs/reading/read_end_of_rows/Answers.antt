@@ -1,4 +1,4 @@
-use Rattle.restore.proofs.RoundLemmas.{rows_ended}
+use Rattle.restore.proofs.taking.Rounds.{rows_ended}
 use Rattle.restore.proofs.reading.read_end_of_rows.Goals as goal
 
 pub returns : goal.returns

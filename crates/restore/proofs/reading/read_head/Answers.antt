@@ -1,8 +1,8 @@
 use Rattle.std.proofs.Common.{[], Ok, refl, sym, ◌∙◌}
 use Rattle.std.proofs.lemmas.Result.{err_from_is_err_and}
 use Rattle.restore.specs.Reading.{Progress, Start, Created, version}
-use Rattle.restore.proofs.StepLemmas.{stops}
-use Rattle.restore.proofs.ReadingLemmas.{stops_at, no_next, stepped, refuses, first_is, version_read}
+use Rattle.restore.proofs.stepwise.Refusals.{stops}
+use Rattle.restore.proofs.stepwise.Reading.{stops_at, no_next, stepped, refuses, first_is, version_read}
 use Rattle.restore.proofs.reading.read_head.Goals as goal
 
 pub returns-in_err-line : goal.returns-in_err-line

@@ -4,8 +4,8 @@ use Rattle.std.proofs.lemmas.Result.{err_from_is_err_and}
 use Rattle.dumpplan.specs.Lines.{end_of_rows}
 use Rattle.restore.specs.Steps.{◌>>=◌}
 use Rattle.restore.specs.Reading.{Within, ended, with_row}
-use Rattle.restore.proofs.StepLemmas.{stops}
-use Rattle.restore.proofs.ReadingLemmas.{stops_at, no_next, stepped, refuses, rows_end, row_is}
+use Rattle.restore.proofs.stepwise.Refusals.{stops}
+use Rattle.restore.proofs.stepwise.Reading.{stops_at, no_next, stepped, refuses, rows_end, row_is}
 use Rattle.restore.proofs.reading.read_rows.Goals as goal
 
 pub returns-in_err-line-clause-rows : goal.returns-in_err-line-clause-rows

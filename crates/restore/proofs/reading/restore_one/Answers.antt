@@ -1,4 +1,4 @@
-use Rattle.restore.proofs.WholeLemmas.{answers_read, answers_stopped}
+use Rattle.restore.proofs.faults.Whole.{answers_read, answers_stopped}
 use Rattle.restore.proofs.reading.restore_one.Goals as goal
 
 pub returns-in-Ok-clause-dump : goal.returns-in-Ok-clause-dump

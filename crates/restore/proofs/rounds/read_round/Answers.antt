@@ -1,8 +1,8 @@
 use Rattle.std.proofs.Common.{Bor, List, ℕ, IfOk, get_or, ◌≤◌, ◌*◌, map, subst, length, arith}
 use Rattle.std.specs.Option.{option_copied}
 use Rattle.restore.specs.Rows.{IsPiece}
-use Rattle.restore.proofs.PieceLemmas.{EachIs, are_pieces, are_known}
-use Rattle.restore.proofs.RoundLemmas.{covers}
+use Rattle.restore.proofs.taking.Pieces.{EachIs, are_pieces, are_known}
+use Rattle.restore.proofs.taking.Rounds.{covers}
 use Rattle.restore.proofs.rounds.read_round.Goals as goal
 
 pub returns-clause-read : goal.returns-clause-read

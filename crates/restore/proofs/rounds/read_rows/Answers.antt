@@ -1,6 +1,6 @@
 use Rattle.std.proofs.Common.{Bor, List, ℕ, map, subst, arith}
 use Rattle.restore.specs.Rows.{AreRead}
-use Rattle.restore.proofs.RoundLemmas.{read_to-first, read_to-next}
+use Rattle.restore.proofs.taking.Rounds.{read_to-first, read_to-next}
 use Rattle.restore.proofs.rounds.read_rows.Goals as goal
 
 pub loop-start-init : goal.loop-start-init

@@ -1,5 +1,5 @@
 use Rattle.std.proofs.Common.{◌≤◌, ◌-◌, length}
-use Rattle.restore.proofs.RoundLemmas.{AreReadTo}
+use Rattle.restore.proofs.taking.Rounds.{AreReadTo}
 use Rattle.restore.proofs.rounds.read_rows.Given as goal
 
 -- the lines so far are read

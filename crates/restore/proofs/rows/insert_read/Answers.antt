@@ -1,4 +1,4 @@
-use Rattle.restore.proofs.RowLemmas.{gives_row}
+use Rattle.restore.proofs.words.Row.{gives_row}
 use Rattle.restore.proofs.rows.insert_read.Goals as goal
 
 pub returns-clause-row : goal.returns-clause-row

@@ -1,8 +1,8 @@
 use Rattle.std.proofs.Common.{subst, sym}
 use Rattle.schema.specs.Inserting.{inserted}
 use Rattle.restore.specs.Rows.{AreStillThere}
-use Rattle.restore.proofs.StillThere.{still-same, still-inserted}
-use Rattle.restore.proofs.StepLemmas.{taken, refused}
+use Rattle.restore.proofs.taking.StillThere.{still-same, still-inserted}
+use Rattle.restore.proofs.stepwise.Refusals.{taken, refused}
 use Rattle.restore.proofs.rows.insert_row.Goals as goal
 
 pub returns-in-Ok-clause-row : goal.returns-in-Ok-clause-row

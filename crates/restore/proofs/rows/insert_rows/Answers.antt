@@ -1,7 +1,7 @@
 use Rattle.std.proofs.Common.{ap, arith, length}
 use Rattle.std.proofs.lemmas.List.{nil_from_length}
-use Rattle.restore.proofs.PieceLemmas.{inserting-first, inserted-next, inserted-stops, inserted-all}
-use Rattle.restore.proofs.StillThere.{still-same, still-on}
+use Rattle.restore.proofs.taking.Pieces.{inserting-first, inserted-next, inserted-stops, inserted-all}
+use Rattle.restore.proofs.taking.StillThere.{still-same, still-on}
 use Rattle.restore.proofs.rows.insert_rows.Goals as goal
 
 pub loop-row-init : goal.loop-row-init

@@ -4,7 +4,7 @@ use Rattle.schema.specs.Plain.{is_sound}
 use Rattle.restore.specs.Lines.{is_row_line}
 use Rattle.restore.specs.Reading.{kinds_of}
 use Rattle.restore.specs.Rows.{AreRead, AreStillThere}
-use Rattle.restore.proofs.PieceLemmas.{IsInserting}
+use Rattle.restore.proofs.taking.Pieces.{IsInserting}
 use Rattle.restore.proofs.rows.insert_rows.Given as goal
 
 -- the rows so far, and those left

@@ -1,5 +1,5 @@
 use Rattle.std.proofs.Common.{[]}
-use Rattle.restore.proofs.PieceLemmas.{read-next}
+use Rattle.restore.proofs.taking.Pieces.{read-next}
 use Rattle.restore.proofs.rows.read_each.Goals as goal
 
 pub loop-line-preserved : goal.loop-line-preserved

@@ -3,7 +3,7 @@ use Rattle.value.specs.declared.kind.Kind.{Kind}
 use Rattle.value.specs.declared.kind.Kind.TheVariants.{Bigint}
 use Rattle.restore.specs.Rows.{row_of_line}
 use Rattle.restore.specs.Steps.{Gives}
-use Rattle.restore.proofs.RowLemmas.{first_and_rest}
+use Rattle.restore.proofs.words.Row.{first_and_rest}
 use Rattle.restore.proofs.rows.row_of_line.Goals as goal
 
 pub returns-in-len1-up : goal.returns-in-len1-up

@@ -1,7 +1,7 @@
 use Rattle.std.proofs.Common.{◌∷◌}
 use Rattle.std.proofs.lemmas.Result.{err_from_is_err_and}
 use Rattle.copytext.specs.Reading.{line_values}
-use Rattle.restore.proofs.StepLemmas.{refused_or_memory}
+use Rattle.restore.proofs.stepwise.Refusals.{refused_or_memory}
 use Rattle.restore.proofs.rows.values_of.Goals as goal
 
 pub returns-in_err-read_key_row : goal.returns-in_err-read_key_row

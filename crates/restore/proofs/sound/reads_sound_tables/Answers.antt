@@ -1,6 +1,6 @@
 use Rattle.std.proofs.Common.{◌∙◌}
-use Rattle.restore.proofs.SoundReading.{dump_good}
-use Rattle.restore.proofs.WholeLemmas.{dump_agrees}
+use Rattle.restore.proofs.stepwise.Sound.{dump_good}
+use Rattle.restore.proofs.faults.Whole.{dump_agrees}
 use Rattle.restore.proofs.sound.reads_sound_tables.Goals as goal
 
 pub returns : goal.returns

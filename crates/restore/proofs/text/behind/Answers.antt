@@ -4,7 +4,7 @@ use Rattle.std.specs.Option.{option_copied}
 use Rattle.std.proofs.lemmas.Bool.Decides.{Decides-eqb}
 use Rattle.std.proofs.lemmas.Slice.Eq.{strip_prefix_is}
 use Rattle.restore.specs.CreateLine.{behind}
-use Rattle.restore.proofs.TextLemmas.{behind-append, behind-none}
+use Rattle.restore.proofs.words.Texts.{behind-append, behind-none}
 use Rattle.restore.proofs.text.behind.Goals as goal
 
 stripped : (bytes text : List ℕ) (r : Option (Bor (List ℕ))) → MatchOption r ((rest : List ℕ) → text ≡ bytes ++ rest → ⊥) (λ x. text ≡ bytes ++ x.now) → option_copied r ≡ behind bytes text

@@ -1,4 +1,4 @@
-use Rattle.restore.proofs.TextLemmas.{split-whole, split-parted}
+use Rattle.restore.proofs.words.Texts.{split-whole, split-parted}
 use Rattle.restore.proofs.text.first_part.Goals as goal
 
 pub returns-in-Some-clause-parts : goal.returns-in-Some-clause-parts

@@ -1,4 +1,4 @@
-use Rattle.restore.proofs.TextLemmas.{parted-position, parted-no_position}
+use Rattle.restore.proofs.words.Texts.{parted-position, parted-no_position}
 use Rattle.restore.proofs.text.parted.Goals as goal
 
 pub returns-in-Some-clause-parts : goal.returns-in-Some-clause-parts

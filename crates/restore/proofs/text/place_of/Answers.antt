@@ -1,4 +1,4 @@
-use Rattle.restore.proofs.ByteLemmas.{first_place}
+use Rattle.restore.proofs.words.Bytes.{first_place}
 use Rattle.restore.proofs.text.place_of.Goals as goal
 
 pub returns-clause-place : goal.returns-clause-place

@@ -1,8 +1,8 @@
 use Rattle.std.proofs.Common.{◌∷◌}
 use Rattle.std.proofs.lemmas.Result.{err_from_is_err_and}
 use Rattle.restore.specs.Reading.{lines_of, kinds_of}
-use Rattle.restore.proofs.RoundLemmas.{some_lines, waiting-next}
-use Rattle.restore.proofs.TakingLemmas.{pieces_same}
+use Rattle.restore.proofs.taking.Rounds.{some_lines, waiting-next}
+use Rattle.restore.proofs.taking.Taking.{pieces_same}
 use Rattle.restore.proofs.workers.Workers.next_round.Goals as goal
 
 pub returns-clause-begun : goal.returns-clause-begun

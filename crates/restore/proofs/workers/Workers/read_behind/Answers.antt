@@ -1,7 +1,7 @@
 use Rattle.std.proofs.Common.{Some, refl}
 use Rattle.std.proofs.lemmas.Result.{err_from_is_err_and}
 use Rattle.schema.specs.Definition.{columns_of}
-use Rattle.restore.proofs.StillThere.{free-still, may_rise, still-same}
+use Rattle.restore.proofs.taking.StillThere.{free-still, may_rise, still-same}
 use Rattle.restore.proofs.workers.Workers.read_behind.Goals as goal
 
 pub returns-in_err-tables : goal.returns-in_err-tables

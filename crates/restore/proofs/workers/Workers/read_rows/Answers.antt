@@ -4,8 +4,8 @@ use Rattle.restore.specs.Reading.{Within, lines_of, read_lines}
 use Rattle.schema.specs.Definition.{columns_of}
 use Rattle.restore.specs.Rounds.{Told}
 use Rattle.restore.specs.Rows.{MayRise}
-use Rattle.restore.proofs.ReadingLemmas.{split_some, stops_at}
-use Rattle.restore.proofs.RoundLemmas.{waiting-first, waiting-line}
+use Rattle.restore.proofs.stepwise.Reading.{split_some, stops_at}
+use Rattle.restore.proofs.taking.Rounds.{waiting-first, waiting-line}
 use Rattle.restore.proofs.workers.Workers.read_rows.Goals as goal
 
 pub loop-round-init : goal.loop-round-init

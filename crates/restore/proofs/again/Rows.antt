@@ -26,7 +26,7 @@ use Rattle.schema.specs.Plain.{is_null, cells, rows_of, row_at, has_kind, is_the
 use Rattle.schema.specs.Inserting.{is_of_kind, are_of_kinds, has_zero_byte, lacks_value, dangles, inserting_fault, inserted}
 use Rattle.copytext.specs.RoundTrip.{fit_kinds}
 use Rattle.schema.specs.WellFormed.{references_key}
-use Rattle.restore.proofs.CatalogLemmas.{key_there}
+use Rattle.restore.proofs.again.Catalog.{key_there}
 
 pub lt_is : (o : Ordering) → is_lt o ≡ true → o ≡ Less
 lt_is Less h = refl

@@ -25,12 +25,12 @@ use Rattle.restore.specs.Layout.{version, with_table, kinds_of, found, behind_cr
 use Rattle.restore.specs.Progress.{Progress, Start, Created, Before, Within, Behind, Whole, copies, creates, with_row, ended, row, count, step}
 use Rattle.restore.specs.Rows.{row_of_line}
 use Rattle.restore.specs.Steps.{◌>>=◌}
-use Rattle.restore.proofs.BehindLemmas.{row_fits, of_their_kinds, without_zeros}
-use Rattle.restore.proofs.KeyLemmas.{key_found, by_key_has, by_key_more, put_length}
-use Rattle.restore.proofs.LayoutLemmas.{same_catalog, begun_with, pushed, cut_off, catalog_more, more_text, rest_of, rest_same, rest_more, rest_other, rest_ended, at_end, Told}
-use Rattle.restore.proofs.PlaceLemmas.{lead_two, at_copy, at_count, at_rows, at_nothing, place_is, row_fault_is, new_key}
-use Rattle.restore.proofs.ReadingLemmas.{done_same}
-use Rattle.restore.proofs.RowLemmas.{with_row_is}
+use Rattle.restore.proofs.taking.Behind.{row_fits, of_their_kinds, without_zeros}
+use Rattle.restore.proofs.taking.Keys.{key_found, by_key_has, by_key_more, put_length}
+use Rattle.restore.proofs.faults.Layout.{same_catalog, begun_with, pushed, cut_off, catalog_more, more_text, rest_of, rest_same, rest_more, rest_other, rest_ended, at_end, Told}
+use Rattle.restore.proofs.faults.Place.{lead_two, at_copy, at_count, at_rows, at_nothing, place_is, row_fault_is, new_key}
+use Rattle.restore.proofs.stepwise.Reading.{done_same}
+use Rattle.restore.proofs.words.Row.{with_row_is}
 
 pub counts_is : (line : List ℕ) (counted : Bool) → version line ≡ Ok counted → counts line ≡ counted
 counts_is line counted says = go (bytes_eq line (first_line true)) (bytes_eq line (first_line false)) says

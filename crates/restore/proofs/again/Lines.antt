@@ -14,8 +14,8 @@ use Rattle.schema.specs.WellFormed.{is_key_unmarked, is_table_after, are_tables_
 use Rattle.restore.specs.Steps.{◌>>=◌}
 use Rattle.restore.specs.CreateLine.{well_formed, table_of}
 use Rattle.restore.specs.Reading.{Progress, Start, Created, Whole, step, after, read_lines}
-use Rattle.restore.proofs.CatalogLemmas.{IsTableAfter, table_after, IsFound, IsFound-push, IsNamed, columns_named, defined_again, added_again}
-use Rattle.restore.proofs.SpellingLemmas.{is_key_first, behind_words, table_again}
+use Rattle.restore.proofs.again.Catalog.{IsTableAfter, table_after, IsFound, IsFound-push, IsNamed, columns_named, defined_again, added_again}
+use Rattle.restore.proofs.again.Spelling.{is_key_first, behind_words, table_again}
 
 pub itself : (text : List ℕ) → bytes_eq text text ≡ true
 itself text = (bytes_eq-Decides text text).1 refl

@@ -19,8 +19,8 @@ use Rattle.std.specs.Ordering.{is_lt}
 use Rattle.restore.specs.declared.error.LineError.{LineError}
 use Rattle.restore.specs.declared.rows.ReadPiece.{ReadPiece}
 use Rattle.restore.specs.Rows.{is_free, rise_from, rise, AreStillThere, AreKnown, MayRise}
-use Rattle.restore.proofs.BehindLemmas.{none_dangles}
-use Rattle.restore.proofs.ReadingLemmas.{done_same}
+use Rattle.restore.proofs.taking.Behind.{none_dangles}
+use Rattle.restore.proofs.stepwise.Reading.{done_same}
 
 two_places : (n t : ℕ) → (n ≤ t) ⊎ (t < n)
 two_places n t = grind arith

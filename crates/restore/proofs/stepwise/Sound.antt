@@ -25,8 +25,8 @@ use Rattle.restore.specs.Steps.{◌>>=◌}
 use Rattle.restore.specs.CreateLine.{behind}
 use Rattle.restore.specs.Reading.{Progress, Start, Created, Before, Within, Behind, Whole, version, copies, ended, kinds_of, lines_of, with_row, with_table, with_values, whole, after, step, read_lines}
 use Rattle.schema.proofs.LiteralLemmas.{literal_fits}
-use Rattle.restore.proofs.ReadingLemmas.{done_same, empty_is_sound}
-use Rattle.restore.proofs.RowLemmas.{row_of}
+use Rattle.restore.proofs.stepwise.Reading.{done_same, empty_is_sound}
+use Rattle.restore.proofs.words.Row.{row_of}
 
 abbrev done : {T E : Type 0} → T → Result T E
 done x = Ok x

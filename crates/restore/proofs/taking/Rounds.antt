@@ -22,9 +22,9 @@ use Rattle.restore.specs.Reading.{Within, ended, lines_of, kinds_of, read_lines}
 use Rattle.restore.specs.Rounds.{Told, AreWaiting, AreIn}
 use Rattle.restore.specs.Rows.{AreRead, ArePieces}
 use Rattle.restore.specs.Steps.{Reads}
-use Rattle.restore.proofs.PieceLemmas.{read-append}
-use Rattle.restore.proofs.ReadingLemmas.{stepped, rows_end, no-line}
-use Rattle.restore.proofs.TextLemmas.{split-parted}
+use Rattle.restore.proofs.taking.Pieces.{read-append}
+use Rattle.restore.proofs.stepwise.Reading.{stepped, rows_end, no-line}
+use Rattle.restore.proofs.words.Texts.{split-parted}
 
 -- ---- the end of the rows
 

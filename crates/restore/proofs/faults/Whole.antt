@@ -16,10 +16,10 @@ use Rattle.restore.specs.Reading.{said_by, unless_faulty, read_dump}
 use Rattle.restore.specs.Steps.{Stops, fault, no_memory, restore_fault}
 use Rattle.restore.specs.declared.error.ReadError.{ReadError}
 use Rattle.restore.specs.declared.error.ReadError.TheVariants as read
-use Rattle.restore.proofs.AnswerLemmas.{Holds, At, IsAt, Agrees, counts_is, place_of, start, lead_zero, stepped}
-use Rattle.restore.proofs.LayoutLemmas.{first_part}
-use Rattle.restore.proofs.PlaceLemmas.{lead_two, at_copy, at_count, at_rows, at_nothing, one_less}
-use Rattle.restore.proofs.ReadingLemmas.{more_lines}
+use Rattle.restore.proofs.faults.Answer.{Holds, At, IsAt, Agrees, counts_is, place_of, start, lead_zero, stepped}
+use Rattle.restore.proofs.faults.Layout.{first_part}
+use Rattle.restore.proofs.faults.Place.{lead_two, at_copy, at_count, at_rows, at_nothing, one_less}
+use Rattle.restore.proofs.stepwise.Reading.{more_lines}
 
 all_but_last : (before all : List (List ℕ)) (last : List ℕ) → all ≡ before ++ last ∷ [] → take (length all - 1) all ≡ before
 all_but_last before all last is = rw is (ap (λ (n : ℕ). take n (before ++ last ∷ [])) (one_less before last) ∙ take-append_seam before (last ∷ []))

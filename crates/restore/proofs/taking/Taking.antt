@@ -17,9 +17,9 @@ use Rattle.restore.specs.Lines.{is_row_line}
 use Rattle.restore.specs.Reading.{Within, kinds_of, read_lines}
 use Rattle.restore.specs.Rows.{row_of_line, IsNext, AreRead, AreStillThere, ArePieces}
 use Rattle.restore.specs.Steps.{Gives, Stops}
-use Rattle.restore.proofs.FollowedLemmas.{IsFollowed, followed-next}
-use Rattle.restore.proofs.PieceLemmas.{read-length, some_more}
-use Rattle.restore.proofs.ReadingLemmas.{stops_at}
+use Rattle.restore.proofs.taking.Followed.{IsFollowed, followed-next}
+use Rattle.restore.proofs.taking.Pieces.{read-length, some_more}
+use Rattle.restore.proofs.stepwise.Reading.{stops_at}
 
 halves : (size : ℕ) (last more : List (List ℕ)) → last ++ more ≡ take size last ++ (drop size last ++ more)
 halves size last more = ap (λ (ls : List (List ℕ)). ls ++ more) (sym (take-append-drop size last)) ∙ append_assoc (take size last) (drop size last) more

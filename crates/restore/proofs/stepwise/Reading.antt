@@ -21,7 +21,7 @@ use Rattle.restore.specs.Steps.{◌>>=◌, fault, Fails, Stops, Reads, read_erro
 use Rattle.restore.specs.CreateLine.{behind, parted}
 use Rattle.restore.specs.Lines.{IsNoLine, IsOtherLine, IsWantedLine, IsEnd}
 use Rattle.restore.specs.Reading.{Progress, Start, Created, Before, Within, Behind, Whole, lines_of, version, first, with_table, with_row, ended, whole, after, step, read_lines}
-use Rattle.restore.proofs.TextLemmas.{split-whole, split-parted}
+use Rattle.restore.proofs.words.Texts.{split-whole, split-parted}
 
 onto_some : (b : ℕ) (parts : List (List ℕ)) → onto_first b parts ≡ [] → ⊥
 onto_some b [] e = absurd cc

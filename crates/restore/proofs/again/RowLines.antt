@@ -21,7 +21,7 @@ use Rattle.copytext.specs.RoundTrip.{fit_kinds}
 use Rattle.copytext.proofs.EscapedLemmas.{written, escaped_plain, escaped_letter, no_break-escaped}
 use Rattle.copytext.proofs.RoundTrip.{IsText, field_is}
 use Rattle.dumpplan.specs.Lines.{comma_separated, copy_line, end_of_rows, number_text, rows_line}
-use Rattle.restore.proofs.SpellingLemmas.{Lacks, lacks-append, all_lack, joined_lacks, name_lacks}
+use Rattle.restore.proofs.again.Spelling.{Lacks, lacks-append, all_lack, joined_lacks, name_lacks}
 
 -- ---- the line that ends rows
 

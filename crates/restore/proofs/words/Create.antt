@@ -18,7 +18,7 @@ use Rattle.restore.specs.declared.error.LineError.TheVariants as line
 use Rattle.restore.specs.CreateLine.{behind, name_of, referenced, well_formed, other_column, other_columns, parts_of}
 use Rattle.std.specs.Borrow.{Bor}
 use Rattle.std.specs.Option.{option_copied}
-use Rattle.restore.proofs.StepLemmas.{failed, same_refusal}
+use Rattle.restore.proofs.stepwise.Refusals.{failed, same_refusal}
 
 -- ---- names are ASCII
 

@@ -24,10 +24,10 @@ use Rattle.dumpplan.specs.Lines.{copy_line, row_line, end_of_rows, rows_line, la
 use Rattle.schema.specs.WellFormed.{references_key, is_table_after, are_tables_after}
 use Rattle.restore.specs.Steps.{◌>>=◌}
 use Rattle.restore.specs.Reading.{Before, Within, Behind, Whole, kinds_of, copies, with_values, with_row, ended, step}
-use Rattle.restore.proofs.CatalogLemmas.{table_after}
-use Rattle.restore.proofs.RowsAgain.{kinds_fit, inserted_again}
-use Rattle.restore.proofs.RowLines.{row_isnt_end}
-use Rattle.restore.proofs.LinesAgain.{GoesTo, nowhere, goes_on, goes_through, itself, at_seam, columns_at}
+use Rattle.restore.proofs.again.Catalog.{table_after}
+use Rattle.restore.proofs.again.Rows.{kinds_fit, inserted_again}
+use Rattle.restore.proofs.again.RowLines.{row_isnt_end}
+use Rattle.restore.proofs.again.Lines.{GoesTo, nowhere, goes_on, goes_through, itself, at_seam, columns_at}
 
 module _ {A : Type 0} where
   -- ---- one row

@@ -26,10 +26,10 @@ use Rattle.restore.specs.Steps.{◌>>=◌, Gives}
 use Rattle.restore.specs.Reading.{kinds_of, with_row}
 use Rattle.restore.specs.Rows.{row_of_values, row_of_line, is_behind, IsNext}
 use Rattle.schema.proofs.LiteralLemmas.{literal_fits}
-use Rattle.restore.proofs.ReadingLemmas.{done_same}
-use Rattle.restore.proofs.RowLemmas.{row_of, with_row_is}
-use Rattle.restore.proofs.RowsAgain.{kind_is, no_zero, no_fault, inserted_by}
-use Rattle.restore.proofs.SoundReading.{bind_ok, row_kept}
+use Rattle.restore.proofs.stepwise.Reading.{done_same}
+use Rattle.restore.proofs.words.Row.{row_of, with_row_is}
+use Rattle.restore.proofs.again.Rows.{kind_is, no_zero, no_fault, inserted_by}
+use Rattle.restore.proofs.stepwise.Sound.{bind_ok, row_kept}
 
 -- nothing is found where none is answered
 pub none_found : {X : Type 0} (found : Option (Bor X)) (there : Option X) (none : Bool) → option_copied found ≡ there → is_some found ≡ not none → none ≡ not (is_some there)

@@ -9,9 +9,9 @@ use Rattle.schema.specs.declared.tables.Tables.{Tables}
 use Rattle.schema.specs.Rows.{Rows, put_row}
 use Rattle.restore.specs.declared.error.LineError.{LineError}
 use Rattle.restore.specs.Rows.{is_free, IsNext, rise_from, rise, follows, AreStillThere}
-use Rattle.restore.proofs.BehindLemmas.{still_behind}
-use Rattle.restore.proofs.RowsAgain.{lt_is}
-use Rattle.restore.proofs.StillThere.{free-still, rise_from-too}
+use Rattle.restore.proofs.taking.Behind.{still_behind}
+use Rattle.restore.proofs.again.Rows.{lt_is}
+use Rattle.restore.proofs.taking.StillThere.{free-still, rise_from-too}
 
 module _ {A : Type 0} where
   -- the next of some rows may be put behind a table, and those behind it rise from its key

@@ -15,7 +15,7 @@ use Rattle.schema.specs.declared.row.Row.{Row}
 use Rattle.schema.specs.declared.tables.Tables.{Tables}
 use Rattle.restore.specs.Layout.{catalog_of, parts, lead, Count, Copy, Rows, Nothing, place_in, place_behind}
 use Rattle.restore.specs.Faults.{has_key, names_none, row_fault}
-use Rattle.restore.proofs.LayoutLemmas.{at_last}
+use Rattle.restore.proofs.faults.Layout.{at_last}
 
 equal_test : (a b : ℕ) → a ≡ b → (a == b) ≡ true
 equal_test a b e = grind (arith, nat_tests)

@@ -13,12 +13,12 @@ use Rattle.dumpplan.specs.Lines.{written, create_line, copy_line, row_line, end_
 use Rattle.schema.specs.WellFormed.{is_table_after, are_tables_after, is_catalog}
 use Rattle.restore.specs.Reading.{Start, Created, Before, Whole, lines_of, step, read_lines}
 use Rattle.restore.specs.Progress.{read_in_steps}
-use Rattle.restore.proofs.CatalogLemmas.{table_after, IsFound, IsNamed, named_tables}
-use Rattle.restore.proofs.SpellingLemmas.{Lacks, all_lack, cut_at, create_line_lacks}
-use Rattle.restore.proofs.RowsAgain.{kinds_fit}
-use Rattle.restore.proofs.RowLines.{row_lacks, copy_line_lacks, rows_line_lacks}
-use Rattle.restore.proofs.LinesAgain.{GoesTo, goes_on, goes_through, goes_alike, reads_whole, first_step, created_again, written_key_first}
-use Rattle.restore.proofs.TablesAgain.{may_stand, tables_go}
+use Rattle.restore.proofs.again.Catalog.{table_after, IsFound, IsNamed, named_tables}
+use Rattle.restore.proofs.again.Spelling.{Lacks, all_lack, cut_at, create_line_lacks}
+use Rattle.restore.proofs.again.Rows.{kinds_fit}
+use Rattle.restore.proofs.again.RowLines.{row_lacks, copy_line_lacks, rows_line_lacks}
+use Rattle.restore.proofs.again.Lines.{GoesTo, goes_on, goes_through, goes_alike, reads_whole, first_step, created_again, written_key_first}
+use Rattle.restore.proofs.again.Tables.{may_stand, tables_go}
 
 -- ---- a text of lines, each ended by a newline, is cut into these lines
 

@@ -19,9 +19,9 @@ use Rattle.restore.specs.Reading.{Within, lines_of, kinds_of, with_row, read_lin
 use Rattle.restore.specs.declared.rows.ReadPiece.{ReadPiece}
 use Rattle.restore.specs.Rows.{row_of_line, rise, AreRead, IsPiece, ArePieces, AreKnown}
 use Rattle.restore.specs.Steps.{◌>>=◌, Gives, Fails, Stops, read_error}
-use Rattle.restore.proofs.StepLemmas.{stops}
-use Rattle.restore.proofs.ReadingLemmas.{row_is, stops_at, stepped_on, refused_on}
-use Rattle.restore.proofs.TextLemmas.{split-parted}
+use Rattle.restore.proofs.stepwise.Refusals.{stops}
+use Rattle.restore.proofs.stepwise.Reading.{row_is, stops_at, stepped_on, refused_on}
+use Rattle.restore.proofs.words.Texts.{split-parted}
 
 zero-mul : (n : ℕ) → 0 * n ≡ 0
 zero-mul n = omega arith

@@ -1,0 +1,5 @@
+pub mod Answer
+pub mod First
+pub mod Layout
+pub mod Place
+pub mod Whole

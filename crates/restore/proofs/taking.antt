@@ -1,0 +1,7 @@
+pub mod Behind
+pub mod Followed
+pub mod Keys
+pub mod Pieces
+pub mod Rounds
+pub mod Taking
+pub mod StillThere

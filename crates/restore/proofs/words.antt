@@ -1,0 +1,4 @@
+pub mod Bytes
+pub mod Texts
+pub mod Create
+pub mod Row
