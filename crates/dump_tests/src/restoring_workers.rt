@@ -11,19 +11,29 @@ use std::alloc::Global;
 use std::thread::Threads;
 use value::refusal::Refusal;
 
-// A dump of one table of so many rows.
-fn many_rows(alloc: Global, count: u32) -> Result<String, Refusal> {
+// Writes so many rows of a table behind its COPY line, and their end. Each row's second column is its first once more.
+fn push_rows(alloc: Global, text: &mut String, count: u32) -> Result<(), Refusal> {
+    for row in 0..count {
+        let line = format!(in alloc; "{row}\t{row}\n")?;
+        text.push_str(line.as_str())?;
+    }
+    let end = format!(in alloc; "\\.\n-- rows {count}\n")?;
+    text.push_str(end.as_str())?;
+    Ok(())
+}
+
+// A dump of two tables of so many rows each, of which the second refers to the first.
+fn many_rows(alloc: Global, count: u32, referring: u32) -> Result<String, Refusal> {
     let head = "-- dump 2
 CREATE TABLE t (id bigint PRIMARY KEY, name text);
+CREATE TABLE u (id bigint PRIMARY KEY, t bigint REFERENCES t);
 COPY t (id, name) FROM stdin;
 ";
     let mut text = String::from_str(alloc, head)?;
-    for row in 0..count {
-        let line = format!(in alloc; "{row}\tname {row}\n")?;
-        text.push_str(line.as_str())?;
-    }
-    let end = format!(in alloc; "\\.\n-- rows {count}\n-- end\n")?;
-    text.push_str(end.as_str())?;
+    push_rows(alloc, &mut text, count)?;
+    text.push_str("COPY u (id, t) FROM stdin;\n")?;
+    push_rows(alloc, &mut text, referring)?;
+    text.push_str("-- end\n")?;
     Ok(text)
 }
 
@@ -43,13 +53,14 @@ fn read<R: Threads + Sync, G: Gate>(
 
 #[test]
 fn pieces_of_a_thousand_lines(rt: HostRuntime) -> Result<(), Refusal> {
-    for (rows, jobs, pieces) in [
-        (2000, 1, 110),
-        (2000, 2, 110),
-        (2001, 2, 1110),
-        (2001, 8, 1110),
+    for (rows, referring, jobs, pieces) in [
+        (2000, 0, 1, 110),
+        (2000, 0, 2, 110),
+        (2001, 0, 8, 1110),
+        (2001, 1500, 2, 111_110),
+        (2001, 1500, 8, 111_110),
     ] {
-        let dump = many_rows(rt.alloc(), rows)?;
+        let dump = many_rows(rt.alloc(), rows, referring)?;
         let gate = Counting::new();
         read(&rt, rt.alloc(), dump.as_str(), jobs, &gate)?;
         assert!(rt; gate.counts() == (pieces, pieces));
@@ -59,7 +70,7 @@ fn pieces_of_a_thousand_lines(rt: HostRuntime) -> Result<(), Refusal> {
 
 #[test]
 fn workers_read_side_by_side(rt: HostRuntime) -> Result<(), Refusal> {
-    let dump = many_rows(rt.alloc(), 9001)?;
+    let dump = many_rows(rt.alloc(), 9001, 0)?;
     for jobs in [2, 8] {
         let gate = Meeting::new(rt.alloc(), jobs as usize)?;
         let tables = read(&rt, rt.alloc(), dump.as_str(), jobs, &gate)?;

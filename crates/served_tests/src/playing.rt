@@ -103,9 +103,12 @@ fn told<'w, J: Naming<Global>, R: Threads + Wait + Abort + Sync>(
     match asked {
         "WAIT" => word_of(&server.wait_safe(rt, alloc, pass)),
         "VIEW" => viewed(rt, alloc, server, pass, barrier),
-        "DUMP 1" => dumped(rt, alloc, server, pass, 1, barrier),
-        "DUMP 2" => dumped(rt, alloc, server, pass, 2, barrier),
-        "DUMP 8" => dumped(rt, alloc, server, pass, 8, barrier),
+        "DUMP 1" => dumped(rt, alloc, server, pass, (1, 1), barrier),
+        "DUMP 1 BY 3" => dumped(rt, alloc, server, pass, (1, 3), barrier),
+        "DUMP 2" => dumped(rt, alloc, server, pass, (2, 1), barrier),
+        "DUMP 2 BY 3" => dumped(rt, alloc, server, pass, (2, 3), barrier),
+        "DUMP 8" => dumped(rt, alloc, server, pass, (8, 1), barrier),
+        "DUMP 8 BY 3" => dumped(rt, alloc, server, pass, (8, 3), barrier),
         "SHUT" | "OPEN" | "REACH" => at_barrier(asked, barrier),
         _ => reply(rt, alloc, server, pass, asked, barrier),
     }

@@ -21,7 +21,7 @@ use std::thread::Threads;
 use value::refusal::Refusal;
 
 // Scripts of three sessions, with blank lines between them. A line has a session's number, what it asks for and what it
-// is answered. AFTER 6 waits for six events. At SHUT and OPEN a barrier is shut and opened at which SELECTs, views and
+// is answered. AFTER 6 waits for six events. DUMP 2 BY 3 is a dump by two jobs with three rows a piece, one where no number of rows is said. At SHUT and OPEN a barrier is shut and opened at which SELECTs, views and
 // dumps are held, and REACH waits until one is.
 const SCRIPTS: &str = "\
 1 BEGIN: begun
@@ -195,6 +195,69 @@ const SCRIPTS: &str = "\
 3 WAIT: safe
 3 SHUT: done
 3 DUMP 8: seven rows
+2 REACH: reached
+2 BEGIN: begun
+2 INSERT INTO a VALUES (2): inserted
+2 DELETE FROM a WHERE id = 9: deleted
+2 COMMIT: committed
+2 OPEN: done
+
+1 BEGIN: begun
+1 INSERT INTO a VALUES (9): inserted
+1 INSERT INTO a VALUES (1): inserted
+1 INSERT INTO a VALUES (8): inserted
+1 INSERT INTO a VALUES (3): inserted
+1 INSERT INTO a VALUES (7): inserted
+1 INSERT INTO a VALUES (4): inserted
+1 INSERT INTO a VALUES (6): inserted
+1 COMMIT: committed
+3 AFTER 9: seen
+3 BEGIN READ ONLY DEFERRABLE: begun
+3 WAIT: safe
+3 SHUT: done
+3 DUMP 1 BY 3: seven rows
+2 REACH: reached
+2 BEGIN: begun
+2 INSERT INTO a VALUES (2): inserted
+2 DELETE FROM a WHERE id = 9: deleted
+2 COMMIT: committed
+2 OPEN: done
+
+1 BEGIN: begun
+1 INSERT INTO a VALUES (9): inserted
+1 INSERT INTO a VALUES (1): inserted
+1 INSERT INTO a VALUES (8): inserted
+1 INSERT INTO a VALUES (3): inserted
+1 INSERT INTO a VALUES (7): inserted
+1 INSERT INTO a VALUES (4): inserted
+1 INSERT INTO a VALUES (6): inserted
+1 COMMIT: committed
+3 AFTER 9: seen
+3 BEGIN READ ONLY DEFERRABLE: begun
+3 WAIT: safe
+3 SHUT: done
+3 DUMP 2 BY 3: seven rows
+2 REACH: reached
+2 BEGIN: begun
+2 INSERT INTO a VALUES (2): inserted
+2 DELETE FROM a WHERE id = 9: deleted
+2 COMMIT: committed
+2 OPEN: done
+
+1 BEGIN: begun
+1 INSERT INTO a VALUES (9): inserted
+1 INSERT INTO a VALUES (1): inserted
+1 INSERT INTO a VALUES (8): inserted
+1 INSERT INTO a VALUES (3): inserted
+1 INSERT INTO a VALUES (7): inserted
+1 INSERT INTO a VALUES (4): inserted
+1 INSERT INTO a VALUES (6): inserted
+1 COMMIT: committed
+3 AFTER 9: seen
+3 BEGIN READ ONLY DEFERRABLE: begun
+3 WAIT: safe
+3 SHUT: done
+3 DUMP 8 BY 3: seven rows
 2 REACH: reached
 2 BEGIN: begun
 2 INSERT INTO a VALUES (2): inserted

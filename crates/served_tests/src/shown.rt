@@ -76,16 +76,18 @@ fn word_of(text: &[u8]) -> &'static str {
     }
 }
 
-/// What a dump of the session's snapshot by so many jobs says; the dump's pieces wait at the barrier.
+/// What a dump of the session's snapshot says, by so many jobs and with so many rows a piece; its pieces wait at the
+/// barrier.
 pub(crate) fn dumped<'w, J: Naming<Global>, R: Threads + Wait + Abort + Sync>(
     rt: &R,
     alloc: Global,
     server: &Server<'w, J>,
     pass: &mut Pass<'w, J>,
-    jobs: u32,
+    jobs_and_rows: (u32, u32),
     barrier: &Barrier,
 ) -> &'static str {
-    let (Some(jobs), Some(rows)) = (Jobs::new(jobs), PieceRows::new(1)) else {
+    let (jobs, rows) = jobs_and_rows;
+    let (Some(jobs), Some(rows)) = (Jobs::new(jobs), PieceRows::new(rows)) else {
         return "no jobs";
     };
     let mut tape = Tape::new(rt, alloc);
