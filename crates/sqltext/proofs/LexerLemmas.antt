@@ -18,7 +18,7 @@ drop-cons zero b text h = absurd (omega arith)
 drop-cons (suc n) b text h = let e : suc n - 1 ≡ n = omega arith in ap (λ k. drop k text) e
 
 -- one token, and those after it
-one_token : (after : Bool) (at : ℕ) (text : List ℕ) → 0 < length text → is_blank (slice_index text 0) ≡ false
+pub one_token : (after : Bool) (at : ℕ) (text : List ℕ) → 0 < length text → is_blank (slice_index text 0) ≡ false
     → 1 ≤ (first_token text after).1 → (first_token text after).1 ≤ length text
     → tokens_from after 0 at text ≡ token_at at (first_token text after) ∷ tokens_from (same_kind (first_token text after).0 kind.Number) 0 (at + (first_token text after).1) (drop (first_token text after).1 text)
 one_token after at [] some no_blank moves within = absurd (omega arith)

@@ -3,6 +3,7 @@ mod CreateLemmas
 mod EachLemmas
 mod FitsLemmas
 mod LexerLemmas
+mod lexemes
 mod ListLemmas
 mod PhraseLemmas
 mod RepeatLemmas

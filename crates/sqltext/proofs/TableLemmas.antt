@@ -8,16 +8,16 @@ use Rattle.sqltext.specs.declared.token.Token.{Token}
 use Rattle.sqltext.specs.declared.tree.Name.{Name}
 use Rattle.sqltext.specs.declared.tree.ColumnTree.{ColumnTree}
 use Rattle.sqltext.specs.Tokens.{same_kind}
-use Rattle.sqltext.specs.Reading.{◌>>=◌, expect, nothing_left, list_of}
+use Rattle.sqltext.specs.Reading.{◌>>=◌, syntax_error, expect, nothing_left, list_of}
 use Rattle.sqltext.specs.Grammar.{name as read_name}
 use Rattle.sqltext.specs.Creating.{TableParts, kind_of, kind_word as read_kind, reference as read_reference, mark as read_mark, key as read_key, column as read_column, others as read_others, table as read_table, whole}
 use Rattle.sqltext.specs.Spelling.{Phrase, this, word, ◌then◌, ◌or◌, more, separated, name}
 use Rattle.sqltext.specs.TableSpelling.{kind_token, kind_word, mark, reference, key, column, table, SpellsTable}
-use Rattle.sqltext.specs.Laws.{ReadsSpelledTables, SpellsOneTable}
+use Rattle.sqltext.specs.Laws.{ReadsSpelledTables, SpellsOneTable, BeginATable, NoTableGoesOn, RefusesTheFirstFaultOfATable}
 use Rattle.sqltext.proofs.PhraseLemmas.{Answer, Reader, Reads, reads_same, reads_as, reads_where, bind, Bound, reads_bind, into, Made, reads_into, Any}
 use Rattle.sqltext.proofs.ChoiceLemmas.{begins, avoided, this_avoids, word_avoids, then_avoids, one, reads_one, reads_expect, after, reads_after, reads_choice, pure, Is, reads_pure}
 use Rattle.sqltext.proofs.RepeatLemmas.{Without, reads_items}
-use Rattle.sqltext.proofs.WholeLemmas.{finish, all_of, ok_same, read_spelled, spelled_read}
+use Rattle.sqltext.proofs.WholeLemmas.{finish, all_of, NoneOn, FirstFault, ok_same, read_spelled, spelled_read, first_fault}
 use Rattle.sqltext.proofs.RuleLemmas.{made_avoids, reads_name}
 
 -- ---- the kind of a column
@@ -307,3 +307,11 @@ reads_spelled_tables ts t = (λ h. read_spelled front_of SpellsTable reads_front
 
 pub spells_one_table : SpellsOneTable
 spells_one_table ts t other_ s r = ok_same t other_ (sym (spelled_read front_of SpellsTable reads_front ts t s) ∙ spelled_read front_of SpellsTable reads_front ts other_ r)
+
+pub refuses_the_first_fault_of_a_table : RefusesTheFirstFaultOfATable
+refuses_the_first_fault_of_a_table ts e h = let f = first_fault front_of SpellsTable reads_front ts e (sym (same_whole ts) ∙ h) in go f f.rest refl
+  where
+    go : (f : FirstFault SpellsTable ts e) (rest : List Token) → f.rest ≡ rest
+        → (before : List Token) × (rest : List Token) × (ts ≡ before ++ rest) × (e ≡ syntax_error rest) × BeginATable before × NoTableGoesOn before rest
+    go f [] k = (f.before, [], f.all ∙ ap (λ (us : List Token). f.before ++ us) k, f.place ∙ ap syntax_error k, f.begun, subst (λ us. NoneOn SpellsTable f.before us) k f.ends)
+    go f (t ∷ us) k = (f.before, t ∷ us, f.all ∙ ap (λ (vs : List Token). f.before ++ vs) k, f.place ∙ ap syntax_error k, f.begun, subst (λ vs. NoneOn SpellsTable f.before vs) k f.ends)

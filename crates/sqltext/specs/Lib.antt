@@ -1,6 +1,7 @@
 pub mod Creating
 pub mod Grammar
 pub mod Laws
+pub mod Lexemes
 pub mod Parsed
 pub mod Reading
 pub mod Resolving

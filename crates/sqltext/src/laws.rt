@@ -1,12 +1,17 @@
 //! What holds of all that is parsed, as the contracts of functions that do nothing.
 
-ghost use Rattle.sqltext.specs.Laws.{SameReservedWords, ReadsWhatIsSpelled, SpellsOneTree, RefusesTheFirstFault, ParsesWhatIsSpelled, RefusesWhatIsNot, ReadsSpelledTables, SpellsOneTable};
+ghost use Rattle.sqltext.specs.Laws.{SameReservedWords, CutsAsSpelled, ReadsWhatIsSpelled, SpellsOneTree, RefusesTheFirstFault, ParsesWhatIsSpelled, RefusesWhatIsNot, ReadsSpelledTables, SpellsOneTable, RefusesTheFirstFaultOfATable, CreatesWhatIsSpelled, CreatesNothingElse};
 
 use std::alloc::Allocator;
 
 /// The reserved words are those that tables and columns may not be called.
 pub fn reserved_words_are_no_names()
     ensures { SameReservedWords }
+{}
+
+/// A text is cut into the tokens whose spellings, the longest that fit, make it up with blanks between, and into no others.
+pub fn texts_are_cut_as_spelled()
+    ensures { CutsAsSpelled }
 {}
 
 /// The tokens of a statement are read as its tree, and no others are.
@@ -30,4 +35,15 @@ pub fn texts_are_parsed_as_spelled<A: Allocator>()
 pub fn spelled_tables_are_read()
     ensures read { ReadsSpelledTables }
     ensures one { SpellsOneTable }
+{}
+
+/// A syntax error in a CREATE TABLE is at the first token after which none can follow.
+pub fn the_first_fault_of_a_table_is_refused()
+    ensures { RefusesTheFirstFaultOfATable }
+{}
+
+/// A text whose tokens spell a CREATE TABLE says its table, and any other is refused.
+pub fn tables_are_created_as_spelled()
+    ensures creates { CreatesWhatIsSpelled }
+    ensures refuses { CreatesNothingElse }
 {}

@@ -1,0 +1,4 @@
+pub mod Quoted
+pub mod Found
+pub mod First
+pub mod Cut
