@@ -1,7 +1,7 @@
 pub mod CauseLemmas
 mod AroundLemmas
 mod PieceLemmas
-pub mod CalmLemmas
+pub mod ActiveLemmas
 pub mod ReadLemmas
 mod ForgettingLemmas
 pub mod StretchLemmas

@@ -1,33 +1,37 @@
 -- What is forgotten: transactions that no later question asks for, and identifiers that don't live.
 -- Source: Ports and Grittner, "Serializable Snapshot Isolation in PostgreSQL" (VLDB 2012), section 6, on what may be cleaned up.
-use Rattle.std.specs.Prelude.{◌≡◌, ℕ, zero, suc, ◌+◌, nat_le, nat_lt, Bool, not, ◌&&◌, ◌||◌, List, length, filter}
+use Rattle.std.specs.Prelude.{◌≡◌, ℕ, zero, suc, ◌+◌, ◌==◌, nat_le, nat_lt, Bool, not, ◌&&◌, ◌||◌, List, length, filter}
 use Rattle.std.specs.List.{list_any}
-use Rattle.history.specs.Transactions.{Txn, edge, is_done, is_living, is_open, is_owed}
+use Rattle.history.specs.Transactions.{Txn, edge, is_done, is_living, is_open, is_owed, is_read_write}
 use Rattle.history.specs.Needed.{is_late_reader, is_needed, is_recent}
 use Rattle.plain.specs.declared.least.Which.{Which}
 use Rattle.plain.specs.declared.least.Which.TheVariants.{Owed, HoldingBack, Recent}
-use Rattle.plain.specs.Calm.{AreCalm, is_safe_from}
+use Rattle.plain.specs.Active.{first_active}
 use Rattle.plain.specs.Ledger.{Ledger, txn_at}
 use Rattle.plain.specs.Versions.{least_snapshot}
 
 module _ {A : Type 0} where
-  -- it is open, and doesn't only read from a snapshot that is known to be safe or was taken at one of these places
-  abbrev pub holds_back : List ℕ → Txn A → Bool
-  holds_back places t = is_open t.standing && not (is_safe_from places t)
+  -- it only reads, and its snapshot is known to be safe, or is one of these and was taken before this place
+  abbrev pub is_safe_from : List ℕ → ℕ → Txn A → Bool
+  is_safe_from unspoilt first t = not (is_read_write t.mode) && (t.known || nat_le t.taken first && list_any (λ n. n == t.snapshot) unspoilt)
 
-  -- the least snapshot of one that holds back, n where none has one below that
+  -- it is open, and no such reader
+  abbrev pub holds_back : List ℕ → ℕ → Txn A → Bool
+  holds_back unspoilt first t = is_open t.standing && not (is_safe_from unspoilt first t)
+
+  -- the least snapshot of one that holds back, where no commit has spoilt these snapshots; n where none has one below that
   abbrev pub oldest_of : List ℕ → ℕ → List (Txn A) → ℕ
-  oldest_of places n ts = least_snapshot (holds_back places) n ts
+  oldest_of unspoilt n ts = least_snapshot (holds_back unspoilt (first_active ts)) n ts
 
-  -- the snapshot from which on questions are asked, where nobody was active at these places who may write
+  -- the snapshot from which on questions are asked, where no commit has spoilt these
   abbrev pub oldest : List ℕ → Ledger A → ℕ
-  oldest places l = oldest_of places l.base.commits l.txns
+  oldest unspoilt l = oldest_of unspoilt l.base.commits l.txns
 
   -- those whose snapshots are looked at
   abbrev pub is_looked_at : List ℕ → Which → Txn A → Bool
-  is_looked_at places Owed t = is_owed t.standing
-  is_looked_at places HoldingBack t = holds_back places t
-  is_looked_at places (Recent n) t = is_recent n t
+  is_looked_at unspoilt Owed t = is_owed t.standing
+  is_looked_at unspoilt (HoldingBack first) t = holds_back unspoilt first t
+  is_looked_at unspoilt (Recent n) t = is_recent n t
 
   -- It matters, where the recent ones are among these, and none has a snapshot below reach.
   abbrev pub is_needed_among : ℕ → ℕ → List (Txn A) → Txn A → Bool
@@ -47,13 +51,11 @@ module _ {A : Type 0} where
   abbrev pub is_left : ℕ → ℕ → List (Txn A) → Txn A → Bool
   is_left k n ts u = nat_le u.number (number_before k ts) || is_needed n ts u
 
-  -- Of the transactions those are left that matter, where readers don't hold back whose snapshots were taken at calm places, and some from the front, of the identifiers those that live, in their order; and as many numbers are
+  -- Of the transactions those are left that matter, where no commit has spoilt these snapshots, and some from the front, of the identifiers those that live, in their order; and as many numbers are
   -- used up as before.
-  pub record IsThinned (l m : Ledger A) : Type 0 where
+  pub record IsThinned (unspoilt : List ℕ) (l m : Ledger A) : Type 0 where
     pub passed : ℕ
-    pub calm : List ℕ
-    pub are_calm : AreCalm calm l.place l.txns
-    pub txns : m.txns ≡ filter (is_left passed (oldest calm l) l.txns) l.txns
+    pub txns : m.txns ≡ filter (is_left passed (oldest unspoilt l) l.txns) l.txns
     pub exports : m.exports ≡ filter (is_living l.txns) l.exports
     pub transactions : m.base.transactions + length m.txns ≡ l.base.transactions + length l.txns
     pub commits : m.base.commits ≡ l.base.commits

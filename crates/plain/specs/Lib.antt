@@ -1,11 +1,12 @@
+pub mod Active
 pub mod Answers
-pub mod Calm
 pub mod Courses
 pub mod Earliest
 pub mod Forgetting
 pub mod Keys
 pub mod Ledger
 pub mod Merged
+pub mod Polls
 pub mod Runs
 pub mod Standings
 pub mod Stretches

@@ -17,6 +17,11 @@ is_failed _ = false
 abbrev pub are_quiet : {A : Type 0} → List (Txn A) → Bool
 are_quiet ts = list_all (λ t. not (is_owed t.standing)) ts
 
+-- the snapshot of the session's transaction, if it has one
+abbrev pub snapshot_of : {A : Type 0} → Option (Txn A) → Option ℕ
+snapshot_of None = None
+snapshot_of (Some t) = Some t.snapshot
+
 -- the tables that the session's transaction sees, if it has one, with its own tables again, of these tables by commit numbers
 abbrev pub reader_on : {A : Type 0} → (ℕ → Tables A) → Option (Txn A) → Result (Tables A) Refusal
 reader_on tables None = reader_of None

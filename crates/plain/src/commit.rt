@@ -20,7 +20,6 @@ ghost use Rattle.plain.specs.Structures.{StructuresHold};
 ghost use Rattle.plain.specs.Versions.{AreCurrent, HasSameCommits, IsInstalled, StayShown, lowest_of, needed_of, next_commit, owed_snapshots};
 
 use crate::answered::Answered;
-use crate::calm::keep_calm;
 use crate::cause::cause_at;
 use crate::course::Course;
 use crate::dooms::dooms;
@@ -284,7 +283,6 @@ impl<A: Allocator> World<A> {
         self.base.commits += 1;
         self.place += 1;
         leave_without(&mut self.past, at);
-        keep_calm(&mut self.calm, &self.transactions[at], committed);
         turn(&mut self.transactions, at, committed);
         doom_any(&mut self.transactions, causes, self.place);
     }

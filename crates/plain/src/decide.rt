@@ -1,20 +1,21 @@
 //! What is answered to a session's transaction where nothing but its course turns.
 
-ghost use Rattle.std.specs.Prelude.{◌≡◌, ◌+◌, ◌^◌, ◌<◌, ◌&&◌, not, true};
+ghost use Rattle.std.specs.Prelude.{◌≡◌, ◌+◌, ◌^◌, ◌<◌, false, true};
 ghost use Rattle.schema.specs.Definition.{Catalog};
 ghost use Rattle.schema.specs.declared.tables.Tables.{Tables};
 ghost use Rattle.history.specs.Transactions as spec;
-ghost use Rattle.history.specs.Transactions.{is_open, is_spoilt};
+ghost use Rattle.history.specs.Transactions.{is_open, is_spoilt, must_wait};
 ghost use Rattle.history.specs.Events.{moved, polled, settled, told, turned};
 ghost use Rattle.history.specs.Answer.{import_reply, open_reply, poll_reply, reply_from};
 ghost use Rattle.plain.specs.Courses.{IsBrief, is_simple, on_course};
-ghost use Rattle.plain.specs.Ledger.{is_awaited, is_pending_at, kept, world_on};
+ghost use Rattle.plain.specs.Ledger.{kept, world_on};
+ghost use Rattle.plain.specs.Polls.{IsToldSpoilt};
 ghost use Rattle.plain.specs.Standings.{standing_of};
 
 use crate::course::Course;
-use crate::transaction::{Standing, Transaction, is_read_write};
+use crate::transaction::{Standing, Transaction};
 use crate::world::World;
-use crate::{deferrable, reply, snapshots};
+use crate::{reply, snapshots};
 use history::event::Action;
 use statement::reply::Reply;
 use std::alloc::{Allocator, Global};
@@ -32,23 +33,6 @@ fn is_deferrable(mode: Mode) -> bool
     ensures { result ≡ spec.is_deferrable mode }
 {
     matches!(mode, Mode::Deferrable)
-}
-
-// Whether a transaction was active at a place of the events and is open still.
-fn is_awaited<A: Allocator>(other: &Transaction<A>, taken: u64) -> bool
-    ensures { result ≡ is_awaited taken other.now }
-{
-    is_read_write(other.mode)
-        && other.begin < taken
-        && (other.standing.is_open() || taken < other.end)
-        && other.standing.is_open()
-}
-
-// Whether one that was active at a place of the events is open still.
-fn is_pending_at<A: Allocator>(transactions: &[Transaction<A>], taken: u64) -> bool
-    ensures { result ≡ is_pending_at transactions.now taken }
-{
-    transactions.iter().any(|other| is_awaited(other, taken))
 }
 
 // How one that is doomed stands after an action.
@@ -73,29 +57,24 @@ fn settled<A: Allocator>(action: &Action<A>, standing: Standing) -> Standing
 }
 
 impl<A: Allocator> World<A> {
-    // Whether a transaction takes a new snapshot at a POLL.
-    fn retakes(&self, transaction: &Transaction<A>) -> bool
-        ensures { result ≡ (not transaction.now.known && is_spoilt self.now.txns transaction.now) }
-    {
-        !transaction.known && deferrable::is_spoilt(self.transactions.as_slice(), transaction)
-    }
-
-    // The course of a transaction whose snapshot isn't known to be safe, at a POLL.
-    fn polled(&self, transaction: &Transaction<A>) -> Course
-        requires { self.now.place + 1 < 2 ^ 64 }
+    // The course of a transaction at a POLL, which is told whether a commit has spoilt its snapshot.
+    fn polled(&self, transaction: &Transaction<A>, spoilt: bool) -> Course
+        requires room { self.now.place + 1 < 2 ^ 64 }
+        requires told { transaction.now.known ≡ false → spoilt ≡ is_spoilt self.now.txns transaction.now }
         ensures { (c : Catalog) (X : Tables A) →
             on_course result transaction.now ≡ kept (polled (world_on c X self.now) transaction.now) }
     {
-        if self.retakes(transaction) {
+        if !transaction.known && spoilt {
             transaction.sees(self.commits(), self.place + 1, transaction.known)
         } else {
             transaction.course()
         }
     }
 
-    // The answer to a POLL.
-    fn poll(&self, transaction: &Transaction<A>) -> Decision<A>
-        requires { self.now.place + 1 < 2 ^ 64 }
+    // The answer to a POLL, which is told whether a commit has spoilt the transaction's snapshot.
+    fn poll(&self, transaction: &Transaction<A>, spoilt: bool) -> Decision<A>
+        requires room { self.now.place + 1 < 2 ^ 64 }
+        requires told { must_wait transaction.now ≡ true → spoilt ≡ is_spoilt self.now.txns transaction.now }
         ensures reply { (c : Catalog) (X : Tables A) →
             result.reply ≡ poll_reply (world_on c X self.now) transaction.now }
         ensures course { (c : Catalog) (X : Tables A) →
@@ -115,8 +94,8 @@ impl<A: Allocator> World<A> {
                 course: transaction.course(),
             };
         }
-        let course = self.polled(transaction);
-        if is_pending_at(self.transactions.as_slice(), course.taken) {
+        let course = self.polled(transaction, spoilt);
+        if self.first_active() < course.taken {
             Decision {
                 reply: Reply::Wait,
                 course,
@@ -166,9 +145,15 @@ impl<A: Allocator> World<A> {
     }
 
     // The answer to an open transaction.
-    fn decide_open(&self, transaction: &Transaction<A>, action: &Action<A>) -> Decision<A>
+    fn decide_open(
+        &self,
+        transaction: &Transaction<A>,
+        action: &Action<A>,
+        spoilt: bool,
+    ) -> Decision<A>
         requires room { self.now.place + 1 < 2 ^ 64 }
         requires simple { is_simple action.now ≡ true }
+        requires told { IsToldSpoilt self.now.txns transaction.now action.now spoilt }
         ensures reply { (c : Catalog) (X : Tables A) →
             result.reply ≡ open_reply (world_on c X self.now) transaction.now action.now }
         ensures course { (c : Catalog) (X : Tables A) →
@@ -185,7 +170,7 @@ impl<A: Allocator> World<A> {
                 reply: Reply::Refused(*refusal),
                 course: transaction.ends(Standing::Failed, self.place + 1),
             },
-            Action::Poll => self.poll(transaction),
+            Action::Poll => self.poll(transaction, spoilt),
             Action::Import(id) => self.import(transaction, *id),
             Action::Rollback => Decision {
                 reply: Reply::RolledBack,
@@ -200,10 +185,17 @@ impl<A: Allocator> World<A> {
     }
 
     /// The answer to a session's transaction: to an open one where the action turns only its
-    /// course, and to one that is over.
-    pub(crate) fn decide(&self, transaction: &Transaction<A>, action: &Action<A>) -> Decision<A>
+    /// course, and to one that is over. A POLL is told whether a commit has spoilt its snapshot.
+    pub(crate) fn decide(
+        &self,
+        transaction: &Transaction<A>,
+        action: &Action<A>,
+        spoilt: bool,
+    ) -> Decision<A>
         requires room { self.now.place + 1 < 2 ^ 64 }
         requires simple { is_open transaction.now.standing ≡ true → is_simple action.now ≡ true }
+        requires told { is_open transaction.now.standing ≡ true →
+            IsToldSpoilt self.now.txns transaction.now action.now spoilt }
         ensures reply { (c : Catalog) (X : Tables A) →
             result.reply ≡ reply_from transaction.now.standing (world_on c X self.now) transaction.now action.now }
         ensures course { (c : Catalog) (X : Tables A) →
@@ -212,7 +204,7 @@ impl<A: Allocator> World<A> {
         ensures brief { IsBrief result.reply }
     {
         match transaction.standing {
-            Standing::Open => self.decide_open(transaction, action),
+            Standing::Open => self.decide_open(transaction, action, spoilt),
             Standing::Doomed(cause) => Decision {
                 reply: reply::doomed(cause, action),
                 course: transaction.stands(told(action, transaction.standing)),

@@ -12,7 +12,6 @@ ghost use Rattle.plain.specs.Ledger.{after_owned, turned_at, txn_at, world_on};
 ghost use Rattle.plain.specs.Versions.{HasSameCommits};
 
 use crate::answered::Answered;
-use crate::calm::keep_calm;
 use crate::course::Course;
 use crate::snapshots::ExportedSnapshot;
 use crate::stretch::leave_without;
@@ -63,7 +62,6 @@ impl<A: Allocator> World<A> {
     {
         self.exports.push(exported)?;
         leave_without(&mut self.past, at);
-        keep_calm(&mut self.calm, &self.transactions[at], course);
         turn(&mut self.transactions, at, course);
         self.place += 1;
         Ok(())

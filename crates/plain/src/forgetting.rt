@@ -9,7 +9,7 @@ ghost use Rattle.plain.specs.Ledger.{AreNumbered, txn_at};
 ghost use Rattle.plain.specs.Stretches.{HoldStretches};
 ghost use Rattle.plain.specs.Versions.{lowest};
 
-use crate::calm::keep_in_use;
+use crate::active::first_active;
 use crate::isolation::has_edge;
 use crate::least::{Which, is_recent, least_owed, least_snapshot};
 use crate::snapshots::{ExportedSnapshot, is_living};
@@ -143,17 +143,24 @@ pub(crate) fn keep_living<A: Allocator>(
     exports.retain(|exported| is_living(transactions, *exported));
 }
 
-// The snapshot from which on questions are asked, where these places are calm.
+// The snapshot from which on questions are asked, where no commit has spoilt these.
 fn oldest_of<A: Allocator>(
     transactions: &[Transaction<A>],
     past: &[Stretch],
-    calm: &[u64],
+    unspoilt: &[u64],
     commits: u64,
 ) -> u64
     requires { HoldStretches past.now transactions.now }
-    ensures { result ≡ oldest_of calm.now commits transactions.now }
+    ensures { result ≡ oldest_of unspoilt.now commits transactions.now }
 {
-    least_owed(transactions, past, Which::HoldingBack, calm, commits)
+    let first = first_active(transactions, past);
+    least_owed(
+        transactions,
+        past,
+        Which::HoldingBack(first),
+        unspoilt,
+        commits,
+    )
 }
 
 // Leaves no stretch where all transactions are looked at anew: nothing new can be forgotten in one
@@ -181,15 +188,15 @@ impl<A: Allocator> World<A> {
         )
     }
 
-    /// Forgets the transactions that no later question asks for, and the identifiers that don't live.
-    /// It takes no memory.
-    pub fn forget(&mut self)
-        ensures { IsThinned self.old self.new }
+    /// Forgets the transactions that no later question asks for, where no commit has spoilt these
+    /// snapshots, and the identifiers that don't live. It takes no memory.
+    pub fn forget(&mut self, unspoilt: &[u64])
+        ensures { IsThinned unspoilt.now self.old self.new }
     {
         let oldest = oldest_of(
             self.transactions.as_slice(),
             self.past.as_slice(),
-            self.calm.as_slice(),
+            unspoilt,
             self.base.commits,
         );
         clear_where(&mut self.past, oldest != self.reached);
@@ -201,11 +208,6 @@ impl<A: Allocator> World<A> {
         self.base.transactions = transactions - self.transactions.len() as u64;
         self.base.identifiers = identifiers - self.exports.len() as u64;
         grow(&mut self.past, self.transactions.as_slice(), self.place);
-        keep_in_use(
-            &mut self.calm,
-            self.transactions.as_slice(),
-            self.past.as_slice(),
-        );
         self.reached = oldest;
     }
 }

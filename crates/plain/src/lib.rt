@@ -3,14 +3,13 @@
 
 #![tactic(auto)]
 
+mod active;
 pub mod added;
 pub mod answered;
-mod calm;
 mod cause;
 mod commit;
 pub mod course;
 mod decide;
-pub mod deferrable;
 pub mod dooms;
 mod export;
 mod forgetting;

@@ -147,10 +147,10 @@ impl<A: Allocator> World<A> {
                 Action::Run(statement) => {
                     self.record_open(alloc, catalog, rows, at, statement, reply)
                 }
-                _ => Ok(self.settle(at, action)),
+                _ => Ok(self.settle(at, action, false)),
             }
         } else {
-            Ok(self.settle(at, action))
+            Ok(self.settle(at, action, false))
         }
     }
 

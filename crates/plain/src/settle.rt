@@ -9,11 +9,11 @@ ghost use Rattle.history.specs.Answer.{idle, reply_from};
 ghost use Rattle.plain.specs.Answers.{both};
 ghost use Rattle.plain.specs.Courses.{is_simple, takes_memory};
 ghost use Rattle.plain.specs.Ledger.{after_owned, kept_after, txn_at, world_on};
+ghost use Rattle.plain.specs.Polls.{IsToldSpoilt};
 ghost use Rattle.plain.specs.Standings.{begun_at};
 ghost use Rattle.plain.specs.Versions.{HasSameCommits};
 
 use crate::answered::{Answered, twin};
-use crate::calm::{add_calm, begins_calm};
 use crate::reply;
 use crate::transaction::Transaction;
 use crate::world::World;
@@ -25,11 +25,14 @@ use value::refusal::{Mode, Refusal};
 
 impl<A: Allocator> World<A> {
     /// An event of the session whose transaction is at a place: any where it is over, and where it
-    /// is open one that turns only its course. It takes no memory.
-    pub(crate) fn settle(&mut self, at: usize, action: &Action<A>) -> Answered<A>
+    /// is open one that turns only its course. A POLL is told whether a commit has spoilt its
+    /// snapshot. It takes no memory.
+    pub(crate) fn settle(&mut self, at: usize, action: &Action<A>, spoilt: bool) -> Answered<A>
         requires within { at < length self.old.txns }
         requires room { self.old.place + 1 < 2 ^ 64 }
         requires simple { is_open (txn_at self.old.txns at).standing ≡ true → is_simple action.now ≡ true }
+        requires told { is_open (txn_at self.old.txns at).standing ≡ true →
+            IsToldSpoilt self.old.txns (txn_at self.old.txns at) action.now spoilt }
         ensures reply { (c : Catalog) (X : Tables A) →
             result ≡ both
             (reply_from (txn_at self.old.txns at).standing (world_on c X self.old) (txn_at self.old.txns at)
@@ -38,7 +41,7 @@ impl<A: Allocator> World<A> {
             self.new ≡ after_owned (world_on c X self.old) action.now result.reply (txn_at self.old.txns at) }
         ensures log { HasSameCommits self.old self.new }
     {
-        let decision = self.decide(&self.transactions[at], action);
+        let decision = self.decide(&self.transactions[at], action, spoilt);
         self.turn(at, decision.course);
         let recorded = twin(&decision.reply);
         Answered {
@@ -64,19 +67,11 @@ impl<A: Allocator> World<A> {
         let place = self.place + 1;
         let number = self.base.transactions + self.transactions.len() as u64 + 1;
         let commits = self.commits();
-        let calm = begins_calm(
-            self.transactions.as_slice(),
-            self.past.as_slice(),
-            mode,
-            place,
-        );
-        self.calm.reserve(1)?;
         self.past.reserve(1)?;
         self.transactions.reserve(1)?;
         self.transactions.push_reserved(Transaction::begun(
             alloc, session, mode, number, place, commits,
         ));
-        add_calm(&mut self.calm, calm, place);
         self.place = place;
         Ok(())
     }

@@ -8,6 +8,7 @@ ghost use Rattle.history.specs.Needed.{HoldCommitter};
 ghost use Rattle.plain.specs.Answers.{both};
 ghost use Rattle.plain.specs.Courses.{takes_memory};
 ghost use Rattle.plain.specs.Ledger.{after_owned, committed_by, kept_after, kept_current, ready, ready_for, txn_at, world_on};
+ghost use Rattle.plain.specs.Polls.{AreToldSpoilt, IsToldSpoilt};
 ghost use Rattle.plain.specs.Runs.{HoldsCommitter, HoldsCurrent, HoldsOwn};
 ghost use Rattle.plain.specs.Versions.{AreCurrent, StayShown, versions_at};
 ghost use Rattle.schema.specs.declared.tables.Tables.{Tables as AnyTables};
@@ -31,7 +32,8 @@ pub(crate) fn is_active<A: Allocator>(transaction: &Transaction<A>) -> bool
 }
 
 impl<A: Allocator> World<A> {
-    // An event of the session whose transaction is at a place.
+    // An event of the session whose transaction is at a place. A POLL is told whether a commit has
+    // spoilt its snapshot.
     fn step_owned(
         &mut self,
         alloc: A,
@@ -39,6 +41,7 @@ impl<A: Allocator> World<A> {
         rows: &mut Rows<A>,
         at: usize,
         action: &Action<A>,
+        spoilt: bool,
     ) -> Result<Answered<A>, Refusal>
     where
         A: Copy,
@@ -49,6 +52,8 @@ impl<A: Allocator> World<A> {
         requires held { HoldsOwn catalog.now (versions_at rows.old) (txn_at self.old.txns at) }
         requires committer { is_open (txn_at self.old.txns at).standing ≡ true →
             HoldCommitter (world_on catalog.now [] self.old) (txn_at self.old.txns at) }
+        requires told { is_open (txn_at self.old.txns at).standing ≡ true →
+            IsToldSpoilt self.old.txns (txn_at self.old.txns at) action.now spoilt }
         ensures reply { IfOk result (λ r. (X : AnyTables A) → r ≡
             both (reply_of (world_on catalog.now X self.old)
             (Some (ready (versions_at rows.old) action.now (txn_at self.old.txns at))) action.now)) }
@@ -67,15 +72,16 @@ impl<A: Allocator> World<A> {
                 Action::Run(statement) => self.run(alloc, catalog, rows, at, statement),
                 Action::Export => self.export(at),
                 Action::Commit => self.commit(alloc, rows, at),
-                _ => Ok(self.settle(at, action)),
+                _ => Ok(self.settle(at, action, spoilt)),
             }
         } else {
-            Ok(self.settle(at, action))
+            Ok(self.settle(at, action, spoilt))
         }
     }
 
     /// One event of a session, over the catalog and the versions of the tables: its reply, and what
-    /// is kept after it. A commit is installed in the versions.
+    /// is kept after it. A commit is installed in the versions. A POLL is told whether a commit has
+    /// spoilt the snapshot of the session's transaction; else nothing is asked of that.
     pub fn step(
         &mut self,
         alloc: A,
@@ -83,6 +89,7 @@ impl<A: Allocator> World<A> {
         rows: &mut Rows<A>,
         session: SessionId,
         action: &Action<A>,
+        spoilt: bool,
     ) -> Result<Answered<A>, Refusal>
     where
         A: Copy,
@@ -92,6 +99,7 @@ impl<A: Allocator> World<A> {
         requires held { HoldsCurrent catalog.now (versions_at rows.old) (kept_current catalog.now [] self.old session) }
         requires committer { HoldsCommitter (world_on catalog.now [] self.old)
             (kept_current catalog.now [] self.old session) }
+        requires told { AreToldSpoilt self.old.txns (kept_current catalog.now [] self.old session) action.now spoilt }
         ensures reply { IfOk result (λ r. (X : AnyTables A) → r ≡
             both (reply_of (world_on catalog.now X self.old)
             (ready_for (versions_at rows.old) action.now (kept_current catalog.now X self.old session))
@@ -107,7 +115,7 @@ impl<A: Allocator> World<A> {
         ensures taken { OnErr result (takes_memory action.now ≡ true) }
     {
         match find_current(self.transactions.as_slice(), self.past.as_slice(), session) {
-            Some(at) => self.step_owned(alloc, catalog, rows, at, action),
+            Some(at) => self.step_owned(alloc, catalog, rows, at, action, spoilt),
             None => self.join(alloc, session, action),
         }
     }

@@ -1,12 +1,12 @@
 //! What is asked of the world beside its events.
 
-ghost use Rattle.std.specs.Prelude.{◌≡◌, ◌+◌, ◌≤◌, ◌<◌, ◌^◌, length, not, Some, Err};
+ghost use Rattle.std.specs.Prelude.{◌≡◌, ◌+◌, ◌≤◌, ◌<◌, ◌^◌, find, length, not, Some, Err};
 ghost use Rattle.value.specs.Refusals.{AnswersOrNoMemory};
 ghost use Rattle.schema.specs.Definition.{Catalog};
 ghost use Rattle.schema.specs.declared.tables.Tables.{Tables};
-ghost use Rattle.history.specs.Transactions.{is_owed, is_quiet};
+ghost use Rattle.history.specs.Transactions.{is_of, is_owed, is_quiet};
 ghost use Rattle.plain.specs.Ledger.{kept_current};
-ghost use Rattle.plain.specs.Views.{is_failed, are_quiet, view_on};
+ghost use Rattle.plain.specs.Views.{is_failed, are_quiet, snapshot_of, view_on};
 ghost use Rattle.plain.specs.Standings.{standing_of};
 ghost use Rattle.plain.specs.Versions.{versions_at};
 
@@ -63,6 +63,16 @@ impl<A: Allocator> World<A> {
         match find_current(self.transactions.as_slice(), self.past.as_slice(), session) {
             Some(at) => self.transactions[at].view(alloc, rows),
             None => Err(Refusal::of_code(Code::NoActiveSqlTransaction)),
+        }
+    }
+
+    /// The snapshot of a session's transaction, which it has still to end. It takes no memory.
+    pub fn snapshot_of(&self, session: SessionId) -> Option<u64>
+        ensures { result ≡ snapshot_of (find (is_of session) self.now.txns) }
+    {
+        match find_current(self.transactions.as_slice(), self.past.as_slice(), session) {
+            Some(at) => Some(self.transactions[at].snapshot),
+            None => None,
         }
     }
 

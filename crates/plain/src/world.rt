@@ -4,7 +4,6 @@ ghost use Rattle.std.specs.Prelude.{◌≡◌, ◌+◌, ◌^◌, ◌<◌, ◌≤
 ghost use Rattle.plain.specs.Courses.{on_course};
 ghost use Rattle.plain.specs.Ledger.{turned_at};
 
-use crate::calm::keep_calm;
 use crate::course::Course;
 use crate::snapshots::ExportedSnapshot;
 use crate::stretch::{Stretch, leave_without};
@@ -25,14 +24,10 @@ pub struct World<A: Allocator = Global> {
     pub(crate) past: Vec<Stretch, A>,
     // The snapshot from which on questions were asked when all were last looked at.
     pub(crate) reached: u64,
-    // Places of the events at which no read-write transaction was active: readers whose snapshots were
-    // taken there hold nothing back.
-    pub(crate) calm: Vec<u64, A>,
 }
 
 impl<A: Allocator> Model for World<A> {
     ghost use Rattle.plain.specs.Ledger.{Ledger, IsCounted};
-    ghost use Rattle.plain.specs.Calm.{AreCalm};
     ghost use Rattle.plain.specs.Stretches.{HoldStretches};
 
     ghost Value = { Ledger A };
@@ -46,7 +41,7 @@ impl<A: Allocator> Model for World<A> {
 
     ghost invariant = { λ w. IsCounted
         (record { base = w.base; txns = w.transactions.items; exports = w.exports.items; place = w.place }) ×
-        HoldStretches w.past.items w.transactions.items × AreCalm w.calm.items w.place w.transactions.items };
+        HoldStretches w.past.items w.transactions.items };
 }
 
 // Takes the transaction at a place to a course.
@@ -76,7 +71,6 @@ impl<A: Allocator> World<A> {
             place: base.events,
             past: Vec::new(alloc),
             reached: base.commits,
-            calm: Vec::new(alloc),
         }
     }
 
@@ -98,7 +92,6 @@ impl<A: Allocator> World<A> {
         } }
     {
         leave_without(&mut self.past, at);
-        keep_calm(&mut self.calm, &self.transactions[at], course);
         turn(&mut self.transactions, at, course);
         self.place += 1;
     }

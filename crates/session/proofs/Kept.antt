@@ -124,7 +124,7 @@ module _ {A : Type 0} where
 
   -- ---- snapshots of what is kept
 
-  spoilt_kept : (ts : List (Txn A)) (t : Txn A) → is_spoilt (all_kept ts) t ≡ is_spoilt ts t
+  pub spoilt_kept : (ts : List (Txn A)) (t : Txn A) → is_spoilt (all_kept ts) t ≡ is_spoilt ts t
   spoilt_kept ts t =
       any_map kept (λ u. was_active t u && spoils (all_kept ts) t u) ts
       ∙ any_same _ _ (λ u. ap (λ b. was_active t u && (is_done u.standing && b)) (any_map kept (λ v. edge (kept u) v && nat_le v.commit t.snapshot) ts)) ts

@@ -4,6 +4,7 @@ pub mod Lent
 pub mod Becomes
 pub mod KeysKept
 pub mod Followed
+pub mod Polls
 pub mod Thinned
 pub mod RowsNext
 pub mod CommitOrder

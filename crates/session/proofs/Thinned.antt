@@ -1,29 +1,36 @@
 -- What is left after forgetting represents the same world.
-use Rattle.std.proofs.Common.{◌≡◌, sym, ap, subst, refl, ◌∙◌, ℕ, ◌+◌, ◌≤◌, max, Bool, true, false, true≢false, cond, not, ◌&&◌, ◌||◌, ◌⊎◌, inl, inr, List, [], ◌∷◌, length, map, eqb, nat_le, arith}
+use Rattle.std.proofs.Common.{◌≡◌, sym, ap, subst, refl, ◌∙◌, ℕ, ◌+◌, ◌≤◌, max, Bool, true, false, cond, not, ◌&&◌, ◌||◌, ◌⊎◌, inl, inr, List, [], ◌∷◌, length, map, eqb, nat_le, arith}
 use Rattle.std.specs.List.{filter, list_any}
 use Rattle.std.proofs.lemmas.Bool.{eqb-true, eq-eqb}
+use Rattle.std.proofs.lemmas.Bool.Decides.{nat_tests}
+use Rattle.value.specs.declared.refusal.TxnNo.{TxnNo}
 use Rattle.value.proofs.IsolationLemmas.{In}
-use Rattle.conflict.proofs.Lists.{In-any, In-filter, and_true, any-In, both_true, clash, either, filter-In, filter-kept, filter_alike, is_false, or_left, or_right}
+use Rattle.conflict.proofs.Lists.{In-any, In-filter, and_true, any-In, both_true, clash, either, filter-In, filter-kept, filter_alike, or_left, or_right}
+use Rattle.history.specs.declared.key.SerialKey.{SerialKey}
 use Rattle.history.specs.Opening.{Recorded}
-use Rattle.history.specs.Transactions.{Txn, World, Exported_snapshot, edge, is_done, is_living, is_open, is_owed, is_pending, is_read_write, is_spoilt, spoils, was_active}
+use Rattle.history.specs.Transactions.{Txn, World, Exported_snapshot, edge, is_done, is_living, is_open, is_owed, is_pending, is_read_write, is_spoilt}
 use Rattle.history.specs.Needed.{IsOldest, Keeps, is_late_reader, is_needed, is_recent, is_safe_reader, is_settled, kept_of, needed_numbers}
-use Rattle.serial.proofs.legal.EndsSeen.{ends_seen}
 use Rattle.serial.proofs.needed.Cause.{oldest_is, open_owed}
-use Rattle.serial.proofs.needed.Questions.{any-kept, safe_of_kept}
+use Rattle.serial.proofs.needed.Questions.{any-kept, pending_of_kept}
 use Rattle.serial.proofs.needed.Raised.{needed_too, raised}
 use Rattle.serial.proofs.safe.Prefix.{all_by, by_all}
 use Rattle.serial.proofs.order.SerialTheorem.{good_world}
 use Rattle.mvrows.specs.Versions.{VersionedRows, TablesAreBelow}
-use Rattle.plain.specs.Calm.{AreCalm, is_active_at, is_safe_from, was_taken_at}
-use Rattle.plain.specs.Forgetting.{IsThinned, holds_back, is_left, number_before, oldest}
-use Rattle.plain.specs.Ledger.{Ledger, kept}
+use Rattle.plain.specs.Active.{first_active}
+use Rattle.plain.specs.Forgetting.{IsThinned, holds_back, is_left, is_safe_from, number_before, oldest}
+use Rattle.plain.specs.Keys.{keyed}
+use Rattle.plain.specs.Ledger.{Ledger, is_awaited, is_pending_at, kept}
 use Rattle.plain.specs.Versions.{is_owed_at, may_be_read}
+use Rattle.plain.proofs.ActiveLemmas.{none_pending}
 use Rattle.plain.proofs.InstallLemmas.{owed-is_read, read-is_owed}
-use Rattle.session.specs.Core.{HoldsRows, IsKept}
+use Rattle.safesnap.specs.Unspoilt.{AreUnspoilt}
+use Rattle.safesnap.proofs.UnspoiltLemmas.{one_unspoilt}
+use Rattle.session.specs.Core.{HoldsKeys, HoldsRows, IsKept}
 use Rattle.session.specs.Kept.{Represents}
 use Rattle.session.proofs.Kept.{any_map, filter_map}
 use Rattle.session.proofs.Least.{least_most, least_of}
 use Rattle.session.proofs.Lent.{living_is, owed_in, r, w}
+use Rattle.session.proofs.Polls.{by_keys}
 
 same_test : (a b : Bool) → (a ≡ true → b ≡ true) → (b ≡ true → a ≡ true) → a ≡ b
 same_test true b f g = sym (f refl)
@@ -39,6 +46,9 @@ filter-both {X} p q (x ∷ xs) = go (p x) (filter-both p q xs)
     go true e = ap (λ ys. cond (q x) (x ∷ ys) ys) e
     go false e = e
 
+is_least : (a b : ℕ) → nat_le a b ≡ true → a ≤ b
+is_least a b e = grind (arith, nat_tests)
+
 max_left : (a b : ℕ) → a ≤ max a b
 max_left a b = grind arith
 
@@ -49,38 +59,13 @@ max_below : (a b c : ℕ) → a ≤ c → b ≤ c → max a b ≤ c
 max_below a b c l m = grind arith
 
 module _ {A : Type 0} where
-  -- nobody was active at a calm place, so not at a snapshot that was taken there
-  calm_at : (places : List ℕ) (last : ℕ) (ts : List (Txn A)) (u : Txn A) → AreCalm places last ts → was_taken_at places u ≡ true → list_any (is_active_at u.taken) ts ≡ false
-  calm_at [] last ts u h e = absurd (true≢false (sym e))
-  calm_at (p ∷ ps) last ts u h e = go (eqb p u.taken) refl (calm_at ps last ts u h.1) e
-    where
-      go : (b : Bool) → eqb p u.taken ≡ b → (was_taken_at ps u ≡ true → list_any (is_active_at u.taken) ts ≡ false) → (b || was_taken_at ps u) ≡ true → list_any (is_active_at u.taken) ts ≡ false
-      go true q rest f = subst (λ n. list_any (is_active_at n) ts ≡ false) (eqb-true p u.taken q) h.0.1
-      go false q rest f = rest f
-
-  -- so that snapshot is safe
-  calm_settled : (ts : List (Txn A)) (u : Txn A) → list_any (was_active u) ts ≡ false → is_settled ts u ≡ true
-  calm_settled ts u e = and_true _ _ (ap not (is_false (is_pending ts u) pending)) (ap not (is_false (is_spoilt ts u) spoilt))
-    where
-      pending : is_pending ts u ≡ true → ⊥
-      pending f = go (any-In (λ v. was_active u v && is_open v.standing) ts f)
-        where
-          go : (v : Txn A) × In v ts × ((was_active u v && is_open v.standing) ≡ true) → ⊥
-          go v = clash (list_any (was_active u) ts) (In-any (was_active u) ts v.0 v.1 (both_true (was_active u v.0) (is_open v.0.standing) v.2).0) e
-
-      spoilt : is_spoilt ts u ≡ true → ⊥
-      spoilt f = go (any-In (λ v. was_active u v && spoils ts u v) ts f)
-        where
-          go : (v : Txn A) × In v ts × ((was_active u v && spoils ts u v) ≡ true) → ⊥
-          go v = clash (list_any (was_active u) ts) (In-any (was_active u) ts v.0 v.1 (both_true (was_active u v.0) (spoils ts u v.0) v.2).0) e
-
   -- what matters of transactions doesn't depend on what is left out of them
   needed_kept : (n : ℕ) (ts : List (Txn A)) (u : Txn A) → is_needed n (map kept ts) (kept u) ≡ is_needed n ts u
   needed_kept n ts u = ap (λ b. is_owed u.standing || is_recent n u || is_late_reader n u || (is_done u.standing && b)) (any_map kept (λ v. is_recent n v && edge v (kept u)) ts)
 
-  module _ (h : Recorded A) (l : Ledger A) (k : IsKept h l) (m : Ledger A) (t : IsThinned l m) where
+  module _ (h : Recorded A) (l : Ledger A) (k : IsKept h l) (ks : List (TxnNo × SerialKey)) (room : ℕ) (keys : HoldsKeys h ks room) (ns : List ℕ) (unspoilt : AreUnspoilt (map keyed ks) ns) (m : Ledger A) (t : IsThinned ns l m) where
     abbrev n : ℕ
-    n = oldest t.calm l
+    n = oldest ns l
 
     abbrev old : World A
     old = w h l k
@@ -88,31 +73,38 @@ module _ {A : Type 0} where
     abbrev ts : List (Txn A)
     ts = kept_of (r h l k).keep old.txns
 
-    -- who doesn't hold back is a safe reader
-    calm_safe : (u : Txn A) → is_read_write u.mode ≡ false → was_taken_at t.calm u ≡ true → is_safe_reader ts u ≡ true
-    calm_safe u reads e = and_true _ _ (ap not reads) (or_right u.known _ (calm_settled ts u
-        (sym (ap (list_any (is_active_at u.taken)) (r h l k).txns ∙ any_map kept (is_active_at u.taken) ts) ∙ calm_at t.calm l.place l.txns u t.are_calm e)))
-
-    from_computed : (u : Txn A) → In u old.txns → is_open u.standing ≡ true → is_safe_reader old.txns u ≡ false → n ≤ u.snapshot
-    from_computed u i o s = by_test (is_safe_from t.calm u) refl
+    -- whose snapshot no commit has spoilt, and was taken before the first of the open ones began that may write, is a safe reader
+    settled : (u : Txn A) → In u old.txns → (nat_le u.taken (first_active l.txns) && list_any (λ i. eqb i u.snapshot) ns) ≡ true → is_settled old.txns u ≡ true
+    settled u i e = and_true _ _ (ap not pending) (ap not spoilt)
       where
-        by_test : (b : Bool) → is_safe_from t.calm u ≡ b → n ≤ u.snapshot
-        by_test false e = least_of (holds_back t.calm) l.base.commits l.txns (kept u) (owed_in h l k u i (open_owed u.standing o)) (and_true (is_open u.standing) (not (is_safe_from t.calm u)) o (ap not e))
-        by_test true e = clash (is_safe_reader old.txns u) (safe (either u.known (was_taken_at t.calm u) p.1)) s
-          where
-            p : (not (is_read_write u.mode) ≡ true) × ((u.known || was_taken_at t.calm u) ≡ true)
-            p = both_true (not (is_read_write u.mode)) (u.known || was_taken_at t.calm u) e
+        p : (nat_le u.taken (first_active l.txns) ≡ true) × (list_any (λ i. eqb i u.snapshot) ns ≡ true)
+        p = both_true (nat_le u.taken (first_active l.txns)) (list_any (λ i. eqb i u.snapshot) ns) e
 
-            reads : is_read_write u.mode ≡ false
-            reads = Rattle.serial.proofs.needed.Cause.was_not (is_read_write u.mode) p.0
+        pending : is_pending old.txns u ≡ false
+        pending =
+            sym (pending_of_kept old (r h l k).oldest (r h l k).keep (r h l k).keeps u) ∙ sym (any_map kept (is_awaited u.taken) ts) ∙ sym (ap (λ us. is_pending_at us u.taken) (r h l k).txns)
+            ∙ none_pending l.txns u.taken (is_least u.taken (first_active l.txns) p.0)
 
-            from : (r h l k).oldest ≤ u.snapshot
-            from = oldest_is old (good_world h.opening h.records k.legal) u i o (r h l k).oldest (r h l k).keep (r h l k).keeps s
+        spoilt : is_spoilt old.txns u ≡ false
+        spoilt = by_keys h l k ks room keys u i ∙ one_unspoilt (map keyed ks) u.snapshot ns unspoilt p.1
 
-            safe : (u.known ≡ true) ⊎ (was_taken_at t.calm u ≡ true) → is_safe_reader old.txns u ≡ true
-            safe (inl q) = and_true _ _ p.0 (or_left u.known _ q)
-            safe (inr q) =
-                sym (safe_of_kept old (good_world h.opening h.records k.legal) (ends_seen h.opening h.records k.legal) u i o (r h l k).oldest (r h l k).keep (r h l k).keeps from) ∙ calm_safe u reads q
+    safe_from : (u : Txn A) → In u old.txns → is_safe_from ns (first_active l.txns) u ≡ true → is_safe_reader old.txns u ≡ true
+    safe_from u i e = and_true _ _ p.0 (safe (either u.known (nat_le u.taken (first_active l.txns) && list_any (λ i. eqb i u.snapshot) ns) p.1))
+      where
+        p : (not (is_read_write u.mode) ≡ true) × ((u.known || nat_le u.taken (first_active l.txns) && list_any (λ i. eqb i u.snapshot) ns) ≡ true)
+        p = both_true (not (is_read_write u.mode)) (u.known || nat_le u.taken (first_active l.txns) && list_any (λ i. eqb i u.snapshot) ns) e
+
+        safe : (u.known ≡ true) ⊎ ((nat_le u.taken (first_active l.txns) && list_any (λ i. eqb i u.snapshot) ns) ≡ true) → (u.known || is_settled old.txns u) ≡ true
+        safe (inl q) = or_left u.known _ q
+        safe (inr q) = or_right u.known _ (settled u i q)
+
+    -- who doesn't hold back is a safe reader
+    from_computed : (u : Txn A) → In u old.txns → is_open u.standing ≡ true → is_safe_reader old.txns u ≡ false → n ≤ u.snapshot
+    from_computed u i o s = by_test (is_safe_from ns (first_active l.txns) u) refl
+      where
+        by_test : (b : Bool) → is_safe_from ns (first_active l.txns) u ≡ b → n ≤ u.snapshot
+        by_test false e = least_of (holds_back ns (first_active l.txns)) l.base.commits l.txns (kept u) (owed_in h l k u i (open_owed u.standing o)) (and_true (is_open u.standing) (not (is_safe_from ns (first_active l.txns) u)) o (ap not e))
+        by_test true e = clash (is_safe_reader old.txns u) (safe_from u i e) s
 
     -- the oldest snapshot never falls
     abbrev top : ℕ
@@ -176,7 +168,7 @@ module _ {A : Type 0} where
       oldest = top;
       keep = stays;
       keeps = keeps_left;
-      seen = max_below (r h l k).oldest n _ (r h l k).seen (let p = least_most (holds_back t.calm) l.base.commits l.txns in let q = (r h l k).commits in omega (arith, p, q));
+      seen = max_below (r h l k).oldest n _ (r h l k).seen (let p = least_most (holds_back ns (first_active l.txns)) l.base.commits l.txns in let q = (r h l k).commits in omega (arith, p, q));
       txns =
           t.txns ∙ ap (λ us. filter (is_left t.passed n us) us) (r h l k).txns ∙ filter_map kept (is_left t.passed n (map kept ts)) ts
           ∙ ap (map kept) (filter_alike (λ u. is_left t.passed n (map kept ts) (kept u)) (λ u. left u.number) ts alike ∙ filter-both (λ (u : Txn A). (r h l k).keep u.number) (λ u. left u.number) old.txns);

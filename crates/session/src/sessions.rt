@@ -11,10 +11,13 @@ ghost use Rattle.plain.specs.Keys.{committed_at, keyed};
 ghost use Rattle.plain.specs.Views.{are_quiet};
 ghost use Rattle.mvrows.specs.Installing.{opened};
 ghost use Rattle.session.specs.Core.{HasRoom, HoldsRows, IsCheckpoint, IsKept, IsStep, from_opening, is_commit, recorded};
+ghost use Rattle.session.specs.Polling.{after_commit};
 
 mod committed;
+mod polling;
 mod reading;
 
+use crate::sessions::polling::{keep_snapshot, polls_spoilt};
 use history::base::Base;
 use history::event::{Action, Event, Record};
 use history::key::SerialKey;
@@ -23,6 +26,7 @@ use history::session_id::SessionId;
 use mvrows::rows::Rows;
 use mvrows::view::View;
 use plain::world::World;
+use safesnap::unspoilt::Unspoilt;
 use schema::catalog::Catalog;
 use schema::tables::Tables;
 use statement::reply::Reply;
@@ -40,6 +44,8 @@ pub struct Core<A: Allocator = Global> {
     keys: Vec<(TxnNo, SerialKey), A>,
     // What each commit left of the rows, on which statements are evaluated.
     rows: Rows<A>,
+    // The snapshots of sessions' transactions that no commit has spoilt.
+    unspoilt: Unspoilt,
 }
 
 impl<A: Allocator> Model for Core<A> {
@@ -47,13 +53,15 @@ impl<A: Allocator> Model for Core<A> {
 
     ghost Value = { Recorded A };
 
-    ghost use Rattle.std.specs.Prelude.{vec_capacity};
+    ghost use Rattle.std.specs.Prelude.{map, vec_capacity};
+    ghost use Rattle.plain.specs.Keys.{keyed};
+    ghost use Rattle.safesnap.specs.Unspoilt.{AreUnspoilt};
     ghost use Rattle.session.specs.Core.{HoldsKeys, HoldsRows, IsKept};
 
     ghost view = { λ c. c.history };
 
     ghost invariant = { λ c. IsKept c.history c.world × HoldsKeys c.history c.keys.items (vec_capacity c.keys) ×
-        HoldsRows c.history c.world c.rows };
+        HoldsRows c.history c.world c.rows × AreUnspoilt (map keyed c.keys.items) c.unspoilt };
 }
 
 // The versions of the tables that a history opens with.
@@ -89,12 +97,14 @@ fn open_history<A: Allocator + Copy>(
     ensures memory { IfErr result (λ e. e ≡ out_of_memory) }
 {
     let rows = open_rows(alloc, history.catalog(), history.tables())?;
-    let world = World::open(alloc, history.base());
+    let base = history.base();
+    let world = World::open(alloc, base);
     Ok(Core {
         history,
         world,
         keys,
         rows,
+        unspoilt: Unspoilt::of(base.commits),
     })
 }
 
@@ -128,9 +138,10 @@ fn is_commit<A: Allocator>(action: &Action<A>) -> bool
 }
 
 // Adds the transaction that the last event committed, with its key, if that was a COMMIT and
-// committed one.
+// committed one. In the place of each snapshot that it spoils comes that of all commits.
 fn add_last<A: Allocator>(
     keys: &mut Vec<(TxnNo, SerialKey), A>,
+    unspoilt: &mut Unspoilt,
     world: &World<A>,
     action: &Action<A>,
 )
@@ -139,12 +150,17 @@ fn add_last<A: Allocator>(
         (if is_commit action.now then option_to_list (committed_at world.now.place world.now.txns) else []) }
     ensures few { length keys.new.items ≤ length keys.old.items + 1 }
     ensures room { vec_capacity keys.new ≡ vec_capacity keys.old }
+    ensures unspoilt { unspoilt.new ≡ (if is_commit action.now
+        then after_commit (committed_at world.now.place world.now.txns) world.now.base.commits unspoilt.old
+        else unspoilt.old) }
 {
     if !is_commit(action) {
         return;
     }
-    if let Some(key) = world.last_commit() {
-        keys.push_reserved(key);
+    let commits = world.counted().commits;
+    if let Some((number, key)) = world.last_commit() {
+        keys.push_reserved((number, key));
+        unspoilt.commit(key, commits);
     }
 }
 
@@ -258,7 +274,7 @@ impl<A: Allocator> Core<A> {
     fn forget(&mut self)
         ensures { self.new ≡ self.old }
     {
-        self.world.forget();
+        self.world.forget(self.unspoilt.as_slice());
     }
 
     // The answer to an event, recorded, where the history has room.
@@ -274,14 +290,23 @@ impl<A: Allocator> Core<A> {
         ensures taken { OnErr result (takes_memory event.action ≡ true) }
     {
         let Event { session, action } = event;
+        let spoilt = polls_spoilt(
+            &self.unspoilt,
+            self.keys.as_slice(),
+            &self.world,
+            session,
+            &action,
+        );
         let answered = self.world.step(
             alloc,
             self.history.catalog(),
             &mut self.rows,
             session,
             &action,
+            spoilt,
         )?;
-        add_last(&mut self.keys, &self.world, &action);
+        add_last(&mut self.keys, &mut self.unspoilt, &self.world, &action);
+        keep_snapshot(&mut self.unspoilt, &self.world, session, &action);
         self.history.push(Record {
             session,
             action,

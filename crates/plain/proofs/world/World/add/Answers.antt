@@ -2,7 +2,6 @@ use Rattle.std.proofs.Common.{arith, ap, refl}
 use Rattle.plain.specs.Ledger.{Ledger}
 use Rattle.plain.specs.Runs.{adds}
 use Rattle.plain.proofs.CommitLemmas.{counted-added}
-use Rattle.plain.proofs.CalmLemmas.{calm-kept}
 use Rattle.plain.proofs.StretchLemmas.{stretches-turned}
 use Rattle.plain.proofs.world.World.add.Goals as goal
 
@@ -12,5 +11,4 @@ invariant_of-self-2 g c =
     rw (c.in_ok-add_at.ensures.ok, c.leave_without.ensures) (
       counted-added _ c.args.at (adds c.args.added.reads.items c.args.added.changes.items c.args.added.marks.items) (λ t. refl) c.self.invariant.0 (omega (arith, same_place, c.requires.room)),
       stretches-turned c.self.inside.past.items (adds c.args.added.reads.items c.args.added.changes.items c.args.added.marks.items) c.self.inside.transactions.items c.args.at c.self.invariant.1,
-      calm-kept (adds c.args.added.reads.items c.args.added.changes.items c.args.added.marks.items) (λ p t. refl) c.self.inside.calm.items c.self.inside.place c.self.inside.transactions.items c.args.at c.self.invariant.2,
     )

@@ -1,9 +1,7 @@
-use Rattle.std.proofs.Common.{arith, ap, ◌∙◌, ◌≡◌, ◌&&◌, ◌+◌, not, refl}
-use Rattle.std.specs.List.{list_any}
+use Rattle.std.proofs.Common.{arith, ap, ◌∙◌}
 use Rattle.history.specs.Transactions.{Txn}
 use Rattle.plain.specs.Ledger.{Ledger}
 use Rattle.plain.proofs.LedgerLemmas.{counted-begun}
-use Rattle.plain.proofs.CalmLemmas.{calm-noted}
 use Rattle.plain.proofs.ReadLemmas.{on_err_so}
 use Rattle.plain.proofs.StretchLemmas.{stretches-append}
 use Rattle.plain.proofs.world.World.begin.Goals as goal
@@ -12,17 +10,13 @@ pub invariant_of-self-2 : goal.invariant_of-self-2
 invariant_of-self-2 g c =
     let same_place = ap (λ (l : Ledger _). l.place) c.self.view_is in
     let number = ap (λ (t : Txn _). t.number) c.begun.ensures in
-    let ts = c.self.inside.transactions.items in
-    let place : c.begun.result.begin ≡ c.self.inside.place + 1 = ap (λ (t : Txn _). t.begin) c.begun.ensures in
-    let calm = c.begins_calm-calm.ensures ∙ ap (λ us. not (Rattle.history.specs.Transactions.is_read_write c.args.mode) && not (list_any (Rattle.plain.specs.Calm.is_active_at (c.self.inside.place + 1)) us)) c.as_slice.ensures.value in
-    rw (c.push_reserved.ensures.items, c.in_ok-reserve-3.ensures.items, c.add_calm.ensures, c.in_ok-reserve.ensures.items, c.in_ok-reserve-2.ensures.items) (
+    rw (c.push_reserved.ensures.items, c.in_ok-reserve-2.ensures.items, c.in_ok-reserve.ensures.items) (
       counted-begun _ c.begun.result c.self.invariant.0 (omega (arith, number, c.len.ensures)) (omega (arith, same_place, c.requires)),
       stretches-append c.self.inside.past.items c.self.inside.transactions.items _ c.self.invariant.1,
-      calm-noted _ c.begins_calm-calm.result c.self.inside.calm.items c.self.inside.place ts c.begun.result _ c.self.invariant.2 calm refl place,
     )
 
-pub returns-in_err-reserve-3-clause-err : goal.returns-in_err-reserve-3-clause-err
-returns-in_err-reserve-3-clause-err g c =
+pub returns-in_err-reserve-2-clause-err : goal.returns-in_err-reserve-2-clause-err
+returns-in_err-reserve-2-clause-err g c =
     let inside = c.self.inside in
-    on_err_so _ c.from_residual-in_err-reserve-3.result
-    (ap (λ ts. record { base = inside.base; txns = ts; exports = inside.exports.items; place = inside.place }) c.reserve-3.ensures.items ∙ c.self.view_is)
+    on_err_so _ c.from_residual-in_err-reserve-2.result
+    (ap (λ ts. record { base = inside.base; txns = ts; exports = inside.exports.items; place = inside.place }) c.reserve-2.ensures.items ∙ c.self.view_is)

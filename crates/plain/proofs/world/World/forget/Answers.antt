@@ -1,11 +1,9 @@
 use Rattle.std.proofs.Common.{ap, refl, sym, subst, ◌∙◌, ◌≤◌, ◌+◌, ◌-◌, length, arith}
 use Rattle.std.specs.List.{AllByRecursion, filter}
 use Rattle.history.specs.Transactions.{is_living}
-use Rattle.plain.specs.Calm.{AreCalm}
 use Rattle.plain.specs.Forgetting.{IsThinned, is_left, oldest_of}
 use Rattle.plain.specs.Ledger.{Ledger}
 use Rattle.plain.specs.Stretches.{HoldStretches}
-use Rattle.plain.proofs.CalmLemmas.{calm-fewer, calm-filtered}
 use Rattle.plain.proofs.ForgettingLemmas.{counted-thinned, filter-shorter, left_whole}
 use Rattle.plain.proofs.LedgerLemmas.{numbered-more}
 use Rattle.plain.proofs.StretchLemmas.{stretches-rest, stretches-where}
@@ -29,10 +27,7 @@ invariant_of-self g c =
     let less : length c.keep_living.new.exports.items ≤ length xs = rw c.keep_living.ensures (filter-shorter _ xs) in (
       counted-thinned (record { base = c.self.inside.base; txns = ts; exports = xs; place = c.self.inside.place }) _ (is_left c.end_of-from.result c.oldest_of-oldest.result ts) c.self.invariant.0 c.keep_needed.ensures
           (omega (arith, fewer, c.len.ensures, c.len-3.ensures)) refl (omega (arith, less, c.len-2.ensures, c.len-4.ensures)) refl,
-      subst (HoldStretches c.grow.new.past.items) c.as_slice-7.ensures.value c.grow.ensures,
-      subst (λ ps. AreCalm ps c.self.inside.place c.keep_needed.new.transactions.items) (sym c.keep_in_use.ensures)
-          (calm-fewer _ c.self.inside.calm.items c.self.inside.place c.keep_needed.new.transactions.items
-          (subst (AreCalm c.self.inside.calm.items c.self.inside.place) (sym c.keep_needed.ensures) (calm-filtered _ c.self.inside.calm.items c.self.inside.place ts c.self.invariant.2))),
+      subst (HoldStretches c.grow.new.past.items) c.as_slice-6.ensures.value c.grow.ensures,
     )
 
 pub returns : goal.returns
@@ -48,13 +43,11 @@ returns g c =
       exports = c.keep_living.new.exports.items;
       place = c.self.inside.place;
     } in
-    subst (λ (l : Ledger _). IsThinned l thinned) c.self.view_is (record {
+    subst (λ (l : Ledger _). IsThinned c.args.unspoilt.now l thinned) c.self.view_is (record {
       passed = c.end_of-from.result;
-      calm = c.self.inside.calm.items;
-      are_calm = c.self.invariant.2;
       txns = c.keep_needed.ensures ∙ ap (λ n. filter (is_left c.end_of-from.result n ts) ts)
-          (c.oldest_of-oldest.ensures ∙ ap (λ us. oldest_of c.as_slice-3.result.now base.commits us) c.as_slice.ensures.value ∙ ap (λ ps. oldest_of ps base.commits ts) c.as_slice-3.ensures.value);
-      exports = c.keep_living.ensures ∙ ap (λ us. filter (is_living us) xs) c.as_slice-6.ensures.value;
+          (c.oldest_of-oldest.ensures ∙ ap (oldest_of c.args.unspoilt.now base.commits) c.as_slice.ensures.value);
+      exports = c.keep_living.ensures ∙ ap (λ us. filter (is_living us) xs) c.as_slice-5.ensures.value;
       transactions = omega (arith, fewer, c.len.ensures, c.len-3.ensures);
       commits = refl;
       identifiers = omega (arith, less, c.len-2.ensures, c.len-4.ensures);
@@ -71,7 +64,7 @@ pub end_of-from-requires : goal.end_of-from-requires
 end_of-from-requires g c =
     let ts = c.self.inside.transactions.items in
     let held : HoldStretches c.clear_where.new.past.items ts = subst (λ ss. HoldStretches ss ts) (sym c.clear_where.ensures) (stretches-where _ c.self.inside.past.items ts c.self.invariant.1) in
-    rw (c.as_slice-4.ensures.value, c.as_slice-5.ensures.value) held
+    rw (c.as_slice-3.ensures.value, c.as_slice-4.ensures.value) held
 
 pub grow-requires : goal.grow-requires
 grow-requires g c =
@@ -79,12 +72,8 @@ grow-requires g c =
     let from = c.end_of-from.result in
     let ss = c.clear_where.new.past.items in
     let held : HoldStretches ss ts = subst (λ xs. HoldStretches xs ts) (sym c.clear_where.ensures) (stretches-where _ c.self.inside.past.items ts c.self.invariant.1) in
-    let within : from ≤ length ts = omega (arith, c.end_of-from.ensures.within, ap length c.as_slice-4.ensures.value) in
-    let ends : AllByRecursion (λ s. s.to ≤ from) ss = subst (AllByRecursion (λ s. s.to ≤ from)) c.as_slice-5.ensures.value c.end_of-from.ensures.behind in
+    let within : from ≤ length ts = omega (arith, c.end_of-from.ensures.within, ap length c.as_slice-3.ensures.value) in
+    let ends : AllByRecursion (λ s. s.to ≤ from) ss = subst (AllByRecursion (λ s. s.to ≤ from)) c.as_slice-4.ensures.value c.end_of-from.ensures.behind in
     subst (HoldStretches ss)
-    (sym (c.as_slice-7.ensures.value ∙ c.keep_needed.ensures ∙ left_whole _ from c.oldest_of-oldest.result ts c.self.invariant.0.numbered within))
+    (sym (c.as_slice-6.ensures.value ∙ c.keep_needed.ensures ∙ left_whole _ from c.oldest_of-oldest.result ts c.self.invariant.0.numbered within))
     (stretches-rest ss from ts _ within ends held)
-
-pub keep_in_use-requires : goal.keep_in_use-requires
-keep_in_use-requires g c =
-    rw (c.as_slice-8.ensures.value, c.as_slice-9.ensures.value) (subst (HoldStretches c.grow.new.past.items) c.as_slice-7.ensures.value c.grow.ensures)

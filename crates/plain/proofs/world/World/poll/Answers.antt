@@ -1,25 +1,24 @@
-use Rattle.std.proofs.Common.{◌≡◌, Bool, true, cond, ap, sym, ◌∙◌}
+use Rattle.std.proofs.Common.{◌≡◌, true, false, cond, ap, sym, arith, ◌∙◌}
 use Rattle.statement.specs.declared.reply.Reply.TheVariants.{Safe, Wait}
 use Rattle.history.specs.Transactions.{Txn, is_deferrable}
-use Rattle.plain.specs.Ledger.{Ledger, is_pending_at, world_on}
+use Rattle.plain.specs.Ledger.{is_pending_at, world_on}
+use Rattle.plain.proofs.ActiveLemmas.{none_pending, one_pending}
 use Rattle.plain.proofs.LedgerLemmas.{poll_late}
 use Rattle.plain.proofs.world.World.poll.Goals as goal
 
-pub returns-then-is_pending_at-clause-reply : goal.returns-then-is_pending_at-clause-reply
-returns-then-is_pending_at-clause-reply g c = λ d X.
-    let waits : is_deferrable c.args.transaction.now.mode ≡ true = cc in
-    let same = ap (λ (l : Ledger _). l.txns) c.self.view_is in
-    let unknown : c.args.transaction.now.known ≡ Rattle.std.proofs.Common.false = cc in
-    let pending : is_pending_at c.args.self.now.txns c.polled-course.result.taken ≡ true = ap (λ ts. is_pending_at ts c.polled-course.result.taken) (sym same ∙ sym c.as_slice.ensures.value) ∙ sym c.is_pending_at.ensures ∙ c.if-is_pending_at.true in
+pub returns-then-first_active-course-clause-reply : goal.returns-then-first_active-course-clause-reply
+returns-then-first_active-course-clause-reply g c = λ d X.
+    let waits : is_deferrable c.args.transaction.now.mode ≡ true = sym (ap (λ (t : Txn _). is_deferrable t.mode) c.transaction.view_is) ∙ sym c.is_deferrable.ensures ∙ c.if-not-is_deferrable.false in
+    let unknown : c.args.transaction.now.known ≡ false = sym (ap (λ (t : Txn _). t.known) c.transaction.view_is) ∙ c.if-transaction.false in
+    let pending : is_pending_at c.args.self.now.txns c.polled-course.result.taken ≡ true = one_pending c.args.self.now.txns c.polled-course.result.taken (omega (arith, c.first_active.ensures, c.if-first_active-course.true)) (omega arith) in
     sym (poll_late (world_on d X c.args.self.now) c.args.transaction.now c.polled-course.result waits unknown (c.polled-course.ensures d X) ∙ ap (λ b. cond b Wait (Safe c.polled-course.result.snapshot)) pending)
 
-pub returns-else-is_pending_at-clause-reply : goal.returns-else-is_pending_at-clause-reply
-returns-else-is_pending_at-clause-reply g c = λ d X.
-    let waits : is_deferrable c.args.transaction.now.mode ≡ true = cc in
-    let same = ap (λ (l : Ledger _). l.txns) c.self.view_is in
-    let unknown : c.args.transaction.now.known ≡ Rattle.std.proofs.Common.false = cc in
-    let pending : is_pending_at c.args.self.now.txns c.polled-course.result.taken ≡ Rattle.std.proofs.Common.false = ap (λ ts. is_pending_at ts c.polled-course.result.taken) (sym same ∙ sym c.as_slice.ensures.value) ∙ sym c.is_pending_at.ensures ∙ c.if-is_pending_at.false in
+pub returns-else-first_active-course-clause-reply : goal.returns-else-first_active-course-clause-reply
+returns-else-first_active-course-clause-reply g c = λ d X.
+    let waits : is_deferrable c.args.transaction.now.mode ≡ true = sym (ap (λ (t : Txn _). is_deferrable t.mode) c.transaction.view_is) ∙ sym c.is_deferrable.ensures ∙ c.if-not-is_deferrable.false in
+    let unknown : c.args.transaction.now.known ≡ false = sym (ap (λ (t : Txn _). t.known) c.transaction.view_is) ∙ c.if-transaction.false in
+    let pending : is_pending_at c.args.self.now.txns c.polled-course.result.taken ≡ false = none_pending c.args.self.now.txns c.polled-course.result.taken (omega (arith, c.first_active.ensures, c.if-first_active-course.false)) in
     sym (poll_late (world_on d X c.args.self.now) c.args.transaction.now c.polled-course.result waits unknown (c.polled-course.ensures d X) ∙ ap (λ b. cond b Wait (Safe c.polled-course.result.snapshot)) pending)
 
-pub returns-else-is_pending_at-clause-course : goal.returns-else-is_pending_at-clause-course
-returns-else-is_pending_at-clause-course g c = λ d X. ap (λ (x : Txn _). record x { known = true }) (c.polled-course.ensures d X)
+pub returns-else-first_active-course-clause-course : goal.returns-else-first_active-course-clause-course
+returns-else-first_active-course-clause-course g c = λ d X. ap (λ (x : Txn _). record x { known = true }) (c.polled-course.ensures d X)

@@ -50,3 +50,9 @@ step_owned-requires-clause-committer g c =
     let now : Ledger _ = c.args.self.now in
     let found : find (is_of c.args.session) now.txns ≡ Some (txn_at now.txns c.in-Some.at) = found_at c.as_slice.result.now now.txns c.args.session c.in-Some.at (c.as_slice.ensures.value ∙ ap (λ (l : Ledger _). l.txns) c.self.view_is) c.in-Some.ensures.some c.in-Some.ensures.within in
     c.requires.committer (txn_at now.txns c.in-Some.at) found
+
+pub step_owned-requires-clause-told : goal.step_owned-requires-clause-told
+step_owned-requires-clause-told g c =
+    let now : Ledger _ = c.args.self.now in
+    let found : find (is_of c.args.session) now.txns ≡ Some (txn_at now.txns c.in-Some.at) = found_at c.as_slice.result.now now.txns c.args.session c.in-Some.at (c.as_slice.ensures.value ∙ ap (λ (l : Ledger _). l.txns) c.self.view_is) c.in-Some.ensures.some c.in-Some.ensures.within in
+    c.requires.told (txn_at now.txns c.in-Some.at) found

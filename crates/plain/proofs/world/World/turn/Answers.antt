@@ -1,17 +1,14 @@
-use Rattle.std.proofs.Common.{arith, ap, subst, sym, ◌<◌, length}
+use Rattle.std.proofs.Common.{arith, ap}
 use Rattle.plain.specs.Ledger.{Ledger}
 use Rattle.plain.specs.Courses.{on_course}
 use Rattle.plain.proofs.LedgerLemmas.{counted-turned}
-use Rattle.plain.proofs.CalmLemmas.{calm-turned_at}
 use Rattle.plain.proofs.StretchLemmas.{stretches-turned}
 use Rattle.plain.proofs.world.World.turn.Goals as goal
 
 pub invariant_of-self : goal.invariant_of-self
 invariant_of-self g c =
-    let within : c.args.at < length c.self.inside.transactions.items = subst (λ (l : Ledger _). c.args.at < length l.txns) (sym c.self.view_is) c.requires.within in
     let same_place = ap (λ (l : Ledger _). l.place) c.self.view_is in
-    rw (c.turn.ensures, c.leave_without.ensures, c.keep_calm.ensures) (
+    rw (c.turn.ensures, c.leave_without.ensures) (
       counted-turned _ c.args.at c.args.course c.self.invariant.0 (omega (arith, same_place, c.requires.room)),
       stretches-turned c.self.inside.past.items (on_course c.args.course) c.self.inside.transactions.items c.args.at c.self.invariant.1,
-      calm-turned_at (on_course c.args.course) c.self.inside.calm.items c.self.inside.place c.self.inside.transactions.items c.args.at c.index.result.now within c.index.ensures c.self.invariant.2,
     )

@@ -1,17 +1,14 @@
-use Rattle.std.proofs.Common.{arith, ap, subst, sym, ◌<◌, ◌+◌, length}
-use Rattle.plain.specs.Ledger.{Ledger, turned_at}
+use Rattle.std.proofs.Common.{arith, ap}
+use Rattle.plain.specs.Ledger.{Ledger}
 use Rattle.plain.specs.Courses.{on_course}
 use Rattle.plain.proofs.CommitLemmas.{counted-committed}
-use Rattle.plain.proofs.CalmLemmas.{calm-doomed, calm-turned_at}
 use Rattle.plain.proofs.StretchLemmas.{stretches-doomed, stretches-turned}
 use Rattle.plain.proofs.world.World.turn_committer.Goals as goal
 
 pub invariant_of-self : goal.invariant_of-self
 invariant_of-self g c =
-    let within : c.args.at < length c.self.inside.transactions.items = subst (λ (l : Ledger _). c.args.at < length l.txns) (sym c.self.view_is) c.requires.within in
     let same_place = ap (λ (l : Ledger _). l.place) c.self.view_is in
-    rw (c.doom_any.ensures, c.turn.ensures, c.leave_without.ensures, c.keep_calm.ensures) (
+    rw (c.doom_any.ensures, c.turn.ensures, c.leave_without.ensures) (
       counted-committed _ c.args.at c.args.committed _ c.args.causes.now c.self.invariant.0 (omega (arith, same_place, c.requires.room)),
       stretches-doomed _ _ c.args.causes.now _ (stretches-turned c.self.inside.past.items (on_course c.args.committed) c.self.inside.transactions.items c.args.at c.self.invariant.1),
-      calm-doomed (c.self.inside.place + 1) c.args.causes.now _ _ (turned_at c.args.at (on_course c.args.committed) c.self.inside.transactions.items) (calm-turned_at (on_course c.args.committed) c.self.inside.calm.items c.self.inside.place c.self.inside.transactions.items c.args.at c.index.result.now within c.index.ensures c.self.invariant.2),
     )

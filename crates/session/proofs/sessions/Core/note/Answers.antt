@@ -32,6 +32,7 @@ invariant_of-self-2 g c =
           c.self.inside.keys.items c.self.inside.keys.items (vec_capacity c.self.inside.keys) (vec_capacity c.self.inside.keys) c.self.invariant.1 (subst HasRoom (sym c.self.view_is) c.requires.room)
           (sym (append-nil (map keyed c.self.inside.keys.items))) (omega arith) refl,
       rows_now h l k c.self.inside.rows c.self.invariant.2 c.args.session (Run c.args.statement) c.catalog.result.now c.catalog.ensures fits c.in_ok-answered.answered c.record.new.self c.in_ok-answered.ensures.reply c.in_ok-answered.ensures.world c.self.inside.rows c.in_ok-answered.ensures.rows,
+      c.self.invariant.3,
     )
 
 pub returns-clause-reply : goal.returns-clause-reply
