@@ -8,7 +8,7 @@ ghost use Rattle.schema.specs.Plain.{is_sound};
 use crate::fault::Fault;
 use crate::task::Task;
 use dumpplan::{Jobs, NoGate};
-use orders::search::{Answer, search};
+use orders::search::{Answer, Found, search};
 use orders::stop::{Stop, find_stop};
 use program::files::{Files, ReadError};
 use restore::restore;
@@ -99,17 +99,17 @@ fn empty_tables<'p, A: Allocator + Copy>(
     }
 }
 
-// The answer of the search.
+// What the search finds.
 fn searched<'p, A: Allocator + Copy>(
     alloc: A,
     catalog: &Catalog<A>,
     tables: &Tables<A>,
     traces: &Traces<A>,
     steps: u32,
-) -> Result<Answer<A>, Fault<'p>>
+) -> Result<Found<A>, Fault<'p>>
     requires fit { all_fit catalog.now traces.now.transactions.items ≡ true }
     requires sound { is_sound catalog.now tables.now ≡ true }
-    ensures tells { IfOk result (λ answer. Tells catalog.now tables.now traces.now.transactions.items answer) }
+    ensures tells { IfOk result (λ found. Tells catalog.now tables.now traces.now.transactions.items found.answer) }
 {
     match search(
         alloc,
@@ -118,7 +118,7 @@ fn searched<'p, A: Allocator + Copy>(
         traces.transactions.as_slice(),
         u64::from(steps),
     ) {
-        Ok(answer) => Ok(answer),
+        Ok(found) => Ok(found),
         Err(_) => Err(Fault::Memory),
     }
 }
@@ -129,13 +129,12 @@ fn stopped<'p, A: Allocator + Copy>(
     catalog: &Catalog<A>,
     tables: &Tables<A>,
     traces: &Traces<A>,
-    answer: &Answer<A>,
-    steps: u32,
+    found: &Found<A>,
 ) -> Result<Option<Stop<A>>, Fault<'p>>
     requires fit { all_fit catalog.now traces.now.transactions.items ≡ true }
     requires sound { is_sound catalog.now tables.now ≡ true }
 {
-    let Answer::No = answer else {
+    let Answer::No = found.answer else {
         return Ok(None);
     };
     match find_stop(
@@ -143,9 +142,9 @@ fn stopped<'p, A: Allocator + Copy>(
         catalog,
         tables,
         traces.transactions.as_slice(),
-        u64::from(steps),
+        found.longest.as_slice(),
     ) {
-        Ok(stop) => Ok(stop),
+        Ok(stop) => Ok(Some(stop)),
         Err(_) => Err(Fault::Memory),
     }
 }
@@ -167,8 +166,9 @@ fn judged<'p, A: Allocator + Copy>(
         Ok(traces) => traces,
         Err(fault) => return Err(Fault::Transcript(fault)),
     };
-    let answer = searched(alloc, &catalog, &tables, &traces, task.steps)?;
-    let stop = stopped(alloc, &catalog, &tables, &traces, &answer, task.steps)?;
+    let found = searched(alloc, &catalog, &tables, &traces, task.steps)?;
+    let stop = stopped(alloc, &catalog, &tables, &traces, &found)?;
+    let Found { answer, .. } = found;
     Ok(Judgement {
         catalog,
         tables,

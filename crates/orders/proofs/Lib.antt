@@ -2,4 +2,8 @@ pub mod AloneLemmas
 pub mod AgreeLemmas
 pub mod OrderLemmas
 pub mod PlaceLemmas
+pub mod PopLemmas
+pub mod SeenLemmas
+pub mod TimeLemmas
+pub mod UndoLemmas
 pub mod WalkLemmas

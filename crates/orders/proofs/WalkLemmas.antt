@@ -3,6 +3,7 @@ use Rattle.std.proofs.Common.{◌≡◌, ◌⊎◌, refl, sym, ap, ◌∙◌, su
 use Rattle.std.specs.List.{list_all}
 use Rattle.std.proofs.lemmas.List.{length-replicate}
 use Rattle.schema.specs.Definition.{Catalog}
+use Rattle.schema.specs.declared.changes.Change.{Change}
 use Rattle.schema.specs.declared.tables.Tables.{Tables}
 use Rattle.schema.specs.Plain.{is_sound}
 use Rattle.statement.specs.declared.statement.Statement.{Statement}
@@ -12,8 +13,11 @@ use Rattle.statement.specs.Fits.{fits}
 use Rattle.statement.proofs.LawsLemmas.{sound_after}
 use Rattle.orders.specs.Explains.{Trace, precedes, Explains, Unexplained, agrees, alone, are_fit, all_fit}
 use Rattle.orders.specs.Turns.{MayCome, are_done, comes, comes_so}
-use Rattle.orders.specs.Walks.{Standing, AllDone, Goes, IsDead, AreTried, Comes, IsWalk, IsStep, IsFound, CanCome, HasTurned, none_done, tables_before, gone_on, taken_back, behind}
-use Rattle.orders.specs.declared.walk.Passed.{Passed}
+use Rattle.orders.specs.Undone.{HasRun, put_back}
+use Rattle.orders.specs.Walks.{Passing, Standing, AllDone, Goes, IsDead, AreTried, IsTried, Anything, Comes, IsPath, IsWalk, IsStep, CanCome, NoneCan, HasTurned, HasPopped, HasTakenBack, none_done, gone_on, taken_back, behind, places_of}
+use Rattle.orders.specs.Found.{HasGone, progress_of}
+use Rattle.orders.specs.declared.search.Progress.{Progress}
+use Rattle.orders.specs.declared.search.Progress.TheVariants.{More, Found, Exhausted}
 use Rattle.orders.proofs.PlaceLemmas.{some-injective, get-set, set-back, decide, below_or}
 use Rattle.orders.proofs.OrderLemmas.{explained-goes, goes-explained}
 
@@ -33,12 +37,33 @@ length-set [] i x = refl
 length-set (y ∷ ys) zero x = refl
 length-set (y ∷ ys) (suc i) x = ap suc (length-set ys i x)
 
+-- ---- what a walk does
+
+pub gone-so : {A : Type 0} (c : Catalog) (t : Trace A) (w m v : Standing A) (place : ℕ) (back : List (Change A)) → HasRun c t.statements w.tables (Some back) m.tables → m ≡ record w { tables = m.tables }
+    → v ≡ record { path = m.path ++ record { place = place; back = back } ∷ []; done = slice_set m.done place true; tables = m.tables; from = 0 } → HasTurned c t w place true v
+gone-so c t w m v place back h e f = (
+  back,
+  m.tables,
+  h.0,
+  h.1,
+  f ∙ ap (λ (x : Standing _). record { path = x.path ++ record { place = place; back = back } ∷ []; done = slice_set x.done place true; tables = x.tables; from = 0 }) e,
+)
+
+pub stayed-so : {A : Type 0} (c : Catalog) (t : Trace A) (w m : Standing A) (place : ℕ) → HasRun c t.statements w.tables None m.tables → m ≡ record w { tables = m.tables } → HasTurned c t w place false m
+stayed-so c t w m place h e = (h.0, e ∙ ap (λ X. record w { tables = X }) h.1)
+
+pub popped-back : {A : Type 0} (w m v : Standing A) (p : Passing A) (place : ℕ) → HasPopped w (Some p) m → (place ≡ p.place) × (v ≡ taken_back m m.path p) → HasTakenBack w (Some place) v
+popped-back w m v p place h k = (m.path, p, h.0, k.1 ∙ ap (λ (x : Standing _). record { path = m.path; done = slice_set x.done p.place false; tables = put_back p.back x.tables; from = behind p.place }) h.1, k.0)
+
+pub popped-none : {A : Type 0} (w m : Standing A) → HasPopped w None m → HasTakenBack w None m
+popped-none w m h = h
+
 -- before the first of so many
 abbrev pub start_of : {A : Type 0} → ℕ → Tables A → Standing A
 start_of n Y = record { path = []; done = replicate n false; tables = Y; from = 0 }
 
 module _ {A : Type 0} (ts : List (Trace A)) where
-  free-at : (t : Trace A) (us : List (Trace A)) (done : List Bool) → list_all (λ p. p.1 || not (precedes p.0 t)) (zip us done) ≡ true → (j : ℕ) (a : Trace A) → slice_get us j ≡ Some a → slice_get done j ≡ Some false → precedes a t ≡ false
+  pub free-at : (t : Trace A) (us : List (Trace A)) (done : List Bool) → list_all (λ p. p.1 || not (precedes p.0 t)) (zip us done) ≡ true → (j : ℕ) (a : Trace A) → slice_get us j ≡ Some a → slice_get done j ≡ Some false → precedes a t ≡ false
   free-at t [] done h j a g l = cc
   free-at t (u ∷ us) [] h j a g l = cc
   free-at t (u ∷ us) (d ∷ ds) h zero a g l =
@@ -48,13 +73,13 @@ module _ {A : Type 0} (ts : List (Trace A)) where
       is-false (precedes a t) (ap (λ b. b || not (precedes a t)) (sym f) ∙ ap (λ v. d || not (precedes v t)) (sym e) ∙ p.0)
   free-at t (u ∷ us) (d ∷ ds) h (suc j) a g l = free-at t us ds (two (d || not (precedes u t)) (list_all (λ p. p.1 || not (precedes p.0 t)) (zip us ds)) h).1 j a g l
 
-  free-from : (t : Trace A) (us : List (Trace A)) (done : List Bool) → ((j : ℕ) (a : Trace A) → slice_get us j ≡ Some a → slice_get done j ≡ Some false → precedes a t ≡ false) → list_all (λ p. p.1 || not (precedes p.0 t)) (zip us done) ≡ true
+  pub free-from : (t : Trace A) (us : List (Trace A)) (done : List Bool) → ((j : ℕ) (a : Trace A) → slice_get us j ≡ Some a → slice_get done j ≡ Some false → precedes a t ≡ false) → list_all (λ p. p.1 || not (precedes p.0 t)) (zip us done) ≡ true
   free-from t [] done h = refl
   free-from t (u ∷ us) [] h = refl
   free-from t (u ∷ us) (true ∷ ds) h = free-from t us ds (λ j a g l. h (suc j) a g l)
   free-from t (u ∷ us) (false ∷ ds) h = ap (λ b. not b && list_all (λ p. p.1 || not (precedes p.0 t)) (zip us ds)) (h 0 u refl refl) ∙ free-from t us ds (λ j a g l. h (suc j) a g l)
 
-  comes-may : (done : List Bool) (i : ℕ) → comes ts done i ≡ true → (t : Trace A) × MayCome ts done i t
+  pub comes-may : (done : List Bool) (i : ℕ) → comes ts done i ≡ true → (t : Trace A) × MayCome ts done i t
   comes-may done i h = go (slice_get ts i) (slice_get done i) refl refl h
     where
       go : (o : Option (Trace A)) (d : Option Bool) → slice_get ts i ≡ o → slice_get done i ≡ d → comes_so ts done o d ≡ true → (t : Trace A) × MayCome ts done i t
@@ -124,65 +149,62 @@ module _ {A : Type 0} (c : Catalog) (ts : List (Trace A)) where
   fit-at (u ∷ us) zero t f e = subst (λ v. are_fit c v.statements ≡ true) (some-injective u t e) (two (are_fit c u.statements) (all_fit c us) f).0
   fit-at (u ∷ us) (suc i) t f e = fit-at us i t (two (are_fit c u.statements) (all_fit c us) f).1 e
 
-  comes-sound : (path : List (Passed A)) (done those : List Bool) (X Z : Tables A) → all_fit c ts ≡ true → is_sound c X ≡ true → Comes c ts done X path those Z → is_sound c Z ≡ true
-  comes-sound [] done those X Z f s h = subst (λ V. is_sound c V ≡ true) (sym h.1) s
-  comes-sound (p ∷ path) done those X Z f s h =
-      comes-sound path (slice_set done p.place true) those h.1 Z f (alone-sound h.0.statements X h.1 (fit-at ts p.place h.0 f h.2.stands) s h.3) h.7
-
   -- ---- the path
 
-  comes-more : (path : List (Passed A)) (done those : List Bool) (X Z : Tables A) (p : Passed A) (t : Trace A) (Y : Tables A) → Comes c ts done X path those Z → MayCome ts those p.place t → alone c t.statements Z ≡ Some Y → tables_before p.before Y ≡ Z
-      → AreTried c ts those Z p.place → (AllDone ts those → ⊥) → Comes c ts done X (path ++ p ∷ []) (slice_set those p.place true) Y
-  comes-more [] done those X Z p t Y h m a b tr u = (
-    t,
-    Y,
-    subst (λ d. MayCome ts d p.place t) h.0 m,
-    ap (alone c t.statements) (sym h.1) ∙ a,
-    b ∙ h.1,
-    subst (λ V. AreTried c ts done V p.place) h.1 (subst (λ d. AreTried c ts d Z p.place) h.0 tr),
-    subst (λ d. AllDone ts d → ⊥) h.0 u,
-    (ap (λ d. slice_set d p.place true) h.0, refl),
-  )
-  comes-more (q ∷ path) done those X Z p t Y h m a b tr u = (h.0, h.1, h.2, h.3, h.4, h.5, h.6, comes-more path (slice_set done q.place true) those h.1 Z p t Y h.7 m a b tr u)
+  module _ (P : List Bool → Tables A → ℕ → Type 0) where
+    comes-sound : (path : List (Passing A)) (done those : List Bool) (X Z : Tables A) → all_fit c ts ≡ true → is_sound c X ≡ true → Comes c ts P done X path those Z → is_sound c Z ≡ true
+    comes-sound [] done those X Z f s h = subst (λ V. is_sound c V ≡ true) (sym h.1) s
+    comes-sound (p ∷ path) done those X Z f s h =
+        comes-sound path (slice_set done p.place true) those h.1 Z f (alone-sound h.0.statements X h.1 (fit-at ts p.place h.0 f h.2.stands) s h.3) h.6
 
-  -- What is known where the last of the path is taken back.
-  record Back (done : List Bool) (X : Tables A) (path : List (Passed A)) (p : Passed A) (those : List Bool) (Z : Tables A) : Type 0 where
-    comes : Comes c ts done X path (slice_set those p.place false) (tables_before p.before Z)
-    tried : AreTried c ts (slice_set those p.place false) (tables_before p.before Z) p.place
-    unfinished : AllDone ts (slice_set those p.place false) → ⊥
-    transaction : Trace A
-    may : MayCome ts (slice_set those p.place false) p.place transaction
-    again : alone c transaction.statements (tables_before p.before Z) ≡ Some Z
-    those_are : those ≡ slice_set (slice_set those p.place false) p.place true
+    comes-more : (path : List (Passing A)) (done those : List Bool) (X Z : Tables A) (p : Passing A) (t : Trace A) (Y : Tables A) → Comes c ts P done X path those Z → MayCome ts those p.place t → alone c t.statements Z ≡ Some Y → put_back p.back Y ≡ Z
+        → P those Z p.place → Comes c ts P done X (path ++ p ∷ []) (slice_set those p.place true) Y
+    comes-more [] done those X Z p t Y h m a b k = (
+      t,
+      Y,
+      subst (λ d. MayCome ts d p.place t) h.0 m,
+      ap (alone c t.statements) (sym h.1) ∙ a,
+      b ∙ h.1,
+      subst (λ V. P done V p.place) h.1 (subst (λ d. P d Z p.place) h.0 k),
+      (ap (λ d. slice_set d p.place true) h.0, refl),
+    )
+    comes-more (q ∷ path) done those X Z p t Y h m a b k = (h.0, h.1, h.2, h.3, h.4, h.5, comes-more path (slice_set done q.place true) those h.1 Z p t Y h.6 m a b k)
 
-  comes-less : (path : List (Passed A)) (done those : List Bool) (X Z : Tables A) (p : Passed A) → Comes c ts done X (path ++ p ∷ []) those Z → Back done X path p those Z
-  comes-less [] done those X Z p h =
-      let d : slice_set those p.place false ≡ done = ap (λ e. slice_set e p.place false) h.7.0 ∙ set-back done p.place false true h.2.left in
-      let z : tables_before p.before Z ≡ X = ap (tables_before p.before) h.7.1 ∙ h.4 in
-      record {
-        comes = (d, z);
-        tried = subst (λ V. AreTried c ts (slice_set those p.place false) V p.place) (sym z) (subst (λ e. AreTried c ts e X p.place) (sym d) h.5);
-        unfinished = subst (λ e. AllDone ts e → ⊥) (sym d) h.6;
-        transaction = h.0;
-        may = subst (λ e. MayCome ts e p.place h.0) (sym d) h.2;
-        again = ap (alone c h.0.statements) z ∙ h.3 ∙ ap Some (sym h.7.1);
-        those_are = h.7.0 ∙ ap (λ e. slice_set e p.place true) (sym d);
-      }
-  comes-less (q ∷ path) done those X Z p h =
-      let b = comes-less path (slice_set done q.place true) those h.1 Z p h.7 in
-      record {
-        comes = (h.0, h.1, h.2, h.3, h.4, h.5, h.6, b.comes);
-        tried = b.tried;
-        unfinished = b.unfinished;
-        transaction = b.transaction;
-        may = b.may;
-        again = b.again;
-        those_are = b.those_are;
-      }
+    -- What is known where the last of the path is taken back.
+    record Back (done : List Bool) (X : Tables A) (path : List (Passing A)) (p : Passing A) (those : List Bool) (Z : Tables A) : Type 0 where
+      comes : Comes c ts P done X path (slice_set those p.place false) (put_back p.back Z)
+      known : P (slice_set those p.place false) (put_back p.back Z) p.place
+      transaction : Trace A
+      may : MayCome ts (slice_set those p.place false) p.place transaction
+      again : alone c transaction.statements (put_back p.back Z) ≡ Some Z
+      those_are : those ≡ slice_set (slice_set those p.place false) p.place true
 
-  comes-goes : (path : List (Passed A)) (done those : List Bool) (X Z : Tables A) → Comes c ts done X path those Z → AllDone ts those → Goes c ts done X (map (λ (p : Passed A). p.place) path)
-  comes-goes [] done those X Z h f = subst (AllDone ts) h.0 f
-  comes-goes (p ∷ path) done those X Z h f = (h.0, h.1, h.2, h.3, comes-goes path (slice_set done p.place true) those h.1 Z h.7 f)
+    comes-less : (path : List (Passing A)) (done those : List Bool) (X Z : Tables A) (p : Passing A) → Comes c ts P done X (path ++ p ∷ []) those Z → Back done X path p those Z
+    comes-less [] done those X Z p h =
+        let d : slice_set those p.place false ≡ done = ap (λ e. slice_set e p.place false) h.6.0 ∙ set-back done p.place false true h.2.left in
+        let z : put_back p.back Z ≡ X = ap (put_back p.back) h.6.1 ∙ h.4 in
+        record {
+          comes = (d, z);
+          known = subst (λ V. P (slice_set those p.place false) V p.place) (sym z) (subst (λ e. P e X p.place) (sym d) h.5);
+          transaction = h.0;
+          may = subst (λ e. MayCome ts e p.place h.0) (sym d) h.2;
+          again = ap (alone c h.0.statements) z ∙ h.3 ∙ ap Some (sym h.6.1);
+          those_are = h.6.0 ∙ ap (λ e. slice_set e p.place true) (sym d);
+        }
+    comes-less (q ∷ path) done those X Z p h =
+        let b = comes-less path (slice_set done q.place true) those h.1 Z p h.6 in
+        record {
+          comes = (h.0, h.1, h.2, h.3, h.4, h.5, b.comes);
+          known = b.known;
+          transaction = b.transaction;
+          may = b.may;
+          again = b.again;
+          those_are = b.those_are;
+        }
+
+    comes-goes : (path : List (Passing A)) (done those : List Bool) (X Z : Tables A) → Comes c ts P done X path those Z → AllDone ts those → Goes c ts done X (map (λ (p : Passing A). p.place) path)
+    comes-goes [] done those X Z h f = subst (AllDone ts) h.0 f
+    comes-goes (p ∷ path) done those X Z h f = (h.0, h.1, h.2, h.3, comes-goes path (slice_set done p.place true) those h.1 Z h.6 f)
 
   -- ---- what has been tried
 
@@ -226,83 +248,111 @@ module _ {A : Type 0} (c : Catalog) (ts : List (Trace A)) where
       dead later (subst (λ V. Goes c ts (slice_set done i true) V later) y g.4)
 
 module _ {A : Type 0} (c : Catalog) (X : Tables A) (ts : List (Trace A)) where
+  abbrev Tried : List Bool → Tables A → ℕ → Type 0
+  Tried = IsTried c ts
+
   -- ---- a search
 
   pub walk-sound : (w : Standing A) → all_fit c ts ≡ true → is_sound c X ≡ true → IsWalk c X ts w → is_sound c w.tables ≡ true
-  walk-sound w f s h = comes-sound c ts w.path (none_done ts) w.done X w.tables f s h.comes
+  walk-sound w f s h = comes-sound c ts Tried w.path (none_done ts) w.done X w.tables f s h.comes
 
-  passed : (w : Standing A) (i : ℕ) (t : Trace A) → IsWalk c X ts w → slice_get ts i ≡ Some t → ((j : ℕ) → w.from ≤ j → j < i → comes ts w.done j ≡ false) → alone c t.statements w.tables ≡ None → IsWalk c X ts (record w { from = behind i })
-  passed w i t h m skip a = record {
-    comes = h.comes;
-    tried = tried-behind c ts w.done w.tables i (skipped-tried c ts w.done w.tables w.from i h.tried skip) (no-turn c ts w.done w.tables i t m a);
-    unfinished = h.unfinished;
-    count = h.count;
-  }
-
-  gone-on : (w : Standing A) (i : ℕ) (t : Trace A) (before : Option (Tables A)) (Y : Tables A) → IsWalk c X ts w → MayCome ts w.done i t → ((j : ℕ) → w.from ≤ j → j < i → comes ts w.done j ≡ false) → alone c t.statements w.tables ≡ Some Y
-      → tables_before before Y ≡ w.tables → IsStep c X ts (gone_on w i before Y)
-  gone-on w i t before Y h m skip a b = record {
-    comes = comes-more c ts w.path (none_done ts) w.done X w.tables (record { place = i; before = before }) t Y h.comes m a b (skipped-tried c ts w.done w.tables w.from i h.tried skip) h.unfinished;
-    count = length-set w.done i true ∙ h.count;
-    tried = λ k later l g. absurd (omega (arith, l));
-  }
-
-  -- what is known after a turn
-  turned : (w v : Standing A) (i : ℕ) (o : Option (Tables A)) → ((t : Trace A) → slice_get ts i ≡ Some t → o ≡ alone c t.statements w.tables) → HasTurned o w i true v → IsWalk c X ts w → CanCome ts w i → IsStep c X ts v
-  turned w v i o a h k m =
+  -- the transaction at a place gets an answer that differs
+  pub passed : (w v : Standing A) (i : ℕ) → ((t : Trace A) → slice_get ts i ≡ Some t → HasTurned c t w i false v) → IsWalk c X ts w → CanCome ts w i → IsWalk c X ts (record v { from = behind i })
+  passed w v i h k m =
       let s = comes-may ts w.done i m.0 in
-      subst (IsStep c X ts) (sym h.4) (gone-on w i s.0 h.0 h.1 k s.1 m.1 (sym (a s.0 s.1.stands) ∙ h.2) h.3)
+      let turn = h s.0 s.1.stands in
+      subst (λ u. IsWalk c X ts (record u { from = behind i })) (sym turn.1) (record {
+        comes = k.comes;
+        tried = tried-behind c ts w.done w.tables i (skipped-tried c ts w.done w.tables w.from i k.tried m.1) (no-turn c ts w.done w.tables i s.0 s.1.stands turn.0);
+        unfinished = k.unfinished;
+        count = k.count;
+      })
 
-  pub turn-found : (w v : Standing A) (i : ℕ) (o : Option (Tables A)) (b d : Bool) → ((t : Trace A) → slice_get ts i ≡ Some t → o ≡ alone c t.statements w.tables) → HasTurned o w i b v → d ≡ are_done ts v.done
-      → (b && d) ≡ true → IsWalk c X ts w → CanCome ts w i → IsFound c X ts v
-  turn-found w v i o true d a h e f k m =
-      let s = turned w v i o a h k m in
-      record { comes = s.comes; finished = complete-done ts v.done s.count (sym e ∙ f) }
-  turn-found w v i o false d a h e f k m = absurd (true≢false (sym f))
-
-  pub turn-on : (w v : Standing A) (i : ℕ) (o : Option (Tables A)) (b d : Bool) → ((t : Trace A) → slice_get ts i ≡ Some t → o ≡ alone c t.statements w.tables) → HasTurned o w i b v → d ≡ are_done ts v.done
-      → (b && d) ≡ false → IsWalk c X ts w → CanCome ts w i → IsWalk c X ts v
-  turn-on w v i o true d a h e f k m =
-      let s = turned w v i o a h k m in
-      record { comes = s.comes; tried = s.tried; unfinished = incomplete ts v.done s.count (sym e ∙ f); count = s.count }
-  turn-on w v i o false d a h e f k m =
+  -- the search goes on with it
+  pub turned : (w v : Standing A) (i : ℕ) → ((t : Trace A) → slice_get ts i ≡ Some t → HasTurned c t w i true v) → IsWalk c X ts w → CanCome ts w i → IsStep c X ts v
+  turned w v i h k m =
       let s = comes-may ts w.done i m.0 in
-      subst (IsWalk c X ts) (sym h.1) (passed w i s.0 k s.1.stands m.1 (sym (a s.0 s.1.stands) ∙ h.0))
+      let turn = h s.0 s.1.stands in
+      subst (IsStep c X ts) (sym turn.4) (record {
+        comes = comes-more c ts Tried w.path (none_done ts) w.done X w.tables (record { place = i; back = turn.0 }) s.0 turn.1 k.comes s.1 turn.2 turn.3
+            (record { before = skipped-tried c ts w.done w.tables w.from i k.tried m.1; unfinished = k.unfinished });
+        count = length-set w.done i true ∙ k.count;
+        tried = λ j later l g. absurd (omega (arith, l));
+      })
 
-  taken-back : (w : Standing A) (path : List (Passed A)) (p : Passed A) → IsStep c X ts w → IsDead c ts w.done w.tables → w.path ≡ path ++ p ∷ [] → IsWalk c X ts (taken_back w path p)
+  pub step-found : (v : Standing A) → IsStep c X ts v → are_done ts v.done ≡ true → Explains c X ts (places_of v)
+  step-found v s f = goes-explained c ts X (places_of v) (comes-goes c ts Tried v.path (none_done ts) v.done X v.tables s.comes (complete-done ts v.done s.count f))
+
+  pub step-walk : (v : Standing A) → IsStep c X ts v → are_done ts v.done ≡ false → IsWalk c X ts v
+  step-walk v s f = record { comes = s.comes; tried = s.tried; unfinished = incomplete ts v.done s.count f; count = s.count }
+
+  walk-step : (w : Standing A) → IsWalk c X ts w → IsStep c X ts w
+  walk-step w k = record { comes = k.comes; tried = k.tried; count = k.count }
+
+  taken-back : (w : Standing A) (path : List (Passing A)) (p : Passing A) → IsStep c X ts w → IsDead c ts w.done w.tables → w.path ≡ path ++ p ∷ [] → IsWalk c X ts (taken_back w path p)
   taken-back w path p h dead e =
-      let b = comes-less c ts path (none_done ts) w.done X w.tables p (subst (λ ps. Comes c ts (none_done ts) X ps w.done w.tables) e h.comes) in
+      let b = comes-less c ts Tried path (none_done ts) w.done X w.tables p (subst (λ ps. Comes c ts Tried (none_done ts) X ps w.done w.tables) e h.comes) in
       record {
         comes = b.comes;
-        tried = tried-behind c ts (slice_set w.done p.place false) (tables_before p.before w.tables) p.place b.tried
-            (dead-turn c ts (slice_set w.done p.place false) (tables_before p.before w.tables) w.tables p.place b.transaction b.may.stands b.again (subst (λ d. IsDead c ts d w.tables) b.those_are dead));
-        unfinished = b.unfinished;
+        tried = tried-behind c ts (slice_set w.done p.place false) (put_back p.back w.tables) p.place b.known.before
+            (dead-turn c ts (slice_set w.done p.place false) (put_back p.back w.tables) w.tables p.place b.transaction b.may.stands b.again (subst (λ d. IsDead c ts d w.tables) b.those_are dead));
+        unfinished = b.known.unfinished;
         count = length-set w.done p.place false ∙ h.count;
       }
 
   no-order : (w : Standing A) → IsStep c X ts w → IsDead c ts w.done w.tables → w.path ≡ [] → Unexplained c X ts
   no-order w h dead e =
-      let s = subst (λ ps. Comes c ts (none_done ts) X ps w.done w.tables) e h.comes in
+      let s = subst (λ ps. Comes c ts Tried (none_done ts) X ps w.done w.tables) e h.comes in
       λ order x. dead order (subst (λ V. Goes c ts w.done V order) (sym s.1) (subst (λ d. Goes c ts d X order) (sym s.0) (explained-goes c ts X order x)))
 
-  -- where none can come
-  pub back-on : (w v : Standing A) (path : List (Passed A)) (p : Passed A) → IsWalk c X ts w → ((j : ℕ) → w.from ≤ j → comes ts w.done j ≡ false) → w.path ≡ path ++ p ∷ [] → v ≡ taken_back w path p → IsWalk c X ts v
-  back-on w v path p k skip e q =
-      subst (IsWalk c X ts) (sym q) (taken-back w path p (record { comes = k.comes; tried = k.tried; count = k.count }) (exhausted c ts w.done w.tables w.from k.tried skip k.unfinished) e)
+  -- where it is known that no order goes on, what comes is taken back
+  pub known-back : (w v : Standing A) (o : Option ℕ) → IsWalk c X ts w → IsDead c ts w.done w.tables → HasTakenBack w o v → IsWalk c X ts v
+  known-back w v None k dead h = subst (IsWalk c X ts) (sym h.1) k
+  known-back w v (Some place) k dead h = subst (IsWalk c X ts) (sym h.3) (taken-back w h.0 h.1 (walk-step w k) dead h.2)
 
-  pub none-explains : (w : Standing A) → IsWalk c X ts w → ((j : ℕ) → w.from ≤ j → comes ts w.done j ≡ false) → w.path ≡ [] → Unexplained c X ts
-  none-explains w k skip e = no-order w (record { comes = k.comes; tried = k.tried; count = k.count }) (exhausted c ts w.done w.tables w.from k.tried skip k.unfinished) e
+  -- where none can come, no order goes on
+  pub none-dead : (w : Standing A) → IsWalk c X ts w → NoneCan ts w → IsDead c ts w.done w.tables
+  none-dead w k skip = exhausted c ts w.done w.tables w.from k.tried skip k.unfinished
+
+  pub none-back : (w v : Standing A) (place : ℕ) → IsWalk c X ts w → NoneCan ts w → HasTakenBack w (Some place) v → IsWalk c X ts v
+  none-back w v place k skip h = known-back w v (Some place) k (none-dead w k skip) h
+
+  pub none-explains : (w v : Standing A) → IsWalk c X ts w → NoneCan ts w → HasTakenBack w None v → Unexplained c X ts
+  none-explains w v k skip h = no-order w (walk-step w k) (none-dead w k skip) h.0
 
   -- ---- its beginning
 
-  begins : (w : Standing A) → w ≡ record { path = []; done = replicate (length ts) false; tables = X; from = 0 } → IsStep c X ts w
-  begins w e = subst (IsStep c X ts) (sym e) (record { comes = (replicated ts ts, refl); tried = λ k later l g. absurd (omega (arith, l)); count = length-replicate (length ts) false })
+  pub begin-step : (w : Standing A) → w ≡ start_of (length ts) X → IsStep c X ts w
+  begin-step w e = subst (IsStep c X ts) (sym e) (record { comes = (replicated ts ts, refl); tried = λ k later l g. absurd (omega (arith, l)); count = length-replicate (length ts) false })
 
-  pub begin-walk : (w : Standing A) → w ≡ record { path = []; done = replicate (length ts) false; tables = X; from = 0 } → are_done ts w.done ≡ false → IsWalk c X ts w
-  begin-walk w e f = let s = begins w e in record { comes = s.comes; tried = s.tried; unfinished = incomplete ts w.done s.count f; count = s.count }
+  -- ---- a path
 
-  pub begin-found : (w : Standing A) → w ≡ record { path = []; done = replicate (length ts) false; tables = X; from = 0 } → are_done ts w.done ≡ true → IsFound c X ts w
-  begin-found w e f = let s = begins w e in record { comes = s.comes; finished = complete-done ts w.done s.count f }
+  pub path-sound : (w : Standing A) → all_fit c ts ≡ true → is_sound c X ≡ true → IsPath c X ts w → is_sound c w.tables ≡ true
+  path-sound w f s h = comes-sound c ts Anything w.path (none_done ts) w.done X w.tables f s h.comes
 
-  pub found-order : (w : Standing A) → IsFound c X ts w → (places : List ℕ) → places ≡ map (λ (p : Passed A). p.place) w.path → Explains c X ts places
-  found-order w h places e = subst (λ ps. Explains c X ts ps) (sym e) (goes-explained c ts X (map (λ (p : Passed A). p.place) w.path) (comes-goes c ts w.path (none_done ts) w.done X w.tables h.comes h.finished))
+  pub begin-path : (w : Standing A) → w ≡ start_of (length ts) X → IsPath c X ts w
+  begin-path w e = subst (IsPath c X ts) (sym e) (record { comes = (replicated ts ts, refl); count = length-replicate (length ts) false })
+
+  pub path-on : (w v : Standing A) (i : ℕ) (t : Trace A) (b : Bool) → slice_get ts i ≡ Some t → HasTurned c t w i b v → comes ts w.done i ≡ true → IsPath c X ts w → IsPath c X ts v
+  path-on w v i t false g h m k = subst (IsPath c X ts) (sym h.1) k
+  path-on w v i t true g h m k =
+      let s = comes-may ts w.done i m in
+      subst (IsPath c X ts) (sym h.4) (record {
+        comes = comes-more c ts Anything w.path (none_done ts) w.done X w.tables (record { place = i; back = h.0 }) s.0 h.1 k.comes s.1 (ap (λ (u : Trace A). alone c u.statements w.tables) (same-turn c ts i s.0 t s.1.stands g) ∙ h.2) h.3 tt;
+        count = length-set w.done i true ∙ k.count;
+      })
+
+  pub path-back : (w v : Standing A) (o : Option ℕ) → HasTakenBack w o v → IsPath c X ts w → IsPath c X ts v
+  path-back w v None h k = subst (IsPath c X ts) (sym h.1) k
+  path-back w v (Some place) h k =
+      let b = comes-less c ts Anything h.0 (none_done ts) w.done X w.tables h.1 (subst (λ ps. Comes c ts Anything (none_done ts) X ps w.done w.tables) h.2 k.comes) in
+      subst (IsPath c X ts) (sym h.3) (record { comes = b.comes; count = length-set w.done h.1.place false ∙ k.count })
+
+  pub path-explains : (w : Standing A) → IsPath c X ts w → are_done ts w.done ≡ true → Explains c X ts (places_of w)
+  path-explains w k f = goes-explained c ts X (places_of w) (comes-goes c ts Anything w.path (none_done ts) w.done X w.tables k.comes (complete-done ts w.done k.count f))
+
+  -- ---- how it goes on
+
+  pub none-gone : (w v : Standing A) (o : Option ℕ) → IsWalk c X ts w → NoneCan ts w → HasTakenBack w o v → HasGone c X ts (progress_of o) v
+  none-gone w v None k skip h = none-explains w v k skip h
+  none-gone w v (Some place) k skip h = none-back w v place k skip h

@@ -1,18 +1,20 @@
 -- What the parts of the search say.
-use Rattle.std.specs.Prelude.{◌≡◌, ℕ, Bool, true, false, not, ◌&&◌, ◌||◌, Option, Some, None, is_some, List, zip, slice_get}
+use Rattle.std.specs.Prelude.{◌≡◌, ◌⊎◌, ℕ, ◌-◌, ◌^◌, ◌≤◌, min, Bool, true, false, not, ◌&&◌, ◌||◌, Option, Some, None, is_some, List, zip, slice_get}
 use Rattle.std.specs.List.{list_all}
-use Rattle.schema.specs.declared.tables.Tables.{Tables}
-use Rattle.orders.specs.declared.alone.Turn.{Turn}
-use Rattle.orders.specs.declared.alone.Turn.TheVariants.{Differs, Reads, Writes}
 use Rattle.orders.specs.Explains.{Trace, precedes}
 
-module _ {A : Type 0} where
-  -- the tables after a transaction that was run alone from X, where its answers agreed
-  abbrev pub came_to : Tables A → Turn A → Option (Tables A)
-  came_to X Differs = None
-  came_to X Reads = Some X
-  came_to X (Writes Y) = Some Y
+-- an end, or the last place that there is, counted in 64 bits
+abbrev pub end_or_last : Option ℕ → ℕ
+end_or_last None = 2 ^ 64 - 1
+end_or_last (Some e) = e
 
+-- the lesser of two ends, where the transaction of the second isn't done
+abbrev pub lesser_end : Option Bool → ℕ → ℕ → ℕ
+lesser_end (Some false) end least = min least end
+lesser_end (Some true) end least = least
+lesser_end None end least = least
+
+module _ {A : Type 0} where
   -- The transaction at a place may come next where these are done: it isn't, and of those that aren't none precedes it.
   pub record MayCome (ts : List (Trace A)) (done : List Bool) (i : ℕ) (t : Trace A) : Type 0 where
     pub stands : slice_get ts i ≡ Some t
@@ -26,6 +28,16 @@ module _ {A : Type 0} where
 
   abbrev pub comes : List (Trace A) → List Bool → ℕ → Bool
   comes ts done i = comes_so ts done (slice_get ts i) (slice_get done i)
+
+  abbrev pub end_at : Option (Trace A) → ℕ
+  end_at None = 2 ^ 64 - 1
+  end_at (Some t) = end_or_last t.end
+
+  -- Of those that aren't done none ends before this place, and one ends there, or it is the last that there is.
+  abbrev pub IsLeastEnd : List (Trace A) → List Bool → ℕ → Type 0
+  IsLeastEnd ts done e =
+      ((j : ℕ) → slice_get done j ≡ Some false → e ≤ end_at (slice_get ts j))
+      × ((e ≡ 2 ^ 64 - 1) ⊎ ((j : ℕ) × (slice_get done j ≡ Some false) × (e ≡ end_at (slice_get ts j))))
 
   -- all are done that are known to have committed
   abbrev pub are_done : List (Trace A) → List Bool → Bool

@@ -1,14 +1,20 @@
 -- Where a search for an order stands, and what it knows.
 use Rattle.std.specs.Prelude.{◌≡◌, ◌⊎◌, ℕ, ◌<◌, ◌≤◌, ◌+◌, ◌-◌, ◌^◌, min, Bool, true, false, Option, Some, None, is_some, List, [], ◌∷◌, ◌++◌, length, map, slice_get, slice_set}
 use Rattle.schema.specs.Definition.{Catalog}
+use Rattle.schema.specs.declared.changes.Change.{Change}
 use Rattle.schema.specs.declared.tables.Tables.{Tables}
-use Rattle.orders.specs.declared.walk.Passed.{Passed}
 use Rattle.orders.specs.Explains.{Trace, alone}
 use Rattle.orders.specs.Turns.{MayCome, comes}
+use Rattle.orders.specs.Undone.{put_back}
+
+-- A transaction that was done: its place, and the changes that take it back.
+pub record Passing (A : Type 0) : Type 0 where
+  pub place : ℕ
+  pub back : List (Change A)
 
 -- Where a search stands: the transactions that it has done, which these are by place, the tables that they came to, and from which place on it has still to try.
 pub record Standing (A : Type 0) : Type 0 where
-  pub path : List (Passed A)
+  pub path : List (Passing A)
   pub done : List Bool
   pub tables : Tables A
   pub from : ℕ
@@ -22,26 +28,21 @@ module _ {A : Type 0} where
   abbrev pub none_done : List (Trace A) → List Bool
   none_done ts = map (λ t. false) ts
 
-  -- the tables before a transaction that left these
-  abbrev pub tables_before : Option (Tables A) → Tables A → Tables A
-  tables_before None Y = Y
-  tables_before (Some X) Y = X
-
-  -- one more is done, at this place, before it these tables where it changed them, and after it those
-  abbrev pub gone_on : Standing A → ℕ → Option (Tables A) → Tables A → Standing A
-  gone_on w place before after = record {
-    path = w.path ++ record { place = place; before = before } ∷ [];
+  -- one more is done, at this place, which these changes take back, and after it those tables
+  abbrev pub gone_on : Standing A → ℕ → List (Change A) → Tables A → Standing A
+  gone_on w place back after = record {
+    path = w.path ++ record { place = place; back = back } ∷ [];
     done = slice_set w.done place true;
     tables = after;
     from = 0;
   }
 
   -- the last of the path, behind these, is taken back
-  abbrev pub taken_back : Standing A → List (Passed A) → Passed A → Standing A
+  abbrev pub taken_back : Standing A → List (Passing A) → Passing A → Standing A
   taken_back w path p = record {
     path = path;
     done = slice_set w.done p.place false;
-    tables = tables_before p.before w.tables;
+    tables = put_back p.back w.tables;
     from = behind p.place;
   }
 
@@ -62,36 +63,62 @@ module _ {A : Type 0} where
   abbrev pub AreTried : Catalog → List (Trace A) → List Bool → Tables A → ℕ → Type 0
   AreTried c ts done X from = (i : ℕ) (later : List ℕ) → i < from → Goes c ts done X (i ∷ later) → ⊥
 
-  -- From X, where these are done, the path has come to tables Z, where those are; at each step all before its place had been tried, and not all were done.
-  abbrev pub Comes : Catalog → List (Trace A) → List Bool → Tables A → List (Passed A) → List Bool → Tables A → Type 0
-  Comes c ts done X [] those Z = (those ≡ done) × (Z ≡ X)
-  Comes c ts done X (p ∷ path) those Z =
-      (t : Trace A) × (Y : Tables A) × MayCome ts done p.place t × (alone c t.statements X ≡ Some Y) × (tables_before p.before Y ≡ X)
-      × AreTried c ts done X p.place × (AllDone ts done → ⊥) × Comes c ts (slice_set done p.place true) Y path those Z
+  -- Not all are done here, and all before this place have been tried.
+  pub record IsTried (c : Catalog) (ts : List (Trace A)) (done : List Bool) (X : Tables A) (place : ℕ) : Type 0 where
+    pub before : AreTried c ts done X place
+    pub unfinished : AllDone ts done → ⊥
+
+  -- nothing is known
+  abbrev pub Anything : List Bool → Tables A → ℕ → Type 0
+  Anything done X place = Unit {0}
+
+  -- From X, where these are done, the path has come to tables Z, where those are; and this was known at each step.
+  abbrev pub Comes : Catalog → List (Trace A) → (List Bool → Tables A → ℕ → Type 0) → List Bool → Tables A → List (Passing A) → List Bool → Tables A → Type 0
+  Comes c ts P done X [] those Z = (those ≡ done) × (Z ≡ X)
+  Comes c ts P done X (p ∷ path) those Z =
+      (t : Trace A) × (Y : Tables A) × MayCome ts done p.place t × (alone c t.statements X ≡ Some Y) × (put_back p.back Y ≡ X) × P done X p.place × Comes c ts P (slice_set done p.place true) Y path those Z
 
   -- The transaction at a place may come next, and none before it of those that are still to be tried.
   abbrev pub CanCome : List (Trace A) → Standing A → ℕ → Type 0
   CanCome ts w place = (comes ts w.done place ≡ true) × ((j : ℕ) → w.from ≤ j → j < place → comes ts w.done j ≡ false)
 
-  -- A transaction, run alone at a place, has come to these tables, and the search has gone on with it; or its answers differ, and the search has passed over it.
-  abbrev pub HasTurned : Option (Tables A) → Standing A → ℕ → Bool → Standing A → Type 0
-  HasTurned o w place true v = (before : Option (Tables A)) × (Y : Tables A) × (o ≡ Some Y) × (tables_before before Y ≡ w.tables) × (v ≡ gone_on w place before Y)
-  HasTurned o w place false v = (o ≡ None) × (v ≡ record w { from = behind place })
+  -- None may come of those that are still to be tried.
+  abbrev pub NoneCan : List (Trace A) → Standing A → Type 0
+  NoneCan ts w = (j : ℕ) → w.from ≤ j → comes ts w.done j ≡ false
+
+  -- A transaction, run alone at a place, has got answers that agree, and the search has gone on with it; or they differ, and it stands where it stood.
+  abbrev pub HasTurned : Catalog → Trace A → Standing A → ℕ → Bool → Standing A → Type 0
+  HasTurned c t w place true v = (back : List (Change A)) × (Y : Tables A) × (alone c t.statements w.tables ≡ Some Y) × (put_back back Y ≡ w.tables) × (v ≡ gone_on w place back Y)
+  HasTurned c t w place false v = (alone c t.statements w.tables ≡ None) × (v ≡ w)
+
+  -- The last transaction of the path is taken off it, and nothing else changes; or there was none.
+  abbrev pub HasPopped : Standing A → Option (Passing A) → Standing A → Type 0
+  HasPopped w None v = (w.path ≡ []) × (v ≡ w)
+  HasPopped w (Some p) v = (w.path ≡ v.path ++ p ∷ []) × (v ≡ record w { path = v.path })
+
+  -- The last transaction, of this place, is taken back; or there was none.
+  abbrev pub HasTakenBack : Standing A → Option ℕ → Standing A → Type 0
+  HasTakenBack w None v = (w.path ≡ []) × (v ≡ w)
+  HasTakenBack w (Some place) v = (path : List (Passing A)) × (p : Passing A) × (w.path ≡ path ++ p ∷ []) × (v ≡ taken_back w path p) × (place ≡ p.place)
+
+  -- A path of transactions that may come one after the other.
+  pub record IsPath (c : Catalog) (X : Tables A) (ts : List (Trace A)) (w : Standing A) : Type 0 where
+    pub comes : Comes c ts Anything (none_done ts) X w.path w.done w.tables
+    pub count : length w.done ≡ length ts
 
   -- What a search knows where it stands.
   pub record IsWalk (c : Catalog) (X : Tables A) (ts : List (Trace A)) (w : Standing A) : Type 0 where
-    pub comes : Comes c ts (none_done ts) X w.path w.done w.tables
+    pub comes : Comes c ts (IsTried c ts) (none_done ts) X w.path w.done w.tables
     pub tried : AreTried c ts w.done w.tables w.from
     pub unfinished : AllDone ts w.done → ⊥
     pub count : length w.done ≡ length ts
 
   -- The same where all may be done.
   pub record IsStep (c : Catalog) (X : Tables A) (ts : List (Trace A)) (w : Standing A) : Type 0 where
-    pub comes : Comes c ts (none_done ts) X w.path w.done w.tables
+    pub comes : Comes c ts (IsTried c ts) (none_done ts) X w.path w.done w.tables
     pub tried : AreTried c ts w.done w.tables w.from
     pub count : length w.done ≡ length ts
 
-  -- The search has found an order: the places of its path.
-  pub record IsFound (c : Catalog) (X : Tables A) (ts : List (Trace A)) (w : Standing A) : Type 0 where
-    pub comes : Comes c ts (none_done ts) X w.path w.done w.tables
-    pub finished : AllDone ts w.done
+  -- the places of a path
+  abbrev pub places_of : Standing A → List ℕ
+  places_of w = map (λ p. p.place) w.path

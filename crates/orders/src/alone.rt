@@ -1,16 +1,17 @@
 //! A transaction, run alone.
 
-ghost use Rattle.std.specs.Prelude.{◌≡◌, true, Some, None, map, if◌then◌else◌, IfOk, IfErr, MatchOption};
+ghost use Rattle.std.specs.Prelude.{◌≡◌, true, Some, None, map, if◌then◌else◌, IfOk, IfErr};
 ghost use Rattle.std.specs.Option.{option_map};
 ghost use Rattle.value.specs.Refusals.{out_of_memory};
-ghost use Rattle.schema.specs.Plain.{is_sound, put_all};
+ghost use Rattle.schema.specs.Plain.{is_sound};
 ghost use Rattle.statement.specs.Evaluation.{outcome};
 ghost use Rattle.statement.specs.Fits.{fits};
-ghost use Rattle.orders.specs.Explains.{agrees, alone, are_fit};
-ghost use Rattle.orders.specs.Turns.{came_to};
+ghost use Rattle.orders.specs.Explains.{agrees, are_fit};
+ghost use Rattle.orders.specs.Undone.{HasRun};
 
 use crate::agree::agree;
 use crate::transaction::Answered;
+use crate::undo::{put_changes, take_back};
 use schema::catalog::Catalog;
 use schema::changes::Change;
 use schema::tables::Tables;
@@ -18,17 +19,6 @@ use statement::evaluate::evaluate;
 use statement::reply::Reply;
 use std::alloc::Allocator;
 use value::refusal::Refusal;
-
-/// What came of a transaction that was run alone.
-#[derive(Drop)]
-pub enum Turn<A: Allocator> {
-    /// One of its statements got an answer that doesn't agree with what was recorded.
-    Differs,
-    /// All agree, and the tables stay as they are.
-    Reads,
-    /// All agree, and these are the tables after it.
-    Writes(Tables<A>),
-}
 
 // Does a statement again: what it changes, where it gets an answer that agrees.
 fn answer<A: Allocator + Copy>(
@@ -52,70 +42,31 @@ fn answer<A: Allocator + Copy>(
     Ok(Some(changes))
 }
 
-// The tables with the changes put in.
-fn changed<A: Allocator + Copy>(
-    alloc: A,
-    tables: &Tables<A>,
-    changes: &[Change<A>],
-) -> Result<Tables<A>, Refusal>
-    ensures ok { IfOk result (λ t. t ≡ put_all changes.now tables.now) }
-    ensures memory { IfErr result (λ e. e ≡ out_of_memory) }
-{
-    let mut own = tables.copy(alloc)?;
-    own.apply_all(alloc, changes)?;
-    Ok(own)
-}
-
-// Goes on with a transaction that has written: from the tables with the changes put in.
-fn write_alone<A: Allocator + Copy>(
-    alloc: A,
-    catalog: &Catalog<A>,
-    tables: &Tables<A>,
-    changes: &[Change<A>],
-    statements: &[Answered<A>],
-) -> Result<Turn<A>, Refusal>
-    requires fits { are_fit catalog.now (map (λ a. (a.statement, a.reply)) statements.now) ≡ true }
-    requires sound { is_sound catalog.now (put_all changes.now tables.now) ≡ true }
-    ensures ok { IfOk result (λ turn. came_to tables.now turn ≡
-        alone catalog.now (map (λ a. (a.statement, a.reply)) statements.now) (put_all changes.now tables.now)) }
-    ensures memory { IfErr result (λ e. e ≡ out_of_memory) }
-{
-    let mut own = changed(alloc, tables, changes)?;
-    let mut left = statements;
-    while let [answered, rest @ ..] = left {
-        let Some(more) = answer(alloc, catalog, &own, answered)? else {
-            return Ok(Turn::Differs);
-        };
-        own.apply_all(alloc, more.as_slice())?;
-        left = rest;
-    }
-    Ok(Turn::Writes(own))
-}
-
-/// Runs a transaction's statements alone, one after the other.
+/// Runs a transaction's statements alone, one after the other: what takes back what they change, where their answers
+/// agree. Where one doesn't, the tables are as before.
 pub fn run_alone<A: Allocator + Copy>(
     alloc: A,
     catalog: &Catalog<A>,
-    tables: &Tables<A>,
+    tables: &mut Tables<A>,
     statements: &[Answered<A>],
-) -> Result<Turn<A>, Refusal>
+) -> Result<Option<Vec<Change<A>, A>>, Refusal>
     requires fits { are_fit catalog.now (map (λ a. (a.statement, a.reply)) statements.now) ≡ true }
-    requires sound { is_sound catalog.now tables.now ≡ true }
-    ensures ok { IfOk result (λ turn. came_to tables.now turn ≡
-        alone catalog.now (map (λ a. (a.statement, a.reply)) statements.now) tables.now) }
+    requires sound { is_sound catalog.now tables.old ≡ true }
+    ensures ok { IfOk result (λ back. HasRun catalog.now (map (λ a. (a.statement, a.reply)) statements.now) tables.old
+        (option_map (λ v. v.items) back) tables.new) }
     ensures memory { IfErr result (λ e. e ≡ out_of_memory) }
 {
+    let mut back = Vec::new(alloc);
     let mut left = statements;
     while let [answered, rest @ ..] = left {
         let Some(changes) = answer(alloc, catalog, tables, answered)? else {
-            return Ok(Turn::Differs);
+            take_back(alloc, tables, back)?;
+            return Ok(None);
         };
-        if !changes.is_empty() {
-            return write_alone(alloc, catalog, tables, changes.as_slice(), rest);
-        }
+        put_changes(alloc, tables, changes.as_slice(), &mut back)?;
         left = rest;
     }
-    Ok(Turn::Reads)
+    Ok(Some(back))
 }
 
 // The answer that a statement gets.

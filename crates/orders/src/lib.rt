@@ -5,8 +5,12 @@
 
 mod agree;
 mod alone;
+mod memory;
+mod near;
+mod same;
 pub mod search;
 pub mod stop;
 mod time;
 pub mod transaction;
+mod undo;
 mod walk;

@@ -1,15 +1,17 @@
 //! The search for an order.
 
-ghost use Rattle.std.specs.Prelude.{◌≡◌, true, false, Some, slice_get, IfOk, IfErr};
+ghost use Rattle.std.specs.Prelude.{◌≡◌, List, true, Some, slice_get, OnOk, IfOk, IfErr, IfSome};
 ghost use Rattle.value.specs.Refusals.{out_of_memory};
+ghost use Rattle.schema.specs.Definition.{Catalog as AnyCatalog};
 ghost use Rattle.schema.specs.Plain.{is_sound};
-ghost use Rattle.orders.specs.Explains.{Trace as AnyTrace, all_fit, alone};
-ghost use Rattle.orders.specs.Turns.{came_to};
-ghost use Rattle.orders.specs.Walks.{CanCome, HasTurned, IsFound, IsWalk};
-ghost use Rattle.orders.specs.Found.{HasGone, Tells};
 ghost use Rattle.schema.specs.declared.tables.Tables.{Tables as AnyTables};
+ghost use Rattle.orders.specs.Explains.{Explains, Trace as AnyTrace, all_fit};
+ghost use Rattle.orders.specs.Found.{HasGone, Tells, progress_of};
+ghost use Rattle.orders.specs.Seen.{AreDead};
+ghost use Rattle.orders.specs.Walks.{CanCome, HasTurned, IsWalk, NoneCan};
 
-use crate::alone::{Turn, run_alone};
+use crate::memory::Memory;
+use crate::near::{Followed, Near, follow_near};
 use crate::time::{find_next, is_complete};
 use crate::transaction::Transaction;
 use crate::walk::Walk;
@@ -30,66 +32,13 @@ pub enum Answer<A: Allocator = Global> {
     Unknown,
 }
 
-// What comes of the transaction at a place, run alone.
-fn turn_at<A: Allocator + Copy>(
-    alloc: A,
-    catalog: &Catalog<A>,
-    transactions: &[Transaction<A>],
-    tables: &Tables<A>,
-    place: usize,
-) -> Result<Turn<A>, Refusal>
-    requires fit { all_fit catalog.now transactions.now ≡ true }
-    requires sound { is_sound catalog.now tables.now ≡ true }
-    ensures ok { IfOk result (λ turn. (t : AnyTrace A) → slice_get transactions.now place ≡ Some t →
-        came_to tables.now turn ≡ alone catalog.now t.statements tables.now) }
-    ensures memory { IfErr result (λ e. e ≡ out_of_memory) }
-{
-    match transactions.get(place) {
-        Some(transaction) => run_alone(alloc, catalog, tables, transaction.statements.as_slice()),
-        None => Ok(Turn::Differs),
-    }
-}
-
-// Goes on with the transaction at a place after its turn, where its answers agree: whether they do.
-fn follow<A: Allocator>(walk: &mut Walk<A>, place: usize, turn: Turn<A>) -> Result<bool, Refusal>
-    ensures ok { IfOk result (λ b. HasTurned (came_to walk.old.tables turn) walk.old place b walk.new) }
-    ensures memory { IfErr result (λ e. e ≡ out_of_memory) }
-{
-    match turn {
-        Turn::Differs => {
-            walk.pass_over(place);
-            Ok(false)
-        }
-        Turn::Reads => {
-            walk.read(place)?;
-            Ok(true)
-        }
-        Turn::Writes(after) => {
-            walk.write(place, after)?;
-            Ok(true)
-        }
-    }
-}
-
-// Tries the transaction at a place: whether an order is found.
-fn try_next<A: Allocator + Copy>(
-    alloc: A,
-    catalog: &Catalog<A>,
-    transactions: &[Transaction<A>],
-    walk: &mut Walk<A>,
-    place: usize,
-) -> Result<bool, Refusal>
-    requires fit { all_fit catalog.now transactions.now ≡ true }
-    requires sound { is_sound catalog.now walk.old.tables ≡ true }
-    ensures found { IfOk result (λ b. b ≡ true → (X : AnyTables A) → IsWalk catalog.now X transactions.now walk.old →
-        CanCome transactions.now walk.old place → IsFound catalog.now X transactions.now walk.new) }
-    ensures goes_on { IfOk result (λ b. b ≡ false → (X : AnyTables A) → IsWalk catalog.now X transactions.now walk.old →
-        CanCome transactions.now walk.old place → IsWalk catalog.now X transactions.now walk.new) }
-    ensures memory { IfErr result (λ e. e ≡ out_of_memory) }
-{
-    let turn = turn_at(alloc, catalog, transactions, walk.tables(), place)?;
-    let agrees = follow(walk, place, turn)?;
-    Ok(agrees && is_complete(transactions, walk.done()))
+/// What a search has found.
+#[derive(Drop)]
+#[derive_where(Debug)]
+pub struct Found<A: Allocator = Global> {
+    pub answer: Answer<A>,
+    /// The longest order from which none goes on, a list of places. Where the answer is no, the longest that there is.
+    pub longest: Vec<usize, A>,
 }
 
 /// How a search goes on.
@@ -102,48 +51,143 @@ pub(crate) enum Progress {
     Exhausted,
 }
 
-// Tries the next transaction that may come, or takes the last one back where none may.
-pub(crate) fn advance<A: Allocator + Copy>(
+// Runs the transaction at a place, and goes on with it where its answers agree: whether they do.
+fn go<A: Allocator + Copy>(
     alloc: A,
     catalog: &Catalog<A>,
     transactions: &[Transaction<A>],
     walk: &mut Walk<A>,
+    place: usize,
+) -> Result<bool, Refusal>
+    requires fit { all_fit catalog.now transactions.now ≡ true }
+    requires sound { is_sound catalog.now walk.old.tables ≡ true }
+    ensures ok { IfOk result (λ b. (t : AnyTrace A) → slice_get transactions.now place ≡ Some t →
+        HasTurned catalog.now t walk.old place b walk.new) }
+    ensures memory { IfErr result (λ e. e ≡ out_of_memory) }
+{
+    match transactions.get(place) {
+        Some(transaction) => walk.go(alloc, catalog, transaction, place),
+        None => Ok(false),
+    }
+}
+
+// Takes the last transaction back, where it is remembered that no order goes on.
+fn leave_known<A: Allocator + Copy>(
+    alloc: A,
+    walk: &mut Walk<A>,
+    memory: &Memory<A>,
+) -> Result<(), Refusal>
+    ensures ok { OnOk result ((c : AnyCatalog) → (X : AnyTables A) → (ts : List (AnyTrace A)) →
+        IsWalk c X ts walk.old → AreDead c ts memory.now → IsWalk c X ts walk.new) }
+    ensures memory { IfErr result (λ e. e ≡ out_of_memory) }
+{
+    let known = memory.knows(alloc, walk)?;
+    if !known {
+        return Ok(());
+    }
+    let taken = walk.take_back(alloc)?;
+    let _ = taken;
+    Ok(())
+}
+
+// Tries the transaction at a place.
+fn try_next<A: Allocator + Copy>(
+    alloc: A,
+    catalog: &Catalog<A>,
+    transactions: &[Transaction<A>],
+    walk: &mut Walk<A>,
+    memory: &Memory<A>,
+    place: usize,
 ) -> Result<Progress, Refusal>
     requires fit { all_fit catalog.now transactions.now ≡ true }
     requires sound { is_sound catalog.now walk.old.tables ≡ true }
     ensures ok { IfOk result (λ progress. (X : AnyTables A) → IsWalk catalog.now X transactions.now walk.old →
+        CanCome transactions.now walk.old place → AreDead catalog.now transactions.now memory.now →
         HasGone catalog.now X transactions.now progress walk.new) }
     ensures memory { IfErr result (λ e. e ≡ out_of_memory) }
 {
-    match find_next(transactions, walk.done(), walk.from()) {
-        Some(place) => {
-            if try_next(alloc, catalog, transactions, walk, place)? {
-                return Ok(Progress::Found);
-            }
-            Ok(Progress::More)
-        }
-        None => {
-            if walk.take_back() {
-                return Ok(Progress::More);
-            }
-            Ok(Progress::Exhausted)
-        }
+    let agrees = go(alloc, catalog, transactions, walk, place)?;
+    if !agrees {
+        walk.pass_over(place);
+        return Ok(Progress::More);
+    }
+    if is_complete(transactions, walk.done()) {
+        return Ok(Progress::Found);
+    }
+    leave_known(alloc, walk, memory)?;
+    Ok(Progress::More)
+}
+
+// How a search goes on after the last transaction, of this place, was taken back, or there was none.
+fn progress_of(taken: Option<usize>) -> Progress
+    ensures { result ≡ progress_of taken }
+{
+    match taken {
+        Some(_) => Progress::More,
+        None => Progress::Exhausted,
     }
 }
 
-/// Looks for an order of the transactions that explains what was recorded of them, from tables on. A
-/// step is a transaction that is run alone, or taken back. Transactions are tried in the order of their
-/// places, so that an order near it is found soon.
-pub fn search<A: Allocator + Copy>(
+// Takes the last transaction back, where none may come that wasn't tried, and remembers where none does.
+fn step_back<A: Allocator + Copy>(
+    alloc: A,
+    walk: &mut Walk<A>,
+    memory: &mut Memory<A>,
+) -> Result<Progress, Refusal>
+    ensures ok { IfOk result (λ progress. (c : AnyCatalog) → (X : AnyTables A) → (ts : List (AnyTrace A)) →
+        IsWalk c X ts walk.old → NoneCan ts walk.old → HasGone c X ts progress walk.new) }
+    ensures remembers { IfOk result (λ progress. (c : AnyCatalog) → (X : AnyTables A) → (ts : List (AnyTrace A)) →
+        IsWalk c X ts walk.old → NoneCan ts walk.old → AreDead c ts memory.old → AreDead c ts memory.new) }
+    ensures memory { IfErr result (λ e. e ≡ out_of_memory) }
+{
+    memory.remember(alloc, walk)?;
+    let taken = walk.take_back(alloc)?;
+    Ok(progress_of(taken))
+}
+
+// Tries the next transaction that may come, or takes the last one back where none may.
+fn advance<A: Allocator + Copy>(
+    alloc: A,
+    catalog: &Catalog<A>,
+    transactions: &[Transaction<A>],
+    walk: &mut Walk<A>,
+    memory: &mut Memory<A>,
+) -> Result<Progress, Refusal>
+    requires fit { all_fit catalog.now transactions.now ≡ true }
+    requires sound { is_sound catalog.now walk.old.tables ≡ true }
+    ensures ok { IfOk result (λ progress. (X : AnyTables A) → IsWalk catalog.now X transactions.now walk.old →
+        AreDead catalog.now transactions.now memory.old → HasGone catalog.now X transactions.now progress walk.new) }
+    ensures remembers { IfOk result (λ progress. (X : AnyTables A) → IsWalk catalog.now X transactions.now walk.old →
+        AreDead catalog.now transactions.now memory.old → AreDead catalog.now transactions.now memory.new) }
+    ensures memory { IfErr result (λ e. e ≡ out_of_memory) }
+{
+    match find_next(transactions, walk.done(), walk.from()) {
+        Some(place) => try_next(alloc, catalog, transactions, walk, memory, place),
+        None => step_back(alloc, walk, memory),
+    }
+}
+
+// A search that has found an order.
+fn found_order<A: Allocator + Copy>(alloc: A, order: Vec<usize, A>) -> Found<A>
+    ensures { result.answer ≡ Answer.Yes order }
+{
+    Found {
+        answer: Answer::Yes(order),
+        longest: Vec::new(alloc),
+    }
+}
+
+// Tries all orders, those first that are near that of the places, in so many steps at most.
+fn explore<A: Allocator + Copy>(
     alloc: A,
     catalog: &Catalog<A>,
     tables: &Tables<A>,
     transactions: &[Transaction<A>],
     steps: u64,
-) -> Result<Answer<A>, Refusal>
+) -> Result<Found<A>, Refusal>
     requires fit { all_fit catalog.now transactions.now ≡ true }
     requires sound { is_sound catalog.now tables.now ≡ true }
-    ensures ok { IfOk result (λ answer. Tells catalog.now tables.now transactions.now answer) }
+    ensures ok { IfOk result (λ found. Tells catalog.now tables.now transactions.now found.answer) }
     ensures memory { IfErr result (λ e. e ≡ out_of_memory) }
 {
     let own = tables.copy(alloc)?;
@@ -151,17 +195,75 @@ pub fn search<A: Allocator + Copy>(
     let mut walk = Walk::start(alloc, own, count)?;
     if is_complete(transactions, walk.done()) {
         let order = walk.places(alloc)?;
-        return Ok(Answer::Yes(order));
+        return Ok(found_order(alloc, order));
     }
+    let mut memory = Memory::new(alloc)?;
     for _ in 0..steps {
-        match advance(alloc, catalog, transactions, &mut walk)? {
+        match advance(alloc, catalog, transactions, &mut walk, &mut memory)? {
             Progress::More => {}
             Progress::Found => {
                 let order = walk.places(alloc)?;
-                return Ok(Answer::Yes(order));
+                return Ok(found_order(alloc, order));
             }
-            Progress::Exhausted => return Ok(Answer::No),
+            Progress::Exhausted => return Ok(Found {
+                answer: Answer::No,
+                longest: memory.into_longest(),
+            }),
         }
     }
-    Ok(Answer::Unknown)
+    Ok(Found {
+        answer: Answer::Unknown,
+        longest: memory.into_longest(),
+    })
+}
+
+// Follows the orders by end and by begin, in so many steps at most.
+fn find_near<A: Allocator + Copy>(
+    alloc: A,
+    catalog: &Catalog<A>,
+    tables: &Tables<A>,
+    transactions: &[Transaction<A>],
+    steps: u64,
+) -> Result<Followed<A>, Refusal>
+    requires fit { all_fit catalog.now transactions.now ≡ true }
+    requires sound { is_sound catalog.now tables.now ≡ true }
+    ensures explains { IfOk result (λ f. IfSome f.order (λ order.
+        Explains catalog.now tables.now transactions.now order.items)) }
+    ensures memory { IfErr result (λ e. e ≡ out_of_memory) }
+{
+    let by_end = follow_near(alloc, catalog, tables, transactions, Near::End, steps)?;
+    if by_end.order.is_some() {
+        return Ok(by_end);
+    }
+    let left = steps.saturating_sub(by_end.steps);
+    let by_begin = follow_near(alloc, catalog, tables, transactions, Near::Begin, left)?;
+    Ok(Followed {
+        order: by_begin.order,
+        steps: by_end.steps.saturating_add(by_begin.steps),
+    })
+}
+
+/// Looks for an order of the transactions that explains what was recorded of them, from tables on. A step is a
+/// transaction that is run alone, or taken back. Near the orders by end and by begin one is found in little more steps
+/// than there are transactions; then all are tried in the order of their places, but from nowhere again from where none
+/// went on.
+pub fn search<A: Allocator + Copy>(
+    alloc: A,
+    catalog: &Catalog<A>,
+    tables: &Tables<A>,
+    transactions: &[Transaction<A>],
+    steps: u64,
+) -> Result<Found<A>, Refusal>
+    requires fit { all_fit catalog.now transactions.now ≡ true }
+    requires sound { is_sound catalog.now tables.now ≡ true }
+    ensures ok { IfOk result (λ found. Tells catalog.now tables.now transactions.now found.answer) }
+    ensures memory { IfErr result (λ e. e ≡ out_of_memory) }
+{
+    let near = find_near(alloc, catalog, tables, transactions, steps)?;
+    let Followed { order, steps: used } = near;
+    let left = steps.saturating_sub(used);
+    match order {
+        Some(order) => Ok(found_order(alloc, order)),
+        None => explore(alloc, catalog, tables, transactions, left),
+    }
 }

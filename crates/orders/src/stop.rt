@@ -1,13 +1,13 @@
 //! Where no order goes on: the longest that was found, and what hinders the others.
 
-ghost use Rattle.std.specs.Prelude.{◌≡◌, true, IfOk, IfErr, IfSome};
+ghost use Rattle.std.specs.Prelude.{◌≡◌, true, IfOk, IfErr};
 ghost use Rattle.value.specs.Refusals.{out_of_memory};
 ghost use Rattle.schema.specs.Plain.{is_sound};
 ghost use Rattle.orders.specs.Explains.{all_fit, are_fit};
 
 use crate::alone::first_difference;
-use crate::search::{Progress, advance};
-use crate::time::{is_complete, precedes};
+use crate::near::go_next;
+use crate::time::precedes;
 use crate::transaction::Transaction;
 use crate::walk::Walk;
 use schema::catalog::Catalog;
@@ -41,65 +41,28 @@ pub struct Stop<A: Allocator = Global> {
     pub hindered: Vec<Hindered<A>, A>,
 }
 
-// After how many steps the search first stands farthest.
-fn farthest<A: Allocator + Copy>(
+// Where an order comes to, as far as its transactions come one after the other.
+fn walk_along<A: Allocator + Copy>(
     alloc: A,
     catalog: &Catalog<A>,
     tables: &Tables<A>,
     transactions: &[Transaction<A>],
-    steps: u64,
-) -> Result<u64, Refusal>
+    order: &[usize],
+) -> Result<Walk<A>, Refusal>
     requires fit { all_fit catalog.now transactions.now ≡ true }
     requires sound { is_sound catalog.now tables.now ≡ true }
+    ensures sound { IfOk result (λ w. is_sound catalog.now w.tables ≡ true) }
     ensures memory { IfErr result (λ e. e ≡ out_of_memory) }
 {
     let own = tables.copy(alloc)?;
-    let count = transactions.len();
-    let mut walk = Walk::start(alloc, own, count)?;
-    if is_complete(transactions, walk.done()) {
-        return Ok(0);
-    }
-    let mut best = 0;
-    let mut at = 0;
-    for step in 0..steps {
-        match advance(alloc, catalog, transactions, &mut walk)? {
-            Progress::More => {}
-            Progress::Found | Progress::Exhausted => return Ok(at),
-        }
-        if walk.len() > best {
-            best = walk.len();
-            at = step + 1;
+    let mut walk = Walk::start(alloc, own, transactions.len())?;
+    for place in order {
+        let goes = go_next(alloc, catalog, transactions, &mut walk, *place)?;
+        if !goes {
+            return Ok(walk);
         }
     }
-    Ok(at)
-}
-
-// Where the search stands after so many steps, where it hasn't ended.
-fn stand_at<A: Allocator + Copy>(
-    alloc: A,
-    catalog: &Catalog<A>,
-    tables: &Tables<A>,
-    transactions: &[Transaction<A>],
-    steps: u64,
-) -> Result<Option<Walk<A>>, Refusal>
-    requires fit { all_fit catalog.now transactions.now ≡ true }
-    requires sound { is_sound catalog.now tables.now ≡ true }
-    ensures sound { IfOk result (λ o. IfSome o (λ w. is_sound catalog.now w.tables ≡ true)) }
-    ensures memory { IfErr result (λ e. e ≡ out_of_memory) }
-{
-    let own = tables.copy(alloc)?;
-    let count = transactions.len();
-    let mut walk = Walk::start(alloc, own, count)?;
-    if is_complete(transactions, walk.done()) {
-        return Ok(None);
-    }
-    for _ in 0..steps {
-        match advance(alloc, catalog, transactions, &mut walk)? {
-            Progress::More => {}
-            Progress::Found | Progress::Exhausted => return Ok(None),
-        }
-    }
-    Ok(Some(walk))
+    Ok(walk)
 }
 
 // The first transaction that isn't done, and had ended before this one began.
@@ -179,24 +142,20 @@ fn all_hindered<A: Allocator + Copy>(
     Ok(hindered)
 }
 
-/// The longest order that a search of so many steps finds, and why no other transaction comes next; none where the
-/// search finds an order that explains what was recorded.
+/// An order as far as its transactions come one after the other, and why no other transaction comes next.
 pub fn find_stop<A: Allocator + Copy>(
     alloc: A,
     catalog: &Catalog<A>,
     tables: &Tables<A>,
     transactions: &[Transaction<A>],
-    steps: u64,
-) -> Result<Option<Stop<A>>, Refusal>
+    longest: &[usize],
+) -> Result<Stop<A>, Refusal>
     requires fit { all_fit catalog.now transactions.now ≡ true }
     requires sound { is_sound catalog.now tables.now ≡ true }
     ensures memory { IfErr result (λ e. e ≡ out_of_memory) }
 {
-    let at = farthest(alloc, catalog, tables, transactions, steps)?;
-    let Some(walk) = stand_at(alloc, catalog, tables, transactions, at)? else {
-        return Ok(None);
-    };
+    let walk = walk_along(alloc, catalog, tables, transactions, longest)?;
     let order = walk.places(alloc)?;
     let hindered = all_hindered(alloc, catalog, transactions, &walk)?;
-    Ok(Some(Stop { order, hindered }))
+    Ok(Stop { order, hindered })
 }

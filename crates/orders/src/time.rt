@@ -1,9 +1,9 @@
 //! Which transactions may come next by time.
 
-ghost use Rattle.std.specs.Prelude.{◌≡◌, ℕ, ◌<◌, ◌≤◌, ◌||◌, not, true, false, zip, IfSome, IfNone};
+ghost use Rattle.std.specs.Prelude.{◌≡◌, ℕ, ◌<◌, ◌≤◌, ◌^◌, ◌||◌, not, nat_lt, true, false, zip, slice_get, IfSome, IfNone};
 ghost use Rattle.std.specs.List.{list_all};
 ghost use Rattle.orders.specs.Explains.{ended_before, precedes};
-ghost use Rattle.orders.specs.Turns.{are_done, comes};
+ghost use Rattle.orders.specs.Turns.{IsLeastEnd, are_done, comes, end_at, end_or_last, lesser_end};
 
 use crate::transaction::Transaction;
 use std::alloc::Allocator;
@@ -25,32 +25,86 @@ pub(crate) fn precedes<A: Allocator>(earlier: &Transaction<A>, later: &Transacti
     ended_before(earlier.end, later.begin) && !later.imported
 }
 
-// Whether none of those that aren't done precedes a transaction.
-fn waits_for_none<A: Allocator>(
-    transactions: &[Transaction<A>],
-    done: &[bool],
-    transaction: &Transaction<A>,
-) -> bool
-    ensures { result ≡ list_all (λ p. p.1 || not (precedes p.0 transaction.now)) (zip transactions.now done.now) }
+// An end, or the last place that there is.
+fn end_or_last(end: Option<u64>) -> u64
+    ensures { result ≡ end_or_last end }
 {
-    transactions.iter().zip(done).all(|(other, is_done)| *is_done || !precedes(other, transaction))
+    end.unwrap_or(u64::MAX)
 }
 
-// Whether the transaction at a place may come next.
-fn comes<A: Allocator>(transactions: &[Transaction<A>], done: &[bool], place: usize) -> bool
+// The end of the transaction at a place, or the last place that there is.
+fn end_at<A: Allocator>(transactions: &[Transaction<A>], place: usize) -> u64
+    ensures { result ≡ end_at (slice_get transactions.now place) }
+{
+    match transactions.get(place) {
+        Some(transaction) => end_or_last(transaction.end),
+        None => u64::MAX,
+    }
+}
+
+// The lesser of two ends, where the transaction of the second isn't done; else the first.
+fn lesser_end(done: &[bool], place: usize, end: u64, least: u64) -> u64
+    ensures { result ≡ lesser_end (slice_get done.now place) end least }
+{
+    match done.get(place) {
+        Some(is_done) => { if *is_done { least } else { least.min(end) } }
+        None => least,
+    }
+}
+
+/// The least end of the transactions that aren't done, or the last place that there is.
+pub(crate) fn least_end<A: Allocator>(transactions: &[Transaction<A>], done: &[bool]) -> u64
+    ensures { IsLeastEnd transactions.now done.now result }
+{
+    let mut least = u64::MAX;
+    for place in 0..done.len() {
+        least = lesser_end(done, place, end_at(transactions, place), least);
+    }
+    least
+}
+
+// Whether a beginning doesn't come behind an end. No number of 64 bits is greater than the last.
+fn begins_by(begin: u64, end: u64) -> bool
+    ensures tells { result ≡ not (nat_lt end begin) }
+    ensures within { begin < 2 ^ 64 }
+{
+    begin <= end
+}
+
+// Whether the transaction at a place may come next, where this is the least end of those that aren't done.
+fn comes<A: Allocator>(
+    transactions: &[Transaction<A>],
+    done: &[bool],
+    least: u64,
+    place: usize,
+) -> bool
+    requires { IsLeastEnd transactions.now done.now least }
     ensures { result ≡ comes transactions.now done.now place }
 {
     match transactions.get(place) {
         Some(transaction) => match done.get(place) {
-            Some(is_done) => !*is_done && waits_for_none(transactions, done, transaction),
+            Some(is_done) => !*is_done
+                && (transaction.imported || begins_by(transaction.begin, least)),
             None => false,
         },
         None => false,
     }
 }
 
+/// Whether the transaction at a place may come next.
+pub(crate) fn may_come<A: Allocator>(
+    transactions: &[Transaction<A>],
+    done: &[bool],
+    place: usize,
+) -> bool
+    ensures { result ≡ comes transactions.now done.now place }
+{
+    let least = least_end(transactions, done);
+    comes(transactions, done, least, place)
+}
+
 /// The first transaction from a place on that may come next.
-pub fn find_next<A: Allocator>(
+pub(crate) fn find_next<A: Allocator>(
     transactions: &[Transaction<A>],
     done: &[bool],
     from: usize,
@@ -59,9 +113,10 @@ pub fn find_next<A: Allocator>(
     ensures skipped { IfSome result (λ i. (j : ℕ) → from ≤ j → j < i → comes transactions.now done.now j ≡ false) }
     ensures none { IfNone result ((j : ℕ) → from ≤ j → comes transactions.now done.now j ≡ false) }
 {
+    let least = least_end(transactions, done);
     let mut place = from;
     while place < transactions.len() {
-        if comes(transactions, done, place) {
+        if comes(transactions, done, least, place) {
             return Some(place);
         }
         place += 1;
@@ -70,7 +125,7 @@ pub fn find_next<A: Allocator>(
 }
 
 /// Whether all transactions are done that are known to have committed.
-pub fn is_complete<A: Allocator>(transactions: &[Transaction<A>], done: &[bool]) -> bool
+pub(crate) fn is_complete<A: Allocator>(transactions: &[Transaction<A>], done: &[bool]) -> bool
     ensures { result ≡ are_done transactions.now done.now }
 {
     transactions.iter().zip(done).all(|(transaction, is_done)| *is_done

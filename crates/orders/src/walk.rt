@@ -1,22 +1,36 @@
 //! Where a search for an order stands.
 
 ghost use Rattle.std.specs.Prelude.{◌≡◌, ◌+◌, ◌-◌, ◌^◌, min, List, [], ◌∷◌, ◌++◌, true, false, length, map, replicate, slice_set, OnOk, IfOk, IfErr};
+ghost use Rattle.std.specs.Option.{option_map};
 ghost use Rattle.value.specs.Refusals.{out_of_memory};
-ghost use Rattle.orders.specs.Walks.{behind, gone_on, taken_back};
-ghost use Rattle.orders.specs.declared.walk.Passed.{Passed as AnyPassed};
+ghost use Rattle.schema.specs.Plain.{is_sound};
+ghost use Rattle.orders.specs.Explains.{are_fit};
+ghost use Rattle.orders.specs.Undone.{HasRun, put_back};
+ghost use Rattle.orders.specs.Walks.{HasPopped, HasTakenBack, HasTurned, behind, taken_back};
 
+use crate::alone::run_alone;
+use crate::transaction::Transaction;
+use crate::undo::take_back;
+use schema::catalog::Catalog;
+use schema::changes::Change;
 use schema::tables::Tables;
 use std::alloc::Allocator;
 use std::marker::Model;
-use std::mem;
 use value::refusal::Refusal;
 
-/// A transaction that was done.
+/// A transaction that was done: its place, and what takes it back.
 #[derive(Drop)]
 pub struct Passed<A: Allocator> {
-    pub place: usize,
-    /// The tables before it, where it changed them.
-    pub before: Option<Tables<A>>,
+    place: usize,
+    back: Vec<Change<A>, A>,
+}
+
+impl<A: Allocator> Model for Passed<A> {
+    ghost use Rattle.orders.specs.Walks.{Passing};
+
+    ghost Value = { Passing A };
+
+    ghost view = { λ p. record { place = p.place; back = p.back.items } };
 }
 
 /// Where a search stands.
@@ -101,39 +115,68 @@ impl<A: Allocator> Walk<A> {
         self.from = place.saturating_add(1);
     }
 
-    /// Goes on with a transaction that leaves the tables as they are.
-    pub fn read(&mut self, place: usize) -> Result<(), Refusal>
-        ensures ok { OnOk result (self.new ≡ gone_on self.old place None self.old.tables) }
+    // Goes on with a transaction that was run.
+    fn push(&mut self, place: usize, back: Vec<Change<A>, A>) -> Result<(), Refusal>
+        ensures ok { OnOk result (self.new ≡ record {
+          path = self.old.path ++ record { place = place; back = back.items } ∷ [];
+          done = slice_set self.old.done place true;
+          tables = self.old.tables;
+          from = 0;
+        }) }
         ensures memory { IfErr result (λ e. e ≡ out_of_memory) }
     {
-        self.path.push(Passed {
-            place,
-            before: None,
-        })?;
+        self.path.push(Passed { place, back })?;
         set(&mut self.done, place, true);
         self.from = 0;
         Ok(())
     }
 
-    /// Goes on with a transaction that comes to these tables.
-    pub fn write(&mut self, place: usize, after: Tables<A>) -> Result<(), Refusal>
-        ensures ok { OnOk result (self.new ≡ gone_on self.old place (Some self.old.tables) after) }
+    // Runs a transaction alone: what takes it back, where its answers agree.
+    fn run(
+        &mut self,
+        alloc: A,
+        catalog: &Catalog<A>,
+        transaction: &Transaction<A>,
+    ) -> Result<Option<Vec<Change<A>, A>>, Refusal>
+    where
+        A: Copy,
+        requires fits { are_fit catalog.now transaction.now.statements ≡ true }
+        requires sound { is_sound catalog.now self.old.tables ≡ true }
+        ensures ok { IfOk result (λ back. HasRun catalog.now transaction.now.statements self.old.tables
+            (option_map (λ v. v.items) back) self.new.tables) }
+        ensures others { OnOk result (self.new ≡ record self.old { tables = self.new.tables }) }
         ensures memory { IfErr result (λ e. e ≡ out_of_memory) }
     {
-        let before = Some(mem::replace(&mut self.tables, after));
-        self.path.push(Passed { place, before })?;
-        set(&mut self.done, place, true);
-        self.from = 0;
-        Ok(())
+        run_alone(
+            alloc,
+            catalog,
+            &mut self.tables,
+            transaction.statements.as_slice(),
+        )
     }
 
-    // Takes back a transaction that was the path's last.
-    fn restore(&mut self, passed: Passed<A>)
-        ensures { self.new ≡ taken_back self.old self.old.path passed }
+    /// Runs the transaction of a place alone, and goes on with it where its answers agree: whether they do.
+    pub fn go(
+        &mut self,
+        alloc: A,
+        catalog: &Catalog<A>,
+        transaction: &Transaction<A>,
+        place: usize,
+    ) -> Result<bool, Refusal>
+    where
+        A: Copy,
+        requires fits { are_fit catalog.now transaction.now.statements ≡ true }
+        requires sound { is_sound catalog.now self.old.tables ≡ true }
+        ensures ok { IfOk result (λ b. HasTurned catalog.now transaction.now self.old place b self.new) }
+        ensures memory { IfErr result (λ e. e ≡ out_of_memory) }
     {
-        self.leave(passed.place);
-        if let Some(tables) = passed.before {
-            self.tables = tables;
+        let turn = self.run(alloc, catalog, transaction)?;
+        match turn {
+            Some(back) => {
+                self.push(place, back)?;
+                Ok(true)
+            }
+            None => Ok(false),
         }
     }
 
@@ -148,18 +191,52 @@ impl<A: Allocator> Walk<A> {
         self.from = place.saturating_add(1);
     }
 
-    /// Takes the last transaction back, and goes on behind its place; whether there was one.
-    pub fn take_back(&mut self) -> bool
-        ensures none { result ≡ false → self.old.path ≡ [] }
-        ensures some { result ≡ true → (path : List (AnyPassed A)) × (p : AnyPassed A) ×
-            (self.old.path ≡ path ++ p ∷ []) × (self.new ≡ taken_back self.old path p) }
+    // Takes the last transaction off the path.
+    fn pop(&mut self) -> Option<Passed<A>>
+        ensures { HasPopped self.old result self.new }
     {
-        match self.path.pop() {
+        let Some(passed) = self.path.pop() else {
+            return None;
+        };
+        Some(passed)
+    }
+
+    // Takes changes back.
+    fn put_back(&mut self, alloc: A, back: Vec<Change<A>, A>) -> Result<(), Refusal>
+    where
+        A: Copy,
+        ensures ok { OnOk result (self.new ≡ record self.old { tables = put_back back.items self.old.tables }) }
+        ensures memory { IfErr result (λ e. e ≡ out_of_memory) }
+    {
+        take_back(alloc, &mut self.tables, back)
+    }
+
+    // Takes a transaction back that was taken off the path, and goes on behind its place, which it gives.
+    fn undo(&mut self, alloc: A, passed: Passed<A>) -> Result<usize, Refusal>
+    where
+        A: Copy,
+        ensures ok { IfOk result (λ place. (place ≡ passed.place) × (self.new ≡ taken_back self.old self.old.path passed)) }
+        ensures memory { IfErr result (λ e. e ≡ out_of_memory) }
+    {
+        let Passed { place, back } = passed;
+        self.put_back(alloc, back)?;
+        self.leave(place);
+        Ok(place)
+    }
+
+    /// Takes the last transaction back, and goes on behind its place, which it gives; none where none was done.
+    pub fn take_back(&mut self, alloc: A) -> Result<Option<usize>, Refusal>
+    where
+        A: Copy,
+        ensures ok { IfOk result (λ place. HasTakenBack self.old place self.new) }
+        ensures memory { IfErr result (λ e. e ≡ out_of_memory) }
+    {
+        match self.pop() {
             Some(passed) => {
-                self.restore(passed);
-                true
+                let place = self.undo(alloc, passed)?;
+                Ok(Some(place))
             }
-            None => false,
+            None => Ok(None),
         }
     }
 

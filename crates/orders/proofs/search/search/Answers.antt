@@ -1,34 +1,9 @@
-use Rattle.std.proofs.Common.{sym, ap, subst, ◌∙◌, length}
-use Rattle.orders.specs.Found.{HasGone}
-use Rattle.orders.specs.Turns.{are_done}
-use Rattle.orders.proofs.WalkLemmas.{begin-found, begin-walk, found-order, start_of, walk-sound}
+use Rattle.std.proofs.Common.{sym, subst, IfSome}
+use Rattle.orders.specs.Explains.{Explains}
+use Rattle.orders.specs.Found.{Tells}
 use Rattle.orders.proofs.search.search.Goals as goal
 
-pub returns-then-is_complete-clause-ok : goal.returns-then-is_complete-clause-ok
-returns-then-is_complete-clause-ok g c =
-    found-order c.args.catalog.now c.args.tables.now c.args.transactions.now c.in_ok-walk.walk
-    (begin-found c.args.catalog.now c.args.tables.now c.args.transactions.now c.in_ok-walk.walk (c.in_ok-walk.ensures.ok ∙ ap (λ Y. start_of (length c.args.transactions.now) Y) c.in_ok-own.ensures.ok)
-    (ap (are_done c.args.transactions.now) (sym c.done.ensures) ∙ sym c.is_complete.ensures ∙ c.if-is_complete.true))
-    c.in_ok-order.order.items c.in_ok-order.ensures.ok
-
-pub loop-init : goal.loop-init
-loop-init g c =
-    begin-walk c.args.catalog.now c.args.tables.now c.args.transactions.now c.in_ok-walk.walk (c.in_ok-walk.ensures.ok ∙ ap (λ Y. start_of (length c.args.transactions.now) Y) c.in_ok-own.ensures.ok)
-    (ap (are_done c.args.transactions.now) (sym c.done.ensures) ∙ sym c.is_complete.ensures ∙ c.if-is_complete.false)
-
-pub advance-requires-clause-sound : goal.advance-requires-clause-sound
-advance-requires-clause-sound g c = walk-sound c.args.catalog.now c.args.tables.now c.args.transactions.now c.loop.walk c.requires.fit c.requires.sound c.loop.invariant
-
-pub returns-in-Found-clause-ok : goal.returns-in-Found-clause-ok
-returns-in-Found-clause-ok g c =
-    found-order c.args.catalog.now c.args.tables.now c.args.transactions.now c.advance.new.walk
-    (subst (λ p. HasGone c.args.catalog.now c.args.tables.now c.args.transactions.now p c.advance.new.walk) c.in-Found.is (c.in_ok-advance.ensures.ok c.args.tables.now c.loop.invariant)) c.in_ok-order-in-Found.order.items
-    c.in_ok-order-in-Found.ensures.ok
-
-pub returns-in-Exhausted-clause-ok : goal.returns-in-Exhausted-clause-ok
-returns-in-Exhausted-clause-ok g c =
-    subst (λ p. HasGone c.args.catalog.now c.args.tables.now c.args.transactions.now p c.advance.new.walk) c.in-Exhausted.is (c.in_ok-advance.ensures.ok c.args.tables.now c.loop.invariant)
-
-pub loop-preserved : goal.loop-preserved
-loop-preserved g c =
-    subst (λ p. HasGone c.args.catalog.now c.args.tables.now c.args.transactions.now p c.advance.new.walk) c.in-More.is (c.in_ok-advance.ensures.ok c.args.tables.now c.loop.invariant)
+pub returns-in-Some-clause-ok : goal.returns-in-Some-clause-ok
+returns-in-Some-clause-ok g c =
+    subst (Tells c.args.catalog.now c.args.tables.now c.args.transactions.now) (sym c.found_order.ensures)
+    (subst (λ o. IfSome o (λ order. Explains c.args.catalog.now c.args.tables.now c.args.transactions.now order.items)) c.in-Some.is c.in_ok-near.ensures.explains)

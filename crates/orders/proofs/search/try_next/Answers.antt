@@ -1,23 +1,27 @@
-use Rattle.std.proofs.Common.{◌≡◌, sym, ap, ◌∙◌, refl, ◌&&◌, true, false}
-use Rattle.orders.specs.Explains.{alone}
-use Rattle.orders.specs.Turns.{are_done, came_to}
-use Rattle.orders.proofs.WalkLemmas.{turn-found, turn-on}
+use Rattle.std.proofs.Common.{◌∙◌, sym, ap, subst}
+use Rattle.orders.specs.Turns.{are_done}
+use Rattle.orders.specs.Walks.{HasTurned, IsWalk}
+use Rattle.orders.proofs.WalkLemmas.{passed, step-found, step-walk, turned}
 use Rattle.orders.proofs.search.try_next.Goals as goal
 
-pub returns-then-agrees-clause-found : goal.returns-then-agrees-clause-found
-returns-then-agrees-clause-found g c = λ e X k m.
-    turn-found c.args.catalog.now X c.args.transactions.now c.args.walk.now c.follow.new.walk c.args.place (came_to c.args.walk.now.tables c.in_ok-turn.turn) c.in_ok-agrees.agrees c.is_complete.result
-    (λ t at. ap (λ Y. came_to Y c.in_ok-turn.turn) (sym c.tables.ensures) ∙ c.in_ok-turn.ensures.ok t at ∙ ap (alone c.args.catalog.now t.statements) c.tables.ensures)
-    c.in_ok-agrees.ensures.ok (c.is_complete.ensures ∙ ap (are_done c.args.transactions.now) c.done.ensures) (ap (λ b. b && c.is_complete.result) c.if-agrees.true ∙ e) k m
+pub returns-then-not-agrees-clause-ok : goal.returns-then-not-agrees-clause-ok
+returns-then-not-agrees-clause-ok g c = λ X w m d.
+    subst (IsWalk c.args.catalog.now X c.args.transactions.now) (sym c.pass_over.ensures)
+    (passed c.args.catalog.now X c.args.transactions.now c.args.walk.now c.go.new.walk c.args.place
+    (λ t at. subst (λ b. HasTurned c.args.catalog.now t c.args.walk.now c.args.place b c.go.new.walk) c.if-not-agrees.true (c.in_ok-agrees.ensures.ok t at)) w m)
 
-pub returns-then-agrees-clause-goes_on : goal.returns-then-agrees-clause-goes_on
-returns-then-agrees-clause-goes_on g c = λ e X k m.
-    turn-on c.args.catalog.now X c.args.transactions.now c.args.walk.now c.follow.new.walk c.args.place (came_to c.args.walk.now.tables c.in_ok-turn.turn) c.in_ok-agrees.agrees c.is_complete.result
-    (λ t at. ap (λ Y. came_to Y c.in_ok-turn.turn) (sym c.tables.ensures) ∙ c.in_ok-turn.ensures.ok t at ∙ ap (alone c.args.catalog.now t.statements) c.tables.ensures)
-    c.in_ok-agrees.ensures.ok (c.is_complete.ensures ∙ ap (are_done c.args.transactions.now) c.done.ensures) (ap (λ b. b && c.is_complete.result) c.if-agrees.true ∙ e) k m
+pub returns-then-is_complete-clause-ok : goal.returns-then-is_complete-clause-ok
+returns-then-is_complete-clause-ok g c = λ X w m d.
+    step-found c.args.catalog.now X c.args.transactions.now c.go.new.walk
+    (turned c.args.catalog.now X c.args.transactions.now c.args.walk.now c.go.new.walk c.args.place
+    (λ t at. subst (λ b. HasTurned c.args.catalog.now t c.args.walk.now c.args.place b c.go.new.walk) c.if-not-agrees.false (c.in_ok-agrees.ensures.ok t at)) w m)
+    (ap (are_done c.args.transactions.now) (sym c.done.ensures) ∙ sym c.is_complete.ensures ∙ c.if-is_complete.true)
 
-pub returns-else-agrees-clause-goes_on : goal.returns-else-agrees-clause-goes_on
-returns-else-agrees-clause-goes_on g c = λ e X k m.
-    turn-on c.args.catalog.now X c.args.transactions.now c.args.walk.now c.follow.new.walk c.args.place (came_to c.args.walk.now.tables c.in_ok-turn.turn) c.in_ok-agrees.agrees (are_done c.args.transactions.now c.follow.new.walk.done)
-    (λ t at. ap (λ Y. came_to Y c.in_ok-turn.turn) (sym c.tables.ensures) ∙ c.in_ok-turn.ensures.ok t at ∙ ap (alone c.args.catalog.now t.statements) c.tables.ensures)
-    c.in_ok-agrees.ensures.ok refl (ap (λ b. b && are_done c.args.transactions.now c.follow.new.walk.done) c.if-agrees.false) k m
+pub returns-clause-ok : goal.returns-clause-ok
+returns-clause-ok g c = λ X w m d.
+    c.in_ok-leave_known.ensures.ok c.args.catalog.now X c.args.transactions.now
+    (step-walk c.args.catalog.now X c.args.transactions.now c.go.new.walk
+    (turned c.args.catalog.now X c.args.transactions.now c.args.walk.now c.go.new.walk c.args.place
+    (λ t at. subst (λ b. HasTurned c.args.catalog.now t c.args.walk.now c.args.place b c.go.new.walk) c.if-not-agrees.false (c.in_ok-agrees.ensures.ok t at)) w m)
+    (ap (are_done c.args.transactions.now) (sym c.done.ensures) ∙ sym c.is_complete.ensures ∙ c.if-is_complete.false))
+    d

@@ -1,0 +1,134 @@
+-- Who may come next by time, found by the least end of those that aren't done.
+use Rattle.std.proofs.Common.{◌≡◌, ◌⊎◌, refl, sym, ap, ◌∙◌, subst, ℕ, zero, suc, ◌+◌, ◌-◌, ◌^◌, ◌<◌, ◌≤◌, min, Bool, true, false, true≢false, ◌&&◌, ◌||◌, not, zip, inl, inr, List, [], ◌∷◌, length, get_or, slice_get, Option, Some, None, nat_lt, arith}
+use Rattle.std.specs.List.{list_all}
+use Rattle.std.proofs.lemmas.Bool.Decides.{nat_tests}
+use Rattle.orders.specs.Explains.{Trace, precedes, ended_before}
+use Rattle.orders.specs.Turns.{IsLeastEnd, comes, comes_so, end_at, end_or_last, lesser_end}
+use Rattle.orders.proofs.PlaceLemmas.{below_or, decide, some-injective}
+use Rattle.orders.proofs.WalkLemmas.{free-at, free-from}
+
+below : (n m : ℕ) → n < m → nat_lt n m ≡ true
+below n m l = grind (arith, nat_tests)
+
+not-below : (n m : ℕ) → m ≤ n → nat_lt n m ≡ false
+not-below n m l = grind (arith, nat_tests)
+
+module _ {A : Type 0} (ts : List (Trace A)) where
+  abbrev waits : List Bool → Trace A → Bool
+  waits done t = list_all (λ p. p.1 || not (precedes p.0 t)) (zip ts done)
+
+  ends-later : (a t : Trace A) → t.begin ≤ end_or_last a.end → precedes a t ≡ false
+  ends-later a t l = go a.end refl l
+    where
+      go : (o : Option ℕ) → a.end ≡ o → t.begin ≤ end_or_last o → precedes a t ≡ false
+      go None e l = ap (λ o. ended_before o t.begin && not t.imported) e
+      go (Some n) e l = ap (λ o. ended_before o t.begin && not t.imported) e ∙ ap (λ b. b && not t.imported) (not-below n t.begin l)
+
+  ends-sooner : (a t : Trace A) → t.begin < 2 ^ 64 → t.imported ≡ false → end_or_last a.end < t.begin → precedes a t ≡ true
+  ends-sooner a t fits i l = go a.end refl l
+    where
+      go : (o : Option ℕ) → a.end ≡ o → end_or_last o < t.begin → precedes a t ≡ true
+      go None e l = absurd (omega (arith, l, fits))
+      go (Some n) e l = ap (λ o. ended_before o t.begin && not t.imported) e ∙ ap (λ b. b && not t.imported) (below n t.begin l) ∙ ap (λ b. not b) i
+
+  imported-waits : (a t : Trace A) → t.imported ≡ true → precedes a t ≡ false
+  imported-waits a t i = ap (λ b. ended_before a.end t.begin && not b) i ∙ and-false (ended_before a.end t.begin)
+    where
+      and-false : (b : Bool) → (b && false) ≡ false
+      and-false true = refl
+      and-false false = refl
+
+  none-waits : (done : List Bool) (e : ℕ) (t : Trace A) → t.begin < 2 ^ 64 → t.imported ≡ false → IsLeastEnd ts done e → e < t.begin → waits done t ≡ true → ⊥
+  none-waits done e t fits i least l w = go least.1
+    where
+      go : (e ≡ 2 ^ 64 - 1) ⊎ ((j : ℕ) × (slice_get done j ≡ Some false) × (e ≡ end_at (slice_get ts j))) → ⊥
+      go (inl m) = omega (arith, l, fits, m)
+      go (inr s) = at (slice_get ts s.0) refl s.2
+        where
+          at : (o : Option (Trace A)) → slice_get ts s.0 ≡ o → e ≡ end_at o → ⊥
+          at None g m = omega (arith, l, fits, m)
+          at (Some a) g m = true≢false (sym (ends-sooner a t fits i (subst (λ n. n < t.begin) m l)) ∙ free-at ts t ts done w s.0 a g s.1)
+
+  is-false : (b : Bool) → (b ≡ true → ⊥) → b ≡ false
+  is-false true h = absurd (h refl)
+  is-false false h = refl
+
+  pub waits-least : (done : List Bool) (e : ℕ) (t : Trace A) → t.begin < 2 ^ 64 → IsLeastEnd ts done e → (t.imported || not (nat_lt e t.begin)) ≡ waits done t
+  waits-least done e t fits least = go t.imported refl (below_or e t.begin)
+    where
+      go : (b : Bool) → t.imported ≡ b → (e < t.begin) ⊎ (t.begin ≤ e) → (b || not (nat_lt e t.begin)) ≡ waits done t
+      go true i o = sym (free-from ts t ts done (λ j a g l. imported-waits a t i))
+      go false i (inl l) = ap not (below e t.begin l) ∙ sym (is-false (waits done t) (none-waits done e t fits i least l))
+      go false i (inr l) =
+          ap not (not-below e t.begin l)
+          ∙ sym (free-from ts t ts done (λ j a g d. ends-later a t (omega (arith, l, subst (λ o. e ≤ end_at o) g (least.0 j d)))))
+
+  -- ---- the least end, found one by one
+
+  -- of the first so many
+  abbrev pub IsLeastOf : List Bool → ℕ → ℕ → Type 0
+  IsLeastOf done n e =
+      ((j : ℕ) → j < n → slice_get done j ≡ Some false → e ≤ end_at (slice_get ts j)) × ((e ≡ 2 ^ 64 - 1) ⊎ ((j : ℕ) × (slice_get done j ≡ Some false) × (e ≡ end_at (slice_get ts j))))
+
+  within-get : {T : Type 0} (xs : List T) (i : ℕ) (x : T) → slice_get xs i ≡ Some x → i < length xs
+  within-get [] i x e = cc
+  within-get (y ∷ ys) zero x e = omega arith
+  within-get (y ∷ ys) (suc i) x e = let h = within-get ys i x e in omega (arith, h)
+
+  least-next : (done : List Bool) (n e m : ℕ) (o : Option Bool) → slice_get done n ≡ o → IsLeastOf done n e → m ≡ lesser_end o (end_at (slice_get ts n)) e → IsLeastOf done (n + 1) m
+  least-next done n e m (Some false) d h q = (λ j l f. go j f (decide j n) l, at (below_or (end_at (slice_get ts n)) e))
+    where
+      go : (j : ℕ) → slice_get done j ≡ Some false → (j ≡ n) ⊎ (j ≡ n → ⊥) → j < n + 1 → m ≤ end_at (slice_get ts j)
+      go j f (inl p) l = subst (λ k. m ≤ end_at (slice_get ts k)) (sym p) (omega (arith, q))
+      go j f (inr p) l = let k = h.0 j (omega (arith, p, l)) f in omega (arith, q, k)
+
+      at : (end_at (slice_get ts n) < e) ⊎ (e ≤ end_at (slice_get ts n)) → (m ≡ 2 ^ 64 - 1) ⊎ ((j : ℕ) × (slice_get done j ≡ Some false) × (m ≡ end_at (slice_get ts j)))
+      at (inl l) = inr (n, d, omega (arith, q, l))
+      at (inr l) = let is : m ≡ e = omega (arith, q, l) in subst (λ k. (k ≡ 2 ^ 64 - 1) ⊎ ((j : ℕ) × (slice_get done j ≡ Some false) × (k ≡ end_at (slice_get ts j)))) (sym is) h.1
+  least-next done n e m (Some true) d h q = (λ j l f. go j f (decide j n) l, subst (λ k. (k ≡ 2 ^ 64 - 1) ⊎ ((j : ℕ) × (slice_get done j ≡ Some false) × (k ≡ end_at (slice_get ts j)))) (sym q) h.1)
+    where
+      go : (j : ℕ) → slice_get done j ≡ Some false → (j ≡ n) ⊎ (j ≡ n → ⊥) → j < n + 1 → m ≤ end_at (slice_get ts j)
+      go j f (inl p) l = absurd (true≢false (some-injective true false (sym d ∙ ap (slice_get done) (sym p) ∙ f)))
+      go j f (inr p) l = subst (λ k. k ≤ end_at (slice_get ts j)) (sym q) (h.0 j (omega (arith, p, l)) f)
+  least-next done n e m None d h q = (λ j l f. go j f (decide j n) l, subst (λ k. (k ≡ 2 ^ 64 - 1) ⊎ ((j : ℕ) × (slice_get done j ≡ Some false) × (k ≡ end_at (slice_get ts j)))) (sym q) h.1)
+    where
+      go : (j : ℕ) → slice_get done j ≡ Some false → (j ≡ n) ⊎ (j ≡ n → ⊥) → j < n + 1 → m ≤ end_at (slice_get ts j)
+      go j f (inl p) l = absurd (none-some (sym d ∙ ap (slice_get done) (sym p) ∙ f))
+        where
+          none-some : {B : Type 0} {x : B} → None ≡ Some x → ⊥
+          none-some r = cc
+      go j f (inr p) l = subst (λ k. k ≤ end_at (slice_get ts j)) (sym q) (h.0 j (omega (arith, p, l)) f)
+
+  pub least-more : (done : List Bool) (n e m : ℕ) → IsLeastOf done n e → m ≡ lesser_end (slice_get done n) (end_at (slice_get ts n)) e → IsLeastOf done (n + 1) m
+  least-more done n e m h q = least-next done n e m (slice_get done n) refl h q
+
+  pub least-all : (done : List Bool) (n e : ℕ) → length done ≤ n → IsLeastOf done n e → IsLeastEnd ts done e
+  least-all done n e l h = (λ j f. let k = within-get done j false f in h.0 j (omega (arith, k, l)) f, h.1)
+
+  -- ---- whether one comes
+
+  comes-is : (done : List Bool) (e i : ℕ) (t : Trace A) (d : Bool) → slice_get ts i ≡ Some t → slice_get done i ≡ Some d → t.begin < 2 ^ 64 → IsLeastEnd ts done e → (not d && (t.imported || not (nat_lt e t.begin))) ≡ comes ts done i
+  comes-is done e i t d g l fits least =
+      ap (λ b. not d && b) (waits-least done e t fits least) ∙ sym (ap (λ o. comes_so ts done o (slice_get done i)) g ∙ ap (λ o. comes_so ts done (Some t) o) l)
+
+  pub comes-imported : (done : List Bool) (i : ℕ) (t : Trace A) (d : Bool) → slice_get ts i ≡ Some t → slice_get done i ≡ Some d → d ≡ false → t.imported ≡ true → true ≡ comes ts done i
+  comes-imported done i t d g l n m =
+      sym (ap (λ b. not b && waits done t) n ∙ free-from ts t ts done (λ j a _ _. imported-waits a t m)) ∙ sym (ap (λ o. comes_so ts done o (slice_get done i)) g ∙ ap (λ o. comes_so ts done (Some t) o) l)
+
+  pub comes-begun : (done : List Bool) (e i : ℕ) (t : Trace A) (d b : Bool) → slice_get ts i ≡ Some t → slice_get done i ≡ Some d → d ≡ false → t.imported ≡ false → t.begin < 2 ^ 64 → IsLeastEnd ts done e → b ≡ not (nat_lt e t.begin) → b ≡ comes ts done i
+  comes-begun done e i t d b g l n m fits least is =
+      is ∙ sym (ap (λ x. not x && (t.imported || not (nat_lt e t.begin))) n ∙ ap (λ x. x || not (nat_lt e t.begin)) m) ∙ comes-is done e i t d g l fits least
+
+  pub comes-done : (done : List Bool) (i : ℕ) (t : Trace A) (d : Bool) → slice_get ts i ≡ Some t → slice_get done i ≡ Some d → d ≡ true → false ≡ comes ts done i
+  comes-done done i t d g l n = sym (ap (λ b. not b && waits done t) n) ∙ sym (ap (λ o. comes_so ts done o (slice_get done i)) g ∙ ap (λ o. comes_so ts done (Some t) o) l)
+
+  get-past : {T : Type 0} (xs : List T) (i : ℕ) → length xs ≤ i → slice_get xs i ≡ None
+  get-past [] i l = refl
+  get-past (x ∷ xs) zero l = absurd (omega (arith, l))
+  get-past (x ∷ xs) (suc i) l = get-past xs i (omega (arith, l))
+
+  pub comes-past-done : (done : List Bool) (i : ℕ) (t : Trace A) → slice_get ts i ≡ Some t → length done ≤ i → false ≡ comes ts done i
+  comes-past-done done i t g l = sym (ap (λ o. comes_so ts done o (slice_get done i)) g ∙ ap (λ o. comes_so ts done (Some t) o) (get-past done i l))
+
+  pub comes-past : (done : List Bool) (i : ℕ) → length ts ≤ i → false ≡ comes ts done i
+  comes-past done i l = sym (ap (λ o. comes_so ts done o (slice_get done i)) (get-past ts i l))

@@ -1,0 +1,10 @@
+use Rattle.std.proofs.Common.{◌-◌}
+use Rattle.orders.specs.Walks.{IsPath}
+use Rattle.orders.proofs.near.follow.Given as goal
+
+-- the transactions that are done may come one after the other
+abbrev pub invariant-loop-steps : goal.invariant-loop-steps
+invariant-loop-steps g l = IsPath l.catalog l.tables l.transactions l.walk
+
+abbrev pub decreases-loop-steps : goal.decreases-loop-steps
+decreases-loop-steps g l = l.most - l.steps

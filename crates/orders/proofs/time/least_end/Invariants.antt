@@ -1,0 +1,6 @@
+use Rattle.orders.proofs.TimeLemmas.{IsLeastOf}
+use Rattle.orders.proofs.time.least_end.Given as goal
+
+-- the least end of those so far
+abbrev pub invariant-loop-place : goal.invariant-loop-place
+invariant-loop-place g l = IsLeastOf l.transactions l.done l.place l.least

@@ -1,0 +1,238 @@
+//! What a search remembers: where no order goes on, and the longest order that it found.
+
+ghost use Rattle.std.specs.Prelude.{◌≡◌, true, List, [], OnOk, IfOk, IfErr};
+ghost use Rattle.value.specs.Refusals.{out_of_memory};
+ghost use Rattle.schema.specs.Definition.{Catalog as AnyCatalog};
+ghost use Rattle.orders.specs.Explains.{Trace as AnyTrace};
+ghost use Rattle.orders.specs.Seen.{AreDead};
+ghost use Rattle.orders.specs.Walks.{IsDead};
+
+use crate::same::{are_same_flags, are_same_tables};
+use crate::walk::Walk;
+use schema::catalog::TableNo;
+use schema::tables::Tables;
+use std::alloc::Allocator;
+use std::marker::Model;
+use value::refusal::Refusal;
+
+/// How many lists the places of stands are spread over.
+const LISTS: usize = 16384;
+
+/// How many rows are kept at most.
+const MOST_ROWS: usize = 4_000_000;
+
+/// Where no order goes on: which transactions are done, and the tables that they came to.
+#[derive(Drop)]
+pub struct Dead<A: Allocator> {
+    done: Vec<bool, A>,
+    tables: Tables<A>,
+}
+
+impl<A: Allocator> Model for Dead<A> {
+    ghost use Rattle.orders.specs.Seen.{Stand};
+
+    ghost Value = { Stand A };
+
+    ghost view = { λ d. record { done = d.done.items; tables = d.tables } };
+}
+
+/// What is remembered. The lists find what may be the same by a number that is made of what is done; whether it is the
+/// same is found by comparing all of it.
+#[derive(Drop)]
+pub struct Memory<A: Allocator> {
+    dead: Vec<Dead<A>, A>,
+    lists: Vec<Vec<usize, A>, A>,
+    room: usize,
+    longest: Vec<usize, A>,
+}
+
+impl<A: Allocator> Model for Memory<A> {
+    ghost use Rattle.std.specs.Prelude.{List};
+    ghost use Rattle.orders.specs.Seen.{Stand};
+
+    ghost Value = { List (Stand A) };
+
+    ghost view = { λ m. m.dead.items };
+}
+
+// So many lists without places.
+fn empty_lists<A: Allocator + Copy>(alloc: A) -> Result<Vec<Vec<usize, A>, A>, Refusal>
+    ensures memory { IfErr result (λ e. e ≡ out_of_memory) }
+{
+    let mut lists = Vec::with_capacity(alloc, LISTS)?;
+    for _ in 0..LISTS {
+        lists.push(Vec::new(alloc))?;
+    }
+    Ok(lists)
+}
+
+// The list in which a place stands, by what is done there.
+fn list_of(done: &[bool]) -> usize {
+    let mut mixed: u64 = 14695981039346656037;
+    for is_done in done {
+        mixed = mixed
+            .wrapping_add(u64::from(*is_done))
+            .wrapping_mul(1099511628211);
+    }
+    (mixed % LISTS as u64) as usize
+}
+
+// How many rows are kept of tables, one at least.
+fn row_count<A: Allocator>(tables: &Tables<A>) -> usize {
+    let mut rows: usize = 1;
+    for place in 0..tables.count() {
+        if let Ok(number) = u32::try_from(place) {
+            rows = rows.saturating_add(tables.len(TableNo::at(number)));
+        }
+    }
+    rows
+}
+
+// Equal flags.
+fn copy_flags<A: Allocator>(alloc: A, flags: &[bool]) -> Result<Vec<bool, A>, Refusal>
+    ensures ok { IfOk result (λ copy. copy.items ≡ flags.now) }
+    ensures memory { IfErr result (λ e. e ≡ out_of_memory) }
+{
+    Ok(Vec::from_slice(alloc, flags)?)
+}
+
+impl<A: Allocator> Dead<A> {
+    // Where a walk stands.
+    fn of(alloc: A, walk: &Walk<A>) -> Result<Dead<A>, Refusal>
+    where
+        A: Copy,
+        ensures ok { IfOk result (λ d. d ≡ record { done = walk.now.done; tables = walk.now.tables }) }
+        ensures memory { IfErr result (λ e. e ≡ out_of_memory) }
+    {
+        let done = copy_flags(alloc, walk.done())?;
+        let tables = walk.tables().copy(alloc)?;
+        Ok(Dead { done, tables })
+    }
+
+    // Which transactions are done.
+    fn known_done(&self) -> &[bool]
+        ensures { result.now ≡ self.now.done }
+    {
+        self.done.as_slice()
+    }
+
+    // The tables that they came to.
+    fn known_tables(&self) -> &Tables<A>
+        ensures { result.now ≡ self.now.tables }
+    {
+        &self.tables
+    }
+
+    // Whether it is where a walk stands.
+    fn is_at(&self, alloc: A, walk: &Walk<A>) -> Result<bool, Refusal>
+    where
+        A: Copy,
+        ensures ok { IfOk result (λ b. b ≡ true → self.now ≡ record { done = walk.now.done; tables = walk.now.tables }) }
+        ensures memory { IfErr result (λ e. e ≡ out_of_memory) }
+    {
+        if !are_same_flags(self.known_done(), walk.done()) {
+            return Ok(false);
+        }
+        are_same_tables(alloc, self.known_tables(), walk.tables())
+    }
+}
+
+impl<A: Allocator> Memory<A> {
+    /// Nothing is remembered.
+    pub fn new(alloc: A) -> Result<Memory<A>, Refusal>
+    where
+        A: Copy,
+        ensures ok { IfOk result (λ m. m ≡ []) }
+        ensures memory { IfErr result (λ e. e ≡ out_of_memory) }
+    {
+        let lists = empty_lists(alloc)?;
+        Ok(Memory {
+            dead: Vec::new(alloc),
+            lists,
+            room: MOST_ROWS,
+            longest: Vec::new(alloc),
+        })
+    }
+
+    // Whether what is remembered at a place is where a walk stands.
+    fn is_at(&self, alloc: A, place: usize, walk: &Walk<A>) -> Result<bool, Refusal>
+    where
+        A: Copy,
+        ensures dead { IfOk result (λ b. b ≡ true → (c : AnyCatalog) → (ts : List (AnyTrace A)) →
+            AreDead c ts self.now → IsDead c ts walk.now.done walk.now.tables) }
+        ensures memory { IfErr result (λ e. e ≡ out_of_memory) }
+    {
+        match self.dead.get(place) {
+            Some(dead) => dead.is_at(alloc, walk),
+            None => Ok(false),
+        }
+    }
+
+    /// Whether it is remembered that no order goes on from where a walk stands.
+    pub fn knows(&self, alloc: A, walk: &Walk<A>) -> Result<bool, Refusal>
+    where
+        A: Copy,
+        ensures dead { IfOk result (λ b. b ≡ true → (c : AnyCatalog) → (ts : List (AnyTrace A)) →
+            AreDead c ts self.now → IsDead c ts walk.now.done walk.now.tables) }
+        ensures memory { IfErr result (λ e. e ≡ out_of_memory) }
+    {
+        let Some(places) = self.lists.get(list_of(walk.done())) else {
+            return Ok(false);
+        };
+        for place in places {
+            if self.is_at(alloc, *place, walk)? {
+                return Ok(true);
+            }
+        }
+        Ok(false)
+    }
+
+    // Notes the place of what is remembered next.
+    fn note(&mut self, list: usize) -> Result<(), Refusal>
+        ensures same { OnOk result (self.new ≡ self.old) }
+        ensures memory { IfErr result (λ e. e ≡ out_of_memory) }
+    {
+        let place = self.dead.len();
+        if let Some(places) = self.lists.get_mut(list) {
+            places.push(place)?;
+        }
+        Ok(())
+    }
+
+    // Keeps the order of a walk, where none was longer.
+    fn keep_longest(&mut self, alloc: A, walk: &Walk<A>) -> Result<(), Refusal>
+    where
+        A: Copy,
+        ensures same { OnOk result (self.new ≡ self.old) }
+        ensures memory { IfErr result (λ e. e ≡ out_of_memory) }
+    {
+        if walk.len() > self.longest.len() {
+            self.longest = walk.places(alloc)?;
+        }
+        Ok(())
+    }
+
+    /// Remembers that no order goes on from where a walk stands, as long as there is room.
+    pub fn remember(&mut self, alloc: A, walk: &Walk<A>) -> Result<(), Refusal>
+    where
+        A: Copy,
+        ensures kept { OnOk result ((c : AnyCatalog) → (ts : List (AnyTrace A)) → AreDead c ts self.old →
+            IsDead c ts walk.now.done walk.now.tables → AreDead c ts self.new) }
+        ensures memory { IfErr result (λ e. e ≡ out_of_memory) }
+    {
+        self.keep_longest(alloc, walk)?;
+        let rows = row_count(walk.tables());
+        if rows > self.room {
+            return Ok(());
+        }
+        self.room -= rows;
+        self.note(list_of(walk.done()))?;
+        self.dead.push(Dead::of(alloc, walk)?)?;
+        Ok(())
+    }
+
+    /// The longest order from which none went on.
+    pub fn into_longest(self) -> Vec<usize, A> {
+        self.longest
+    }
+}
