@@ -1,6 +1,6 @@
 -- What lines have told that are done one after the other.
-use Rattle.std.proofs.Common.{◌≡◌, ◌⊎◌, ℕ, ◌+◌, ◌<◌, ◌≤◌, arith, List, [], ◌∷◌, ◌++◌, length, get_or, take, codes, Option, Some, None, Result, Ok, Err, IfErr, OnOk, inl, inr, refl, sym, ap, subst, ◌∙◌, append_assoc}
-use Rattle.std.proofs.lemmas.List.{append-nil, take_more, take_all}
+use Rattle.std.proofs.Common.{◌≡◌, ◌⊎◌, ℕ, ◌+◌, ◌<◌, ◌≤◌, arith, List, [], ◌∷◌, ◌++◌, length, get_or, take, codes, Option, Result, Ok, Err, IfErr, OnOk, inl, inr, refl, sym, ap, subst, ◌∙◌}
+use Rattle.std.proofs.lemmas.List.{take_more, take_all}
 use Rattle.std.proofs.lemmas.Option.{slice_get_read}
 use Rattle.std.specs.Io.KnownBytes.{Appends, Keeps}
 use Rattle.schema.specs.Definition.{Catalog}
@@ -8,49 +8,22 @@ use Rattle.history.specs.Opening.{Recorded}
 use Rattle.script.specs.declared.script.Line.{Line}
 use Rattle.script.specs.Scripts.{Said, said}
 use Rattle.script.specs.declared.schedule.Schedule.TheVariants.{InOrder}
-use Rattle.clap.specs.Words.{HasKind, IsAmong, Kinds, Text, fault_of, kind_of}
+use Rattle.clap.specs.Words.{HasKind, Text, fault_of, kind_of}
 use Rattle.clap.specs.declared.error.Error.{Error}
 use Rattle.clap.specs.declared.error.ErrorKind.TheVariants.{DisplayHelp, DisplayVersion, OutOfMemory}
 use Rattle.program.specs.CommandLine.{IsMistake}
 use Rattle.program.specs.Files.{IsAllOf, read_of}
-use Rattle.program.specs.Outcomes.{AreHelp}
 use Rattle.program.proofs.EndLemmas.{among}
 use Rattle.program.specs.Beginnings.{BeginsWith}
 use Rattle.program.specs.Runs.{begun}
 use Rattle.program.specs.Steps.{AreDone}
 use Rattle.program.proofs.StepsLemmas.{done_more}
-use Rattle.script_files.specs.Faults.{IsFileFault, IsUnbegun, status}
+use Rattle.script_files.specs.Ends.{IsToldBy, Stops}
+use Rattle.script_files.specs.Faults.{IsFileFault, IsUnbegun}
 use Rattle.script_files.specs.declared.fault.Fault.{Fault}
-use Rattle.script_files.specs.declared.fault.Fault.TheVariants as fault
-use Rattle.command_why.specs.Told.{HasStopped, HasTold, IsDone, IsNoScript, IsToldBy, LinesAreDone, PathHasStopped, ScriptEnds, ScriptHasStopped, ScriptHasTold, Stops}
+use Rattle.script_files.proofs.EndLemmas.{appends_kept, appends_twice, help_of, of_error, on_ok}
+use Rattle.command_why.specs.Told.{HasStopped, HasTold, IsDone, LinesAreDone, PathHasStopped, ScriptEnds, ScriptHasStopped, ScriptHasTold}
 use Rattle.command_why.specs.Words.{EndsWith, IsWithoutTask, run}
-
--- what holds of a result that is Ok
-on_ok : {P : Type 0} (d : Result (Unit {0}) Fault) → OnOk d P → d ≡ Ok tt → P
-on_ok {P} d t e = subst (λ r. OnOk r P) e t
-
--- what holds of the fault of one that isn't
-of_error : {P Q : Fault → Type 0} (d : Result (Unit {0}) Fault) → ((f : Fault) → P f → Q f) → IfErr d P → IfErr d Q
-of_error (Ok x) weaker t = t
-of_error (Err f) weaker t = weaker f t
-
-pub appends_twice : (a b c : Option (List ℕ)) (s t : List ℕ) → Appends a b s → Appends b c t → Appends a c (s ++ t)
-appends_twice None b c s t x y = tt
-appends_twice (Some a) None c s t x y = absurd x
-appends_twice (Some a) (Some b) None s t x y = absurd y
-appends_twice (Some a) (Some b) (Some c) s t x y = y ∙ ap (λ l. l ++ t) x ∙ append_assoc a s t
-
--- nothing was printed
-pub appends_none : (a : Option (List ℕ)) → Appends a a []
-appends_none None = tt
-appends_none (Some a) = sym (append-nil a)
-
--- a text was printed, and then nothing more
-pub appends_kept : (a b c : Option (List ℕ)) (s : List ℕ) → Appends a b s → Keeps b c → Appends a c s
-appends_kept None b c s x y = tt
-appends_kept (Some a) None c s x y = absurd x
-appends_kept (Some a) (Some b) None s x y = absurd y
-appends_kept (Some a) (Some b) (Some c) s x y = y ∙ x
 
 module _ {A : Type 0} where
   -- the first n lines were done and told
@@ -139,48 +112,9 @@ module _ {A : Type 0} where
       go (inl e) = inl e
       go (inr e) = inr (inr (bytes, s, all, says, e))
 
--- a fault doesn't end as what is done
-pub not_done : (f : Fault) → status f ≡ 0 → ⊥
-not_done (fault.Script line) e = absurd (omega (arith, e))
-not_done (fault.Dump line c) e = absurd (omega (arith, e))
-not_done (fault.Device path) e = absurd (omega (arith, e))
-
--- nor as mistaken words
-pub not_usage : (f : Fault) → status f ≡ 2 → ⊥
-not_usage (fault.Script line) e = absurd (omega (arith, e))
-not_usage (fault.Dump line c) e = absurd (omega (arith, e))
-not_usage (fault.Device path) e = absurd (omega (arith, e))
-
-pub status_within : (f : Fault) → status f ≤ 3
-status_within (fault.Script line) = omega arith
-status_within (fault.Dump line c) = omega arith
-status_within (fault.Device path) = omega arith
-
--- the file of a script wasn't read
-pub unread : (A : Type 0) (known : Option (List ℕ)) (path : List ℕ) (f : Fault) → (f ≡ fault.Script 0) ⊎ IsFileFault path f → IsNoScript A known path f
-unread A known path f (inl e) = inl e
-unread A known path f (inr e) = inr (inl e)
-
--- what was read is no script
-pub no_script : (A : Type 0) (known : Option (List ℕ)) (path bytes text : List ℕ) (line : ℕ) → IsAllOf known bytes → text ≡ bytes → (line ≡ 0) ⊎ (said {A = A} InOrder text ≡ Err line) → IsNoScript A known path (fault.Script line)
-no_script A known path bytes text line all same (inl e) = inl (ap (λ n. fault.Script n) e)
-no_script A known path bytes text line all same (inr e) = inr (inr (bytes, line, all, subst (λ b. said {A = A} InOrder b ≡ Err line) same e, refl))
-
--- the words are a call for help, by an error of this kind
-pub help_of : (ks : Kinds) (e : Error) → HasKind ks e → (kind_of e ≡ OutOfMemory → ⊥) → (kind_of e ≡ DisplayHelp) ⊎ (kind_of e ≡ DisplayVersion) → AreHelp ks
-help_of ks e has other (inl is) = inl (subst (λ k. IsAmong k ks) is (among ks e has other))
-help_of ks e has other (inr is) = inr (subst (λ k. IsAmong k ks) is (among ks e has other))
-
 -- what is told where the words have a fault, and no help is printed
 pub without_task : (words : List Text) (e : Error) (n : ℕ) (before after : Option (List ℕ)) → HasKind (fault_of run words) e → (n ≡ 2 → IsMistake (kind_of e)) → (kind_of e ≡ OutOfMemory → n ≡ 1) → ((n ≡ 0) ⊎ (n ≡ 3) → (kind_of e ≡ DisplayHelp) ⊎ (kind_of e ≡ DisplayVersion)) → (n ≡ 1 → after ≡ before) → (n ≡ 0) ⊎ (n ≡ 1) ⊎ (n ≡ 2) ⊎ (n ≡ 3) → (n ≡ 0 → ⊥) → IsWithoutTask words n before after
 without_task words e n before after has mistake memory help silent (inl zero) other = absurd (other zero)
 without_task words e n before after has mistake memory help silent (inr (inl one)) other = inr (inl (one, silent one))
 without_task words e n before after has mistake memory help silent (inr (inr (inl two))) other = inl ((kind_of e, among (fault_of run words) e has (mistake two).0, mistake two), two)
 without_task words e n before after has mistake memory help silent (inr (inr (inr three))) other = inr (inr (help_of (fault_of run words) e has (λ m. let one : n ≡ 1 = memory m in absurd (omega (arith, one, three))) (help (inr three)), three))
-
--- one of four is at most three
-pub four_within : (n : ℕ) → (n ≡ 0) ⊎ (n ≡ 1) ⊎ (n ≡ 2) ⊎ (n ≡ 3) → n ≤ 3
-four_within n (inl e) = omega (arith, e)
-four_within n (inr (inl e)) = omega (arith, e)
-four_within n (inr (inr (inl e))) = omega (arith, e)
-four_within n (inr (inr (inr e))) = omega (arith, e)

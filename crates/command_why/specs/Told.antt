@@ -1,6 +1,6 @@
 -- What the lines of a script do, one after the other, and what is told of them: each reply, and why it refuses its transaction (this project's own choice).
-use Rattle.std.specs.Prelude.{◌≡◌, ◌⊎◌, ℕ, List, [], Option, Some, Result, Ok, Err, codes, slice_get, take}
-use Rattle.std.specs.Io.KnownBytes.{Appends, Keeps}
+use Rattle.std.specs.Prelude.{◌≡◌, ◌⊎◌, ℕ, List, [], Option, Ok, codes, take}
+use Rattle.std.specs.Io.KnownBytes.{Appends}
 use Rattle.value.specs.declared.refusal.Refusal.{Refusal}
 use Rattle.schema.specs.Definition.{Catalog}
 use Rattle.schema.specs.declared.tables.Tables.{Tables}
@@ -19,9 +19,9 @@ use Rattle.program.specs.Dumps.{TellsDump}
 use Rattle.program.specs.Files.{IsAllOf, read_of}
 use Rattle.program.specs.Runs.{Checkpoints, begun, told_of_checkpoint}
 use Rattle.program.specs.Steps.{AreDone}
+use Rattle.script_files.specs.Ends.{EndsAt, IsNoScript}
 use Rattle.script_files.specs.Faults.{IsFileFault, IsUnbegun, status}
 use Rattle.script_files.specs.declared.fault.Fault.{Fault}
-use Rattle.script_files.specs.declared.fault.Fault.TheVariants as fault
 
 module _ {A : Type 0} where
   -- What is told of a command of session s, by which the history h has become k: what came of a dump, which is no event; else the reply, and remarks behind it, of WAIT those to a POLL.
@@ -49,20 +49,6 @@ module _ {A : Type 0} where
 
   -- ---- why it ends before its time
 
-  -- Why a command ends its script: memory was refused for what is told of it, or the file of its dump has failed.
-  abbrev pub EndsBy : Command A → Fault → Type 0
-  EndsBy (command.Dump request) f = (f ≡ fault.Script 0) ⊎ IsFileFault request.path f
-  EndsBy c f = f ≡ fault.Script 0
-
-  -- the same of a step
-  abbrev pub Stops : Step A → Fault → Type 0
-  Stops (Session s c) f = EndsBy c f
-  Stops Checkpoint f = f ≡ fault.Script 0
-
-  -- it ends by the step behind n lines
-  abbrev pub EndsAt : List (Line A) → ℕ → Fault → Type 0
-  EndsAt lines n f = (line : Line A) × (slice_get lines n ≡ Some line) × Stops line.step f
-
   -- The first lines were done and told, and nothing else, and the next one ends the script.
   abbrev pub IsCutOff : ℕ → Recorded A → List (Line A) → Fault → Option (List ℕ) → Option (List ℕ) → Type 0
   IsCutOff most h lines f before after = (n : ℕ) × (k : Recorded A) × (text : List ℕ) × LinesAreDone most h (take n lines) k text × Appends before after text × EndsAt lines n f
@@ -83,17 +69,9 @@ module _ {A : Type 0} where
   abbrev pub ScriptEnds : (List ℕ → Option (List ℕ)) → ℕ → Said A → ℕ → Option (List ℕ) → Option (List ℕ) → Type 0
   ScriptEnds held most s n before after = (f : Fault) × (n ≡ status f) × (IsFileFault (codes "-") f ⊎ ScriptHasStopped held most s f before after)
 
--- What is told of how lines have ended, by this exit status: their fault, with nothing more printed; or that standard output has failed.
-abbrev pub IsToldBy : ℕ → Result (Unit {0}) Fault → Option (List ℕ) → Option (List ℕ) → Type 0
-IsToldBy n done before after = (f : Fault) × (n ≡ status f) × (IsFileFault (codes "-") f ⊎ ((done ≡ Err f) × Keeps before after))
-
 -- What a path has says a script, and that was done and told.
 abbrev pub PathHasTold : (A : Type 0) → (List ℕ → Option (List ℕ)) → Option (List ℕ) → ℕ → List ℕ → Option (List ℕ) → Option (List ℕ) → Type 0
 PathHasTold A held input most path before after = (bytes : List ℕ) × (s : Said A) × IsAllOf (read_of held input path) bytes × (said InOrder bytes ≡ Ok s) × ScriptHasTold held most s before after
-
--- No script was read of a path, of which this is known: its file has failed, or memory was wanting, or what it has is none, told by its first faulty line.
-abbrev pub IsNoScript : (A : Type 0) → Option (List ℕ) → List ℕ → Fault → Type 0
-IsNoScript A known path f = (f ≡ fault.Script 0) ⊎ IsFileFault path f ⊎ ((bytes : List ℕ) × (n : ℕ) × IsAllOf known bytes × (said {A = A} InOrder bytes ≡ Err n) × (f ≡ fault.Script n))
 
 -- No script was read of a path, and nothing was printed; or the script that it says has stopped; or standard output has failed.
 abbrev pub PathHasStopped : (A : Type 0) → (List ℕ → Option (List ℕ)) → Option (List ℕ) → ℕ → List ℕ → Fault → Option (List ℕ) → Option (List ℕ) → Type 0

@@ -2,7 +2,6 @@
 
 #![tactic(auto)]
 
-mod dumping;
 mod lines;
 mod task;
 pub mod words;

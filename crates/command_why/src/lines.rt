@@ -1,14 +1,11 @@
 //! The lines of a script, done one after the other, and what is told of each.
 
-ghost use Rattle.std.specs.Prelude.{◌≡◌, codes, IfOk, IfErr, OnOk};
-ghost use Rattle.std.specs.Io.KnownBytes.{Appends};
-ghost use Rattle.program.specs.Runs as spec;
+ghost use Rattle.std.specs.Prelude.{◌≡◌, IfOk, IfErr, OnOk};
 ghost use Rattle.retold.specs.Retold.{Retells};
 ghost use Rattle.program.specs.Runs.{Checkpoints};
-ghost use Rattle.script_files.specs.Faults.{IsFileFault};
-ghost use Rattle.command_why.specs.Told.{EndsBy, HasStopped, HasTold, IsDone, IsPassed, Stops, TellsCommand};
+ghost use Rattle.script_files.specs.Ends.{EndsBy, Stops};
+ghost use Rattle.command_why.specs.Told.{HasStopped, HasTold, IsDone, IsPassed, TellsCommand};
 
-use crate::dumping::tell_dump;
 use history::session_id::SessionId;
 use program::files::Files;
 use program::machine::Machine;
@@ -16,8 +13,11 @@ use request::request::Request;
 use retold::course::Course;
 use script::command::Command;
 use script::script::{Line, Step};
+use script_files::checkpoint::told_of_checkpoint;
+use script_files::dumping::tell_dump;
+use script_files::ending::show;
 use script_files::fault::Fault;
-use std::alloc::{AllocError, Allocator};
+use std::alloc::Allocator;
 use std::io::Write;
 use std::sync::Wait;
 use std::thread::Threads;
@@ -55,30 +55,6 @@ fn checkpoint<A: Allocator + Copy>(
     }
 }
 
-// The line of a checkpoint that is refused.
-fn refused_text<A: Allocator>(alloc: A, refusal: Refusal) -> Result<Vec<u8, A>, AllocError>
-    ensures { IfOk result (λ text. text.items ≡ spec.refused_text refusal) }
-{
-    let mut text = Vec::new(alloc);
-    text.extend_from_slice(b"ERROR ")?;
-    text.extend_from_slice(refusal.code.sqlstate().as_bytes())?;
-    text.push(b'\n')?;
-    Ok(text)
-}
-
-// What is told of a checkpoint: that it is done, or its refusal.
-fn told_of_checkpoint<A: Allocator>(
-    alloc: A,
-    refusal: Option<Refusal>,
-) -> Result<Vec<u8, A>, AllocError>
-    ensures { IfOk result (λ text. text.items ≡ spec.told_of_checkpoint refusal) }
-{
-    match refusal {
-        None => Vec::from_slice(alloc, b"CHECKPOINT\n"),
-        Some(refusal) => refused_text(alloc, refusal),
-    }
-}
-
 // Does a checkpoint, and gives what is told of it.
 fn pass_checkpoint<'p, A: Allocator + Copy>(
     alloc: A,
@@ -92,17 +68,6 @@ fn pass_checkpoint<'p, A: Allocator + Copy>(
     match told_of_checkpoint(alloc, refusal) {
         Ok(text) => Ok((course, text)),
         Err(_) => Err(Fault::Script(0)),
-    }
-}
-
-// Prints a text.
-fn show<'p, W: Write>(text: &[u8], out: &mut W) -> Result<(), Fault<'p>>
-    ensures printed { OnOk result (Appends (W.contents out.old) (W.contents out.new) text.now) }
-    ensures fault { IfErr result (λ f. IsFileFault (codes "-") f) }
-{
-    match out.write_all(text) {
-        Ok(()) => Ok(()),
-        Err(_) => Err(Fault::Device("-")),
     }
 }
 

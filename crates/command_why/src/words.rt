@@ -1,11 +1,10 @@
 //! The command, over any files.
 
-ghost use Rattle.std.specs.Prelude.{◌≡◌, ◌≢◌, ◌⊎◌, ◌≤◌, map, Ok, IfErr, OnOk};
-ghost use Rattle.std.specs.Io.KnownBytes.{Keeps};
+ghost use Rattle.std.specs.Prelude.{◌≡◌, ◌≢◌, ◌⊎◌, ◌≤◌, map, IfErr, OnOk};
 ghost use Rattle.std.specs.Option.{option_copied};
 ghost use Rattle.clap.specs.Words.{fault_of};
 ghost use Rattle.program.specs.CommandLine.{AreMistaken, MayBeMistaken};
-ghost use Rattle.command_why.specs.Told.{IsToldBy, PathHasTold, ScriptEnds, ScriptHasStopped, ScriptHasTold};
+ghost use Rattle.command_why.specs.Told.{PathHasTold, ScriptEnds, ScriptHasStopped, ScriptHasTold};
 ghost use Rattle.command_why.specs.Words as spec;
 ghost use Rattle.command_why.specs.Words.{EndsWith, HasDone, HasEnded};
 
@@ -17,6 +16,7 @@ use retold::course::Course;
 use schema::catalog::Catalog;
 use script::schedule::Schedule;
 use script::script::{Line, Script, read_script};
+use script_files::ending::end;
 use script_files::fault::{Fault, tell, tell_line};
 use script_files::mistake::tell_words;
 use script_files::opening::{open_core, read_path};
@@ -50,28 +50,6 @@ where
     let core = open_core(machine.alloc, machine.files, opens, catalog, most_events)?;
     let course = Course::of(machine.alloc, core);
     do_lines(machine, course, lines, most_events, out)
-}
-
-// Writes what was printed, whether or not the lines were done; and tells why they weren't.
-fn end<W: Write, E: Write>(
-    done: Result<(), Fault<'_>>,
-    reason: Option<&str>,
-    out: &mut W,
-    err: &mut E,
-) -> u8
-    ensures within { result ≤ 3 }
-    ensures no_usage { result ≢ 2 }
-    ensures done { result ≡ 0 → (done.entry ≡ Ok tt) × Keeps (W.contents out.old) (W.contents out.new) }
-    ensures stopped { result ≢ 0 → IsToldBy result done.entry (W.contents out.old) (W.contents out.new) }
-{
-    let done = match out.flush() {
-        Ok(()) => done,
-        Err(_) => Err(Fault::Device("-")),
-    };
-    match done {
-        Ok(()) => 0,
-        Err(fault) => tell(&fault, reason, err),
-    }
 }
 
 // Does a script that was read, and tells why it isn't done where it isn't.

@@ -7,6 +7,7 @@
 use command_check::words::check_words;
 use command_draw::words::draw_words;
 use command_explore::words::explore_words;
+use command_transcript::words::transcript_words;
 use command_why::words::why_words;
 use program::host::HostFiles;
 use program::machine::Machine;
@@ -25,7 +26,8 @@ const OTHER_COMMANDS: &str = "Commands with a help of their own (pgserial COMMAN
   explore  Do a script in every interleaving of its sessions, and count what comes of it
   check    Tell whether some serial order explains a recorded transcript
   draw     Draw a script's run as a picture
-  run SCRIPT --why  Tell behind each serialization failure which rows met";
+  run SCRIPT --why         Tell behind each serialization failure which rows met
+  run SCRIPT --transcript  Print each line and its reply as a transcript, which check reads";
 
 // The words behind the program's name.
 fn words(rt: &HostRuntime) -> io::Result<Vec<String>> {
@@ -89,6 +91,7 @@ fn do_words<R: Threads + Wait + Sync, W: Write, E: Write>(
         "draw" => draw_words(&machine, rest, out, err),
         "explore" => explore_words(alloc, alloc, rest, files, out, err),
         "run" if rest.contains(&"--why") => why_words(&machine, rest, out, err),
+        "run" if rest.contains(&"--transcript") => transcript_words(&machine, rest, out, err),
         _ => run_words(&machine, words, out, err),
     }
 }

@@ -1,7 +1,11 @@
-//! Scripts over files: read, and opened on the core that they begin with; and how it is told that they aren't.
+//! Scripts over files: read, opened on the core that they begin with, and dumped; what is printed of them, and how it
+//! is told that they end.
 
 #![tactic(auto)]
 
+pub mod checkpoint;
+pub mod dumping;
+pub mod ending;
 pub mod fault;
 pub mod mistake;
 pub mod opening;

@@ -1,6 +1,7 @@
 //! Why a transcript isn't one.
 
 ghost use Rattle.std.specs.Prelude.{◌≡◌};
+ghost use Rattle.transcript.specs.Reasons.{reason_text};
 ghost use Rattle.transcript.specs.declared.fault.Reason.TheVariants as reason;
 
 use std::alloc::{AllocError, AllocFailed};
@@ -28,7 +29,9 @@ pub enum Reason {
 
 impl Reason {
     /// What is wrong, and what would be right.
-    pub fn text(self) -> &'static str {
+    pub fn text(self) -> &'static str
+        ensures { result.now ≡ reason_text self }
+    {
         match self {
             Reason::Memory => "out of memory",
             Reason::NoNewline => "the last line isn't ended by a newline",

@@ -11,3 +11,4 @@ mod said;
 mod session;
 pub mod traces;
 mod words;
+pub mod writing;

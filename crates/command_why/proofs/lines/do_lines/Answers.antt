@@ -1,6 +1,7 @@
 use Rattle.std.proofs.Common.{[], inl, refl, arith}
 use Rattle.std.proofs.lemmas.Result.{err_from_is_err_and}
-use Rattle.command_why.proofs.TellLemmas.{appends_none, cut_off, one_more, told}
+use Rattle.script_files.proofs.EndLemmas.{appends_none}
+use Rattle.command_why.proofs.TellLemmas.{cut_off, one_more, told}
 use Rattle.command_why.proofs.lines.do_lines.Goals as goal
 
 pub loop-line-init : goal.loop-line-init

@@ -2,7 +2,7 @@ use Rattle.std.proofs.Common.{◌∙◌, inl, inr, subst}
 use Rattle.std.proofs.lemmas.Result.{IfErr-weaker, err_from_is_err_and}
 use Rattle.program.proofs.RunLemmas.{on_ok}
 use Rattle.command_why.specs.Told.{HasStopped, HasTold}
-use Rattle.command_why.proofs.TellLemmas.{appends_none}
+use Rattle.script_files.proofs.EndLemmas.{appends_none}
 use Rattle.command_why.proofs.words.do_script.Goals as goal
 
 pub returns-in_err-core-clause-stopped : goal.returns-in_err-core-clause-stopped

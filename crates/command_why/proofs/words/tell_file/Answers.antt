@@ -3,7 +3,8 @@ use Rattle.script.specs.Scripts.{said}
 use Rattle.script.specs.declared.schedule.Schedule.TheVariants.{InOrder}
 use Rattle.program.specs.Files.{read_of}
 use Rattle.script_files.specs.declared.fault.Fault.TheVariants as fault
-use Rattle.command_why.proofs.TellLemmas.{appends_none, no_script, not_done, path_ends, unread}
+use Rattle.script_files.proofs.EndLemmas.{appends_none, no_script, not_done, unread}
+use Rattle.command_why.proofs.TellLemmas.{path_ends}
 use Rattle.command_why.proofs.words.tell_file.Goals as goal
 
 pub returns-in-Err-clause-done : goal.returns-in-Err-clause-done

@@ -1,7 +1,8 @@
 use Rattle.std.proofs.Common.{◌≡◌, ◌∙◌, ap, arith, inl, inr, sym}
 use Rattle.clap.specs.Words.{kind_of}
 use Rattle.program.proofs.EndLemmas.{among}
-use Rattle.command_why.proofs.TellLemmas.{four_within, help_of, without_task}
+use Rattle.script_files.proofs.EndLemmas.{four_within, help_of}
+use Rattle.command_why.proofs.TellLemmas.{without_task}
 use Rattle.command_why.proofs.words.why_words.Goals as goal
 
 pub returns-in-Err-clause-within : goal.returns-in-Err-clause-within

@@ -7,6 +7,7 @@ ghost use Rattle.program.specs.Dumps.{IsDumped, IsDumpedTo, TellsDump};
 ghost use Rattle.script.specs.Printing.{done_text as text_of_done};
 ghost use Rattle.script_files.specs.Faults.{IsFileFault};
 
+use crate::fault::Fault;
 use backup::{BackupFault, dump_session};
 use dumpplan::NoGate;
 use dumpworker::DumpFault;
@@ -15,7 +16,6 @@ use program::files::{Files, Placed};
 use program::machine::Machine;
 use script::command::DumpRequest;
 use script::printing::{done_text, reply_text};
-use script_files::fault::Fault;
 use session::sessions::Core;
 use statement::reply::Reply;
 use std::alloc::Allocator;
@@ -137,7 +137,7 @@ where
 }
 
 /// Does a dump of a session's safe snapshot, and gives what is printed of it.
-pub(crate) fn tell_dump<'s, A, F, T>(
+pub fn tell_dump<'s, A, F, T>(
     machine: &Machine<'_, F, T, A>,
     core: &Core<A>,
     session: SessionId,

@@ -1,0 +1,37 @@
+-- Why the lines of a script end before their time, and what is told of that (this project's own choice).
+use Rattle.std.specs.Prelude.{◌≡◌, ◌⊎◌, ℕ, List, Option, Some, Result, Err, codes, slice_get}
+use Rattle.std.specs.Io.KnownBytes.{Keeps}
+use Rattle.script.specs.declared.command.Command.{Command}
+use Rattle.script.specs.declared.command.Command.TheVariants as command
+use Rattle.script.specs.declared.script.Step.{Step}
+use Rattle.script.specs.declared.script.Step.TheVariants.{Session, Checkpoint}
+use Rattle.script.specs.declared.script.Line.{Line}
+use Rattle.script.specs.declared.schedule.Schedule.TheVariants.{InOrder}
+use Rattle.script.specs.Scripts.{said}
+use Rattle.program.specs.Files.{IsAllOf}
+use Rattle.script_files.specs.Faults.{IsFileFault, status}
+use Rattle.script_files.specs.declared.fault.Fault.{Fault}
+use Rattle.script_files.specs.declared.fault.Fault.TheVariants as fault
+
+module _ {A : Type 0} where
+  -- Why a command ends its script: memory was refused for what is told of it, or the file of its dump has failed.
+  abbrev pub EndsBy : Command A → Fault → Type 0
+  EndsBy (command.Dump request) f = (f ≡ fault.Script 0) ⊎ IsFileFault request.path f
+  EndsBy c f = f ≡ fault.Script 0
+
+  -- the same of a step
+  abbrev pub Stops : Step A → Fault → Type 0
+  Stops (Session s c) f = EndsBy c f
+  Stops Checkpoint f = f ≡ fault.Script 0
+
+  -- it ends by the step behind n lines
+  abbrev pub EndsAt : List (Line A) → ℕ → Fault → Type 0
+  EndsAt lines n f = (line : Line A) × (slice_get lines n ≡ Some line) × Stops line.step f
+
+-- What is told of how lines have ended, by this exit status: their fault, with nothing more printed; or that standard output has failed.
+abbrev pub IsToldBy : ℕ → Result (Unit {0}) Fault → Option (List ℕ) → Option (List ℕ) → Type 0
+IsToldBy n done before after = (f : Fault) × (n ≡ status f) × (IsFileFault (codes "-") f ⊎ ((done ≡ Err f) × Keeps before after))
+
+-- No script was read of a path, of which this is known: its file has failed, or memory was wanting, or what it has is none, told by its first faulty line.
+abbrev pub IsNoScript : (A : Type 0) → Option (List ℕ) → List ℕ → Fault → Type 0
+IsNoScript A known path f = (f ≡ fault.Script 0) ⊎ IsFileFault path f ⊎ ((bytes : List ℕ) × (n : ℕ) × IsAllOf known bytes × (said {A = A} InOrder bytes ≡ Err n) × (f ≡ fault.Script n))
