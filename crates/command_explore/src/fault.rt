@@ -2,18 +2,14 @@
 
 ghost use Rattle.std.specs.Prelude.{◌≡◌, ◌≤◌};
 
+use script_files::fault;
 use std::io::Write;
-use value::refusal::Code;
 
 /// Why a script isn't explored.
 #[derive(Clone, Copy)]
 pub(crate) enum Fault<'p> {
-    /// A line of the script, 0 for want of memory.
-    Script(u64),
-    /// A line of the dump that it opens, 0 for want of memory, and its code.
-    Dump(u64, Code),
-    /// A file or a standard stream that couldn't be read or written.
-    Device(&'p str),
+    /// The script, its dump, a file, or want of memory.
+    File(fault::Fault<'p>),
     /// No session has a line behind the setup.
     NoLines,
     /// There are so many schedules, more than were allowed; more than the greatest u64 where none is told.
@@ -22,41 +18,53 @@ pub(crate) enum Fault<'p> {
     NoOrder,
 }
 
-/// Tells a fault, and gives the exit status.
-pub(crate) fn tell<E: Write>(fault: Fault<'_>, err: &mut E) -> u8
-    ensures { result ≤ 3 }
-{
-    let (told, status) = match fault {
-        Fault::Script(0) => (writeln!(err, "script line 0\nout of memory"), 1),
-        Fault::Script(line) => (writeln!(err, "script line {line}"), 1),
-        Fault::Dump(line, code) => (writeln!(err, "dump line {line}: {code}"), 1),
-        Fault::Device(path) => (writeln!(err, "device: {path}"), 3),
-        Fault::NoLines => (
-            writeln!(err, "explore: no session has a line behind the setup"),
-            1,
+impl<'p> Fault<'p> {
+    /// A line of the script.
+    pub(crate) fn line(number: u64) -> Fault<'p> {
+        Fault::File(fault::Fault::Script(number))
+    }
+
+    /// Memory was wanting.
+    pub(crate) fn memory() -> Fault<'p> {
+        Fault::line(0)
+    }
+}
+
+// Tells that there are more schedules than may be run, and how to run them, or some of them.
+fn tell_too_many<E: Write>(all: Option<u64>, most: u64, err: &mut E) {
+    let told = match all {
+        Some(all) => writeln!(
+            err,
+            "explore: {all} schedules, more than {most}; --most {all} runs them, --sample N draws N of them"
         ),
-        Fault::TooMany(Some(all), most) => (
-            writeln!(
-                err,
-                "explore: {all} schedules, more than {most}; --most {all} runs them"
-            ),
-            1,
-        ),
-        Fault::TooMany(None, most) => (
-            writeln!(
-                err,
-                "explore: more than 18446744073709551615 schedules, more than {most}"
-            ),
-            1,
-        ),
-        Fault::NoOrder => (
-            writeln!(
-                err,
-                "error: --order has each session as often as it has lines behind the setup"
-            ),
-            2,
+        None => writeln!(
+            err,
+            "explore: more than 18446744073709551615 schedules, more than {most}; --sample N draws N of them"
         ),
     };
     let _ = told;
-    status
+}
+
+/// Tells a fault, and gives the exit status.
+pub(crate) fn tell<E: Write>(fault: &Fault<'_>, reason: Option<&str>, err: &mut E) -> u8
+    ensures { result ≤ 3 }
+{
+    match fault {
+        Fault::File(fault) => fault::tell(fault, reason, err),
+        Fault::NoLines => {
+            let _ = writeln!(err, "explore: no session has a line behind the setup");
+            1
+        }
+        Fault::TooMany(all, most) => {
+            tell_too_many(*all, *most, err);
+            1
+        }
+        Fault::NoOrder => {
+            let _ = writeln!(
+                err,
+                "error: --order has each session as often as it has lines behind the setup"
+            );
+            2
+        }
+    }
 }

@@ -1,11 +1,11 @@
-//! `pgserial explore`: every schedule of a script's sessions, and what they come to, over files.
+//! `pgserial explore`: the schedules of a script's sessions, all or some drawn at random, and what they come to, over
+//! files.
 
 #![tactic(auto)]
 
+mod exploring;
 mod fault;
 mod ordering;
-mod refused;
 mod setup;
-mod showing;
 mod task;
 pub mod words;

@@ -46,7 +46,7 @@ fn sessions_of<'p, A: Allocator>(alloc: A, order: &str) -> Result<Vec<u32, A>, F
             return Err(Fault::NoOrder);
         }
         if sessions.push(session).is_err() {
-            return Err(Fault::Script(0));
+            return Err(Fault::memory());
         }
     }
     Ok(sessions)
@@ -57,7 +57,7 @@ fn starts<'p, A: Allocator>(alloc: A) -> Result<Vec<usize, A>, Fault<'p>> {
     let mut starts = Vec::new(alloc);
     for _ in 0..65 {
         if starts.push(0).is_err() {
-            return Err(Fault::Script(0));
+            return Err(Fault::memory());
         }
     }
     Ok(starts)
@@ -72,7 +72,7 @@ fn append_line<'p, A: Allocator>(
     let line = first_lines(behind(script, number.saturating_sub(1)), 1);
     match text.extend_from_slice(line) {
         Ok(()) => Ok(()),
-        Err(_) => Err(Fault::Script(0)),
+        Err(_) => Err(Fault::memory()),
     }
 }
 
@@ -90,7 +90,7 @@ pub(crate) fn ordered_text<'p, A: Allocator + Copy>(
     }
     let mut next = starts(alloc)?;
     let Ok(mut text) = Vec::from_slice(alloc, first_lines(script, setup.last)) else {
-        return Err(Fault::Script(0));
+        return Err(Fault::memory());
     };
     for session in sessions {
         let Some(from) = next.get_mut(session as usize) else {

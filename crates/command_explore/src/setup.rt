@@ -1,21 +1,16 @@
 //! A script's setup, done, and the lines behind it.
 
-ghost use Rattle.std.specs.Prelude.{◌≡◌, IfOk, true};
-ghost use Rattle.schema.specs.Plain.{is_sound};
-
 use crate::fault::Fault;
 use explore::plan;
 use explore::plan::Plan;
 use history::event::Event;
 use history::session_id::SessionId;
-use program::files::{Files, ReadError};
+use program::files::Files;
 use request::request::Request;
-use restore::restore_one;
 use schema::catalog::Catalog;
-use schema::tables::Tables;
 use script::command::Command;
-use script::schedule::Schedule;
-use script::script::{Line, Step, read_script};
+use script::script::{Line, Step};
+use script_files::opening::open_core;
 use session::sessions::Core;
 use statement::reply::Reply;
 use std::alloc::Allocator;
@@ -43,73 +38,6 @@ struct Doing<A: Allocator> {
     last: u64,
 }
 
-/// The bytes of a path, where `-` is standard input.
-pub(crate) fn read_path<'p, A: Allocator, F: Files<A>>(
-    alloc: A,
-    files: &F,
-    path: &'p str,
-) -> Result<Vec<u8, A>, Fault<'p>> {
-    let read = if path == "-" {
-        files.read_input(alloc)
-    } else {
-        files.read(alloc, path)
-    };
-    match read {
-        Ok(bytes) => Ok(bytes),
-        Err(ReadError::Device) => Err(Fault::Device(path)),
-        Err(ReadError::Memory) => Err(Fault::Script(0)),
-    }
-}
-
-// The tables of a catalog, without rows.
-fn empty_tables<'p, A: Allocator + Copy>(
-    alloc: A,
-    catalog: Catalog<A>,
-) -> Result<(Catalog<A>, Tables<A>), Fault<'p>>
-    ensures { IfOk result (λ x. is_sound x.0 x.1 ≡ true) }
-{
-    match Tables::new(alloc, &catalog) {
-        Ok(tables) => Ok((catalog, tables)),
-        Err(_) => Err(Fault::Script(0)),
-    }
-}
-
-// The tables of a dump that a script opens. A path that fails is told as the script's.
-fn open_dump<'p, A: Allocator + Copy, F: Files<A>>(
-    alloc: A,
-    files: &F,
-    path: &Text<A>,
-    script: &'p str,
-) -> Result<(Catalog<A>, Tables<A>), Fault<'p>>
-    ensures sound { IfOk result (λ x. is_sound x.0 x.1 ≡ true) }
-{
-    let Ok(dump) = files.read(alloc, path.as_str()) else {
-        return Err(Fault::Device(script));
-    };
-    match restore_one(alloc, dump.as_slice()) {
-        Ok(found) => Ok(found),
-        Err(fault) => Err(Fault::Dump(fault.line, fault.code)),
-    }
-}
-
-// The core that a script begins with.
-fn open_core<'p, A: Allocator + Copy, F: Files<A>>(
-    alloc: A,
-    files: &F,
-    (catalog, opens): (Catalog<A>, Option<Text<A>>),
-    events: u32,
-    script: &'p str,
-) -> Result<Core<A>, Fault<'p>> {
-    let (catalog, tables) = match &opens {
-        Some(path) => open_dump(alloc, files, path, script)?,
-        None => empty_tables(alloc, catalog)?,
-    };
-    match Core::open(alloc, catalog, tables, events) {
-        Ok(core) => Ok(core),
-        Err(_) => Err(Fault::Script(0)),
-    }
-}
-
 // Whether a script has a checkpoint.
 fn has_checkpoint<A: Allocator>(lines: &[Line<A>]) -> bool {
     for line in lines {
@@ -123,8 +51,8 @@ fn has_checkpoint<A: Allocator>(lines: &[Line<A>]) -> bool {
 // The fault of a refused line.
 fn fault_of<'p>(refusal: Refusal, number: u64) -> Fault<'p> {
     match refusal.code {
-        Code::OutOfMemory => Fault::Script(0),
-        _ => Fault::Script(number),
+        Code::OutOfMemory => Fault::memory(),
+        _ => Fault::line(number),
     }
 }
 
@@ -156,7 +84,7 @@ impl<A: Allocator + Copy> Doing<A> {
     ) -> Result<(), Fault<'p>> {
         let line = plan::Line { session, request };
         if self.lines.push(line).is_err() || self.numbers.push(number).is_err() {
-            return Err(Fault::Script(0));
+            return Err(Fault::memory());
         }
         Ok(())
     }
@@ -179,7 +107,7 @@ impl<A: Allocator + Copy> Doing<A> {
     // The checkpoint that ends the setup: the core goes on from it.
     fn take_checkpoint<'p>(&mut self, alloc: A, number: u64, events: u32) -> Result<(), Fault<'p>> {
         if self.is_behind {
-            return Err(Fault::Script(number));
+            return Err(Fault::line(number));
         }
         match self.core.next(alloc, events) {
             Ok(core) => {
@@ -202,8 +130,8 @@ impl<A: Allocator + Copy> Doing<A> {
     ) -> Result<(), Fault<'p>> {
         match command {
             Command::Ask(request) => self.take_request(alloc, number, session, request),
-            Command::Wait => Err(Fault::Script(number)),
-            Command::Dump(_request) => Err(Fault::Script(number)),
+            Command::Wait => Err(Fault::line(number)),
+            Command::Dump(_request) => Err(Fault::line(number)),
         }
     }
 
@@ -234,7 +162,7 @@ impl<A: Allocator + Copy> Doing<A> {
                 numbers,
                 last,
             }),
-            Err(_) => Err(Fault::Script(0)),
+            Err(_) => Err(Fault::memory()),
         }
     }
 }
@@ -247,21 +175,20 @@ fn last_before<A: Allocator>(lines: &[Line<A>]) -> u64 {
     }
 }
 
-/// Reads a script, and does its setup: the lines up to and with the first CHECKPOINT, or no session's line where there
-/// is none.
+/// Does the setup of a script that was read: the lines up to and with the first CHECKPOINT, or no session's line where
+/// there is none.
 pub(crate) fn set_up<'p, A: Allocator + Copy, F: Files<A>>(
     alloc: A,
     files: &F,
-    text: &[u8],
+    catalog: Catalog<A>,
+    opens: Option<&'p Text<A>>,
+    lines: Vec<Line<A>, A>,
     events: u32,
-    path: &'p str,
 ) -> Result<Setup<A>, Fault<'p>> {
-    let script = match read_script(alloc, Schedule::InOrder, text) {
-        Ok(script) => script,
-        Err(fault) => return Err(Fault::Script(fault.line)),
+    let core = match open_core(alloc, files, opens, catalog, events) {
+        Ok(core) => core,
+        Err(fault) => return Err(Fault::File(fault)),
     };
-    let (catalog, opens, lines) = script.into_parts();
-    let core = open_core(alloc, files, (catalog, opens), events, path)?;
     let mut doing = Doing {
         core,
         lines: Vec::new(alloc),

@@ -2,52 +2,45 @@
 
 ghost use Rattle.std.specs.Prelude.{◌≡◌, ◌≤◌};
 
+use crate::exploring::explored_text;
 use crate::fault::{Fault, tell};
 use crate::ordering::ordered_text;
-use crate::setup::{Setup, read_path, set_up};
-use crate::showing::outcomes_text;
+use crate::setup::set_up;
 use crate::task::{Task, read_words};
-use clap::Error;
-use clap::error::ErrorKind;
-use explore::exploring::explore;
 use program::files::Files;
-use std::alloc::{Allocator, Global};
+use program::machine::Machine;
+use schema::catalog::Catalog;
+use script::schedule::Schedule;
+use script::script::{Line, Script, read_script};
+use script_files::fault;
+use script_files::fault::tell_line;
+use script_files::mistake::tell_words;
+use script_files::opening::read_path;
+use std::alloc::Allocator;
 use std::io::Write;
+use std::sync::Wait;
+use std::thread::Threads;
+use value::text::Text;
 
-// Explores every schedule of a setup's lines, and gives what is printed.
-fn explored_text<'p, A: Allocator + Copy>(
-    alloc: A,
-    setup: &Setup<A>,
-    task: Task<'_>,
-) -> Result<Vec<u8, A>, Fault<'p>> {
-    let all = match setup.plan.schedules(alloc) {
-        Ok(Some(all)) => all,
-        Ok(None) => return Err(Fault::TooMany(None, task.most)),
-        Err(_) => return Err(Fault::Script(0)),
-    };
-    if all.len() > task.most {
-        return Err(Fault::TooMany(Some(all.len()), task.most));
-    }
-    let Ok(found) = explore(alloc, &setup.plan, &all) else {
-        return Err(Fault::Script(0));
-    };
-    match outcomes_text(alloc, found.as_slice(), &all, task.has_orders) {
-        Ok(text) => Ok(text),
-        Err(_) => Err(Fault::Script(0)),
-    }
-}
-
-// Does what is asked for with a script, and gives what is printed.
-fn text_of<'p, A: Allocator + Copy, F: Files<A>>(
-    alloc: A,
-    files: &F,
+// What is printed of a script that was read, of these parts.
+fn text_of<'p, A, F, T>(
+    machine: &Machine<'_, F, T, A>,
+    text: &[u8],
+    catalog: Catalog<A>,
+    opens: Option<&'p Text<A>>,
+    lines: Vec<Line<A>, A>,
     task: Task<'p>,
-) -> Result<Vec<u8, A>, Fault<'p>> {
-    let script = read_path(alloc, files, task.script)?;
-    let setup = set_up(alloc, files, script.as_slice(), task.events, task.script)?;
+) -> Result<Vec<u8, A>, Fault<'p>>
+where
+    A: Allocator + Copy + Send + Sync,
+    F: Files<A>,
+    T: Threads + Wait + Sync,
+{
+    let alloc = machine.alloc;
+    let setup = set_up(alloc, machine.files, catalog, opens, lines, task.events)?;
     match task.order {
-        Some(order) => ordered_text(alloc, script.as_slice(), &setup, order),
-        None => explored_text(alloc, &setup, task),
+        Some(order) => ordered_text(alloc, text, &setup, order),
+        None => explored_text(machine.rt, alloc, &setup, task),
     }
 }
 
@@ -56,59 +49,80 @@ fn print<W: Write, E: Write>(text: &[u8], out: &mut W, err: &mut E) -> u8
     ensures { result ≤ 3 }
 {
     if out.write_all(text).is_err() || out.flush().is_err() {
-        return tell(Fault::Device("-"), err);
+        return fault::tell(&fault::Fault::Device("-"), None, err);
     }
     0
 }
 
-// Prints the help that the words ask for.
-fn show_help<W: Write, E: Write>(help: &Error, out: &mut W, err: &mut E) -> u8
-    ensures { result ≤ 3 }
-{
-    match write!(out, "{help}") {
-        Ok(()) => 0,
-        Err(_) => tell(Fault::Device("-"), err),
-    }
-}
-
-// Tells a mistake in the words, or that memory was wanting for them; or shows the help that they ask for.
-fn tell_words<W: Write, E: Write>(error: &Error, out: &mut W, err: &mut E) -> u8
-    ensures { result ≤ 3 }
-{
-    match error.kind() {
-        ErrorKind::OutOfMemory => tell(Fault::Script(0), err),
-        ErrorKind::DisplayHelp | ErrorKind::DisplayVersion => show_help(error, out, err),
-        _ => {
-            let _ = write!(err, "{error}");
-            2
-        }
-    }
-}
-
-/// Does what the words behind `pgserial explore` ask for, over these files, and gives the exit status: 0 where every
-/// schedule was run; 1 where the script or its dump is refused, there are more schedules than may be run, or memory was
-/// wanting; 2 for mistaken words; 3 where a file or standard output failed.
-pub fn explore_words<A, F, W, E>(
-    words_memory: Global,
-    alloc: A,
-    words: &[&str],
-    files: &F,
+// Explores a script that was read, and prints what comes of it, or tells why it isn't explored.
+fn explore_script<A, F, T, W, E>(
+    machine: &Machine<'_, F, T, A>,
+    text: &[u8],
+    script: Script<A>,
+    task: Task<'_>,
     out: &mut W,
     err: &mut E,
 ) -> u8
 where
-    A: Allocator + Copy,
+    A: Allocator + Copy + Send + Sync,
+    F: Files<A>,
+    T: Threads + Wait + Sync,
+    W: Write,
+    E: Write,
+    ensures { result ≤ 3 }
+{
+    let (catalog, opens, lines) = script.into_parts();
+    match text_of(machine, text, catalog, opens.as_ref(), lines, task) {
+        Ok(told) => print(told.as_slice(), out, err),
+        Err(fault) => tell(&fault, machine.files.reason(), err),
+    }
+}
+
+// Explores the script of a path, or of standard input.
+fn explore_file<A, F, T, W, E>(
+    machine: &Machine<'_, F, T, A>,
+    task: Task<'_>,
+    out: &mut W,
+    err: &mut E,
+) -> u8
+where
+    A: Allocator + Copy + Send + Sync,
+    F: Files<A>,
+    T: Threads + Wait + Sync,
+    W: Write,
+    E: Write,
+    ensures { result ≤ 3 }
+{
+    let bytes = match read_path(machine.alloc, machine.files, task.script) {
+        Ok(bytes) => bytes,
+        Err(fault) => return fault::tell(&fault, machine.files.reason(), err),
+    };
+    let text = bytes.as_slice();
+    match read_script(machine.alloc, Schedule::InOrder, text) {
+        Ok(script) => explore_script(machine, text, script, task, out, err),
+        Err(fault) => tell_line(machine.alloc, text, fault.line, err),
+    }
+}
+
+/// Does what the words behind `pgserial explore` ask for, over these files, and gives the exit status: 0 where every
+/// schedule that was asked for was run; 1 where the script or its dump is refused, there are more schedules than may be
+/// run, or memory was wanting; 2 for mistaken words; 3 where a file or standard output failed.
+pub fn explore_words<A, F, W, E, T>(
+    machine: &Machine<'_, F, T, A>,
+    words: &[&str],
+    out: &mut W,
+    err: &mut E,
+) -> u8
+where
+    A: Allocator + Copy + Send + Sync,
     F: Files<A>,
     W: Write,
     E: Write,
+    T: Threads + Wait + Sync,
     ensures within { result ≤ 3 }
 {
-    let task = match read_words(words_memory, words) {
-        Ok(task) => task,
-        Err(error) => return tell_words(&error, out, err),
-    };
-    match text_of(alloc, files, task) {
-        Ok(text) => print(text.as_slice(), out, err),
-        Err(fault) => tell(fault, err),
+    match read_words(machine.words_memory, words) {
+        Ok(task) => explore_file(machine, task, out, err),
+        Err(error) => tell_words(&error, out, err),
     }
 }

@@ -1,10 +1,11 @@
 //! Every schedule, run, and the outcomes counted.
 
-ghost use Rattle.std.specs.Prelude.{◌≡◌, ◌≤◌, ◌++◌, map, length, IfOk, OnOk};
+ghost use Rattle.std.specs.Prelude.{◌≡◌, ◌≤◌, ◌++◌, map, length, All, IfOk, OnOk};
 ghost use Rattle.history.specs.Answer.{IsLegal};
 ghost use Rattle.interleave.specs.Interleavings.{interleavings};
-ghost use Rattle.tally.specs.Outcomes.{outcomes};
-ghost use Rattle.explore.specs.Explored.{IsExplained, RunsTo, outcome, schedules, turns_of};
+ghost use Rattle.sample.specs.Sampling.{draws};
+ghost use Rattle.tally.specs.Outcomes.{AreOf, outcomes};
+ghost use Rattle.explore.specs.Explored.{IsExplained, RunsTo, line_counts, outcome, schedules, sessions, turns_of};
 ghost use Rattle.explore.specs.Texts.{outcome_text, state_text};
 
 use crate::plan::Plan;
@@ -13,11 +14,16 @@ use crate::running::do_turns;
 use crate::states::append_tables;
 use interleave::interleavings::Interleavings;
 use interleave::laws::as_many_turns;
+use sample::laws::draws_have_all_turns;
+use sample::sampling::Sample;
 use serial::laws::legal_histories_are_serializable;
 use session::sessions::Core;
 use std::alloc::{AllocError, Allocator};
-use tally::outcomes::{Outcome, count_outcomes};
+use std::thread::Threads;
+use tally::laws::outcomes_are_counted;
+use tally::outcomes::Outcome;
 use tally::runs::Runs;
+use tally::workers::count_outcomes;
 use value::refusal::Refusal;
 
 // Appends the committed tables of a core.
@@ -66,9 +72,11 @@ impl<A: Allocator + Copy> Plan<A> {
 }
 
 impl<A: Allocator + Copy> Runs<A> for Plan<A> {
-    ghost use Rattle.explore.specs.Explored.{outcome, turns_of};
+    ghost use Rattle.explore.specs.Explored.{IsExplained, outcome, turns_of};
 
     ghost outcome = { λ plan order. outcome plan order };
+
+    ghost holds = { λ plan text. IsExplained A text };
 
     ghost most = { λ plan. turns_of plan };
 
@@ -80,16 +88,48 @@ impl<A: Allocator + Copy> Runs<A> for Plan<A> {
     }
 }
 
-/// Runs every schedule of a plan's lines, each from the setup's state: all outcomes, each with the number of schedules
-/// that come to it and the first of them, in the order of these. Want of memory is the only refusal.
-pub fn explore<A: Allocator + Copy>(
+/// Runs every schedule of a plan's lines by so many threads, each from the setup's state: all outcomes, each with the
+/// number of schedules that come to it and the first of them, in the order of these. They are the same for any number of
+/// threads. Want of memory is the only refusal.
+pub fn explore<T, A>(
+    rt: &T,
     alloc: A,
     plan: &Plan<A>,
     all: &Interleavings<A>,
+    jobs: u32,
 ) -> Result<Vec<Outcome<A>, A>, AllocError>
+where
+    T: Threads + Sync,
+    A: Allocator + Copy + Send + Sync,
     requires { interleavings all.now ≡ schedules plan.now }
-    ensures { IfOk result (λ found. found.items ≡ outcomes (map (outcome plan.now) (schedules plan.now))) }
+    ensures outcomes { IfOk result (λ found. found.items ≡ outcomes (map (outcome plan.now) (schedules plan.now))) }
+    ensures explained { IfOk result (λ found. All (λ o. IsExplained A o.text) found.items) }
+    ensures counted { IfOk result (λ found. AreOf (length (interleavings all.now)) found.items) }
 {
     as_many_turns();
-    count_outcomes(alloc, plan, all)
+    outcomes_are_counted();
+    let found = count_outcomes(rt, alloc, plan, all, jobs)?;
+    Ok(found)
+}
+
+/// Runs schedules of a plan's lines that are drawn at random, as `explore` runs all.
+pub fn explore_sample<T, A>(
+    rt: &T,
+    alloc: A,
+    plan: &Plan<A>,
+    sample: &Sample<A>,
+    jobs: u32,
+) -> Result<Vec<Outcome<A>, A>, AllocError>
+where
+    T: Threads + Sync,
+    A: Allocator + Copy + Send + Sync,
+    requires { sample.now.lines ≡ line_counts plan.now.lines sessions }
+    ensures outcomes { IfOk result (λ found. found.items ≡ outcomes (map (outcome plan.now) (draws sample.now))) }
+    ensures explained { IfOk result (λ found. All (λ o. IsExplained A o.text) found.items) }
+    ensures counted { IfOk result (λ found. AreOf (length (draws sample.now)) found.items) }
+{
+    draws_have_all_turns();
+    outcomes_are_counted();
+    let found = count_outcomes(rt, alloc, plan, sample, jobs)?;
+    Ok(found)
 }

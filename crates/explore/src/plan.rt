@@ -8,6 +8,7 @@ ghost use Rattle.explore.specs.Explored.{CanBegin, beginning, line_counts, lines
 use history::session_id::SessionId;
 use interleave::interleavings::Interleavings;
 use request::request::Request;
+use sample::sampling::Sample;
 use session::sessions::Core;
 use std::alloc::{AllocError, Allocator, Global};
 use std::marker::Model;
@@ -162,5 +163,13 @@ impl<A: Allocator> Plan<A> {
         let counts = copied(alloc, self.counts.as_slice())?;
         let _turns = self.turns;
         Ok(Interleavings::of(counts))
+    }
+
+    /// So many schedules of its lines, drawn at random.
+    pub fn sample(&self, alloc: A, seed: u64, count: u64) -> Result<Sample<A>, AllocError>
+        ensures { IfOk result (λ s. s ≡ record { lines = line_counts self.now.lines sessions; seed = seed; count = count }) }
+    {
+        let counts = copied(alloc, self.counts.as_slice())?;
+        Ok(Sample::of(counts, seed, count))
     }
 }

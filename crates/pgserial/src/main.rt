@@ -89,7 +89,7 @@ fn do_words<R: Threads + Wait + Sync, W: Write, E: Write>(
     match command {
         "check" => check_words(rt, alloc, alloc, rest, files, out, err),
         "draw" => draw_words(&machine, rest, out, err),
-        "explore" => explore_words(alloc, alloc, rest, files, out, err),
+        "explore" => explore_words(&machine, rest, out, err),
         "run" if rest.contains(&"--why") => why_words(&machine, rest, out, err),
         "run" if rest.contains(&"--transcript") => transcript_words(&machine, rest, out, err),
         _ => run_words(&machine, words, out, err),

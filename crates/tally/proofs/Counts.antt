@@ -7,8 +7,8 @@ use Rattle.std.proofs.lemmas.Bool.{eqb-true, eq-eqb, false_from_ne_true, true≢
 use Rattle.std.proofs.lemmas.List.{append_assoc, length-append, get_or_append_left, get_or_at, take-append-le, take_at, append-nil}
 use Rattle.std.proofs.lemmas.List.Elements.{All-from_recursion}
 use Rattle.interleave.specs.Interleavings.{occurrences, same_order}
-use Rattle.tally.specs.Outcomes.{Counted, IsFirst, noted, noted_all, outcomes, outcomes_with, runs_to}
-use Rattle.tally.proofs.Noted.{more, new}
+use Rattle.tally.specs.Outcomes.{Counted, IsFirst, noted, noted_all, outcomes, outcomes_with, runs_to, single}
+use Rattle.tally.proofs.Noted.{more}
 
 -- ---- texts
 
@@ -50,7 +50,7 @@ runs_to-noted t (o ∷ os) text n = go (bytes_eq o.text text) refl (runs_to-note
     one false k r = omega arith
 
     go : (b : Bool) → bytes_eq o.text text ≡ b → runs_to t (noted os text n) ≡ runs_to t os + cond (bytes_eq text t) 1 0 →
-        runs_to t (cond b (more o ∷ os) (o ∷ noted os text n)) ≡ cond (bytes_eq o.text t) o.runs 0 + runs_to t os + cond (bytes_eq text t) 1 0
+        runs_to t (cond b (more 1 o ∷ os) (o ∷ noted os text n)) ≡ cond (bytes_eq o.text t) o.runs 0 + runs_to t os + cond (bytes_eq text t) 1 0
     go true e rest = one (bytes_eq o.text t) o.runs (runs_to t os) ∙ ap (λ z. cond (bytes_eq o.text t) o.runs 0 + runs_to t os + cond (bytes_eq z t) 1 0) (same o.text text e)
     go false e rest = omega (arith, rest)
 
@@ -58,7 +58,7 @@ with-noted_other : (t : List ℕ) (os : List Counted) (text : List ℕ) (n : ℕ
 with-noted_other t [] text n e = ap (λ b. cond b 1 0 + 0) e
 with-noted_other t (o ∷ os) text n e = go (bytes_eq o.text text) (with-noted_other t os text n e)
   where
-    go : (b : Bool) → outcomes_with t (noted os text n) ≡ outcomes_with t os → outcomes_with t (cond b (more o ∷ os) (o ∷ noted os text n)) ≡ cond (bytes_eq o.text t) 1 0 + outcomes_with t os
+    go : (b : Bool) → outcomes_with t (noted os text n) ≡ outcomes_with t os → outcomes_with t (cond b (more 1 o ∷ os) (o ∷ noted os text n)) ≡ cond (bytes_eq o.text t) 1 0 + outcomes_with t os
     go true rest = refl
     go false rest = ap (λ x. cond (bytes_eq o.text t) 1 0 + x) rest
 
@@ -77,18 +77,18 @@ with-noted t (o ∷ os) text n h = go (bytes_eq o.text text) refl (with-noted t 
     other e rest true f k = omega (arith, k, with-noted_other t os text n (apart e (same o.text t f)))
     other e rest false f k = omega (arith, rest (omega (arith, k)))
 
-    go : (b : Bool) → bytes_eq o.text text ≡ b → (outcomes_with t os ≤ 1 → outcomes_with t (noted os text n) ≤ 1) → outcomes_with t (cond b (more o ∷ os) (o ∷ noted os text n)) ≤ 1
+    go : (b : Bool) → bytes_eq o.text text ≡ b → (outcomes_with t os ≤ 1 → outcomes_with t (noted os text n) ≤ 1) → outcomes_with t (cond b (more 1 o ∷ os) (o ∷ noted os text n)) ≤ 1
     go true e rest = h
     go false e rest = other e rest (bytes_eq o.text t) refl h
 
 -- ---- what holds of each outcome
 
-each-noted : (P : Counted → Type 0) (os : List Counted) (text : List ℕ) (n : ℕ) → ((o : Counted) → P o → P (more o)) → (outcomes_with text os ≡ 0 → P (new text n)) → AllByRecursion P os →
+each-noted : (P : Counted → Type 0) (os : List Counted) (text : List ℕ) (n : ℕ) → ((o : Counted) → P o → P (more 1 o)) → (outcomes_with text os ≡ 0 → P (single text n)) → AllByRecursion P os →
     AllByRecursion P (noted os text n)
 each-noted P [] text n up fresh a = (fresh refl, a)
 each-noted P (o ∷ os) text n up fresh a = go (bytes_eq o.text text) refl (each-noted P os text n up)
   where
-    go : (b : Bool) → bytes_eq o.text text ≡ b → ((outcomes_with text os ≡ 0 → P (new text n)) → AllByRecursion P os → AllByRecursion P (noted os text n)) → AllByRecursion P (cond b (more o ∷ os) (o ∷ noted os text n))
+    go : (b : Bool) → bytes_eq o.text text ≡ b → ((outcomes_with text os ≡ 0 → P (single text n)) → AllByRecursion P os → AllByRecursion P (noted os text n)) → AllByRecursion P (cond b (more 1 o ∷ os) (o ∷ noted os text n))
     go true e rest = (up o a.0, a.1)
     go false e rest = (a.0, rest (λ z. fresh (ap (λ b. cond b 1 0 + outcomes_with text os) e ∙ omega (arith, z))) a.1)
 

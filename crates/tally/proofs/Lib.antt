@@ -1,2 +1,5 @@
 pub mod Noted
+pub mod Joined
+pub mod Stretches
 mod Counts
+pub mod Held

@@ -1,8 +1,8 @@
 //! Laws of outcomes. Each function does nothing; what it ensures is the law.
 
-ghost use Rattle.std.specs.Prelude.{◌≡◌, ◌≤◌, ◌<◌, ℕ, List, All};
+ghost use Rattle.std.specs.Prelude.{◌≡◌, ◌≤◌, ◌<◌, ◌+◌, ◌++◌, ℕ, List, All, length};
 ghost use Rattle.interleave.specs.Interleavings.{occurrences};
-ghost use Rattle.tally.specs.Outcomes.{IsFirst, outcomes, outcomes_with, runs_to};
+ghost use Rattle.tally.specs.Outcomes.{AreOf, IsFirst, joined, outcomes, outcomes_from, outcomes_with, runs_to};
 
 /// The outcomes of some runs are exactly their texts, each told once with the number of runs that come to it, and with
 /// the first of these.
@@ -11,4 +11,11 @@ pub fn outcomes_are_counted()
     ensures once { (texts : List (List ℕ)) (text : List ℕ) → outcomes_with text (outcomes texts) ≤ 1 }
     ensures some { (texts : List (List ℕ)) → All (λ o. 0 < o.runs) (outcomes texts) }
     ensures first { (texts : List (List ℕ)) → All (IsFirst texts) (outcomes texts) }
+    ensures all { (texts : List (List ℕ)) → AreOf (length texts) (outcomes texts) }
+{}
+
+/// The outcomes of runs, joined with those of the runs that come behind them, are the outcomes of all.
+pub fn stretches_join()
+    ensures { (n : ℕ) (texts later : List (List ℕ)) →
+        joined (outcomes_from n texts) (outcomes_from (n + length texts) later) ≡ outcomes_from n (texts ++ later) }
 {}

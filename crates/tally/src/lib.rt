@@ -5,3 +5,4 @@
 pub mod laws;
 pub mod outcomes;
 pub mod runs;
+pub mod workers;

@@ -1,7 +1,7 @@
 //! The outcomes of runs, counted.
 
-ghost use Rattle.std.specs.Prelude.{◌≡◌, ◌+◌, ◌<◌, ◌≤◌, ◌-◌, ◌^◌, List, ℕ, [], ◌∷◌, ◌++◌, length, map, All, OnOk, IfOk, bytes_eq, position};
-ghost use Rattle.tally.specs.Outcomes.{noted, outcomes};
+ghost use Rattle.std.specs.Prelude.{◌≡◌, ◌+◌, ◌<◌, ◌≤◌, ◌-◌, ◌^◌, List, ℕ, [], ◌∷◌, ◌++◌, length, map, slice_range, All, OnOk, IfOk, bytes_eq, position};
+ghost use Rattle.tally.specs.Outcomes.{all_runs, joined, merged, outcomes_from};
 
 use crate::runs::{Runs, Schedules};
 use std::alloc::{AllocError, Allocator, Global};
@@ -52,12 +52,12 @@ impl<A: Allocator> Outcome<A> {
         self.text.as_slice() == text
     }
 
-    // Counts a run more.
-    fn add(&mut self)
-        requires { self.old.runs < 2 ^ 64 - 1 }
-        ensures { self.new ≡ record self.old { runs = self.old.runs + 1 } }
+    // Counts so many runs more.
+    fn add(&mut self, runs: u64)
+        requires { self.old.runs + runs < 2 ^ 64 }
+        ensures { self.new ≡ record self.old { runs = self.old.runs + runs } }
     {
-        self.runs += 1;
+        self.runs += runs;
     }
 }
 
@@ -68,54 +68,69 @@ fn place_of<A: Allocator>(found: &[Outcome<A>], text: &[u8]) -> Option<usize>
     found.iter().position(|outcome| outcome.is(text))
 }
 
-// Counts a run more, with its number.
-fn note<A: Allocator>(
+// Counts the runs of an outcome to those of the same text.
+fn merge<A: Allocator>(
     found: &mut Vec<Outcome<A>, A>,
-    text: Vec<u8, A>,
-    number: u64,
+    outcome: Outcome<A>,
 ) -> Result<(), AllocError>
-    requires few { All (λ o. o.runs ≤ number) found.old.items }
-    requires room { number < 2 ^ 64 - 1 }
-    ensures noted { OnOk result (found.new.items ≡ noted found.old.items text.items number) }
-    ensures few { OnOk result (All (λ o. o.runs ≤ number + 1) found.new.items) }
+    requires { all_runs found.old.items + outcome.runs < 2 ^ 64 }
+    ensures { OnOk result (found.new.items ≡ merged found.old.items outcome) }
 {
-    match place_of(found.as_slice(), text.as_slice()) {
+    match place_of(found.as_slice(), outcome.text()) {
         Some(place) => {
-            found[place].add();
+            found[place].add(outcome.runs());
             Ok(())
         }
         None => {
-            let outcome = Outcome {
-                text,
-                runs: 1,
-                first: number,
-            };
             found.push(outcome)?;
             Ok(())
         }
     }
 }
 
-/// Runs every order, and counts to which texts they come: the outcomes in the order of their first runs. Want of
-/// memory is the only refusal.
-pub fn count_outcomes<A, R, S>(
+// Counts the runs of later outcomes to those of the same texts.
+pub(crate) fn join<A: Allocator>(
+    found: &mut Vec<Outcome<A>, A>,
+    later: Vec<Outcome<A>, A>,
+) -> Result<(), AllocError>
+    requires { all_runs found.old.items + all_runs later.items < 2 ^ 64 }
+    ensures { OnOk result (found.new.items ≡ joined found.old.items later.items) }
+{
+    for outcome in later {
+        merge(found, outcome)?;
+    }
+    Ok(())
+}
+
+// Runs the orders from a number up to below another, and counts to which texts they come.
+pub(crate) fn count_stretch<A, R, S>(
     alloc: A,
     runs: &R,
     schedules: &S,
+    from: u64,
+    to: u64,
 ) -> Result<Vec<Outcome<A>, A>, AllocError>
 where
     A: Allocator + Copy,
     R: Runs<A>,
     S: Schedules<A>,
-    requires { All (λ order. length order ≤ R.most runs.now) (S.orders schedules.now) }
-    ensures { IfOk result (λ found. found.items ≡
-        outcomes (map (R.outcome runs.now) (S.orders schedules.now))) }
+    requires short { All (λ order. length order ≤ R.most runs.now) (S.orders schedules.now) }
+    requires order { from ≤ to }
+    requires within { to ≤ length (S.orders schedules.now) }
+    ensures outcomes { IfOk result (λ found. found.items ≡
+        outcomes_from from (map (R.outcome runs.now) (slice_range (S.orders schedules.now) from to))) }
+    ensures held { IfOk result (λ found. All (λ o. R.holds runs.now o.text) found.items) }
 {
     let mut found = Vec::new(alloc);
-    for number in 0..schedules.count() {
+    for number in from..to {
         let order = schedules.order_at(alloc, number)?;
         let text = runs.run(alloc, order.as_slice())?;
-        note(&mut found, text, number)?;
+        let outcome = Outcome {
+            text,
+            runs: 1,
+            first: number,
+        };
+        merge(&mut found, outcome)?;
     }
     Ok(found)
 }

@@ -10,13 +10,17 @@ pub trait Runs<A: Allocator> {
     /// The text of an order.
     ghost outcome: { Self → List ℕ → List ℕ };
 
+    /// What holds of the text of each run.
+    ghost holds: { Self → List ℕ → Type 0 };
+
     /// How many turns there may be.
     ghost most: { Self → ℕ };
 
     /// Runs an order. Want of memory is the only refusal.
     fn run(&self, alloc: A, order: &[usize]) -> Result<Vec<u8, A>, AllocError>
         requires { length order.now ≤ most self.now }
-        ensures { IfOk result (λ text. text.items ≡ outcome self.now order.now) };
+        ensures outcome { IfOk result (λ text. text.items ≡ outcome self.now order.now) }
+        ensures holds { IfOk result (λ text. holds self.now text.items) };
 }
 
 /// Orders of sessions' turns, by their numbers, counted from 0.

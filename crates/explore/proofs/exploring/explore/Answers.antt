@@ -1,12 +1,33 @@
-use Rattle.std.proofs.Common.{◌≡◌, ◌≤◌, sym, subst, List, ℕ, length, arith}
+use Rattle.std.proofs.Common.{◌≡◌, ◌≤◌, sym, ap, ◌∙◌, subst, List, ℕ, length, map, sum, rules, arith}
 use Rattle.std.specs.List.{All}
+use Rattle.std.proofs.lemmas.List.{length-map}
 use Rattle.std.proofs.lemmas.List.Elements.{All-weaker}
+use Rattle.tally.specs.Outcomes.{AreOf, outcomes}
 use Rattle.interleave.specs.Interleavings.{interleavings}
-use Rattle.explore.specs.Explored.{line_counts, schedules, sessions, turns_of}
+use Rattle.explore.specs.Explored.{line_counts, outcome, sessions, turns_of}
+use denote.Param.Send.{sendable}
+use Rattle.interleave.proofs.interleavings.Interleavings.TheSendSync as all
+use Rattle.explore.proofs.plan.Plan.TheSendSync as plan
 use Rattle.explore.proofs.exploring.explore.Goals as goal
 
 pub count_outcomes-requires : goal.count_outcomes-requires
 count_outcomes-requires g c =
+    let shared = c.type_bounds.sync-A in
     let counts = line_counts c.args.plan.now.lines sessions in
+    let short : All (λ order. length order ≤ turns_of c.args.plan.now) (interleavings c.args.all.now) =
     subst (λ (xs : List (List ℕ)). All (λ order. length order ≤ turns_of c.args.plan.now) xs) (sym c.requires)
-    (All-weaker (λ order. length order ≡ turns_of c.args.plan.now) (λ order. length order ≤ turns_of c.args.plan.now) (λ order e. omega (arith, e)) (interleavings counts) (c.as_many_turns.ensures counts))
+    (All-weaker (λ order. length order ≡ turns_of c.args.plan.now) (λ order. length order ≤ turns_of c.args.plan.now) (λ order e. omega (arith, e)) (interleavings counts) (c.as_many_turns.ensures counts)) in
+    let send_a = c.type_bounds.send-A in
+    let sync_t = c.type_bounds.sync-T in
+    let frees_a = c.type_bounds.frees-A-Allocator in
+    search (rules, sendable, plan.the_sync, all.the_sync, short) depth 60 fits 1000
+
+pub returns-clause-outcomes : goal.returns-clause-outcomes
+returns-clause-outcomes g c = c.in_ok-found.ensures.outcomes ∙ ap (λ (xs : List (List ℕ)). outcomes (map (outcome c.args.plan.now) xs)) c.requires
+
+pub returns-clause-counted : goal.returns-clause-counted
+returns-clause-counted g c =
+    let orders = interleavings c.args.all.now in
+    let texts = map (outcome c.args.plan.now) orders in
+    subst (AreOf (length orders)) (sym c.in_ok-found.ensures.outcomes)
+    (subst (λ (n : ℕ). AreOf n (outcomes texts)) (length-map orders (outcome c.args.plan.now)) (c.outcomes_are_counted.ensures.all texts))
