@@ -23,7 +23,7 @@ const MOST_ROWS: usize = 4_000_000;
 
 /// Where no order goes on: which transactions are done, and the tables that they came to.
 #[derive(Drop)]
-pub struct Dead<A: Allocator> {
+pub(crate) struct Dead<A: Allocator> {
     done: Vec<bool, A>,
     tables: Tables<A>,
 }
@@ -39,7 +39,7 @@ impl<A: Allocator> Model for Dead<A> {
 /// What is remembered. The lists find what may be the same by a number that is made of what is done; whether it is the
 /// same is found by comparing all of it.
 #[derive(Drop)]
-pub struct Memory<A: Allocator> {
+pub(crate) struct Memory<A: Allocator> {
     dead: Vec<Dead<A>, A>,
     lists: Vec<Vec<usize, A>, A>,
     room: usize,
@@ -139,7 +139,7 @@ impl<A: Allocator> Dead<A> {
 
 impl<A: Allocator> Memory<A> {
     /// Nothing is remembered.
-    pub fn new(alloc: A) -> Result<Memory<A>, Refusal>
+    pub(crate) fn new(alloc: A) -> Result<Memory<A>, Refusal>
     where
         A: Copy,
         ensures ok { IfOk result (λ m. m ≡ []) }
@@ -169,7 +169,7 @@ impl<A: Allocator> Memory<A> {
     }
 
     /// Whether it is remembered that no order goes on from where a walk stands.
-    pub fn knows(&self, alloc: A, walk: &Walk<A>) -> Result<bool, Refusal>
+    pub(crate) fn knows(&self, alloc: A, walk: &Walk<A>) -> Result<bool, Refusal>
     where
         A: Copy,
         ensures dead { IfOk result (λ b. b ≡ true → (c : AnyCatalog) → (ts : List (AnyTrace A)) →
@@ -213,7 +213,7 @@ impl<A: Allocator> Memory<A> {
     }
 
     /// Remembers that no order goes on from where a walk stands, as long as there is room.
-    pub fn remember(&mut self, alloc: A, walk: &Walk<A>) -> Result<(), Refusal>
+    pub(crate) fn remember(&mut self, alloc: A, walk: &Walk<A>) -> Result<(), Refusal>
     where
         A: Copy,
         ensures kept { OnOk result ((c : AnyCatalog) → (ts : List (AnyTrace A)) → AreDead c ts self.old →
@@ -232,7 +232,7 @@ impl<A: Allocator> Memory<A> {
     }
 
     /// The longest order from which none went on.
-    pub fn into_longest(self) -> Vec<usize, A> {
+    pub(crate) fn into_longest(self) -> Vec<usize, A> {
         self.longest
     }
 }

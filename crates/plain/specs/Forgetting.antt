@@ -11,7 +11,7 @@ use Rattle.plain.specs.Ledger.{Ledger, txn_at}
 use Rattle.plain.specs.Versions.{least_snapshot}
 
 module _ {A : Type 0} where
-  -- it only reads, and its snapshot is known to be safe, or is one of these and was taken before this place
+  -- it only reads, and its snapshot is known to be safe, or is one of these and was taken no later than this place
   abbrev pub is_safe_from : List ℕ → ℕ → Txn A → Bool
   is_safe_from unspoilt first t = not (is_read_write t.mode) && (t.known || nat_le t.taken first && list_any (λ n. n == t.snapshot) unspoilt)
 
