@@ -1,0 +1,4 @@
+pub mod PlacesLemmas
+pub mod AnswersLemmas
+pub mod RecordedLemmas
+pub mod ExplainsLemmas

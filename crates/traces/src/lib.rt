@@ -1,0 +1,5 @@
+//! What every legal history records, and that its serial orders explain it.
+
+#![tactic(auto)]
+
+pub mod laws;
