@@ -63,7 +63,7 @@ impl<A: Allocator> Transaction<A> {
         } = added;
         reserve(&mut self.marks, marks.len())?;
         self.reads
-            .append_with(alloc, reads, &mut self.changes, changes)?;
+            .append_with(alloc, &reads, &mut self.changes, changes)?;
         append_reserved(&mut self.marks, marks);
         self.asked = true;
         Ok(())

@@ -1,11 +1,11 @@
-//! What a transaction has read, and the few readings of it that cover the same.
+//! What a transaction has read, kept as few readings as cover the same.
 
 ghost use Rattle.std.specs.Prelude.{◌≡◌, ◌++◌, [], OnOk, OnErr, IfErr};
 ghost use Rattle.value.specs.Refusals.{out_of_memory};
 ghost use Rattle.statement.specs.Cover.{covers, covers_value};
 
-use crate::added::{append_reserved, reserve};
 use crate::own::OwnChanges;
+use ghost_list::GhostList;
 use schema::catalog::TableNo;
 use schema::changes::Change;
 use siread::held::Held;
@@ -15,25 +15,25 @@ use std::marker::Model;
 use value::key::Key;
 use value::refusal::Refusal;
 
-/// What a transaction has read, in the order of its statements. Contracts see it as that list.
+/// What a transaction has read. Contracts see it as the list of all readings, in the order of its
+/// statements; kept are as few as cover the same.
 #[derive(Drop)]
 pub struct OwnReads<A: Allocator = Global> {
-    list: Vec<Reading<A>, A>,
-    // As few readings as cover the same. What they cover is asked of these, since the list grows
-    // with each statement.
     locks: Held<A>,
+    // What each statement has read, which takes no memory.
+    all: GhostList<Vec<Reading<A>, A>>,
 }
 
 impl<A: Allocator> Model for OwnReads<A> {
-    ghost use Rattle.std.specs.Prelude.{List};
+    ghost use Rattle.std.specs.Prelude.{List, flat_map};
     ghost use Rattle.statement.specs.declared.reading.Reading.{Reading};
     ghost use Rattle.siread.specs.Reads.{CoverAlike, all_of};
 
     ghost Value = { List (Reading A) };
 
-    ghost view = { λ o. o.list.items };
+    ghost view = { λ o. flat_map (λ v. v.items) o.all.items };
 
-    ghost invariant = { λ o. CoverAlike (all_of o.locks) o.list.items };
+    ghost invariant = { λ o. CoverAlike (all_of o.locks) (flat_map (λ v. v.items) o.all.items) };
 }
 
 impl<A: Allocator> OwnReads<A> {
@@ -44,8 +44,8 @@ impl<A: Allocator> OwnReads<A> {
         ensures { result ≡ [] }
     {
         OwnReads {
-            list: Vec::new(alloc),
             locks: Held::new(alloc),
+            all: GhostList::new(),
         }
     }
 
@@ -69,25 +69,24 @@ impl<A: Allocator> OwnReads<A> {
     pub(crate) fn append_with(
         &mut self,
         alloc: A,
-        reads: Vec<Reading<A>, A>,
+        reads: &Vec<Reading<A>, A>,
         written: &mut OwnChanges<A>,
         changes: Vec<Change<A>, A>,
     ) -> Result<(), Refusal>
     where
         A: Copy,
-        ensures read { OnOk result (self.new ≡ self.old ++ reads.items) }
+        ensures read { OnOk result (self.new ≡ self.old ++ reads.now.items) }
         ensures written { OnOk result (written.new ≡ written.old ++ changes.items) }
         ensures err { OnErr result (self.new ≡ self.old) }
         ensures written_err { OnErr result (written.new ≡ written.old) }
         ensures memory { IfErr result (λ e. e ≡ out_of_memory) }
     {
-        reserve(&mut self.list, reads.len())?;
         self.locks.read(alloc, reads.as_slice())?;
         if let Err(refusal) = written.append(alloc, changes) {
             self.locks.undo();
             return Err(refusal);
         }
-        append_reserved(&mut self.list, reads);
+        self.all = self.all.and(reads);
         Ok(())
     }
 }

@@ -1,5 +1,5 @@
 -- Readings that cover the same, also with more read after them.
-use Rattle.std.proofs.Common.{◌≡◌, refl, sym, ap, ◌∙◌, ℕ, ◌+◌, suc, Bool, true, false, true≢false, cond, ◌&&◌, ◌||◌, ◌⊎◌, inl, inr, List, [], ◌∷◌, ◌++◌, length, take, eqb, ltb, arith, zero, append_assoc, append-nil}
+use Rattle.std.proofs.Common.{◌≡◌, refl, sym, ap, ◌∙◌, ℕ, ◌+◌, suc, Bool, true, false, true≢false, cond, ◌&&◌, ◌||◌, ◌⊎◌, inl, inr, List, [], ◌∷◌, ◌++◌, length, take, drop, eqb, ltb, arith, zero, append_assoc, append-nil}
 use Rattle.std.proofs.Math.Seq.{take-nil}
 use Rattle.std.proofs.lemmas.Bool.{eqb-true, eq-eqb}
 use Rattle.std.proofs.lemmas.Bool.Decides.{nat_tests}
@@ -357,3 +357,8 @@ module _ {A : Type 0} where
   once-take zero rs o = tt
   once-take (suc n) [] o = tt
   once-take (suc n) (r ∷ rs) o = (absent-take (is_read r.table (same_extent r.extent)) n rs o.0, once-take n rs o.1)
+
+  pub once-drop : (n : ℕ) (rs : List (Reading A)) → IsEachOnce rs → IsEachOnce (drop n rs)
+  once-drop zero rs o = o
+  once-drop (suc n) [] o = tt
+  once-drop (suc n) (r ∷ rs) o = once-drop n rs o.1

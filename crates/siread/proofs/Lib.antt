@@ -1,4 +1,5 @@
 pub mod AlikeLemmas
+mod BoundLemmas
 mod HeldLemmas
 mod InnerLemmas
 mod LocksLemmas

@@ -119,7 +119,7 @@ module _ {A : Type 0} where
   pub many_references : (t : ℕ) (rs : List (Reading A)) → IsEachOnce rs → ltb 8 (count_by (is_read t (has_form form.Reference)) rs) ≡ has_many_references (read_in t rs)
   many_references t rs o = ap (ltb 8) (is_counted form.Reference t rs o ∙ reference_form (read_in t rs))
 
-  count-ranges : (t : ℕ) (rs : List (Reading A)) → IsEachOnce rs → count_by (is_read t (has_form form.Range)) rs ≡ length (ranges_of (read_in t rs))
+  pub count-ranges : (t : ℕ) (rs : List (Reading A)) → IsEachOnce rs → count_by (is_read t (has_form form.Range)) rs ≡ length (ranges_of (read_in t rs))
   count-ranges t rs o = is_counted form.Range t rs o ∙ range_form (read_in t rs)
 
   pub many_ranges : (t : ℕ) (rs : List (Reading A)) → IsEachOnce rs → (b : Bool) → b ≡ has_many_keys (keys_of (read_in t rs)) → ltb (cond b 3 4) (count_by (is_read t (has_form form.Range)) rs) ≡ has_many_ranges (read_in t rs)

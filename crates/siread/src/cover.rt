@@ -1,15 +1,15 @@
 //! What readings cover, of which no two are the same: few keys, ranges and references as they were
 //! read, many as more.
 
-ghost use Rattle.std.specs.Prelude.{◌≡◌, ◌+◌, ◌<◌, ◌++◌, count_by, drop, length, nat_lt, position, take, IfSome};
+ghost use Rattle.std.specs.Prelude.{◌≡◌, ◌≤◌, count_by, nat_lt, position, IfNone, IfSome};
 ghost use Rattle.std.specs.List.{list_any};
 ghost use Rattle.std.specs.Ordering.{is_le, is_ge};
 ghost use Rattle.value.specs.Order.{value_cmp};
 ghost use Rattle.schema.specs.Plain.{same};
 ghost use Rattle.statement.specs.Cover.{among, covers, covers_value, covers_whole, has_key, has_many_keys, has_many_ranges, has_many_references, has_reference, is_whole, keys_of, ranges_of, same_extent};
-ghost use Rattle.siread.specs.Adding.{adds_nothing, is_between, is_inner, is_inside};
+ghost use Rattle.siread.specs.Adding.{IsSpare, adds_nothing, is_between, is_inner, is_inside};
+ghost use Rattle.siread.specs.Bounds.{count_in};
 ghost use Rattle.siread.specs.Extents.{IsEachOnce, has_form, is_read, read_in};
-ghost use Rattle.siread.specs.Reads.{CoverAlike};
 
 use crate::extent::{Form, Sought};
 use crate::tally;
@@ -221,8 +221,8 @@ fn first_inner<A: Allocator>(readings: &[Reading<A>], table: TableNo) -> Option<
 /// are kept of them.
 pub fn inner_key<A: Allocator>(readings: &[Reading<A>], table: TableNo) -> Option<usize>
     requires { IsEachOnce readings.now }
-    ensures { IfSome result (λ i. (i < length readings.now) ×
-        CoverAlike (take i readings.now ++ drop (i + 1) readings.now) readings.now) }
+    ensures some { IfSome result (λ i. IsSpare readings.now table i) }
+    ensures none { IfNone result (count_in table Form.Key readings.now ≤ 9) }
 {
     if has_spare_keys(readings, table) {
         first_inner(readings, table)

@@ -1,8 +1,9 @@
 //! What is kept of one transaction's reads.
 
-ghost use Rattle.std.specs.Prelude.{◌≡◌, ◌<◌, ◌≤◌, [], ◌∷◌, ◌++◌, length, take, OnOk, OnErr, IfErr, IfNone, IfSome};
+ghost use Rattle.std.specs.Prelude.{◌≡◌, false, ◌+◌, ◌<◌, ◌≤◌, [], ◌∷◌, ◌++◌, drop, length, take, vec_capacity, vec_len, OnOk, OnErr, IfErr};
 ghost use Rattle.value.specs.Refusals.{out_of_memory};
-ghost use Rattle.siread.specs.Adding.{Keeps, Settles};
+ghost use Rattle.siread.specs.Adding.{Grows, Settles, adds_nothing};
+ghost use Rattle.siread.specs.Bounds.{HasFewKeys, HasFewOthers};
 ghost use Rattle.siread.specs.Extents.{IsEachOnce};
 ghost use Rattle.siread.specs.Reads.{CoverAlike, all_of};
 ghost use Rattle.statement.specs.Cover.{covers, covers_value};
@@ -16,7 +17,8 @@ use std::marker::Model;
 use value::key::Key;
 use value::refusal::Refusal;
 
-/// What is kept of one transaction's reads.
+/// What is kept of one transaction's reads: of each table at most nine single keys for those before
+/// the last, nine for the last, five ranges, nine references and the whole.
 #[derive(Drop)]
 pub struct Held<A: Allocator = Global> {
     kept: Vec<Reading<A>, A>,
@@ -25,52 +27,15 @@ pub struct Held<A: Allocator = Global> {
 }
 
 impl<A: Allocator> Model for Held<A> {
-    ghost use Rattle.std.specs.Prelude.{◌≤◌, drop, length, take};
-    ghost use Rattle.siread.specs.Extents.{IsEachOnce};
+    ghost use Rattle.std.specs.Prelude.{drop, take};
+    ghost use Rattle.siread.specs.Bounds.{AreHeld};
     ghost use Rattle.siread.specs.Reads.{Reads};
 
     ghost Value = { Reads A };
 
     ghost view = { λ h. record { before = take h.settled h.kept.items; last = drop h.settled h.kept.items } };
 
-    ghost invariant = { λ h. (h.settled ≤ length h.kept.items) × IsEachOnce h.kept.items };
-}
-
-// Adds a reading to those that are kept, unless it changes no cover.
-fn add<A: Allocator + Copy>(
-    alloc: A,
-    kept: &mut Vec<Reading<A>, A>,
-    reading: &Reading<A>,
-) -> Result<(), Refusal>
-    requires { IsEachOnce kept.old.items }
-    ensures kept { Keeps kept.old.items kept.new.items }
-    ensures ok { OnOk result (CoverAlike kept.new.items (kept.old.items ++ reading.now ∷ [])) }
-    ensures memory { IfErr result (λ e. e ≡ out_of_memory) }
-{
-    if !adds_nothing(kept.as_slice(), reading) {
-        let copy = copy_reading(alloc, reading)?;
-        // Most transactions keep one or two.
-        kept.reserve_exact(1)?;
-        kept.push_reserved(copy);
-    }
-    Ok(())
-}
-
-// Adds readings to those that are kept.
-fn add_all<A: Allocator + Copy>(
-    alloc: A,
-    kept: &mut Vec<Reading<A>, A>,
-    readings: &[Reading<A>],
-) -> Result<(), Refusal>
-    requires { IsEachOnce kept.old.items }
-    ensures kept { Keeps kept.old.items kept.new.items }
-    ensures ok { OnOk result (CoverAlike kept.new.items (kept.old.items ++ readings.now)) }
-    ensures memory { IfErr result (λ e. e ≡ out_of_memory) }
-{
-    for reading in readings {
-        add(alloc, kept, reading)?;
-    }
-    Ok(())
+    ghost invariant = { λ h. AreHeld h.settled h.kept.items };
 }
 
 // The first so many readings.
@@ -81,53 +46,103 @@ fn first<A: Allocator>(readings: &[Reading<A>], count: usize) -> &[Reading<A>]
     &readings[..count]
 }
 
-// Takes a key of a table away, of the first so many, without which the others cover alike, where
-// there is a spare one, and answers how many are left of these.
-fn drop_one<A: Allocator>(
+// The readings behind the first so many.
+fn behind<A: Allocator>(readings: &[Reading<A>], count: usize) -> &[Reading<A>]
+    requires { count ≤ length readings.now }
+    ensures { result.now ≡ drop count readings.now }
+{
+    &readings[count..]
+}
+
+// Adds a reading behind the first so many, and takes a spare key of its table away from those behind
+// them, where there then is one.
+fn push<A: Allocator>(kept: &mut Vec<Reading<A>, A>, settled: usize, reading: Reading<A>)
+    requires room { vec_len kept.old < vec_capacity kept.old }
+    requires within { settled ≤ length kept.old.items }
+    requires once { IsEachOnce kept.old.items }
+    requires few { HasFewKeys (drop settled kept.old.items) }
+    requires new { adds_nothing kept.old.items reading ≡ false }
+    ensures kept { Grows settled kept.old.items kept.new.items }
+    ensures alike { CoverAlike kept.new.items (kept.old.items ++ reading ∷ []) }
+{
+    let table = reading.table;
+    kept.push_reserved(reading);
+    if let Some(place) = inner_key(behind(kept.as_slice(), settled), table) {
+        let _ = kept.remove(settled + place);
+    }
+}
+
+// Adds a reading to those that are kept, behind the first so many, unless it changes no cover.
+fn add<A: Allocator + Copy>(
+    alloc: A,
     kept: &mut Vec<Reading<A>, A>,
     settled: usize,
-    table: TableNo,
-) -> Option<usize>
+    reading: &Reading<A>,
+) -> Result<(), Refusal>
     requires within { settled ≤ length kept.old.items }
     requires once { IsEachOnce kept.old.items }
-    ensures some { IfSome result (λ left. (left < settled) × Settles kept.old.items settled kept.new.items left) }
-    ensures none { IfNone result (kept.new.items ≡ kept.old.items) }
+    requires few { HasFewKeys (drop settled kept.old.items) }
+    ensures kept { Grows settled kept.old.items kept.new.items }
+    ensures ok { OnOk result (CoverAlike kept.new.items (kept.old.items ++ reading.now ∷ [])) }
+    ensures memory { IfErr result (λ e. e ≡ out_of_memory) }
 {
-    match inner_key(first(kept.as_slice(), settled), table) {
-        Some(place) => {
-            let _ = kept.remove(place);
-            Some(settled - 1)
-        }
-        None => None,
+    if !adds_nothing(kept.as_slice(), reading) {
+        let copy = copy_reading(alloc, reading)?;
+        // Most transactions keep one or two.
+        kept.reserve_exact(1)?;
+        push(kept, settled, copy);
     }
+    Ok(())
 }
 
-// Takes all spare keys of a table away, of the first so many, and answers how many are left of these.
-fn drop_spare<A: Allocator>(kept: &mut Vec<Reading<A>, A>, settled: usize, table: TableNo) -> usize
-    requires within { settled ≤ length kept.old.items }
-    requires once { IsEachOnce kept.old.items }
-    ensures { Settles kept.old.items settled kept.new.items result }
-{
-    let mut left = settled;
-    while let Some(fewer) = drop_one(kept, left, table) {
-        left = fewer;
-    }
-    left
-}
-
-// Does so in the tables of these readings.
-fn settle<A: Allocator>(
+// Adds readings to those that are kept, behind the first so many.
+fn add_all<A: Allocator + Copy>(
+    alloc: A,
     kept: &mut Vec<Reading<A>, A>,
     settled: usize,
     readings: &[Reading<A>],
-) -> usize
+) -> Result<(), Refusal>
     requires within { settled ≤ length kept.old.items }
     requires once { IsEachOnce kept.old.items }
-    ensures { Settles kept.old.items settled kept.new.items result }
+    requires few { HasFewKeys (drop settled kept.old.items) }
+    ensures kept { Grows settled kept.old.items kept.new.items }
+    ensures ok { OnOk result (CoverAlike kept.new.items (kept.old.items ++ readings.now)) }
+    ensures memory { IfErr result (λ e. e ≡ out_of_memory) }
+{
+    for reading in readings {
+        add(alloc, kept, settled, reading)?;
+    }
+    Ok(())
+}
+
+// Takes one more in among the first so many, and a spare key of its table away from these, where
+// there then is one; answers how many they are.
+fn take_in<A: Allocator>(kept: &mut Vec<Reading<A>, A>, settled: usize) -> usize
+    requires within { settled < length kept.old.items }
+    requires once { IsEachOnce kept.old.items }
+    requires few { HasFewKeys (take settled kept.old.items) }
+    ensures { Settles kept.old.items (settled + 1) kept.new.items result }
+{
+    let table = kept[settled].table;
+    match inner_key(first(kept.as_slice(), settled + 1), table) {
+        Some(place) => {
+            let _ = kept.remove(place);
+            settled
+        }
+        None => settled + 1,
+    }
+}
+
+// Takes so many in.
+fn settle<A: Allocator>(kept: &mut Vec<Reading<A>, A>, settled: usize, more: usize) -> usize
+    requires within { settled + more ≤ length kept.old.items }
+    requires once { IsEachOnce kept.old.items }
+    requires few { HasFewKeys (take settled kept.old.items) }
+    ensures { Settles kept.old.items (settled + more) kept.new.items result }
 {
     let mut left = settled;
-    for reading in readings {
-        left = drop_spare(kept, left, reading.table);
+    for _ in 0..more {
+        left = take_in(kept, left);
     }
     left
 }
@@ -143,10 +158,13 @@ impl<A: Allocator> Held<A> {
         }
     }
 
-    /// What is kept for all reads, of which no two are the same.
+    /// What is kept for all reads: no two are the same, and few are of one table.
     pub fn readings(&self) -> &[Reading<A>]
         ensures all { result.now ≡ all_of self.now }
         ensures once { IsEachOnce (all_of self.now) }
+        ensures keys_before { HasFewKeys self.now.before }
+        ensures keys_last { HasFewKeys self.now.last }
+        ensures others { HasFewOthers (all_of self.now) }
     {
         self.kept.as_slice()
     }
@@ -175,12 +193,12 @@ impl<A: Allocator> Held<A> {
         ensures err { OnErr result (self.new ≡ self.old) }
         ensures memory { IfErr result (λ e. e ≡ out_of_memory) }
     {
-        let settled = self.kept.len();
-        if let Err(refusal) = add_all(alloc, &mut self.kept, footprint) {
-            self.kept.truncate(settled);
+        let count = self.kept.len();
+        if let Err(refusal) = add_all(alloc, &mut self.kept, count, footprint) {
+            self.kept.truncate(count);
             return Err(refusal);
         }
-        self.settled = settle(&mut self.kept, settled, footprint);
+        self.settled = settle(&mut self.kept, self.settled, count - self.settled);
         Ok(())
     }
 

@@ -1,22 +1,23 @@
-use Rattle.std.proofs.Common.{◌≡◌, ap, sym, ◌∙◌, ◌++◌, ◌∷◌, [], true, false}
-use Rattle.siread.specs.Adding.{adds_nothing}
+use Rattle.std.proofs.Common.{◌≡◌, ap, subst, sym, ◌∙◌, drop, true}
+use Rattle.siread.specs.Adding.{Grows, adds_nothing}
+use Rattle.siread.specs.Bounds.{HasFewKeys}
 use Rattle.siread.proofs.AlikeLemmas.{alike-nothing}
-use Rattle.siread.proofs.HeldLemmas.{keeps_itself, keeps_push, keeps_same}
+use Rattle.siread.proofs.HeldLemmas.{grows_itself}
 use Rattle.siread.proofs.held.add.Goals as goal
 
 pub returns-in_err-reserve_exact-clause-kept : goal.returns-in_err-reserve_exact-clause-kept
-returns-in_err-reserve_exact-clause-kept g c = keeps_same c.args.kept.now.items c.reserve_exact.new.self.items c.reserve_exact.ensures.items c.requires
+returns-in_err-reserve_exact-clause-kept g c =
+    subst (λ ks. Grows c.args.settled c.args.kept.now.items ks) (sym c.reserve_exact.ensures.items) (grows_itself c.args.settled c.args.kept.now.items c.requires.within c.requires.once c.requires.few)
 
-pub returns-in_ok-reserve_exact-clause-kept : goal.returns-in_ok-reserve_exact-clause-kept
-returns-in_ok-reserve_exact-clause-kept g c =
-    let copied = c.in_ok-copy.copy in
-    let new : adds_nothing c.args.kept.now.items copied ≡ false =
-    ap (λ xs. adds_nothing xs copied) (sym c.as_slice.ensures.value) ∙ ap (adds_nothing c.as_slice.result.now) c.in_ok-copy.ensures.ok ∙ sym c.adds_nothing.ensures ∙ c.if-not-adds_nothing.true
-    in
-    keeps_push c.args.kept.now.items c.push_reserved.new.self.items copied (c.push_reserved.ensures.items ∙ ap (λ xs. xs ++ copied ∷ []) c.reserve_exact.ensures.items) c.requires new
+pub push-requires-clause-few : goal.push-requires-clause-few
+push-requires-clause-few g c = subst (λ ks. HasFewKeys (drop c.args.settled ks)) (sym c.reserve_exact.ensures.items) c.requires.few
 
-pub returns-else-not-adds_nothing-clause-kept : goal.returns-else-not-adds_nothing-clause-kept
-returns-else-not-adds_nothing-clause-kept g c = keeps_itself c.args.kept.now.items c.requires
+pub push-requires-clause-new : goal.push-requires-clause-new
+push-requires-clause-new g c =
+    ap (λ xs. adds_nothing xs c.in_ok-copy.copy) (c.reserve_exact.ensures.items ∙ sym c.as_slice.ensures.value)
+    ∙ ap (adds_nothing c.as_slice.result.now) c.in_ok-copy.ensures.ok
+    ∙ sym c.adds_nothing.ensures
+    ∙ c.if-not-adds_nothing.true
 
 pub returns-else-not-adds_nothing-clause-ok : goal.returns-else-not-adds_nothing-clause-ok
 returns-else-not-adds_nothing-clause-ok g c =

@@ -1,6 +1,7 @@
+use Rattle.std.proofs.Common.{◌+◌, ◌≤◌}
 use Rattle.siread.specs.Adding.{Settles}
 use Rattle.siread.proofs.held.settle.Given as goal
 
--- the first are settled so far
-abbrev pub invariant-loop-reading : goal.invariant-loop-reading
-invariant-loop-reading g l = Settles l.initial.kept.items l.settled l.kept.items l.left
+-- so many were taken in
+abbrev pub invariant-loop : goal.invariant-loop
+invariant-loop g l = Settles l.initial.kept.items (l.settled + l.counter) l.kept.items l.left × (l.counter ≤ l.more)
