@@ -1,3 +1,4 @@
 mod FirstLemmas
 mod OverlayLemmas
 mod UnchangedLemmas
+mod MergeLemmas

@@ -28,7 +28,7 @@ use Rattle.schema.proofs.RowsInOrder.{later_within}
 use Rattle.snapshot.specs.Overlaid.{is_before, changes_within}
 use Rattle.snapshot.proofs.FirstLemmas.{less_of, apart, first_of, none_of, is_first, next_past, same_next}
 
-two_of : (a b : Bool) → (a && b) ≡ true → (a ≡ true) × (b ≡ true)
+pub two_of : (a b : Bool) → (a && b) ≡ true → (a ≡ true) × (b ≡ true)
 two_of true b e = (refl, e)
 two_of false b e = absurd (true≢false (sym e))
 
@@ -154,7 +154,7 @@ module _ {A : Type 0} where
       go None e = cc
       go (Some fields) e = let f : (x.key, fields) ≡ r = cc in ap (λ (p : Row A). p.0) (sym f)
 
-  said : (xs : List (Change A)) (t : ℕ) (bound : Bound (Bor (Key A))) (p : Value A × Option (Row A)) → IsByKey xs t → next_change xs t bound ≡ Some p → IsSaidFirst xs t bound p
+  pub said : (xs : List (Change A)) (t : ℕ) (bound : Bound (Bor (Key A))) (p : Value A × Option (Row A)) → IsByKey xs t → next_change xs t bound ≡ Some p → IsSaidFirst xs t bound p
   said xs t bound p by_key is = go (find (λ y. y.table == t && is_within bound y.key) xs) refl is
     where
       go : (o : Option (Change A)) → find (λ y. y.table == t && is_within bound y.key) xs ≡ o → option_map {T = Change A} {U = Value A × Option (Row A)} (λ x. (x.key, new_row x)) o ≡ Some p → IsSaidFirst xs t bound p

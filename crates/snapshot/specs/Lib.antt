@@ -1,1 +1,2 @@
 pub mod Overlaid
+pub mod Merging

@@ -2,4 +2,5 @@
 
 #![tactic(auto)]
 
+mod ahead;
 pub mod overlay;

@@ -1,16 +1,21 @@
 //! Own changes over a lent reader.
 
-ghost use Rattle.std.specs.Prelude.{◌≡◌, ◌<◌, IfOk, IfErr, IfSome, length};
-ghost use Rattle.std.specs.Option.{option_copied};
+ghost use Rattle.std.specs.Prelude.{◌≡◌, false, ◌<◌, ◌++◌, OnOk, IfOk, IfErr, IfSome, length, take};
+ghost use Rattle.std.specs.Option.{option_copied, option_map, option_map_or};
+ghost use Rattle.value.specs.Refusals.{out_of_memory};
+ghost use Rattle.schema.specs.Changing.{next_change};
 ghost use Rattle.schema.specs.Plain.{put_all, rows_of};
 ghost use Rattle.schema.specs.Rows.{HasTable, IsInKeyOrder, next_row, row_of, rows_within};
+ghost use Rattle.schema.specs.Walking.{lent};
+ghost use Rattle.snapshot.specs.Merging.{last_is_before, listed, unless_before};
 ghost use Rattle.snapshot.specs.Overlaid.{rows_with, is_before, next_after, changes_after, changes_within};
 
+use crate::ahead::Ahead;
 use schema::catalog::TableNo;
 use schema::changes::Changes;
 use schema::reader::{Bound, SnapshotReader};
 use schema::row::Row;
-use schema::walk::{RowsReader, rows_one_by_one};
+use schema::walk::RowsReader;
 use std::alloc::{Allocator, Global};
 use value::key::Key;
 use value::refusal::Refusal;
@@ -28,6 +33,50 @@ fn is_before<A: Allocator>(row: Option<&Row<A>>, key: &Key<A>) -> bool
 {
     match row {
         Some(row) => row.key().cmp(key).is_lt(),
+        None => false,
+    }
+}
+
+// The change of a key, where no row comes before it.
+fn unless_before<'c, A: Allocator>(
+    row: Option<&Row<A>>,
+    change: Option<(&'c Key<A>, &'c Option<Row<A>>)>,
+) -> Option<(&'c Key<A>, &'c Option<Row<A>>)>
+    ensures { option_map (λ p. (p.0.now, p.1.now)) result ≡
+        unless_before (option_copied row.entry) (option_map (λ p. (p.0.now, p.1.now)) change.entry) }
+{
+    match change {
+        None => None,
+        Some((key, own)) => {
+            if is_before(row, key) {
+                None
+            } else {
+                Some((key, own))
+            }
+        }
+    }
+}
+
+// Appends a row, where there is one.
+fn push_own<'c, A: Allocator>(
+    own: &'c Option<Row<A>>,
+    rows: &mut Vec<&'c Row<A>, A>,
+) -> Result<(), Refusal>
+    ensures ok { OnOk result (lent rows.new.items ≡ lent rows.old.items ++ listed own.now) }
+    ensures err { IfErr result (λ e. e ≡ out_of_memory) }
+{
+    if let Some(row) = own {
+        rows.push(row)?;
+    }
+    Ok(())
+}
+
+// Whether there are rows, the last of a lesser key.
+fn last_is_before<A: Allocator>(rows: &[&Row<A>], key: &Key<A>) -> bool
+    ensures { result ≡ last_is_before (lent rows.now) key.now }
+{
+    match rows.last() {
+        Some(last) => last.key().cmp(key).is_lt(),
         None => false,
     }
 }
@@ -141,7 +190,100 @@ impl<R: SnapshotReader<A>, A: Allocator> SnapshotReader<A> for Overlay<'_, R, A>
     }
 }
 
-impl<R: RowsReader<A>, A: Allocator> RowsReader<A> for Overlay<'_, R, A> {
+impl<'a, R: RowsReader<A>, A: Allocator + Copy> Overlay<'a, R, A> {
+    // Whether there are rows, the last of which comes before the first change within a bound.
+    fn are_before_changes(&self, table: TableNo, after: Bound<&Key<A>>, rows: &[&Row<A>]) -> bool
+        ensures { result ≡ option_map_or (λ change. last_is_before (lent rows.now) change.0)
+            (next_change self.now.changes.now table after.entry) false }
+    {
+        match self.changes.next(table, after) {
+            Some((key, _)) => last_is_before(rows, key),
+            None => false,
+        }
+    }
+
+    // The first rows within a bound, so many at most, by a walk of the rows and the changes side by side.
+    fn merge_rows(
+        &self,
+        alloc: A,
+        table: TableNo,
+        after: Bound<&Key<A>>,
+        most: usize,
+    ) -> Result<Vec<&'a Row<A>, A>, Refusal>
+        requires { HasTable (put_all self.now.changes.now (R.tables self.now.reader.now)) table }
+        ensures rows { IfOk result (λ rows. lent rows.items ≡ take most (rows_within
+            (rows_with self.now.changes.now (R.tables self.now.reader.now) table) after.entry)) }
+        ensures ordered { IsInKeyOrder (rows_with self.now.changes.now (R.tables self.now.reader.now) table) }
+        ensures err { IfErr result (λ e. e ≡ out_of_memory) }
+    {
+        self.changes.in_key_order(table);
+        let mut rows = Vec::new(alloc);
+        let mut ahead = Ahead::within(alloc, self.reader, table, after)?;
+        let mut change = self.changes.next(table, after);
+        'both: while rows.len() < most {
+            match unless_before(ahead.first(), change) {
+                Some((key, own)) => {
+                    push_own(own, &mut rows)?;
+                    ahead.pass(key)?;
+                    change = self.changes.next(table, Bound::After(key));
+                }
+                None => {
+                    let Some(row) = ahead.first() else {
+                        return Ok(rows);
+                    };
+                    rows.push(row)?;
+                    ahead.step()?;
+                }
+            }
+        }
+        Ok(rows)
+    }
+
+    // The first rows within a bound, so many at most: those of the reader, where they come before all changes.
+    fn changed_rows(
+        &self,
+        alloc: A,
+        table: TableNo,
+        after: Bound<&Key<A>>,
+        most: usize,
+    ) -> Result<Vec<&'a Row<A>, A>, Refusal>
+        requires { HasTable (put_all self.now.changes.now (R.tables self.now.reader.now)) table }
+        ensures rows { IfOk result (λ rows. lent rows.items ≡ take most (rows_within
+            (rows_with self.now.changes.now (R.tables self.now.reader.now) table) after.entry)) }
+        ensures ordered { IsInKeyOrder (rows_with self.now.changes.now (R.tables self.now.reader.now) table) }
+        ensures err { IfErr result (λ e. e ≡ out_of_memory) }
+    {
+        self.changes.in_key_order(table);
+        let rows = self.reader.next_rows(alloc, table, after, most)?;
+        if rows.len() == most && self.are_before_changes(table, after, rows.as_slice()) {
+            Ok(rows)
+        } else {
+            self.merge_rows(alloc, table, after, most)
+        }
+    }
+
+    /// `next_rows`, whose rows are lent as long as the reader and the changes are.
+    pub fn lend_rows(
+        &self,
+        alloc: A,
+        table: TableNo,
+        after: Bound<&Key<A>>,
+        most: usize,
+    ) -> Result<Vec<&'a Row<A>, A>, Refusal>
+        requires { HasTable (put_all self.now.changes.now (R.tables self.now.reader.now)) table }
+        ensures rows { IfOk result (λ rows. lent rows.items ≡ take most (rows_within
+            (rows_with self.now.changes.now (R.tables self.now.reader.now) table) after.entry)) }
+        ensures ordered { IsInKeyOrder (rows_with self.now.changes.now (R.tables self.now.reader.now) table) }
+        ensures err { IfErr result (λ e. e ≡ out_of_memory) }
+    {
+        match self.unchanged(table, after) {
+            Some(reader) => reader.next_rows(alloc, table, after, most),
+            None => self.changed_rows(alloc, table, after, most),
+        }
+    }
+}
+
+impl<R: RowsReader<A>, A: Allocator + Copy> RowsReader<A> for Overlay<'_, R, A> {
     fn next_rows(
         &self,
         alloc: A,
@@ -149,9 +291,6 @@ impl<R: RowsReader<A>, A: Allocator> RowsReader<A> for Overlay<'_, R, A> {
         after: Bound<&Key<A>>,
         most: usize,
     ) -> Result<Vec<&Row<A>, A>, Refusal> {
-        match self.unchanged(table, after) {
-            Some(reader) => reader.next_rows(alloc, table, after, most),
-            None => rows_one_by_one(alloc, self, table, after, most),
-        }
+        self.lend_rows(alloc, table, after, most)
     }
 }
