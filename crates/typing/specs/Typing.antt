@@ -61,6 +61,15 @@ session_in (b ∷ []) = if is_ascii_digit b then session_of (digit b) else None
 session_in (b ∷ c ∷ []) = if is_ascii_digit b && is_ascii_digit c && not (b == 48) then session_of (10 * digit b + digit c) else None
 session_in (b ∷ c ∷ d ∷ more) = None
 
+-- what a word asks for that isn't among the first
+abbrev pub further_word : List ℕ → Typed
+further_word word =
+    if bytes_eq word (codes "\\i") then typed.File
+    else if bytes_eq word (codes "\\timing") then typed.Timing
+    else if bytes_eq word (codes "\\why") then typed.Why
+    else if bytes_eq word (codes "\\draw") then typed.Drawing
+    else typed.Unknown
+
 -- what a word asks for, with what stands behind it
 abbrev pub word_typed : List ℕ → List ℕ → Typed
 word_typed word behind =
@@ -69,7 +78,7 @@ word_typed word behind =
     else if bytes_eq word (codes "\\serial") then typed.Word
     else if bytes_eq word (codes "\\dump") then typed.Dump
     else if bytes_eq word (codes "\\d") then (if length behind == 0 then typed.Word else typed.Columns)
-    else typed.Unknown
+    else further_word word
 
 -- what a text asks for
 abbrev pub typed_as : List ℕ → Typed

@@ -27,6 +27,14 @@ pub enum Typed {
     Columns,
     /// A dump to a file.
     Dump,
+    /// The lines of a file.
+    File,
+    /// That it is told how long answers take, or no longer told.
+    Timing,
+    /// Why a transaction was refused.
+    Why,
+    /// A picture to a file.
+    Drawing,
     /// A word that a shell answers.
     Word,
     /// A word that is none.
@@ -127,6 +135,23 @@ pub fn session_in(text: &[u8]) -> Option<SessionId>
     }
 }
 
+// What a word asks for that isn't among the first.
+fn further_word(word: &[u8]) -> Typed
+    ensures { result ≡ spec.further_word word.now }
+{
+    if word == b"\\i".as_slice() {
+        Typed::File
+    } else if word == b"\\timing".as_slice() {
+        Typed::Timing
+    } else if word == b"\\why".as_slice() {
+        Typed::Why
+    } else if word == b"\\draw".as_slice() {
+        Typed::Drawing
+    } else {
+        Typed::Unknown
+    }
+}
+
 // What a word asks for, with what stands behind it.
 fn word_typed(word: &[u8], behind: &[u8]) -> Typed
     ensures { result ≡ spec.word_typed word.now behind.now }
@@ -146,7 +171,7 @@ fn word_typed(word: &[u8], behind: &[u8]) -> Typed
             Typed::Columns
         }
     } else {
-        Typed::Unknown
+        further_word(word)
     }
 }
 
