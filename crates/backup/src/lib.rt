@@ -2,10 +2,12 @@
 
 #![tactic(auto)]
 
+mod alone;
 mod fault;
 mod safe;
 mod write;
 
+pub use alone::dump_session_one;
 pub use fault::BackupFault;
 pub use safe::dump_safe;
 pub use write::dump_session;

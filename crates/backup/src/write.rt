@@ -18,8 +18,8 @@ use std::sync::Wait;
 use std::thread::Threads;
 use value::refusal::Refusal;
 
-// The tables that a session may view, of which a dump may be made.
-fn view_session<A: Allocator + Copy>(
+/// The tables that a session may view, of which a dump may be made.
+pub(crate) fn view_session<A: Allocator + Copy>(
     alloc: A,
     core: &Core<A>,
     session: SessionId,

@@ -1,4 +1,4 @@
-//! Tests of dumps: by how many workers, with which pieces held back, to devices that fail.
+//! Tests of dumps: by how many workers, with which pieces held back, to devices that fail; and by the calling thread alone.
 
 use crate::fixture::{
     EXAMPLE, NOTHING, SEVEN_KEYS, SEVEN_KEYS_AND_NONE, SIX_KEYS, not_a_case, tables_of,
@@ -6,7 +6,7 @@ use crate::fixture::{
 use crate::flaky::Flaky;
 use crate::gates::{Counting, Holding, Meeting};
 use dumpplan::{Gate, Jobs, NoGate, PieceRows};
-use dumpworker::{DumpFault, dump};
+use dumpworker::{DumpFault, dump, dump_one};
 use schema::catalog::Catalog;
 use schema::tables::Tables;
 use std::alloc::Global;
@@ -144,6 +144,20 @@ fn each_write_fails_once(rt: HostRuntime) -> Result<(), Refusal> {
         assert!(rt; 1 <= whole && whole <= EXAMPLE.len() as u64);
         let bytewise = failing_writes(&rt, rt.alloc(), jobs, true)?;
         assert!(rt; bytewise == EXAMPLE.len() as u64);
+    }
+    Ok(())
+}
+
+#[test]
+fn the_calling_thread_alone_writes_the_same(rt: HostRuntime) -> Result<(), Refusal> {
+    let alloc = rt.alloc();
+    let (catalog, tables) = tables_of(alloc, EXAMPLE)?;
+    assert!(rt; tables.count() == catalog.len());
+    for rows in [1, 1_000_000] {
+        let rows = PieceRows::new(rows).ok_or(not_a_case())?;
+        let mut device = Flaky::new(&rt, alloc, 0, false);
+        let done = dump_one(alloc, &tables, &catalog, rows, &mut device);
+        assert!(rt; done.is_ok() && device.taken.as_slice() == EXAMPLE.as_bytes());
     }
     Ok(())
 }

@@ -7,11 +7,12 @@ ghost use Rattle.dumpplan.specs.Pieces.{joined, piece_texts, IsPieceOf};
 ghost use Rattle.dumpworker.specs.Dumped.{Dumped};
 
 use crate::counter::Counter;
+use crate::ending::ended;
 use crate::fault::DumpFault;
 use crate::shelf::{Job, Shelf};
 use crate::source::Source;
 use crate::workers::work_in_scope;
-use collector::{Collector, Device, Finish};
+use collector::{Collector, Device};
 use dumpplan::{Gate, Jobs, PieceRows, Plan, plan};
 use schema::catalog::Catalog;
 use schema::walk::RowsReader;
@@ -66,11 +67,7 @@ where
     let shelf: Mutex<Shelf<'a, R, W, A, D>> = Mutex::new(Shelf::new(collector));
     work_in_scope(rt, alloc, &source, &shelf, &counter, drawer, jobs, gate);
     let collector = shelf.into_inner().into_collector();
-    *answer = match collector.finish() {
-        Finish::Done => Ok(()),
-        Finish::Missing(_) => Err(DumpFault::Memory),
-        Finish::Failed => Err(DumpFault::Device),
-    };
+    *answer = ended(&collector);
     Lent {
         device: collector.into_device(),
     }

@@ -8,8 +8,7 @@ ghost use Rattle.script.specs.Printing.{done_text as text_of_done};
 ghost use Rattle.script_files.specs.Faults.{IsFileFault};
 
 use crate::fault::Fault;
-use backup::{BackupFault, dump_session};
-use dumpplan::NoGate;
+use backup::{BackupFault, dump_session_one};
 use dumpworker::DumpFault;
 use history::session_id::SessionId;
 use program::files::{Files, Placed};
@@ -19,8 +18,6 @@ use script::printing::{done_text, reply_text};
 use session::sessions::Core;
 use statement::reply::Reply;
 use std::alloc::Allocator;
-use std::sync::Wait;
-use std::thread::Threads;
 use value::refusal::{Code, Refusal};
 
 // Keeps the file of a dump that is whole. One that can't be kept has failed.
@@ -86,70 +83,51 @@ fn dump_text<'p, A: Allocator>(
 }
 
 // Writes a dump of a session's safe snapshot to a file in which nothing is.
-fn write_dump<A, F, T>(
-    machine: &Machine<'_, F, T, A>,
+fn write_dump<A: Allocator + Copy, O: Placed>(
+    alloc: A,
     core: &Core<A>,
     session: SessionId,
     request: &DumpRequest<A>,
-    file: &mut F::Out,
+    file: &mut O,
 ) -> Result<(), BackupFault>
-where
-    A: Allocator + Copy + Send + Sync,
-    F: Files<A>,
-    T: Threads + Wait + Sync,
-    requires empty { F.Out.taken file.old ≡ [] }
-    requires sound { F.Out.failures file.old ≡ 0 }
+    requires empty { O.taken file.old ≡ [] }
+    requires sound { O.failures file.old ≡ 0 }
     ensures dumped { IsDumped core.now session result }
-    ensures whole { OnOk result (IsWhole core.now session [] (F.Out.taken file.new)) }
-    ensures sound { OnOk result (F.Out.failures file.new ≡ 0) }
+    ensures whole { OnOk result (IsWhole core.now session [] (O.taken file.new)) }
+    ensures sound { OnOk result (O.failures file.new ≡ 0) }
 {
-    dump_session(
-        machine.rt,
-        machine.alloc,
-        core,
-        session,
-        request.jobs,
-        request.rows,
-        file,
-        &NoGate,
-    )
+    dump_session_one(alloc, core, session, request.rows, file)
 }
 
 // Dumps a session's safe snapshot to a path's file, which is kept where it is whole.
-fn dump_to_file<A, F, T>(
-    machine: &Machine<'_, F, T, A>,
+fn dump_to_file<A: Allocator + Copy, F: Files<A>>(
+    alloc: A,
+    files: &F,
     core: &Core<A>,
     session: SessionId,
     request: &DumpRequest<A>,
 ) -> Result<(), BackupFault>
-where
-    A: Allocator + Copy + Send + Sync,
-    F: Files<A>,
-    T: Threads + Wait + Sync,
     ensures dumped { IsDumped core.now session result }
     ensures file { OnOk result (IsDumpedTo F.Out.path F.Out.kept core.now session request.now.path) }
 {
-    let Ok(mut file) = machine.files.create(machine.alloc, request.path.as_str()) else {
+    let Ok(mut file) = files.create(alloc, request.path.as_str()) else {
         return Err(BackupFault::Dump(DumpFault::Memory));
     };
-    let dumped = write_dump(machine, core, session, request, &mut file);
+    let dumped = write_dump(alloc, core, session, request, &mut file);
     keep_dumped(&mut file, dumped)
 }
 
-/// Does a dump of a session's safe snapshot, and gives what is printed of it.
-pub fn tell_dump<'s, A, F, T>(
+/// Does a dump of a session's safe snapshot by the calling thread alone, however many workers are asked for, and gives what
+/// is printed of it. It waits for no thread, so that who answers a line may call it.
+pub fn tell_dump<'s, A: Allocator + Copy, F: Files<A>, T>(
     machine: &Machine<'_, F, T, A>,
     core: &Core<A>,
     session: SessionId,
     request: &'s DumpRequest<A>,
 ) -> Result<Vec<u8, A>, Fault<'s>>
-where
-    A: Allocator + Copy + Send + Sync,
-    F: Files<A>,
-    T: Threads + Wait + Sync,
     ensures told { IfOk result (λ text. TellsDump core.now session text.items) }
     ensures fault { IfErr result (λ f. (f ≡ Fault.Script 0) ⊎ IsFileFault request.entry.now.path f) }
 {
-    let done = dump_to_file(machine, core, session, request);
+    let done = dump_to_file(machine.alloc, machine.files, core, session, request);
     dump_text(machine.alloc, session, request.path.as_str(), done)
 }

@@ -1,7 +1,9 @@
-//! Tests alone: passes, and the server on threads.
+//! Tests alone: passes, the server on threads, and a dump of a core.
 
 #![tactic(auto)]
 
+#[cfg(test)]
+mod cores;
 #[cfg(test)]
 mod fixture;
 #[cfg(test)]

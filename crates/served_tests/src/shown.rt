@@ -17,7 +17,7 @@ use std::sync::Wait;
 use std::thread::Threads;
 use value::refusal::Refusal;
 
-const NO_ROW: &[u8] = b"-- dump 2
+pub(crate) const NO_ROW: &[u8] = b"-- dump 2
 CREATE TABLE a (id bigint PRIMARY KEY);
 CREATE TABLE b (id bigint PRIMARY KEY);
 COPY a (id) FROM stdin;
