@@ -1,11 +1,8 @@
 //! What the words of the command line ask for.
 
-use clap::builder::ValueParser;
 use clap::{Arg, ArgAction, Command, Error};
+use program::arguments::{events, most_events_of, path_of, script};
 use std::alloc::{AllocError, Global};
-
-// How many events a history has room for, where nothing is said.
-const MOST_EVENTS: u32 = 100_000;
 
 /// A script that is drawn, and to what file.
 #[derive(Clone, Copy, Debug, PartialEq, Eq)]
@@ -15,14 +12,6 @@ pub(crate) struct Task<'w> {
     /// Whether the graph of transactions is written in place of the picture.
     pub(crate) is_dot: bool,
     pub(crate) most_events: u32,
-}
-
-// The script's file.
-fn script<'w>(alloc: Global) -> Arg<'w> {
-    Arg::new(alloc, "SCRIPT")
-        .required(true)
-        .action(ArgAction::Set)
-        .help("The script's file; - is standard input")
 }
 
 // The file that is written.
@@ -41,16 +30,6 @@ fn dot<'w>(alloc: Global) -> Arg<'w> {
         .long("dot")
         .action(ArgAction::SetTrue)
         .help("Write the graph of transactions for graphviz in place of the picture")
-}
-
-// How many events there is room for.
-fn events<'w>(alloc: Global) -> Arg<'w> {
-    Arg::new(alloc, "events")
-        .long("events")
-        .value_name("N")
-        .action(ArgAction::Set)
-        .value_parser(ValueParser::signed(1, 4_294_967_295))
-        .help("How many events the history has room for; 100000 where it isn't given")
 }
 
 // The command.
@@ -73,9 +52,9 @@ pub(crate) fn read_words<'w>(alloc: Global, words: &'w [&'w str]) -> Result<Task
     let command = draw(alloc)?;
     let matches = command.try_get_matches_from(words)?;
     Ok(Task {
-        script: matches.get_str("SCRIPT").unwrap_or("-"),
-        out: matches.get_str("out").unwrap_or("-"),
+        script: path_of(&matches, "SCRIPT"),
+        out: path_of(&matches, "out"),
         is_dot: matches.get_flag("dot"),
-        most_events: matches.get_one::<u32>("events").unwrap_or(MOST_EVENTS),
+        most_events: most_events_of(&matches),
     })
 }

@@ -7,17 +7,26 @@ use explore::exploring::{explore, explore_sample};
 use explore::plan::Plan;
 use listing::heading::Heading;
 use listing::listing::listing_text;
+use program::files::Files;
+use program::machine::Machine;
+use program::progress::Stage;
 use std::alloc::Allocator;
+use std::sync::Wait;
 use std::thread::Threads;
 use tally::runs::Schedules;
 
 // What is printed of all schedules.
-fn all_text<'p, A: Allocator + Copy + Send + Sync, T: Threads + Sync>(
-    rt: &T,
-    alloc: A,
+fn all_text<'p, A, F, T>(
+    machine: &Machine<'_, F, T, A>,
     plan: &Plan<A>,
     task: Task<'_>,
-) -> Result<Vec<u8, A>, Fault<'p>> {
+) -> Result<Vec<u8, A>, Fault<'p>>
+where
+    A: Allocator + Copy + Send + Sync,
+    F: Files<A>,
+    T: Threads + Wait + Sync,
+{
+    let alloc = machine.alloc;
     let all = match plan.schedules(alloc) {
         Ok(Some(all)) => all,
         Ok(None) => return Err(Fault::TooMany(None, task.most)),
@@ -27,7 +36,10 @@ fn all_text<'p, A: Allocator + Copy + Send + Sync, T: Threads + Sync>(
     if schedules > task.most {
         return Err(Fault::TooMany(Some(schedules), task.most));
     }
-    let Ok(found) = explore(rt, alloc, plan, &all, task.jobs) else {
+    let shown = machine.files.watch(Stage::Exploring(schedules));
+    let found = explore(machine.rt, alloc, plan, &all, task.jobs, &shown);
+    shown.clear();
+    let Ok(found) = found else {
         return Err(Fault::memory());
     };
     let heading = Heading::Every(schedules);
@@ -47,18 +59,26 @@ fn count_of<'p, A: Allocator + Copy>(alloc: A, plan: &Plan<A>) -> Result<Option<
 }
 
 // What is printed of schedules that are drawn at random.
-fn sample_text<'p, A: Allocator + Copy + Send + Sync, T: Threads + Sync>(
-    rt: &T,
-    alloc: A,
+fn sample_text<'p, A, F, T>(
+    machine: &Machine<'_, F, T, A>,
     plan: &Plan<A>,
     draw: Draw,
     task: Task<'_>,
-) -> Result<Vec<u8, A>, Fault<'p>> {
+) -> Result<Vec<u8, A>, Fault<'p>>
+where
+    A: Allocator + Copy + Send + Sync,
+    F: Files<A>,
+    T: Threads + Wait + Sync,
+{
+    let alloc = machine.alloc;
     let schedules = count_of(alloc, plan)?;
     let Ok(sample) = plan.sample(alloc, draw.seed, draw.count) else {
         return Err(Fault::memory());
     };
-    let Ok(found) = explore_sample(rt, alloc, plan, &sample, task.jobs) else {
+    let shown = machine.files.watch(Stage::Exploring(sample.count()));
+    let found = explore_sample(machine.rt, alloc, plan, &sample, task.jobs, &shown);
+    shown.clear();
+    let Ok(found) = found else {
         return Err(Fault::memory());
     };
     let heading = Heading::Sample(sample.count(), schedules);
@@ -68,15 +88,20 @@ fn sample_text<'p, A: Allocator + Copy + Send + Sync, T: Threads + Sync>(
     }
 }
 
-/// What is printed of the schedules that a task asks for.
-pub(crate) fn explored_text<'p, A: Allocator + Copy + Send + Sync, T: Threads + Sync>(
-    rt: &T,
-    alloc: A,
+/// What is printed of the schedules that a task asks for. Meanwhile it is shown how many are done, where the files say
+/// so.
+pub(crate) fn explored_text<'p, A, F, T>(
+    machine: &Machine<'_, F, T, A>,
     setup: &Setup<A>,
     task: Task<'_>,
-) -> Result<Vec<u8, A>, Fault<'p>> {
+) -> Result<Vec<u8, A>, Fault<'p>>
+where
+    A: Allocator + Copy + Send + Sync,
+    F: Files<A>,
+    T: Threads + Wait + Sync,
+{
     match task.draw {
-        Some(draw) => sample_text(rt, alloc, &setup.plan, draw, task),
-        None => all_text(rt, alloc, &setup.plan, task),
+        Some(draw) => sample_text(machine, &setup.plan, draw, task),
+        None => all_text(machine, &setup.plan, task),
     }
 }

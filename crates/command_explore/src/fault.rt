@@ -4,12 +4,17 @@ ghost use Rattle.std.specs.Prelude.{◌≡◌, ◌≤◌};
 
 use script_files::fault;
 use std::io::Write;
+use value::refusal::Code;
 
 /// Why a script isn't explored.
 #[derive(Clone, Copy)]
 pub(crate) enum Fault<'p> {
     /// The script, its dump, a file, or want of memory.
     File(fault::Fault<'p>),
+    /// A line of the setup is refused.
+    Setup(u64, Code),
+    /// A line that no schedule has: a WAIT, a DUMP, or a second CHECKPOINT.
+    NoTurn(u64),
     /// No session has a line behind the setup.
     NoLines,
     /// There are so many schedules, more than were allowed; more than the greatest u64 where none is told.
@@ -19,15 +24,27 @@ pub(crate) enum Fault<'p> {
 }
 
 impl<'p> Fault<'p> {
-    /// A line of the script.
-    pub(crate) fn line(number: u64) -> Fault<'p> {
-        Fault::File(fault::Fault::Script(number))
-    }
-
     /// Memory was wanting.
     pub(crate) fn memory() -> Fault<'p> {
-        Fault::line(0)
+        Fault::File(fault::Fault::Script(0))
     }
+}
+
+// Tells that a line of the setup is refused.
+fn tell_setup<E: Write>(line: u64, code: Code, err: &mut E) {
+    let name = code.condition_name();
+    let _ = writeln!(
+        err,
+        "script line {line}\nthe setup's reply is ERROR {code} ({name})"
+    );
+}
+
+// Tells that a line is none that schedules have.
+fn tell_no_turn<E: Write>(line: u64, err: &mut E) {
+    let _ = writeln!(
+        err,
+        "script line {line}\nwhat is explored has no WAIT and no DUMP, and one CHECKPOINT, which ends the setup"
+    );
 }
 
 // Tells that there are more schedules than may be run, and how to run them, or some of them.
@@ -51,6 +68,14 @@ pub(crate) fn tell<E: Write>(fault: &Fault<'_>, reason: Option<&str>, err: &mut 
 {
     match fault {
         Fault::File(fault) => fault::tell(fault, reason, err),
+        Fault::Setup(line, code) => {
+            tell_setup(*line, *code, err);
+            1
+        }
+        Fault::NoTurn(line) => {
+            tell_no_turn(*line, err);
+            1
+        }
         Fault::NoLines => {
             let _ = writeln!(err, "explore: no session has a line behind the setup");
             1

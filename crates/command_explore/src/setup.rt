@@ -52,7 +52,7 @@ fn has_checkpoint<A: Allocator>(lines: &[Line<A>]) -> bool {
 fn fault_of<'p>(refusal: Refusal, number: u64) -> Fault<'p> {
     match refusal.code {
         Code::OutOfMemory => Fault::memory(),
-        _ => Fault::line(number),
+        code => Fault::Setup(number, code),
     }
 }
 
@@ -107,7 +107,7 @@ impl<A: Allocator + Copy> Doing<A> {
     // The checkpoint that ends the setup: the core goes on from it.
     fn take_checkpoint<'p>(&mut self, alloc: A, number: u64, events: u32) -> Result<(), Fault<'p>> {
         if self.is_behind {
-            return Err(Fault::line(number));
+            return Err(Fault::NoTurn(number));
         }
         match self.core.next(alloc, events) {
             Ok(core) => {
@@ -130,8 +130,8 @@ impl<A: Allocator + Copy> Doing<A> {
     ) -> Result<(), Fault<'p>> {
         match command {
             Command::Ask(request) => self.take_request(alloc, number, session, request),
-            Command::Wait => Err(Fault::line(number)),
-            Command::Dump(_request) => Err(Fault::line(number)),
+            Command::Wait => Err(Fault::NoTurn(number)),
+            Command::Dump(_request) => Err(Fault::NoTurn(number)),
         }
     }
 

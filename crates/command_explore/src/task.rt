@@ -2,10 +2,8 @@
 
 use clap::builder::ValueParser;
 use clap::{Arg, ArgAction, Command, Error};
+use program::arguments::{events, most_events_of, path_of, script};
 use std::alloc::{AllocError, Global};
-
-// How many events a setup's history has room for, where nothing is said.
-const EVENTS: u32 = 100_000;
 
 // How many schedules are run at most, where nothing is said.
 const MOST: u64 = 1_000_000;
@@ -38,22 +36,11 @@ pub(crate) struct Task<'w> {
     pub(crate) order: Option<&'w str>,
 }
 
-// The script's file.
-fn script<'w>(alloc: Global) -> Arg<'w> {
-    Arg::new(alloc, "SCRIPT")
-        .required(true)
-        .action(ArgAction::Set)
-        .help("The script's file; - is standard input")
-}
-
 // How many events there is room for.
-fn events<'w>(alloc: Global) -> Arg<'w> {
-    Arg::new(alloc, "events")
-        .long("events")
-        .value_name("N")
-        .action(ArgAction::Set)
-        .value_parser(ValueParser::signed(1, 4_294_967_295))
-        .help("How many events the setup's history has room for; 100000 where it isn't given")
+fn setup_events<'w>(alloc: Global) -> Arg<'w> {
+    events(alloc).help(
+        "How many events the setup's history has room for, 1 to 4294967295; 100000 where it isn't given",
+    )
 }
 
 // How many schedules are run.
@@ -128,7 +115,7 @@ fn command<'w>(alloc: Global) -> Result<Command<'w>, AllocError> {
         .bin_name("pgserial explore")?
         .no_binary_name(true)
         .arg(script(alloc))?
-        .arg(events(alloc))?
+        .arg(setup_events(alloc))?
         .arg(jobs(alloc))?
         .arg(most(alloc))?
         .arg(sample(alloc)?)?
@@ -164,8 +151,8 @@ pub(crate) fn read_words<'w>(alloc: Global, words: &'w [&'w str]) -> Result<Task
         matches.get_one::<i64>("seed"),
     );
     Ok(Task {
-        script: matches.get_str("SCRIPT").unwrap_or("-"),
-        events: matches.get_one::<u32>("events").unwrap_or(EVENTS),
+        script: path_of(&matches, "SCRIPT"),
+        events: most_events_of(&matches),
         jobs: matches.get_one::<u32>("jobs").unwrap_or(1),
         most: number_of(matches.get_one::<i64>("most"), MOST),
         draw: draw_of(count, seed),

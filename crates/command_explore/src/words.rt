@@ -40,7 +40,7 @@ where
     let setup = set_up(alloc, machine.files, catalog, opens, lines, task.events)?;
     match task.order {
         Some(order) => ordered_text(alloc, text, &setup, order),
-        None => explored_text(machine.rt, alloc, &setup, task),
+        None => explored_text(machine, &setup, task),
     }
 }
 

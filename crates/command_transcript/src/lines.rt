@@ -22,8 +22,6 @@ use script_files::fault::Fault;
 use session::sessions::Core;
 use std::alloc::{AllocError, Allocator};
 use std::io::Write;
-use std::sync::Wait;
-use std::thread::Threads;
 use transcript::writing::{append_answered, append_asked, line_at};
 use value::refusal::Refusal;
 
@@ -83,9 +81,8 @@ fn do_command<'s, A, F, T>(
     command: &'s Command<A>,
 ) -> Result<Vec<u8, A>, Fault<'s>>
 where
-    A: Allocator + Copy + Send + Sync,
+    A: Allocator + Copy,
     F: Files<A>,
-    T: Threads + Wait + Sync,
     ensures told { IfOk result (λ text. TellsCommand core.old core.new session command.entry.now text.items) }
     ensures fault { IfErr result (λ f. EndsBy command.entry.now f) }
 {
@@ -104,9 +101,8 @@ fn pass_command<'p, A, F, T>(
     command: &'p Command<A>,
 ) -> Result<(Core<A>, Vec<u8, A>), Fault<'p>>
 where
-    A: Allocator + Copy + Send + Sync,
+    A: Allocator + Copy,
     F: Files<A>,
-    T: Threads + Wait + Sync,
     ensures done { IfOk result (λ x. TellsCommand core x.0 session command.entry.now x.1.items) }
     ensures fault { IfErr result (λ f. EndsBy command.entry.now f) }
 {
@@ -122,9 +118,8 @@ fn do_step<'p, A, F, T>(
     most_events: u32,
 ) -> Result<(Core<A>, Vec<u8, A>), Fault<'p>>
 where
-    A: Allocator + Copy + Send + Sync,
+    A: Allocator + Copy,
     F: Files<A>,
-    T: Threads + Wait + Sync,
     ensures done { IfOk result (λ x. IsDone most_events core step.entry.now x.0 x.1.items) }
     ensures fault { IfErr result (λ f. Stops step.entry.now f) }
 {
@@ -153,9 +148,8 @@ fn tell_step<'p, A, F, T>(
     most_events: u32,
 ) -> Result<(Core<A>, Vec<u8, A>), Fault<'p>>
 where
-    A: Allocator + Copy + Send + Sync,
+    A: Allocator + Copy,
     F: Files<A>,
-    T: Threads + Wait + Sync,
     ensures told { IfOk result (λ x.
         IsTold (map (λ l. l.now) lines.now) most_events core line.entry.now x.0 x.1.items) }
     ensures fault { IfErr result (λ f. Stops line.entry.now.step f) }
@@ -177,9 +171,8 @@ pub(crate) fn tell_steps<'p, A, F, T, W>(
     out: &mut W,
 ) -> Result<(), Fault<'p>>
 where
-    A: Allocator + Copy + Send + Sync,
+    A: Allocator + Copy,
     F: Files<A>,
-    T: Threads + Wait + Sync,
     W: Write,
     ensures done { OnOk result (HasTold [] (map (λ l. l.now) lines.now) most_events core steps.entry.now
         (W.contents out.old) (W.contents out.new)) }

@@ -2,48 +2,17 @@
 
 ghost use Rattle.std.specs.Prelude.{◌≡◌, IfOk, false, map};
 ghost use Rattle.clap.specs.Words.{FailsBy, app_of, fault_of, found_of, matches_of, rows_of, rule_of};
-ghost use Rattle.program.specs.Asked as asked;
-ghost use Rattle.program.specs.CommandLine as line;
 ghost use Rattle.command_transcript.specs.Words as spec;
 
-use clap::builder::ValueParser;
 use clap::{Arg, ArgAction, ArgMatches, Command, Error};
+use program::arguments::{events, most_events_of, path_of, script};
 use std::alloc::{AllocError, Global};
-
-// How many events a history has room for, where nothing is said.
-const MOST_EVENTS: u32 = 100_000;
 
 /// A script whose run is told as a transcript, and for how many events its history has room.
 #[derive(Clone, Copy, Debug, PartialEq, Eq)]
 pub(crate) struct Task<'w> {
     pub(crate) script: &'w str,
     pub(crate) most_events: u32,
-}
-
-// The script's file.
-fn script<'w>(alloc: Global) -> Arg<'w>
-    ensures rule { rule_of result ≡ line.script }
-    ensures local { result.global ≡ false }
-{
-    Arg::new(alloc, "SCRIPT")
-        .required(true)
-        .action(ArgAction::Set)
-        .help("The script's file; - is standard input")
-}
-
-// How many events there is room for.
-fn events<'w>(alloc: Global) -> Arg<'w>
-    ensures rule { rule_of result ≡ line.events }
-    ensures local { result.global ≡ false }
-{
-    Arg::new(alloc, "events")
-        .long("events")
-        .value_name("N")
-        .action(ArgAction::Set)
-        .value_parser(ValueParser::signed(1, 4_294_967_295))
-        .help(
-            "How many events the history has room for, 1 to 4294967295; 100000 where it isn't given",
-        )
 }
 
 // That a transcript is told.
@@ -83,20 +52,6 @@ fn matches_of<'w>(alloc: Global, words: &'w [&'w str]) -> Result<ArgMatches<'w>,
 {
     let program = command(alloc)?;
     program.try_get_matches_from(words)
-}
-
-// The path that is given, or standard input's.
-fn path_of<'w>(matches: &ArgMatches<'w>, id: &str) -> &'w str
-    ensures { result.now ≡ asked.path_of id.now (rows_of (found_of matches.now)) }
-{
-    matches.get_str(id).unwrap_or("-")
-}
-
-// How many events there is to be room for; 100000 where nothing is said.
-fn most_events_of(matches: &ArgMatches<'_>) -> u32
-    ensures { asked.WritesEvents (rows_of (found_of matches.now)) result }
-{
-    matches.get_one::<u32>("events").unwrap_or(MOST_EVENTS)
 }
 
 // What these matches ask for.

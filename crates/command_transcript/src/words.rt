@@ -23,8 +23,6 @@ use script_files::opening::{open_core, read_path};
 use session::sessions::Core;
 use std::alloc::{AllocError, Allocator};
 use std::io::Write;
-use std::sync::Wait;
-use std::thread::Threads;
 use transcript::writing::{append_tables, lines_of};
 use value::text::Text;
 
@@ -65,9 +63,8 @@ fn tell_run<'p, A, F, T, W>(
     out: &mut W,
 ) -> Result<(), Fault<'p>>
 where
-    A: Allocator + Copy + Send + Sync,
+    A: Allocator + Copy,
     F: Files<A>,
-    T: Threads + Wait + Sync,
     W: Write,
     ensures done { OnOk result (HasTold asked.entry.0.now (map (λ l. l.now) asked.entry.1.now) most_events core
         steps.entry.now (W.contents out.old) (W.contents out.new)) }
@@ -88,9 +85,8 @@ fn do_script<'p, A, F, T, W>(
     out: &mut W,
 ) -> Result<(), Fault<'p>>
 where
-    A: Allocator + Copy + Send + Sync,
+    A: Allocator + Copy,
     F: Files<A>,
-    T: Threads + Wait + Sync,
     W: Write,
     ensures done { OnOk result (ScriptHasTold (F.held machine.now.files.now) most_events script.now
         (record { catalog = parts.entry.0; opens = option_copied parts.entry.1; lines = parts.entry.2.now })
@@ -116,9 +112,8 @@ fn do_read<A, F, T, W, E>(
     err: &mut E,
 ) -> u8
 where
-    A: Allocator + Copy + Send + Sync,
+    A: Allocator + Copy,
     F: Files<A>,
-    T: Threads + Wait + Sync,
     W: Write,
     E: Write,
     ensures within { result ≤ 3 }
@@ -144,9 +139,8 @@ fn tell_file<A, F, T, W, E>(
     err: &mut E,
 ) -> u8
 where
-    A: Allocator + Copy + Send + Sync,
+    A: Allocator + Copy,
     F: Files<A>,
-    T: Threads + Wait + Sync,
     W: Write,
     E: Write,
     ensures within { result ≤ 3 }
@@ -177,11 +171,10 @@ pub fn transcript_words<A, F, W, E, T>(
     err: &mut E,
 ) -> u8
 where
-    A: Allocator + Copy + Send + Sync,
+    A: Allocator + Copy,
     F: Files<A>,
     W: Write,
     E: Write,
-    T: Threads + Wait + Sync,
     ensures within { result ≤ 3 }
     ensures usage { result ≡ 2 → MayBeMistaken (fault_of spec.run (map (λ w. w.now) words.entry.now)) }
     ensures mistake { AreMistaken (fault_of spec.run (map (λ w. w.now) words.entry.now)) → (result ≡ 2) ⊎ (result ≡ 1) }

@@ -19,8 +19,6 @@ use script_files::ending::show;
 use script_files::fault::Fault;
 use std::alloc::Allocator;
 use std::io::Write;
-use std::sync::Wait;
-use std::thread::Threads;
 use value::refusal::Refusal;
 
 // Does what a session asks for in a line, and gives what is told of it.
@@ -80,9 +78,8 @@ fn do_command<'s, A, F, T>(
     command: &'s Command<A>,
 ) -> Result<Vec<u8, A>, Fault<'s>>
 where
-    A: Allocator + Copy + Send + Sync,
+    A: Allocator + Copy,
     F: Files<A>,
-    T: Threads + Wait + Sync,
     ensures told { IfOk result (λ text. TellsCommand course.old course.new session command.entry.now text.items) }
     ensures fault { IfErr result (λ f. EndsBy command.entry.now f) }
 {
@@ -102,9 +99,8 @@ fn pass_command<'p, A, F, T>(
     command: &'p Command<A>,
 ) -> Result<(Course<A>, Vec<u8, A>), Fault<'p>>
 where
-    A: Allocator + Copy + Send + Sync,
+    A: Allocator + Copy,
     F: Files<A>,
-    T: Threads + Wait + Sync,
     ensures done { IfOk result (λ x. TellsCommand course x.0 session command.entry.now x.1.items) }
     ensures fault { IfErr result (λ f. EndsBy command.entry.now f) }
 {
@@ -121,9 +117,8 @@ fn do_step<'p, A, F, T>(
     most_events: u32,
 ) -> Result<(Course<A>, Vec<u8, A>), Fault<'p>>
 where
-    A: Allocator + Copy + Send + Sync,
+    A: Allocator + Copy,
     F: Files<A>,
-    T: Threads + Wait + Sync,
     ensures done { IfOk result (λ x. IsDone most_events course step.entry.now x.0 x.1.items) }
     ensures fault { IfErr result (λ f. Stops step.entry.now f) }
 {
@@ -144,9 +139,8 @@ pub(crate) fn do_lines<'p, A, F, T, W>(
     out: &mut W,
 ) -> Result<(), Fault<'p>>
 where
-    A: Allocator + Copy + Send + Sync,
+    A: Allocator + Copy,
     F: Files<A>,
-    T: Threads + Wait + Sync,
     W: Write,
     ensures done { OnOk result
         (HasTold most_events course lines.entry.now (W.contents out.old) (W.contents out.new)) }

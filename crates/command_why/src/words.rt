@@ -22,8 +22,6 @@ use script_files::mistake::tell_words;
 use script_files::opening::{open_core, read_path};
 use std::alloc::Allocator;
 use std::io::Write;
-use std::sync::Wait;
-use std::thread::Threads;
 use value::text::Text;
 
 // Does the lines of a script that was read, from the tables of its dump or of its own.
@@ -36,9 +34,8 @@ fn do_script<'p, A, F, T, W>(
     out: &mut W,
 ) -> Result<(), Fault<'p>>
 where
-    A: Allocator + Copy + Send + Sync,
+    A: Allocator + Copy,
     F: Files<A>,
-    T: Threads + Wait + Sync,
     W: Write,
     ensures done { OnOk result (ScriptHasTold (F.held machine.now.files.now) most_events
         (record { catalog = catalog; opens = option_copied opens.entry; lines = lines.entry.now })
@@ -61,9 +58,8 @@ fn do_read<A, F, T, W, E>(
     err: &mut E,
 ) -> u8
 where
-    A: Allocator + Copy + Send + Sync,
+    A: Allocator + Copy,
     F: Files<A>,
-    T: Threads + Wait + Sync,
     W: Write,
     E: Write,
     ensures within { result ≤ 3 }
@@ -94,9 +90,8 @@ fn tell_file<A, F, T, W, E>(
     err: &mut E,
 ) -> u8
 where
-    A: Allocator + Copy + Send + Sync,
+    A: Allocator + Copy,
     F: Files<A>,
-    T: Threads + Wait + Sync,
     W: Write,
     E: Write,
     ensures within { result ≤ 3 }
@@ -126,11 +121,10 @@ pub fn why_words<A, F, W, E, T>(
     err: &mut E,
 ) -> u8
 where
-    A: Allocator + Copy + Send + Sync,
+    A: Allocator + Copy,
     F: Files<A>,
     W: Write,
     E: Write,
-    T: Threads + Wait + Sync,
     ensures within { result ≤ 3 }
     ensures usage { result ≡ 2 → MayBeMistaken (fault_of spec.run (map (λ w. w.now) words.entry.now)) }
     ensures mistake { AreMistaken (fault_of spec.run (map (λ w. w.now) words.entry.now)) → (result ≡ 2) ⊎ (result ≡ 1) }

@@ -8,10 +8,12 @@ ghost use Rattle.tally.specs.Outcomes.{AreOf, outcomes};
 ghost use Rattle.explore.specs.Explored.{IsExplained, RunsTo, line_counts, outcome, schedules, sessions, turns_of};
 ghost use Rattle.explore.specs.Texts.{outcome_text, state_text};
 
+use crate::gated::GatedPlan;
 use crate::plan::Plan;
 use crate::replies::append_replies;
 use crate::running::do_turns;
 use crate::states::append_tables;
+use dumpplan::Gate;
 use interleave::interleavings::Interleavings;
 use interleave::laws::as_many_turns;
 use sample::laws::draws_have_all_turns;
@@ -22,7 +24,6 @@ use std::alloc::{AllocError, Allocator};
 use std::thread::Threads;
 use tally::laws::outcomes_are_counted;
 use tally::outcomes::Outcome;
-use tally::runs::Runs;
 use tally::workers::count_outcomes;
 use value::refusal::Refusal;
 
@@ -71,36 +72,21 @@ impl<A: Allocator + Copy> Plan<A> {
     }
 }
 
-impl<A: Allocator + Copy> Runs<A> for Plan<A> {
-    ghost use Rattle.explore.specs.Explored.{IsExplained, outcome, turns_of};
-
-    ghost outcome = { λ plan order. outcome plan order };
-
-    ghost holds = { λ plan text. IsExplained A text };
-
-    ghost most = { λ plan. turns_of plan };
-
-    fn run(&self, alloc: A, order: &[usize]) -> Result<Vec<u8, A>, AllocError> {
-        match self.outcome_of(alloc, order) {
-            Ok(text) => Ok(text),
-            Err(_) => Err(AllocError),
-        }
-    }
-}
-
 /// Runs every schedule of a plan's lines by so many threads, each from the setup's state: all outcomes, each with the
 /// number of schedules that come to it and the first of them, in the order of these. They are the same for any number of
-/// threads. Want of memory is the only refusal.
-pub fn explore<T, A>(
+/// threads. The gate is asked round each schedule. Want of memory is the only refusal.
+pub fn explore<T, A, G>(
     rt: &T,
     alloc: A,
     plan: &Plan<A>,
     all: &Interleavings<A>,
     jobs: u32,
+    gate: &G,
 ) -> Result<Vec<Outcome<A>, A>, AllocError>
 where
     T: Threads + Sync,
     A: Allocator + Copy + Send + Sync,
+    G: Gate,
     requires { interleavings all.now ≡ schedules plan.now }
     ensures outcomes { IfOk result (λ found. found.items ≡ outcomes (map (outcome plan.now) (schedules plan.now))) }
     ensures explained { IfOk result (λ found. All (λ o. IsExplained A o.text) found.items) }
@@ -108,21 +94,24 @@ where
 {
     as_many_turns();
     outcomes_are_counted();
-    let found = count_outcomes(rt, alloc, plan, all, jobs)?;
+    let runs = GatedPlan { plan, gate };
+    let found = count_outcomes(rt, alloc, &runs, all, jobs)?;
     Ok(found)
 }
 
 /// Runs schedules of a plan's lines that are drawn at random, as `explore` runs all.
-pub fn explore_sample<T, A>(
+pub fn explore_sample<T, A, G>(
     rt: &T,
     alloc: A,
     plan: &Plan<A>,
     sample: &Sample<A>,
     jobs: u32,
+    gate: &G,
 ) -> Result<Vec<Outcome<A>, A>, AllocError>
 where
     T: Threads + Sync,
     A: Allocator + Copy + Send + Sync,
+    G: Gate,
     requires { sample.now.lines ≡ line_counts plan.now.lines sessions }
     ensures outcomes { IfOk result (λ found. found.items ≡ outcomes (map (outcome plan.now) (draws sample.now))) }
     ensures explained { IfOk result (λ found. All (λ o. IsExplained A o.text) found.items) }
@@ -130,6 +119,7 @@ where
 {
     draws_have_all_turns();
     outcomes_are_counted();
-    let found = count_outcomes(rt, alloc, plan, sample, jobs)?;
+    let runs = GatedPlan { plan, gate };
+    let found = count_outcomes(rt, alloc, &runs, sample, jobs)?;
     Ok(found)
 }

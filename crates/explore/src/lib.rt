@@ -3,6 +3,7 @@
 #![tactic(auto)]
 
 pub mod exploring;
+mod gated;
 pub mod plan;
 mod replies;
 mod running;

@@ -2,6 +2,7 @@
 
 #![tactic(auto)]
 
+pub mod arguments;
 mod dumping;
 mod explaining;
 mod fault;

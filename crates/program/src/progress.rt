@@ -1,4 +1,4 @@
-//! How far the reading or writing of a dump is, told on a terminal.
+//! How far long work is, told on a terminal.
 
 use dumpplan::Gate;
 use std::io::IsTerminal;
@@ -11,21 +11,15 @@ const PAUSE: u64 = 100;
 // As many blanks as a line has bytes at most.
 const BLANKS: &str = "                                                            ";
 
-/// What is done with the pieces of a dump.
+/// A stage of long work.
 #[derive(Clone, Copy, Debug, PartialEq, Eq)]
 pub enum Stage {
+    /// A dump is read.
     Reading,
+    /// A dump is written.
     Writing,
-}
-
-impl Stage {
-    // What is told of a piece with which it is done.
-    fn participle(self) -> &'static str {
-        match self {
-            Stage::Reading => "read",
-            Stage::Writing => "written",
-        }
-    }
+    /// So many schedules are run.
+    Exploring(u64),
 }
 
 /// A line on standard error that tells how many pieces are done.
@@ -57,12 +51,21 @@ impl<'r> Line<'r> {
                 .is_ok()
     }
 
+    // Shows how many pieces are done.
+    fn show(&self, done: u64) {
+        let shown = match self.stage {
+            Stage::Reading => eprint!(self.rt; "\r{done} pieces of up to 1000 rows read"),
+            Stage::Writing => eprint!(self.rt; "\r{done} pieces of up to 1000 rows written"),
+            Stage::Exploring(all) => eprint!(self.rt; "\r{done} of {all} schedules"),
+        };
+        let _ = shown;
+    }
+
     // Counts a piece, and shows how many are done where that is due.
     fn count(&self) {
         let done = self.done.fetch_add(1, Ordering::SeqCst).saturating_add(1);
         if self.is_due() {
-            let what = self.stage.participle();
-            let _ = eprint!(self.rt; "\r{done} pieces of up to 1000 rows {what}");
+            self.show(done);
         }
     }
 
@@ -100,7 +103,7 @@ impl<'r> Progress<'r> {
     }
 
     /// Takes away what was shown, when the work has ended.
-    pub(crate) fn clear(&self) {
+    pub fn clear(&self) {
         match self {
             Progress::Hidden => {}
             Progress::Shown(line) => line.clear(),

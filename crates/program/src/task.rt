@@ -5,16 +5,13 @@ ghost use Rattle.clap.specs.Words.{FailsBy, app_of, fault_of, found_of, one_of, 
 ghost use Rattle.program.specs.Asked as asked;
 ghost use Rattle.program.specs.CommandLine as spec;
 
+use crate::arguments::{MOST_EVENTS, events, most_events_of, path_of, script};
 use crate::run::{Shown, Way};
 use crate::workers::{one_job, so_many};
 use clap::builder::ValueParser;
 use clap::{Arg, ArgAction, ArgMatches, Command, Error};
 use dumpplan::Jobs;
 use std::alloc::{AllocError, Global};
-
-/// The greatest number of events that a script's history may have, since its opening or its last
-/// checkpoint, where none is asked for.
-const MOST_EVENTS: u32 = 100_000;
 
 const VERSION: &str = "0.1.0";
 
@@ -37,32 +34,6 @@ pub(crate) enum Task<'w> {
         jobs: Jobs,
         out: &'w str,
     },
-}
-
-// The file of a script.
-fn script<'w>(alloc: Global) -> Arg<'w>
-    ensures rule { rule_of result ≡ spec.script }
-    ensures local { result.global ≡ false }
-{
-    Arg::new(alloc, "SCRIPT")
-        .required(true)
-        .action(ArgAction::Set)
-        .help("The script's file; - is standard input")
-}
-
-// How many events there is room for.
-fn events<'w>(alloc: Global) -> Arg<'w>
-    ensures rule { rule_of result ≡ spec.events }
-    ensures local { result.global ≡ false }
-{
-    Arg::new(alloc, "events")
-        .long("events")
-        .value_name("N")
-        .action(ArgAction::Set)
-        .value_parser(ValueParser::signed(1, 4_294_967_295))
-        .help(
-            "How many events the history has room for, 1 to 4294967295; 100000 where it isn't given",
-        )
 }
 
 // That sessions run freely.
@@ -162,13 +133,6 @@ fn matches_of<'w>(
     program.try_get_matches_from(words)
 }
 
-// A path that is given, or standard input's.
-fn path_of<'w>(command: &ArgMatches<'w>, id: &str) -> &'w str
-    ensures { result.now ≡ asked.path_of id.now (rows_of (found_of command.now)) }
-{
-    command.get_str(id).unwrap_or("-")
-}
-
 // How many workers are asked for; one where nothing is said.
 fn jobs_of(restore: &ArgMatches<'_>) -> Jobs
     ensures { asked.WritesJobs (rows_of (found_of restore.now)) result }
@@ -177,13 +141,6 @@ fn jobs_of(restore: &ArgMatches<'_>) -> Jobs
         Some(jobs) => so_many(jobs),
         None => one_job(),
     }
-}
-
-// How many events there is to be room for; 100000 where nothing is said.
-fn most_events_of(command: &ArgMatches<'_>) -> u32
-    ensures { asked.WritesEvents (rows_of (found_of command.now)) result }
-{
-    command.get_one::<u32>("events").unwrap_or(MOST_EVENTS)
 }
 
 // Whether sessions are to run freely.

@@ -124,7 +124,7 @@ where
     let mut found = Vec::new(alloc);
     for number in from..to {
         let order = schedules.order_at(alloc, number)?;
-        let text = runs.run(alloc, order.as_slice())?;
+        let text = runs.run(alloc, number, order.as_slice())?;
         let outcome = Outcome {
             text,
             runs: 1,

@@ -16,8 +16,8 @@ pub trait Runs<A: Allocator> {
     /// How many turns there may be.
     ghost most: { Self → ℕ };
 
-    /// Runs an order. Want of memory is the only refusal.
-    fn run(&self, alloc: A, order: &[usize]) -> Result<Vec<u8, A>, AllocError>
+    /// Runs an order, that of the schedule with a number. Want of memory is the only refusal.
+    fn run(&self, alloc: A, number: u64, order: &[usize]) -> Result<Vec<u8, A>, AllocError>
         requires { length order.now ≤ most self.now }
         ensures outcome { IfOk result (λ text. text.items ≡ outcome self.now order.now) }
         ensures holds { IfOk result (λ text. holds self.now text.items) };

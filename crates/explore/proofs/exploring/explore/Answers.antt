@@ -7,11 +7,11 @@ use Rattle.interleave.specs.Interleavings.{interleavings}
 use Rattle.explore.specs.Explored.{line_counts, outcome, sessions, turns_of}
 use denote.Param.Send.{sendable}
 use Rattle.interleave.proofs.interleavings.Interleavings.TheSendSync as all
-use Rattle.explore.proofs.plan.Plan.TheSendSync as plan
+use Rattle.explore.proofs.gated.GatedPlan.TheSendSync as gated
 use Rattle.explore.proofs.exploring.explore.Goals as goal
 
 pub count_outcomes-requires : goal.count_outcomes-requires
-count_outcomes-requires g c =
+count_outcomes-requires g c κs =
     let shared = c.type_bounds.sync-A in
     let counts = line_counts c.args.plan.now.lines sessions in
     let short : All (λ order. length order ≤ turns_of c.args.plan.now) (interleavings c.args.all.now) =
@@ -20,7 +20,8 @@ count_outcomes-requires g c =
     let send_a = c.type_bounds.send-A in
     let sync_t = c.type_bounds.sync-T in
     let frees_a = c.type_bounds.frees-A-Allocator in
-    search (rules, sendable, plan.the_sync, all.the_sync, short) depth 60 fits 1000
+    let gate_sync = c.type_bounds.sync-G in
+    search (rules, sendable, gated.the_sync, all.the_sync, short) depth 60 fits 1000
 
 pub returns-clause-outcomes : goal.returns-clause-outcomes
 returns-clause-outcomes g c = c.in_ok-found.ensures.outcomes ∙ ap (λ (xs : List (List ℕ)). outcomes (map (outcome c.args.plan.now) xs)) c.requires

@@ -7,11 +7,11 @@ use Rattle.sample.specs.Sampling.{draws}
 use Rattle.explore.specs.Explored.{outcome, turns_of}
 use denote.Param.Send.{sendable}
 use Rattle.sample.proofs.sampling.Sample.TheSendSync as drawn
-use Rattle.explore.proofs.plan.Plan.TheSendSync as plan
+use Rattle.explore.proofs.gated.GatedPlan.TheSendSync as gated
 use Rattle.explore.proofs.exploring.explore_sample.Goals as goal
 
 pub count_outcomes-requires : goal.count_outcomes-requires
-count_outcomes-requires g c =
+count_outcomes-requires g c κs =
     let s = c.args.sample.now in
     let same : sum s.lines ≡ turns_of c.args.plan.now = ap sum c.requires in
     let shared = c.type_bounds.sync-A in
@@ -20,7 +20,8 @@ count_outcomes-requires g c =
     let send_a = c.type_bounds.send-A in
     let sync_t = c.type_bounds.sync-T in
     let frees_a = c.type_bounds.frees-A-Allocator in
-    (send_a, (sync_t, (shared, (search (sendable, plan.the_sync) depth 60 fits 1000, (search (sendable, drawn.the_sync) depth 60 fits 1000, search (rules, short))))))
+    let gate_sync = c.type_bounds.sync-G in
+    (send_a, (sync_t, (shared, (search (sendable, gated.the_sync) depth 60 fits 1000, (search (sendable, drawn.the_sync) depth 60 fits 1000, search (rules, short))))))
 
 pub returns-clause-counted : goal.returns-clause-counted
 returns-clause-counted g c =
