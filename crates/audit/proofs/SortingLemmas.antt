@@ -11,7 +11,7 @@ use Rattle.history.specs.Transactions.{Txn, World}
 use Rattle.history.specs.Serial.{committed, in_commit_order, key, keys_by_commit, serial_order, with_keys}
 use Rattle.serial.proofs.order.SerialTheorem.{IsGood, isolated_world}
 use Rattle.session.proofs.CommitOrder.{by_end, ordered}
-use Rattle.plain.specs.Keys.{keyed}
+use Rattle.transactions.specs.Keys.{keyed}
 use Rattle.audit.specs.Sorting.{Entry, comes_before, key_of}
 
 pub if-both : {T E : Type 0} {P Q S : T → Type 0} (r : Result T E) → IfOk r P → IfOk r Q → ((x : T) → P x → Q x → S x) → IfOk r S

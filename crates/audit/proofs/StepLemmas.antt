@@ -13,7 +13,7 @@ use Rattle.statement.specs.Evaluation.{outcome, after}
 use Rattle.statement.specs.Fits.{fits}
 use Rattle.statement.proofs.LawsLemmas.{sound_after}
 use Rattle.history.specs.declared.event.Record.{Record}
-use Rattle.plain.proofs.WalkLemmas.{first_and_rest}
+use Rattle.transactions.proofs.WalkLemmas.{first_and_rest}
 use Rattle.audit.specs.Course.{Track, at_first, begins, courses_after, gone_on, is_its, with_record}
 use Rattle.audit.specs.Replay.{answers_again, are_fit, end_of, goes_next, replays, without}
 use Rattle.value.specs.declared.refusal.TxnNo.{TxnNo}

@@ -4,7 +4,7 @@ use Rattle.std.specs.Ordering.{is_lt}
 use Rattle.value.specs.Isolation.{key_cmp}
 use Rattle.value.specs.declared.refusal.TxnNo.{TxnNo}
 use Rattle.history.specs.declared.key.SerialKey.{SerialKey}
-use Rattle.plain.specs.Keys.{parts}
+use Rattle.transactions.specs.Keys.{parts}
 
 -- a number with its key
 abbrev pub Entry : Type 0

@@ -7,7 +7,7 @@ ghost use Rattle.value.specs.Refusals.{out_of_memory};
 ghost use Rattle.history.specs.Events.{world};
 ghost use Rattle.history.specs.Serial as serial;
 ghost use Rattle.serial.specs.Serializable.{IsSerializable};
-ghost use Rattle.plain.specs.Keys.{keyed, parts};
+ghost use Rattle.transactions.specs.Keys.{keyed, parts};
 ghost use Rattle.audit.specs.Sorting.{comes_before};
 
 use history::key::SerialKey;

@@ -3,7 +3,7 @@ use Rattle.std.proofs.Common.{◌≡◌, true, false, true≢false, sym, refl, R
 use Rattle.schema.specs.Definition.{Catalog}
 use Rattle.value.specs.declared.refusal.Refusal.{Refusal}
 use Rattle.statement.specs.declared.statement.Statement.{Statement}
-use Rattle.plain.specs.Courses.{takes_memory}
+use Rattle.transactions.specs.Courses.{takes_memory}
 use Rattle.sqltext.specs.Parsed.{parsed}
 use Rattle.request.specs.declared.request.Request.{Request}
 use Rattle.request.specs.declared.request.Request.TheVariants.{Begin, Sql, Poll, Export, Import, Commit, Rollback, Prune}

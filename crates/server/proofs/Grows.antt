@@ -10,7 +10,7 @@ use Rattle.statement.specs.declared.reply.Reply.TheVariants.{Wait, Refused}
 use Rattle.history.specs.declared.event.Action.{Action}
 use Rattle.history.specs.declared.event.Action.TheVariants.{Poll, Rollback}
 use Rattle.history.specs.declared.event.Record.{Record}
-use Rattle.plain.specs.Courses.{takes_memory}
+use Rattle.transactions.specs.Courses.{takes_memory}
 use Rattle.pass.specs.Knowing.{Known}
 use Rattle.pass.proofs.Prefixes.{prefix_trans}
 use Rattle.history.specs.Opening.{Opening}

@@ -7,7 +7,7 @@ use Rattle.statement.specs.declared.reply.Reply.TheVariants.{Refused}
 use Rattle.history.specs.declared.event.Action.{Action}
 use Rattle.history.specs.declared.event.Record.{Record}
 use Rattle.history.specs.Opening.{Recorded}
-use Rattle.plain.specs.Courses.{takes_memory}
+use Rattle.transactions.specs.Courses.{takes_memory}
 use Rattle.session.specs.Core.{IsStep, recorded}
 use Rattle.pass.specs.Knowing.{Known}
 use Rattle.pass.proofs.Prefixes.{snoc_last}

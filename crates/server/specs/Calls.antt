@@ -11,7 +11,7 @@ use Rattle.history.specs.declared.event.Action.TheVariants.{Poll, Rollback}
 use Rattle.history.specs.declared.event.Record.{Record}
 use Rattle.history.specs.Opening.{Opening, Recorded}
 use Rattle.history.specs.Answer.{IsLegal, of_session, view_answer}
-use Rattle.plain.specs.Courses.{takes_memory}
+use Rattle.transactions.specs.Courses.{takes_memory}
 use Rattle.pass.specs.Knowing.{Known}
 
 -- there can't be so many sessions: there are 1 to 64

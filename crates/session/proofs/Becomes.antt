@@ -19,7 +19,7 @@ use Rattle.serial.proofs.legal.EndsSeen.{ends_seen}
 use Rattle.serial.proofs.needed.Lowest.{HasBegun}
 use Rattle.serial.proofs.legal.Numbers.{length-replaced}
 use Rattle.serial.proofs.needed.Events.{exports_alike, log_alike, txns_alike}
-use Rattle.plain.specs.Ledger.{Ledger, after_owned, kept, kept_after, ready, ready_for}
+use Rattle.transactions.specs.Ledger.{Ledger, after_owned, kept, kept_after, ready, ready_for}
 use Rattle.session.specs.Core.{IsKept}
 use Rattle.session.proofs.Kept.{HasOwn, counted_rest, length_map, same_counted, same_exports, same_turned_all}
 use Rattle.session.proofs.Lent.{good, lent, like, owed_of, r, thinned, w}

@@ -12,7 +12,7 @@ use Rattle.history.specs.declared.event.Action.TheVariants.{Begin, Run, Broken, 
 use Rattle.history.specs.declared.event.Record.{Record}
 use Rattle.history.specs.Transactions.{Standing, Open, Doomed, Failed, Aborted, Done, Txn, World, Exported_snapshot, commits, current, exported, is_done, is_owed, is_spoilt}
 use Rattle.history.specs.Events.{begun, causes, ended, followed, follows, goes_on, import, moved, replaced, settled, told, turned, turned_from, txns_after, with_snapshot, without_transaction}
-use Rattle.plain.specs.Keys.{committed_at}
+use Rattle.transactions.specs.Keys.{committed_at}
 use Rattle.session.specs.Core.{is_commit}
 use Rattle.serial.proofs.legal.Legal.{current_in}
 use Rattle.serial.proofs.structures.Dooms.{Fate, Spared, Over, In-doomed}

@@ -15,7 +15,7 @@ use Rattle.history.specs.Events.{world_of}
 use Rattle.history.specs.Serial.{Stays, committed, in_commit_order, key, keys_by_commit, serial_order}
 use Rattle.history.specs.Answer.{Legal}
 use Rattle.history.proofs.Alone.{In-filter, filter-In}
-use Rattle.plain.specs.Keys.{committed_at}
+use Rattle.transactions.specs.Keys.{committed_at}
 use Rattle.serial.proofs.legal.Legal.{found}
 use Rattle.serial.proofs.legal.Later.{legal_begins, legal_stays}
 use Rattle.serial.proofs.safe.Prefix.{by_all}

@@ -33,12 +33,12 @@ use Rattle.serial.proofs.legal.Histories.{Legal-push, Legal-start}
 use Rattle.serial.proofs.legal.AlwaysSound.{always_sound}
 use Rattle.serial.proofs.needed.Replies.{owed_stays}
 use Rattle.mvrows.specs.Versions.{VersionedRows, shown, shown_rows}
-use Rattle.plain.specs.declared.answered.Answered.{Answered}
-use Rattle.plain.specs.Answers.{both}
-use Rattle.plain.specs.Ledger.{Ledger, committed_by, kept, kept_after, kept_current, ready_for, world_on}
-use Rattle.plain.specs.Keys.{committed_at, keyed}
-use Rattle.plain.specs.Versions.{StayShown, is_owed_at, versions_at}
-use Rattle.plain.specs.Views.{are_quiet}
+use Rattle.transactions.specs.declared.answers.answered.Answered.{Answered}
+use Rattle.transactions.specs.Answers.{both}
+use Rattle.transactions.specs.Ledger.{Ledger, committed_by, kept, kept_after, kept_current, ready_for, world_on}
+use Rattle.transactions.specs.Keys.{committed_at, keyed}
+use Rattle.transactions.specs.Versions.{StayShown, is_owed_at, versions_at}
+use Rattle.transactions.specs.Views.{are_quiet}
 use Rattle.session.specs.Core.{HoldsKeys, HoldsRows, IsKept, is_commit, recorded}
 use Rattle.session.specs.Kept.{Represents}
 use Rattle.session.proofs.CommitAlone.{none_committed}

@@ -24,8 +24,8 @@ use Rattle.serial.proofs.needed.From.{oldest_later}
 use Rattle.serial.proofs.needed.Keys.{good_next, last_kept}
 use Rattle.serial.proofs.needed.Later.{needed_later}
 use Rattle.serial.proofs.safe.Prefix.{all_by, by_all}
-use Rattle.plain.specs.Keys.{committed_at}
-use Rattle.plain.specs.Ledger.{Ledger, kept, kept_after, kept_current, ready_for, world_on}
+use Rattle.transactions.specs.Keys.{committed_at}
+use Rattle.transactions.specs.Ledger.{Ledger, kept, kept_after, kept_current, ready_for, world_on}
 use Rattle.session.specs.Core.{IsKept}
 use Rattle.session.specs.Kept.{Represents}
 use Rattle.session.proofs.Becomes.{Becomes, becomes}

@@ -19,7 +19,7 @@ use Rattle.history.specs.declared.base.Base.{Base}
 use Rattle.history.specs.Transactions.{Standing, Open, Doomed, Failed, Aborted, Done, Txn, World, Exported_snapshot, node, edge, reads_from, is_of, is_open, is_done, is_read_write, is_read_only, is_deferrable, was_active, spoils, is_spoilt, is_pending, is_living, must_wait, commits, current, exported}
 use Rattle.history.specs.Events.{ended, numbered, polled, with_snapshot, import, moved, turned_from, turned, causes, doomed_by, doomed_with, replaced, txns_after, log_after, exports_after, next_identifier}
 use Rattle.history.specs.Answer.{reply_in, reply_of, reply_from, open_reply, run_reply, commit_reply, meets_another, is_taken, is_refused, refuses, refuses_row}
-use Rattle.plain.specs.Ledger.{kept, committed_by, counted, with_own, ready, ready_for, turned_all}
+use Rattle.transactions.specs.Ledger.{kept, committed_by, counted, with_own, ready, ready_for, turned_all}
 
 -- ---- lists whose members are seen through a function
 

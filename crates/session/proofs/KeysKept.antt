@@ -10,8 +10,8 @@ use Rattle.history.specs.Transactions.{Txn, World, edge, is_done, is_read_write,
 use Rattle.history.specs.Needed.{Keeps, kept_of}
 use Rattle.serial.proofs.order.SerialTheorem.{IsGood}
 use Rattle.serial.proofs.needed.Keys.{same_key}
-use Rattle.plain.specs.Keys.{committed_at}
-use Rattle.plain.specs.Ledger.{kept}
+use Rattle.transactions.specs.Keys.{committed_at}
+use Rattle.transactions.specs.Ledger.{kept}
 
 -- a number with a key
 abbrev entry : ℕ → ℕ × ℕ × ℕ → ℕ × (ℕ × ℕ × ℕ)

@@ -4,7 +4,7 @@ use Rattle.std.proofs.Math.Nat.{min-le_left, min-le_right}
 use Rattle.value.proofs.IsolationLemmas.{In}
 use Rattle.conflict.proofs.Lists.{clash}
 use Rattle.history.specs.Transactions.{Txn}
-use Rattle.plain.specs.Versions.{least_snapshot}
+use Rattle.transactions.specs.Versions.{least_snapshot}
 
 from_both : (k a b : ℕ) → k ≤ a → k ≤ b → k ≤ min a b
 from_both k a b l m = grind arith

@@ -31,11 +31,11 @@ use Rattle.serial.proofs.needed.Cause.{hold_committer, kept_replaced}
 use Rattle.serial.proofs.needed.Replies.{current_of_kept, living_of_kept, owed_stays}
 use Rattle.serial.proofs.needed.World.{replies_kept}
 use Rattle.mvrows.specs.Versions.{VersionedRows, shown}
-use Rattle.plain.specs.Ledger.{Ledger, kept, kept_current, ready_for, with_own, world_on}
-use Rattle.plain.specs.Runs.{HoldsCommitter, HoldsCurrent, IsFoundFor}
-use Rattle.plain.specs.Versions.{versions_at}
-use Rattle.plain.proofs.InstallLemmas.{owed-is_read}
-use Rattle.plain.specs.Views.{reader_on, view_at, view_on}
+use Rattle.transactions.specs.Ledger.{Ledger, kept, kept_current, ready_for, with_own, world_on}
+use Rattle.transactions.specs.Runs.{HoldsCommitter, HoldsCurrent, IsFoundFor}
+use Rattle.transactions.specs.Versions.{versions_at}
+use Rattle.transactions.proofs.InstallLemmas.{owed-is_read}
+use Rattle.transactions.specs.Views.{reader_on, view_at, view_on}
 use Rattle.session.specs.Core.{HoldsRows, IsFoundReply, IsKept}
 use Rattle.session.specs.Kept.{Represents}
 use Rattle.session.proofs.Kept.{IsLike, find_same, living_kept, on, replaced_kept, same_current, same_numbered, same_ready, same_reply}

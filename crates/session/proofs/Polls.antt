@@ -16,10 +16,10 @@ use Rattle.history.specs.Transactions.{Txn, current, is_deferrable, is_of, is_op
 use Rattle.history.specs.Needed.{kept_of}
 use Rattle.serial.proofs.legal.EndsSeen.{ends_seen}
 use Rattle.serial.proofs.needed.Questions.{poll_of_kept}
-use Rattle.plain.specs.Keys.{keyed}
-use Rattle.plain.specs.Ledger.{Ledger, kept, kept_current}
-use Rattle.plain.specs.Polls.{AreToldSpoilt, IsToldSpoilt}
-use Rattle.plain.specs.Views.{snapshot_of}
+use Rattle.transactions.specs.Keys.{keyed}
+use Rattle.transactions.specs.Ledger.{Ledger, kept, kept_current}
+use Rattle.transactions.specs.Polls.{AreToldSpoilt, IsToldSpoilt}
+use Rattle.transactions.specs.Views.{snapshot_of}
 use Rattle.safesnap.specs.Unspoilt.{AreUnspoilt, is_spoilt_by}
 use Rattle.safesnap.proofs.Spoilt.{none_above, spoilt_is}
 use Rattle.safesnap.proofs.UnspoiltLemmas.{one_more, one_unspoilt, unspoilt_set}

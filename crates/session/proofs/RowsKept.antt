@@ -24,10 +24,10 @@ use Rattle.mvrows.proofs.PruningLemmas.{pruned-below, pruned-in_order, shown-pru
 use Rattle.history.specs.Opening.{Recorded}
 use Rattle.history.specs.Transactions.{tables_at, with_all}
 use Rattle.history.specs.Events.{world_of}
-use Rattle.plain.specs.Ledger.{Ledger}
-use Rattle.plain.specs.Merged.{AreInKeyOrder}
-use Rattle.plain.specs.Versions.{lowest, next_commit}
-use Rattle.plain.proofs.InstallLemmas.{lowest-read}
+use Rattle.transactions.specs.Ledger.{Ledger}
+use Rattle.transactions.specs.Merged.{AreInKeyOrder}
+use Rattle.transactions.specs.Versions.{lowest, next_commit}
+use Rattle.transactions.proofs.InstallLemmas.{lowest-read}
 use Rattle.session.specs.Core.{HoldsRows}
 
 both_of : (a b : Bool) → (a && b) ≡ true → (a ≡ true) × (b ≡ true)

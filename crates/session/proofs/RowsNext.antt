@@ -21,9 +21,9 @@ use Rattle.history.specs.Answer.{Allowed, reply_in}
 use Rattle.history.specs.Needed.{kept_of}
 use Rattle.serial.proofs.needed.Lowest.{AllRead, commits_later, read_later}
 use Rattle.mvrows.specs.Versions.{VersionedRows, shown}
-use Rattle.plain.specs.Ledger.{Ledger, committed_by, kept, kept_current}
-use Rattle.plain.specs.Versions.{StayShown, is_owed_at, may_be_read}
-use Rattle.plain.proofs.InstallLemmas.{owed-is_read, read-is_owed}
+use Rattle.transactions.specs.Ledger.{Ledger, committed_by, kept, kept_current}
+use Rattle.transactions.specs.Versions.{StayShown, is_owed_at, may_be_read}
+use Rattle.transactions.proofs.InstallLemmas.{owed-is_read, read-is_owed}
 use Rattle.session.specs.Core.{HoldsRows, IsKept}
 use Rattle.session.specs.Kept.{Represents}
 use Rattle.session.proofs.Lent.{catalog_is, lent_current, lent_is, map-In, owed_in, r, w}

@@ -16,13 +16,13 @@ use Rattle.serial.proofs.needed.Raised.{needed_too, raised}
 use Rattle.serial.proofs.safe.Prefix.{all_by, by_all}
 use Rattle.serial.proofs.order.SerialTheorem.{good_world}
 use Rattle.mvrows.specs.Versions.{VersionedRows, TablesAreBelow}
-use Rattle.plain.specs.Active.{first_active}
-use Rattle.plain.specs.Forgetting.{IsThinned, holds_back, is_left, is_safe_from, number_before, oldest}
-use Rattle.plain.specs.Keys.{keyed}
-use Rattle.plain.specs.Ledger.{Ledger, is_awaited, is_pending_at, kept}
-use Rattle.plain.specs.Versions.{is_owed_at, may_be_read}
-use Rattle.plain.proofs.ActiveLemmas.{none_pending}
-use Rattle.plain.proofs.InstallLemmas.{owed-is_read, read-is_owed}
+use Rattle.transactions.specs.Active.{first_active}
+use Rattle.transactions.specs.Forgetting.{IsThinned, holds_back, is_left, is_safe_from, number_before, oldest}
+use Rattle.transactions.specs.Keys.{keyed}
+use Rattle.transactions.specs.Ledger.{Ledger, is_awaited, is_pending_at, kept}
+use Rattle.transactions.specs.Versions.{is_owed_at, may_be_read}
+use Rattle.transactions.proofs.ActiveLemmas.{none_pending}
+use Rattle.transactions.proofs.InstallLemmas.{owed-is_read, read-is_owed}
 use Rattle.safesnap.specs.Unspoilt.{AreUnspoilt}
 use Rattle.safesnap.proofs.UnspoiltLemmas.{one_unspoilt}
 use Rattle.session.specs.Core.{HoldsKeys, HoldsRows, IsKept}

@@ -17,11 +17,11 @@ use Rattle.history.specs.Opening.{Opening, Recorded}
 use Rattle.history.specs.Events.{world}
 use Rattle.history.specs.Answer.{IsLegal, answer, checkpoint_answer, reader_answer}
 use Rattle.history.specs.Serial.{keys_by_commit}
-use Rattle.plain.specs.Courses.{takes_memory}
-use Rattle.plain.specs.Keys.{keyed}
+use Rattle.transactions.specs.Courses.{takes_memory}
+use Rattle.transactions.specs.Keys.{keyed}
 use Rattle.history.specs.Transactions.{tables_at}
-use Rattle.plain.specs.Ledger.{Ledger}
-use Rattle.plain.specs.Versions.{AreCurrent, may_be_read}
+use Rattle.transactions.specs.Ledger.{Ledger}
+use Rattle.transactions.specs.Versions.{AreCurrent, may_be_read}
 use Rattle.mvrows.specs.Versions.{VersionedRows, shown}
 use Rattle.session.specs.Kept.{Represents}
 

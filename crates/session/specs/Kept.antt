@@ -3,7 +3,7 @@ use Rattle.std.specs.Prelude.{◌≡◌, ℕ, ◌+◌, ◌≤◌, Bool, length, 
 use Rattle.std.specs.List.{filter, AllByRecursion}
 use Rattle.history.specs.Transactions.{World, commits, is_living}
 use Rattle.history.specs.Needed.{Keeps, kept_of}
-use Rattle.plain.specs.Ledger.{Ledger, kept}
+use Rattle.transactions.specs.Ledger.{Ledger, kept}
 
 module _ {A : Type 0} where
   -- Of the world's transactions there are at least those that matter, without statements and own tables; of its identifiers those that live;

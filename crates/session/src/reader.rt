@@ -1,3 +1,3 @@
 //! What a session's transaction reads.
 
-pub use plain::reader::SessionReader;
+pub use transactions::statements::reader::SessionReader;

@@ -6,9 +6,9 @@ ghost use Rattle.value.specs.Refusals.{AnswersOrNoMemory, of_code, out_of_memory
 ghost use Rattle.schema.specs.Plain.{is_sound};
 ghost use Rattle.history.specs.Opening.{opening_refusal, zero_base};
 ghost use Rattle.history.specs.Answer.{Allowed, answer, checkpoint_answer, view_answer};
-ghost use Rattle.plain.specs.Courses.{takes_memory};
-ghost use Rattle.plain.specs.Keys.{committed_at, keyed};
-ghost use Rattle.plain.specs.Views.{are_quiet};
+ghost use Rattle.transactions.specs.Courses.{takes_memory};
+ghost use Rattle.transactions.specs.Keys.{committed_at, keyed};
+ghost use Rattle.transactions.specs.Views.{are_quiet};
 ghost use Rattle.mvrows.specs.Installing.{opened};
 ghost use Rattle.session.specs.Core.{HasRoom, HoldsRows, IsCheckpoint, IsKept, IsStep, from_opening, is_commit, recorded};
 ghost use Rattle.session.specs.Polling.{after_commit};
@@ -25,13 +25,13 @@ use history::list::History;
 use history::session_id::SessionId;
 use mvrows::rows::Rows;
 use mvrows::view::View;
-use plain::world::World;
 use safesnap::unspoilt::Unspoilt;
 use schema::catalog::Catalog;
 use schema::tables::Tables;
 use statement::reply::Reply;
 use std::alloc::{Allocator, Global};
 use std::marker::Model;
+use transactions::world::World;
 use value::refusal::{Code, Refusal, TxnNo};
 
 /// A server of transactions that are serializable, one event at a time. It is its history: each
@@ -54,7 +54,7 @@ impl<A: Allocator> Model for Core<A> {
     ghost Value = { Recorded A };
 
     ghost use Rattle.std.specs.Prelude.{map, vec_capacity};
-    ghost use Rattle.plain.specs.Keys.{keyed};
+    ghost use Rattle.transactions.specs.Keys.{keyed};
     ghost use Rattle.safesnap.specs.Unspoilt.{AreUnspoilt};
     ghost use Rattle.session.specs.Core.{HoldsKeys, HoldsRows, IsKept};
 

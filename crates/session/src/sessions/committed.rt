@@ -6,7 +6,7 @@ ghost use Rattle.history.specs.Events.{world};
 ghost use Rattle.history.specs.Transactions.{commits, tables_at};
 ghost use Rattle.mvrows.specs.Versions.{shown};
 ghost use Rattle.history.specs.Serial.{keys_by_commit};
-ghost use Rattle.plain.specs.Keys.{keyed};
+ghost use Rattle.transactions.specs.Keys.{keyed};
 
 use crate::sessions::Core;
 use history::key::SerialKey;

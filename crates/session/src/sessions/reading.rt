@@ -10,10 +10,10 @@ ghost use Rattle.session.specs.Core.{HasRoom, IsFoundReply, IsStep, recorded};
 use crate::sessions::Core;
 use history::event::{Action, Record};
 use history::session_id::SessionId;
-use plain::reader::SessionReader;
 use statement::reply::Reply;
 use statement::statement::Statement;
 use std::alloc::Allocator;
+use transactions::statements::reader::SessionReader;
 use value::refusal::{Code, Refusal};
 
 impl<A: Allocator> Core<A> {

@@ -3,7 +3,7 @@ use Rattle.std.specs.Prelude.{vec_capacity}
 use Rattle.history.specs.declared.base.Base.{Base}
 use Rattle.history.specs.Opening.{Recorded}
 use Rattle.mvrows.specs.Installing.{opened}
-use Rattle.plain.specs.Keys.{keyed}
+use Rattle.transactions.specs.Keys.{keyed}
 use Rattle.safesnap.specs.Unspoilt.{AreUnspoilt}
 use Rattle.safesnap.proofs.UnspoiltLemmas.{none_spoilt}
 use Rattle.session.proofs.CoreLemmas.{holds_none, kept_on}

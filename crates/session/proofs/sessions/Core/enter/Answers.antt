@@ -3,8 +3,8 @@ use Rattle.std.specs.Prelude.{vec_capacity}
 use Rattle.history.specs.Opening.{Recorded}
 use Rattle.history.specs.Answer.{Allowed, answer}
 use Rattle.history.specs.Transactions.{is_of}
-use Rattle.plain.specs.Keys.{committed_at, keyed}
-use Rattle.plain.specs.Views.{snapshot_of}
+use Rattle.transactions.specs.Keys.{committed_at, keyed}
+use Rattle.transactions.specs.Views.{snapshot_of}
 use Rattle.safesnap.specs.Unspoilt.{AreUnspoilt}
 use Rattle.session.specs.Core.{HasRoom, HoldsKeys, IsKept, is_commit, recorded}
 use Rattle.session.specs.Polling.{polls_spoilt, takes_snapshot}

@@ -1,5 +1,5 @@
 use Rattle.std.proofs.Common.{subst}
-use Rattle.plain.specs.Forgetting.{IsThinned}
+use Rattle.transactions.specs.Forgetting.{IsThinned}
 use Rattle.session.proofs.Thinned.{kept_thinned, rows_thinned}
 use Rattle.session.proofs.sessions.Core.forget.Goals as goal
 

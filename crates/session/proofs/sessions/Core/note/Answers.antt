@@ -5,7 +5,7 @@ use Rattle.statement.specs.Fits.{Fits}
 use Rattle.history.specs.Opening.{Recorded}
 use Rattle.history.specs.declared.event.Action.TheVariants.{Run}
 use Rattle.history.specs.Answer.{answer}
-use Rattle.plain.specs.Keys.{keyed}
+use Rattle.transactions.specs.Keys.{keyed}
 use Rattle.session.specs.Core.{HasRoom, IsFoundReply, recorded}
 use Rattle.session.proofs.CoreLemmas.{kept_now, keys_now, recorded_so, replied, rows_now, step_room}
 use Rattle.session.proofs.Lent.{found}

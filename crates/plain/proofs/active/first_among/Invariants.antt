@@ -1,7 +1,0 @@
-use Rattle.std.proofs.Common.{◌≡◌, fold, take}
-use Rattle.plain.specs.Active.{before_active}
-use Rattle.plain.proofs.active.first_among.Given as goal
-
--- the least of those so far
-abbrev pub invariant-loop-transaction : goal.invariant-loop-transaction
-invariant-loop-transaction g l = l.first ≡ fold before_active l.place (take l.transaction-index l.transactions)

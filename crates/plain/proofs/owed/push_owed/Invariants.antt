@@ -1,7 +1,0 @@
-use Rattle.std.proofs.Common.{◌≡◌, ◌++◌, drop}
-use Rattle.plain.specs.Versions.{owed_snapshots}
-use Rattle.plain.proofs.owed.push_owed.Given as goal
-
--- with those of the rest it is all
-abbrev pub invariant-loop-transaction : goal.invariant-loop-transaction
-invariant-loop-transaction g l = l.snapshots.items ++ owed_snapshots (drop l.transaction-index l.transactions) ≡ l.initial.snapshots.items ++ owed_snapshots l.transactions

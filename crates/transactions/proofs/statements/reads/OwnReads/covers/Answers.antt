@@ -1,0 +1,11 @@
+use Rattle.std.proofs.Common.{ap, ◌∙◌}
+use Rattle.std.specs.Prelude.{flat_map}
+use Rattle.statement.specs.Cover.{covers}
+use Rattle.siread.specs.Reads.{all_of}
+use Rattle.siread.proofs.AlikeLemmas.{alike_keys}
+use Rattle.transactions.proofs.statements.reads.OwnReads.covers.Goals as goal
+
+pub returns : goal.returns
+returns g c =
+    c.covers.ensures ∙ alike_keys (all_of c.self.inside.locks) (flat_map (λ v. v.items) c.self.inside.all.items) c.self.invariant c.args.table c.args.key.now
+    ∙ ap (λ rs. covers rs c.args.table c.args.key.now) c.self.view_is

@@ -1,0 +1,14 @@
+use Rattle.std.proofs.Common.{arith, ap}
+use Rattle.transactions.specs.Ledger.{Ledger}
+use Rattle.transactions.specs.Courses.{on_course}
+use Rattle.transactions.proofs.LedgerLemmas.{counted-turned}
+use Rattle.transactions.proofs.StretchLemmas.{stretches-turned}
+use Rattle.transactions.proofs.world.World.turn.Goals as goal
+
+pub invariant_of-self : goal.invariant_of-self
+invariant_of-self g c =
+    let same_place = ap (λ (l : Ledger _). l.place) c.self.view_is in
+    rw (c.turn.ensures, c.leave_without.ensures) (
+      counted-turned _ c.args.at c.args.course c.self.invariant.0 (omega (arith, same_place, c.requires.room)),
+      stretches-turned c.self.inside.past.items (on_course c.args.course) c.self.inside.transactions.items c.args.at c.self.invariant.1,
+    )

@@ -1,0 +1,14 @@
+//! The definitions as a program: each function answers what the definition of the same name gives, over the
+//! transactions that still matter. What only asks takes no memory.
+
+#![tactic(auto)]
+
+pub mod answers;
+pub mod conflicts;
+pub mod ends;
+pub mod exports;
+pub mod kept;
+pub mod statements;
+mod step;
+pub mod transaction;
+pub mod world;

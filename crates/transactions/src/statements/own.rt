@@ -1,0 +1,284 @@
+//! What a transaction has written, and what its statements come to on tables with that put in.
+
+ghost use Rattle.std.specs.Prelude.{◌≡◌, ◌==◌, ◌≤◌, ◌++◌, ◌&&◌, [], true, length, take, drop, OnOk, OnErr, IfOk, IfErr};
+ghost use Rattle.value.specs.Refusals.{out_of_memory};
+ghost use Rattle.schema.specs.Changing.{put_change};
+ghost use Rattle.schema.specs.Plain.{put_all, same};
+ghost use Rattle.statement.specs.Evaluation.{outcome};
+ghost use Rattle.statement.specs.Fits.{Fits};
+ghost use Rattle.statement.specs.Walk.{are_of};
+ghost use Rattle.transactions.specs.Merged.{AreInKeyOrder, AreMerged, is_changed};
+
+use crate::kept::added::{append_reserved, reserve};
+use schema::catalog::Catalog;
+use schema::changes::{Change, Changes};
+use schema::row::{Row, copy_all};
+use schema::walk::RowsReader;
+use snapshot::overlay::Overlay;
+use statement::evaluate::evaluate;
+use statement::outcome::Outcome;
+use statement::statement::Statement;
+use std::alloc::{Allocator, Global};
+use std::marker::Model;
+use std::mem;
+use value::refusal::Refusal;
+use value::value::Value;
+
+/// What a transaction has written, in the order of its statements. Contracts see it as that list.
+#[derive(Drop)]
+pub struct OwnChanges<A: Allocator = Global> {
+    list: Vec<Change<A>, A>,
+    // The first of the list by their keys, of each key the last. The others come to them when they
+    // are many, or a statement next asks.
+    merged: Changes<A>,
+    count: usize,
+}
+
+impl<A: Allocator> Model for OwnChanges<A> {
+    ghost use Rattle.std.specs.Prelude.{◌≤◌, List, length, take};
+    ghost use Rattle.schema.specs.declared.changes.Change.{Change};
+    ghost use Rattle.transactions.specs.Merged.{AreMerged};
+
+    ghost Value = { List (Change A) };
+
+    ghost view = { λ o. o.list.items };
+
+    ghost invariant = { λ o. (o.count ≤ length o.list.items) × AreMerged o.merged (take o.count o.list.items) };
+}
+
+// So few changes are looked through, and not by their keys.
+const FEW: usize = 16;
+
+// Puts in a copy of a change, over any of its key.
+fn put_over<A: Allocator + Copy>(
+    alloc: A,
+    merged: &mut Changes<A>,
+    change: &Change<A>,
+) -> Result<(), Refusal>
+    ensures ok { OnOk result (merged.new ≡ put_change merged.old change.now) }
+    ensures err { OnErr result (merged.new ≡ merged.old) }
+    ensures memory { IfErr result (λ e. e ≡ out_of_memory) }
+{
+    let key = change.key().copy(alloc)?;
+    match change.fields() {
+        Some(fields) => {
+            let row = Row::new(key, copy_all(alloc, fields)?);
+            merged.put_row(alloc, change.table(), row)
+        }
+        None => merged.put_absence(alloc, change.table(), key),
+    }
+}
+
+// Merges the rest of a list, of which so many are merged.
+fn merge_rest<A: Allocator + Copy>(
+    alloc: A,
+    merged: &mut Changes<A>,
+    count: &mut usize,
+    list: &[Change<A>],
+) -> Result<(), Refusal>
+    requires within { count.old ≤ length list.now }
+    requires merged { AreMerged merged.old (take count.old list.now) }
+    ensures within { count.new ≤ length list.now }
+    ensures merged { AreMerged merged.new (take count.new list.now) }
+    ensures ok { OnOk result (count.new ≡ length list.now) }
+    ensures memory { IfErr result (λ e. e ≡ out_of_memory) }
+{
+    while *count < list.len() {
+        put_over(alloc, merged, &list[*count])?;
+        *count += 1;
+    }
+    Ok(())
+}
+
+// Whether one of merged changes is of the key of a change.
+fn has_merged<A: Allocator>(merged: &Changes<A>, change: &Change<A>) -> bool
+    ensures { result ≡ is_changed change.now.table change.now.key merged.now }
+{
+    merged.get(change.table(), change.key()).is_some()
+}
+
+// Whether two changes are of one key of one table.
+fn is_of_same_key<A: Allocator>(change: &Change<A>, written: &Change<A>) -> bool
+    ensures { result ≡ (change.now.table == written.now.table && same change.now.key written.now.key) }
+{
+    change.table() == written.table() && change.key() == written.key()
+}
+
+// Whether one of these changes is of the key of a change.
+fn has_among<A: Allocator>(written: &[Change<A>], change: &Change<A>) -> bool
+    ensures { result ≡ is_changed change.now.table change.now.key written.now }
+{
+    written.iter().any(|own| is_of_same_key(change, own))
+}
+
+// Whether one of the changes behind so many is of the key of a change.
+fn has_behind<A: Allocator>(list: &[Change<A>], count: usize, change: &Change<A>) -> bool
+    requires { count ≤ length list.now }
+    ensures { result ≡ is_changed change.now.table change.now.key (drop count list.now) }
+{
+    let (_, rest) = list.split_at(count);
+    has_among(rest, change)
+}
+
+// What comes of a statement on the tables of a reader.
+fn evaluate_on<A: Allocator + Copy, R: RowsReader<A>>(
+    alloc: A,
+    catalog: &Catalog<A>,
+    statement: &Statement<A>,
+    reader: &R,
+) -> Result<Outcome<A>, Refusal>
+    requires fits { Fits catalog.now statement.now }
+    requires held { are_of catalog.now (R.tables reader.now) ≡ true }
+    ensures ok { IfOk result (λ o. o ≡ outcome catalog.now statement.now (R.tables reader.now)) }
+    ensures memory { IfErr result (λ e. e ≡ out_of_memory) }
+{
+    match evaluate(alloc, catalog, statement, reader) {
+        Ok(outcome) => Ok(outcome),
+        Err(refusal) => Err(refusal),
+    }
+}
+
+impl<A: Allocator> OwnChanges<A> {
+    /// Nothing.
+    pub fn new(alloc: A) -> OwnChanges<A>
+    where
+        A: Copy,
+        ensures { result ≡ [] }
+    {
+        OwnChanges {
+            list: Vec::new(alloc),
+            merged: Changes::new(alloc),
+            count: 0,
+        }
+    }
+
+    /// The changes, in their order.
+    pub fn as_slice(&self) -> &[Change<A>]
+        ensures { result.now ≡ self.now }
+    {
+        self.list.as_slice()
+    }
+
+    /// Whether one of them is of the key of a change. It takes no memory.
+    pub(crate) fn has_key_of(&self, change: &Change<A>) -> bool
+        ensures { result ≡ is_changed change.now.table change.now.key self.now }
+    {
+        has_merged(&self.merged, change) || has_behind(self.list.as_slice(), self.count, change)
+    }
+
+    // Merges them all.
+    fn catch_up(&mut self, alloc: A) -> Result<(), Refusal>
+    where
+        A: Copy,
+        ensures same { self.new ≡ self.old }
+        ensures memory { IfErr result (λ e. e ≡ out_of_memory) }
+    {
+        merge_rest(
+            alloc,
+            &mut self.merged,
+            &mut self.count,
+            self.list.as_slice(),
+        )
+    }
+
+    // Merges them where many aren't. Where there is no memory for it, they stay as they are.
+    fn merge_many(&mut self, alloc: A)
+    where
+        A: Copy,
+        ensures { self.new ≡ self.old }
+    {
+        if self.list.len() - self.count > FEW {
+            let _ = self.catch_up(alloc);
+        }
+    }
+
+    /// Adds changes at the end.
+    pub(crate) fn append(&mut self, alloc: A, changes: Vec<Change<A>, A>) -> Result<(), Refusal>
+    where
+        A: Copy,
+        ensures ok { OnOk result (self.new ≡ self.old ++ changes.items) }
+        ensures err { OnErr result (self.new ≡ self.old) }
+        ensures memory { IfErr result (λ e. e ≡ out_of_memory) }
+    {
+        reserve(&mut self.list, changes.len())?;
+        append_reserved(&mut self.list, changes);
+        self.merge_many(alloc);
+        Ok(())
+    }
+
+    /// The changes by their keys, of each key the last.
+    pub(crate) fn merge(&self, alloc: A) -> Result<Changes<A>, Refusal>
+    where
+        A: Copy,
+        ensures ok { IfOk result (λ merged. AreMerged merged self.now) }
+        ensures memory { IfErr result (λ e. e ≡ out_of_memory) }
+    {
+        let mut merged = Changes::new(alloc);
+        let mut count = 0;
+        merge_rest(alloc, &mut merged, &mut count, self.list.as_slice())?;
+        Ok(merged)
+    }
+
+    /// The changes by their keys, of each key the last, as a list of its own. Many stay merged.
+    pub(crate) fn last_changes(&mut self, alloc: A) -> Result<Vec<Change<A>, A>, Refusal>
+    where
+        A: Copy,
+        ensures ok { IfOk result (λ list. AreMerged list.items self.old) }
+        ensures same { self.new ≡ self.old }
+        ensures memory { IfErr result (λ e. e ≡ out_of_memory) }
+    {
+        if self.list.len() > FEW {
+            let merged = self.merge(alloc)?;
+            Ok(merged.into_list(alloc)?)
+        } else {
+            self.move_merged(alloc)
+        }
+    }
+
+    // The changes by their keys, of each key the last, moved out: no change is merged then.
+    fn move_merged(&mut self, alloc: A) -> Result<Vec<Change<A>, A>, Refusal>
+    where
+        A: Copy,
+        ensures ok { IfOk result (λ list. AreMerged list.items self.old) }
+        ensures same { self.new ≡ self.old }
+        ensures memory { IfErr result (λ e. e ≡ out_of_memory) }
+    {
+        merge_rest(
+            alloc,
+            &mut self.merged,
+            &mut self.count,
+            self.list.as_slice(),
+        )?;
+        self.count = 0;
+        let merged = mem::replace(&mut self.merged, Changes::new(alloc));
+        Ok(merged.into_list(alloc)?)
+    }
+
+    /// What comes of a statement on the tables of a reader with these changes put in. The tables
+    /// aren't copied.
+    pub(crate) fn evaluate<R: RowsReader<A>>(
+        &mut self,
+        alloc: A,
+        catalog: &Catalog<A>,
+        statement: &Statement<A>,
+        reader: &R,
+    ) -> Result<Outcome<A>, Refusal>
+    where
+        A: Copy,
+        requires fits { Fits catalog.now statement.now }
+        requires order { AreInKeyOrder (R.tables reader.now) }
+        requires held { are_of catalog.now (put_all self.old (R.tables reader.now)) ≡ true }
+        ensures ok { IfOk result (λ o. o ≡ outcome catalog.now statement.now (put_all self.old (R.tables reader.now))) }
+        ensures same { self.new ≡ self.old }
+        ensures memory { IfErr result (λ e. e ≡ out_of_memory) }
+    {
+        merge_rest(
+            alloc,
+            &mut self.merged,
+            &mut self.count,
+            self.list.as_slice(),
+        )?;
+        let own = Overlay::new(reader, &self.merged);
+        evaluate_on(alloc, catalog, statement, &own)
+    }
+}
