@@ -86,6 +86,11 @@ module _ {A : Type 0} where
   none_in_order cs low high row rows sorted all above =
       ap (λ b. cond b (row ∷ filter (satisfies cs) rows) (filter (satisfies cs) rows)) (never (satisfies cs row) (is_to high row.0) above all.0.below) ∙ none_later cs low high row.0 rows sorted.0 all.1 above
 
+  -- nor is any behind it
+  pub none_behind : (cs : List (Condition A)) (low high : End A) (row : Row A) (rows : List (Row A)) → IsInKeyOrder (row ∷ rows) → AllByRecursion (λ r. IsWithin cs low high r) (row ∷ rows) → is_to high row.0 ≡ false → filter (satisfies cs) rows ≡ []
+  unfolding IsStrictlySortedBy
+  none_behind cs low high row rows sorted all above = none_later cs low high row.0 rows sorted.0 all.1 above
+
   -- the keys behind a row rise as well
   pub rest_rises : (row : Row A) (rows : List (Row A)) → IsInKeyOrder (row ∷ rows) → IsInKeyOrder rows
   unfolding IsStrictlySortedBy

@@ -1,6 +1,6 @@
 //! The rows that a WHERE chooses, read from the lower end of its interval to the upper end.
 
-ghost use Rattle.std.specs.Prelude.{◌≡◌, ◌++◌, [], ◌∷◌, true, map, filter, OnOk, IfOk, IfErr, IfSome};
+ghost use Rattle.std.specs.Prelude.{◌≡◌, ◌++◌, [], ◌∷◌, true, false, IsTrue, map, filter, OnOk, IfOk, IfErr, IfSome};
 ghost use Rattle.std.specs.FinMap.{is_sorted};
 ghost use Rattle.std.specs.List.{AllByRecursion};
 ghost use Rattle.std.specs.Option.{option_copied};
@@ -27,21 +27,24 @@ use std::alloc::Allocator;
 use value::key::Key;
 use value::refusal::Refusal;
 
-// Adds a row, where it meets all conditions.
+// Adds a row, where it meets all conditions, and says whether it does.
 fn push_chosen<'r, A: Allocator>(
     conditions: &[Condition<A>],
     row: &'r Row<A>,
     chosen: &mut Vec<&'r Row<A>, A>,
-) -> Result<(), Refusal>
+) -> Result<bool, Refusal>
     requires { HasColumns conditions.now row.now }
     ensures ok { OnOk result (map (λ row. row.now) chosen.new.items ≡ map (λ row. row.now) chosen.old.items ++
         filter (satisfies conditions.now) (row.now ∷ [])) }
+    ensures says { IfOk result (λ b. b ≡ satisfies conditions.now row.now) }
     ensures err { IfErr result (λ e. e ≡ out_of_memory) }
 {
     if satisfies(conditions, row) {
         chosen.push(row)?;
+        Ok(true)
+    } else {
+        Ok(false)
     }
-    Ok(())
 }
 
 // Adds the row that was found, where one was and it meets all conditions.
@@ -55,10 +58,10 @@ fn push_found<'r, A: Allocator>(
         filter (satisfies conditions.now) (listed (option_copied found.entry))) }
     ensures err { IfErr result (λ e. e ≡ out_of_memory) }
 {
-    match found {
-        Some(row) => push_chosen(conditions, row, chosen),
-        None => Ok(()),
+    if let Some(row) = found {
+        let _ = push_chosen(conditions, row, chosen)?;
     }
+    Ok(())
 }
 
 // Whether a key isn't above an upper end.
@@ -70,6 +73,13 @@ fn is_to<A: Allocator>(end: &End<A>, key: &Key<A>) -> bool
         End::Closed(last) => last.cmp(key).is_ge(),
         End::Without(limit) => limit.cmp(key).is_gt(),
     }
+}
+
+// Whether a row is known to be above an upper end. One that is chosen isn't, and needn't be compared.
+fn is_above<A: Allocator>(is_chosen: bool, end: &End<A>, row: &Row<A>) -> bool
+    ensures { IsTrue result → is_to end.now row.now.0 ≡ false }
+{
+    !is_chosen && !is_to(end, row.key())
 }
 
 // A lower end as a bound of a reading.
@@ -119,10 +129,10 @@ fn chosen_between<'r, A: Allocator + Copy, R: RowsReader<A>>(
     let mut chosen = Vec::new(alloc);
     let mut walk = walk_from(alloc, reader, table, low)?;
     while let Some(row) = walk.next()? {
-        if !is_to(high, row.key()) {
+        let is_chosen = push_chosen(conditions, row, &mut chosen)?;
+        if is_above(is_chosen, high, row) {
             return Ok(chosen);
         }
-        push_chosen(conditions, row, &mut chosen)?;
     }
     Ok(chosen)
 }

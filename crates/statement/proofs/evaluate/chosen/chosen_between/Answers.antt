@@ -6,7 +6,7 @@ use Rattle.schema.specs.Rows.{IsInKeyOrder}
 use Rattle.statement.specs.Conditions.{satisfies}
 use Rattle.statement.specs.Cover.{is_from, is_to}
 use Rattle.statement.specs.Walk.{IsWithin}
-use Rattle.statement.proofs.WalkLemmas.{all_filter, from_low, from_low_rise, keep_more, none_in_order, rest_rises}
+use Rattle.statement.proofs.WalkLemmas.{all_filter, from_low, from_low_rise, keep_more, none_behind, rest_rises}
 use Rattle.statement.proofs.evaluate.chosen.chosen_between.Goals as goal
 
 pub loop-walk-init : goal.loop-walk-init
@@ -36,7 +36,7 @@ loop-walk-preserved g c =
     let done = map (λ row. row.now) c.loop-walk.chosen.items in
     let row = c.in-Some.row.now in
     let rest = c.next.new.self in (
-      ap (λ ds. ds ++ filter (satisfies cs) rest) c.in_ok-push_chosen.ensures.ok
+      ap (λ ds. ds ++ filter (satisfies cs) rest) c.in_ok-is_chosen.ensures.ok
           ∙ keep_more (satisfies cs) done row rest
           ∙ ap (λ rs. done ++ filter (satisfies cs) rs) (sym is)
           ∙ c.loop-walk.invariant.0,
@@ -44,13 +44,18 @@ loop-walk-preserved g c =
       rest_rises row rest (subst IsInKeyOrder is c.loop-walk.invariant.2),
     )
 
-pub returns-then-not-is_to-clause-ok : goal.returns-then-not-is_to-clause-ok
-returns-then-not-is_to-clause-ok g c =
+pub returns-then-is_above-clause-ok : goal.returns-then-is_above-clause-ok
+returns-then-is_above-clause-ok g c =
     let cs = c.args.conditions.now in
     let is = rw c.in-Some.is at c.in_ok-row.ensures.step in
+    let done = map (λ r. r.now) c.loop-walk.chosen.items in
     let row = c.in-Some.row.now in
     let rest = c.next.new.self in
-    let beyond : is_to c.args.high.now row.0 ≡ false = ap (is_to c.args.high.now) (sym c.key.ensures) ∙ sym c.is_to.ensures ∙ c.if-not-is_to.true in
-    let none = none_in_order cs c.args.low.now c.args.high.now row rest (subst IsInKeyOrder is c.loop-walk.invariant.2) (subst (AllByRecursion (λ r. IsWithin cs c.args.low.now c.args.high.now r)) is c.loop-walk.invariant.1) beyond in
-    let done = map (λ r. r.now) c.loop-walk.chosen.items in
-    sym (append-nil done) ∙ ap (λ zs. done ++ zs) (sym (ap (filter (satisfies cs)) is ∙ none)) ∙ c.loop-walk.invariant.0
+    let now = map (λ r. r.now) c.push_chosen.new.chosen.items in
+    let none = none_behind cs c.args.low.now c.args.high.now row rest (subst IsInKeyOrder is c.loop-walk.invariant.2) (subst (AllByRecursion (λ r. IsWithin cs c.args.low.now c.args.high.now r)) is c.loop-walk.invariant.1) (c.is_above.ensures c.if-is_above.true) in
+    sym (append-nil now)
+    ∙ ap (λ zs. now ++ zs) (sym none)
+    ∙ ap (λ ds. ds ++ filter (satisfies cs) rest) c.in_ok-is_chosen.ensures.ok
+    ∙ keep_more (satisfies cs) done row rest
+    ∙ ap (λ rs. done ++ filter (satisfies cs) rs) (sym is)
+    ∙ c.loop-walk.invariant.0
