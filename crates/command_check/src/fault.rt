@@ -13,7 +13,7 @@ pub(crate) enum Fault<'p> {
     Transcript(TranscriptFault),
     /// Memory was wanting.
     Memory,
-    /// A line of the dump that it opens, 0 for want of memory, and its code.
+    /// A line of the dump that it opens, 0 for out of memory, and its code.
     Dump(u64, Code),
     /// A file or a standard stream that couldn't be read or written.
     Device(&'p str),

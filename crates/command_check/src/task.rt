@@ -45,7 +45,7 @@ fn check<'w>(alloc: Global) -> Result<Command<'w>, AllocError> {
     Ok(check)
 }
 
-/// What the words behind `check` ask for. The error is a mistake in the words, `--help`, or want of memory.
+/// What the words behind `check` ask for. The error is a mistake in the words, `--help`, or out of memory.
 pub(crate) fn read_words<'w>(alloc: Global, words: &'w [&'w str]) -> Result<Task<'w>, Error> {
     let command = check(alloc)?;
     let matches = command.try_get_matches_from(words)?;

@@ -47,7 +47,7 @@ fn draw<'w>(alloc: Global) -> Result<Command<'w>, AllocError> {
     Ok(draw)
 }
 
-/// What the words behind `draw` ask for. The error is a mistake in the words, `--help`, or want of memory.
+/// What the words behind `draw` ask for. The error is a mistake in the words, `--help`, or out of memory.
 pub(crate) fn read_words<'w>(alloc: Global, words: &'w [&'w str]) -> Result<Task<'w>, Error> {
     let command = draw(alloc)?;
     let matches = command.try_get_matches_from(words)?;

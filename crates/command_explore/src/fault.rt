@@ -9,7 +9,7 @@ use value::refusal::Code;
 /// Why a script isn't explored.
 #[derive(Clone, Copy)]
 pub(crate) enum Fault<'p> {
-    /// The script, its dump, a file, or want of memory.
+    /// The script, its dump, a file, or out of memory.
     File(fault::Fault<'p>),
     /// A line of the setup is refused.
     Setup(u64, Code),

@@ -142,7 +142,7 @@ fn draw_of(count: Option<i64>, seed: Option<i64>) -> Option<Draw> {
     })
 }
 
-/// What the words behind `explore` ask for. The error is a mistake in the words, `--help`, or want of memory.
+/// What the words behind `explore` ask for. The error is a mistake in the words, `--help`, or out of memory.
 pub(crate) fn read_words<'w>(alloc: Global, words: &'w [&'w str]) -> Result<Task<'w>, Error> {
     let command = command(alloc)?;
     let matches = command.try_get_matches_from(words)?;

@@ -5,7 +5,7 @@ use Rattle.clap.specs.declared.builder.ArgAction.TheVariants.{SetTrue}
 use Rattle.program.specs.Asked.{WritesEvents, path_of}
 use Rattle.program.specs.CommandLine.{MayBeMistaken, events, script}
 use Rattle.program.specs.Outcomes.{AreHelp}
-use Rattle.script_files.specs.Faults.{status}
+use Rattle.script_files.specs.Faults.{out_of_memory, status}
 use Rattle.script_files.specs.declared.fault.Fault.{Fault}
 use Rattle.command_transcript.specs.Told.{PathHasStopped, PathHasTold}
 
@@ -31,9 +31,9 @@ AsksFor words = Asks (matches_of run words)
 abbrev pub HasDone : (A : Type 0) → (List ℕ → Option (List ℕ)) → Option (List ℕ) → List Text → Option (List ℕ) → Option (List ℕ) → Type 0
 HasDone A held input words before after = AreHelp (fault_of run words) ⊎ ((path : Text) × (most : ℕ) × AsksFor words path most × PathHasTold A held input most path before after)
 
--- No script is known: the words are mistaken; or memory was wanting for them, and nothing was printed; or they are a call for help, and standard output has failed.
+-- No script is known: the words are mistaken; or out of memory for them, and nothing was printed; or they are a call for help, and standard output has failed.
 abbrev pub IsWithoutTask : List Text → ℕ → Option (List ℕ) → Option (List ℕ) → Type 0
-IsWithoutTask words n before after = (MayBeMistaken (fault_of run words) × (n ≡ 2)) ⊎ ((n ≡ 1) × (after ≡ before)) ⊎ (AreHelp (fault_of run words) × (n ≡ 3))
+IsWithoutTask words n before after = (MayBeMistaken (fault_of run words) × (n ≡ 2)) ⊎ ((n ≡ status out_of_memory) × (after ≡ before)) ⊎ (AreHelp (fault_of run words) × (n ≡ 3))
 
 -- What a path has wasn't done to its end, for a fault that has this exit status.
 abbrev pub EndsWith : (A : Type 0) → (List ℕ → Option (List ℕ)) → Option (List ℕ) → ℕ → Text → ℕ → Option (List ℕ) → Option (List ℕ) → Type 0

@@ -64,7 +64,7 @@ fn task_of<'w>(matches: &ArgMatches<'w>) -> Task<'w>
     }
 }
 
-/// What the words behind `run` ask for. The error is a mistake in the words, `--help`, or want of memory.
+/// What the words behind `run` ask for. The error is a mistake in the words, `--help`, or out of memory.
 pub(crate) fn read_words<'w>(alloc: Global, words: &'w [&'w str]) -> Result<Task<'w>, Error>
     ensures asked { IfOk result (λ t. spec.AsksFor (map (λ w. w.now) words.entry.now) t.script.now t.most_events) }
     ensures fails { FailsBy (fault_of spec.run (map (λ w. w.now) words.entry.now)) result }

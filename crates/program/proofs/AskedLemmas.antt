@@ -1,9 +1,12 @@
 -- What arguments give.
-use Rattle.std.proofs.Common.{◌≡◌, ◌⊎◌, ◌^◌, ◌<◌, ◌≤◌, ℕ, Bool, true, false, List, [], ◌∷◌, Option, Some, None, Result, codes, map, inl, inr, refl, sym, ap, subst, unwrap_or, ◌∙◌, arith, true≢false, Bor, is_some, option_map, length, ◌==◌}
+use Rattle.std.proofs.Common.{◌≡◌, ◌⊎◌, ◌^◌, ◌<◌, ◌≤◌, ℕ, Bool, true, false, List, [], ◌∷◌, Option, Some, None, Result, codes, map, inl, inr, refl, sym, ap, subst, unwrap_or, ◌∙◌, arith, true≢false, if◌then◌else◌, Bor, is_some, option_map, length, ◌==◌}
 use Rattle.std.specs.Str.Parse.{ParsesUnsigned}
-use Rattle.clap.specs.Words.{ReadsOne, Row, Text, subcommand_of}
-use Rattle.program.specs.CommandLine.{pgserial}
-use Rattle.program.specs.Asked.{AsksFor, IsFlag, IsNumber, MayWork, Writes, command_of, number_of}
+use Rattle.clap.specs.Kinds.{or_else}
+use Rattle.clap.specs.Words.{HasKind, Kinds, ReadsOne, Row, Text, fault_of, kind_of, subcommand_of}
+use Rattle.clap.specs.declared.error.Error.{Error}
+use Rattle.clap.specs.declared.error.ErrorKind.TheVariants.{MissingRequiredArgument}
+use Rattle.program.specs.CommandLine.{faults, faults_between, lacks_free, pgserial}
+use Rattle.program.specs.Asked.{AsksFor, IsNumber, MayWork, Writes, command_of, number_of}
 use Rattle.program.specs.declared.task.Task.{Task}
 
 -- what a number of 32 bits is read as
@@ -33,11 +36,34 @@ pub text_or : (o : Option (Bor Text)) (d : Bor Text) → (unwrap_or o d).now ≡
 text_or None d = refl
 text_or (Some s) d = refl
 
-pub flag : (o : Option Text) (b : Bool) → (o ≡ None → b ≡ false) → (o ≡ Some (codes "true") → b ≡ true) → (o ≡ Some (codes "false") → b ≡ false) → IsFlag o b
-flag None b none set unset = none refl
-flag (Some t) b none set unset = (λ e. set (ap (λ x. Some x) e), λ e. unset (ap (λ x. Some x) e))
-
 -- some words name a command
 pub of_words : (words : List (Bor Text)) (o : Option (Text × List Row)) (r : Task) → (length words == 0) ≡ false → o ≡ subcommand_of pgserial (map (λ w. w.now) words) → AsksFor o r → AsksFor (command_of (map (λ w. w.now) words)) r
 of_words [] o r some is asks = absurd (true≢false some)
 of_words (w ∷ ws) o r some is asks = subst (λ x. AsksFor x r) is asks
+
+-- an error of the first kinds is one of both
+either : (ks more : Kinds) (e : Error) → HasKind ks e → HasKind (or_else ks more) e
+either ks more e (inl memory) = inl memory
+either [] more e (inr here) = absurd here
+either (k ∷ ks) more e (inr here) = inr here
+
+-- the parser's fault is one of the words
+pub parse_fails : (words : List (Bor Text)) (e : Error) → (length words == 0) ≡ false → HasKind (fault_of pgserial (map (λ w. w.now) words)) e → HasKind (faults (map (λ w. w.now) words)) e
+parse_fails [] e some has = absurd (true≢false some)
+parse_fails (w ∷ ws) e some has = either (fault_of pgserial (map (λ w. w.now) (w ∷ ws))) (faults_between (subcommand_of pgserial (map (λ w. w.now) (w ∷ ws)))) e has
+
+-- the faults of words that the parser takes
+taken : (words : List (Bor Text)) (o : Option (Text × List Row)) → (length words == 0) ≡ false → fault_of pgserial (map (λ w. w.now) words) ≡ [] → o ≡ subcommand_of pgserial (map (λ w. w.now) words) → faults (map (λ w. w.now) words) ≡ faults_between o
+taken [] o some none is = absurd (true≢false some)
+taken (w ∷ ws) o some none is = ap (λ ks. or_else ks (faults_between (subcommand_of pgserial (map (λ w. w.now) (w ∷ ws))))) none ∙ ap faults_between (sym is)
+
+abbrev between : Bool → Kinds
+between b = if b then MissingRequiredArgument ∷ [] else []
+
+-- nothing is wrong with the words
+pub no_faults : (words : List (Bor Text)) (o : Option (Text × List Row)) → (length words == 0) ≡ false → fault_of pgserial (map (λ w. w.now) words) ≡ [] → o ≡ subcommand_of pgserial (map (λ w. w.now) words) → lacks_free o ≡ false → faults (map (λ w. w.now) words) ≡ []
+no_faults words o some none is lacks = taken words o some none is ∙ ap between lacks
+
+-- a check is left out that isn't made
+pub free_lacks : (words : List (Bor Text)) (o : Option (Text × List Row)) (e : Error) → (length words == 0) ≡ false → fault_of pgserial (map (λ w. w.now) words) ≡ [] → o ≡ subcommand_of pgserial (map (λ w. w.now) words) → lacks_free o ≡ true → kind_of e ≡ MissingRequiredArgument → HasKind (faults (map (λ w. w.now) words)) e
+free_lacks words o e some none is lacks kind = subst (λ ks. HasKind ks e) (sym (taken words o some none is ∙ ap between lacks)) (inr (inl kind))

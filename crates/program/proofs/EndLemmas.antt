@@ -1,11 +1,13 @@
 -- How the program ends where its words are mistaken.
-use Rattle.std.proofs.Common.{◌≡◌, ◌⊎◌, ◌∙◌, ℕ, List, Option, Result, Ok, Err, IfErr, OnErr, OnOk, inl, inr, refl, sym, ap, subst, arith}
+use Rattle.std.proofs.Common.{◌≡◌, ◌⊎◌, ◌∙◌, ℕ, List, Option, Result, Ok, Err, IfErr, OnErr, OnOk, inl, inr, refl, sym, ap, subst, arith, codes}
 use Rattle.clap.specs.Words.{HasKind, IsAmong, Kinds, Text, kind_of}
 use Rattle.clap.specs.declared.error.Error.{Error}
 use Rattle.clap.specs.declared.error.ErrorKind.TheVariants.{DisplayHelp, DisplayVersion, OutOfMemory}
 use Rattle.program.specs.CommandLine.{IsMistake, faults}
 use Rattle.program.specs.Ends.{EndsFor, code, end, status}
-use Rattle.program.specs.Outcomes.{AreHelp, IsWithoutTask}
+use Rattle.program.specs.Files.{Writing}
+use Rattle.program.specs.Outcomes.{AreHelp, EndsAs}
+use Rattle.program.specs.Outcomes.Ending.{Mistaken, Fails}
 use Rattle.program.specs.declared.fault.Fault.{Fault}
 use Rattle.program.specs.declared.fault.Fault.TheVariants as fault
 use Rattle.program.specs.declared.fault.Status.{Status}
@@ -25,7 +27,7 @@ only_done Refused e = absurd (omega (arith, e))
 only_done Usage e = absurd (omega (arith, e))
 only_done Device e = absurd (omega (arith, e))
 
--- an error that isn't want of memory is one of the faults
+-- an error other than out of memory is one of the faults
 pub among : (ks : Kinds) (e : Error) → HasKind ks e → (kind_of e ≡ OutOfMemory → ⊥) → IsAmong (kind_of e) ks
 among ks e (inl memory) other = absurd (other memory)
 among ks e (inr here) other = here
@@ -45,18 +47,24 @@ help_of ks e has other (inr is) = inr (subst (λ k. IsAmong k ks) is (among ks e
 pub are_help : (ks : Kinds) (e : Error) (s : Status) → HasKind ks e → (kind_of e ≡ OutOfMemory → s ≡ Refused) → (kind_of e ≡ DisplayHelp) ⊎ (kind_of e ≡ DisplayVersion) → s ≡ Done → AreHelp ks
 are_help ks e s has memory help done = help_of ks e has (λ m. refused_is_not_done (sym (memory m) ∙ done)) help
 
+-- the failure of standard output
+abbrev stdout_fails : Fault
+stdout_fails = fault.Device (record { ref_ptr = (0, 0); now = codes "-" })
+
 -- what is told where the words have a fault, and no help is printed
-pub without_task : (words : List Text) (e : Error) (s : Status) (before after : Option (List ℕ)) → HasKind (faults words) e → (s ≡ Usage → IsMistake (kind_of e)) → (kind_of e ≡ OutOfMemory → s ≡ Refused) → ((s ≡ Done) ⊎ (s ≡ Device) → (kind_of e ≡ DisplayHelp) ⊎ (kind_of e ≡ DisplayVersion)) → (s ≡ Refused → after ≡ before) → (s ≡ Done → ⊥) → IsWithoutTask words s before after
-without_task words e Done before after has mistake memory help silent other = absurd (other refl)
-without_task words e Refused before after has mistake memory help silent other = inr (inl (refl, silent refl))
-without_task words e Usage before after has mistake memory help silent other = inl ((kind_of e, among (faults words) e has (mistake refl).0, mistake refl), refl)
-without_task words e Device before after has mistake memory help silent other = inr (inr (help_of (faults words) e has (λ m. refused_is_no_device (sym (memory m))) (help (inr refl)), refl))
+pub without_task : (A G : Type 0) (writes : Writing) (held : List ℕ → Option (List ℕ)) (input : Option (List ℕ)) (words : List Text) (e : Error) (s : Status) (before after : Option (List ℕ)) → HasKind (faults words) e → (s ≡ Usage → IsMistake (kind_of e)) → (kind_of e ≡ OutOfMemory → s ≡ Refused) → ((s ≡ Done) ⊎ (s ≡ Device) → (kind_of e ≡ DisplayHelp) ⊎ (kind_of e ≡ DisplayVersion)) → (s ≡ Refused → after ≡ before) → (s ≡ Done → ⊥) → EndsAs A G writes held input words s before after
+without_task A G writes held input words e Done before after has mistake memory help silent other = absurd (other refl)
+without_task A G writes held input words e Refused before after has mistake memory help silent other = (Fails fault.ScriptOutOfMemory, refl, inl (inl (refl, silent refl)))
+without_task A G writes held input words e Usage before after has mistake memory help silent other = (Mistaken, refl, (kind_of e, among (faults words) e has (mistake refl).0, mistake refl))
+without_task A G writes held input words e Device before after has mistake memory help silent other = (Fails stdout_fails, refl, inl (inr (help_of (faults words) e has (λ m. refused_is_no_device (sym (memory m))) (help (inr refl)), refl)))
 
 -- a fault doesn't end as what is done
 pub not_done : (f : Fault) → status f ≡ Done → ⊥
 not_done (fault.Script line) e = let n : 1 ≡ 0 = ap code e in absurd (omega (arith, n))
 not_done (fault.Dump line c) e = let n : 1 ≡ 0 = ap code e in absurd (omega (arith, n))
 not_done (fault.Device path) e = let n : 3 ≡ 0 = ap code e in absurd (omega (arith, n))
+not_done fault.ScriptOutOfMemory e = let n : 1 ≡ 0 = ap code e in absurd (omega (arith, n))
+not_done fault.DumpOutOfMemory e = let n : 1 ≡ 0 = ap code e in absurd (omega (arith, n))
 
 -- what ends as done was done
 pub was_done : (d : Result (Unit {0}) Fault) (s : Status) (P : Type 0) → s ≡ end d → OnOk d P → s ≡ Done → P
@@ -67,11 +75,6 @@ was_done (Err f) s P e p is = absurd (not_done f (sym e ∙ is))
 pub was_stopped : (d : Result (Unit {0}) Fault) (s : Status) (P : Fault → Type 0) → s ≡ end d → IfErr d P → (s ≡ Done → ⊥) → EndsFor s P
 was_stopped (Ok x) s P e p other = absurd (other e)
 was_stopped (Err f) s P e p other = (f, e, p)
-
--- of one fact of an error another
-pub on_err : {T E : Type 0} (r : Result T E) (P : Type 0) → OnErr r P → IfErr r (λ e. P)
-on_err (Ok x) P p = tt
-on_err (Err e) P p = p
 
 -- of two facts of an error a third
 pub of_both_errors : {T E : Type 0} (r : Result T E) (P : E → Type 0) (Q : Type 0) → IfErr r P → OnErr r Q → IfErr r (λ e. P e × Q)

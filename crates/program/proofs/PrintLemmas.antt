@@ -1,8 +1,12 @@
 -- What was printed in parts was printed as a whole.
-use Rattle.std.proofs.Common.{◌≡◌, ◌⊎◌, ℕ, true, List, [], ◌++◌, Option, Some, None, inl, inr, refl, sym, ap, subst, ◌∙◌, append_assoc}
+use Rattle.std.proofs.Common.{◌≡◌, ◌⊎◌, ℕ, true, List, [], ◌++◌, Option, Some, None, Result, Ok, Err, IfErr, OnErr, OnOk, inl, inr, refl, sym, ap, subst, ◌∙◌, append_assoc, true≢false}
 use Rattle.std.proofs.lemmas.List.{append-nil}
 use Rattle.std.specs.Io.KnownBytes.{Appends}
+use Rattle.std.proofs.lemmas.Result.{IfErr-at_err}
+use Rattle.std.specs.Result.{is_ok, result_and}
 use Rattle.program.specs.Printed.{Adds, Printed, Prints, all}
+use Rattle.program.specs.declared.output.PrintError.{PrintError}
+use Rattle.program.specs.declared.output.PrintError.TheVariants.{Device}
 
 appends_twice : (a b c : Option (List ℕ)) (s t : List ℕ) → Appends a b s → Appends b c t → Appends a c (s ++ t)
 appends_twice None b c s t x y = tt
@@ -46,3 +50,9 @@ prints_twice p q r s t x y = (y.0 ∙ x.0, λ e. y.1 (x.1 e), appended p q r s t
 -- a text was printed, and then nothing more
 pub prints_no_more : (p q r : Printed) (s : List ℕ) → Prints p q s → Prints q r [] → Prints p r s
 prints_no_more p q r s x y = subst (λ t. Prints p r t) (append-nil s) (prints_twice p q r s [] x y)
+
+-- what couldn't be printed, or couldn't be written when nothing was to be held back, was lost to a stream that has failed
+pub whole_failed : (a b : Result (Unit {0}) PrintError) (p q : Printed) → IfErr a (λ e. e ≡ Device → p.failed ≡ true) → OnOk b (Adds p q []) → OnErr b (q.failed ≡ true) → result_and a b ≡ Err Device → q.failed ≡ true
+whole_failed a (Err e) p q print adds failed is = failed
+whole_failed (Ok x) (Ok y) p q print adds failed is = absurd (true≢false (ap is_ok is))
+whole_failed (Err d) (Ok y) p q print adds failed is = adds.1 ∙ IfErr-at_err (λ e. e ≡ Device → p.failed ≡ true) is print refl

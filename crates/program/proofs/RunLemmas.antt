@@ -4,7 +4,7 @@ use Rattle.std.proofs.lemmas.List.{take_more, take_all}
 use Rattle.std.proofs.lemmas.Option.{slice_get_read}
 use Rattle.program.specs.Printed.{Adds, Printed, Prints}
 use Rattle.program.specs.Steps.{AreDone}
-use Rattle.program.specs.Files.{IsFileFault}
+use Rattle.program.specs.Files.{IsFileFault, Writing}
 use Rattle.history.specs.Opening.{Recorded}
 use Rattle.script.specs.declared.script.Line.{Line}
 use Rattle.program.specs.declared.fault.Fault.{Fault}
@@ -28,13 +28,13 @@ if_err_of (Err e) P Q R f p q = f e p q
 
 module _ {A : Type 0} where
   -- the first n lines were done and printed
-  abbrev pub SoFar : Way → Recorded A → List (Line A) → ℕ → Recorded A → Printed → Printed → Type 0
-  SoFar way h lines n k p q = (text : List ℕ) × LinesAreDone way h (take n lines) k text × Adds p q text
+  abbrev pub SoFar : Writing → Way → Recorded A → List (Line A) → ℕ → Recorded A → Printed → Printed → Type 0
+  SoFar writes way h lines n k p q = (text : List ℕ) × LinesAreDone writes way h (take n lines) k text × Adds p q text
 
-  pub one_more : (way : Way) (h m k : Recorded A) (lines : List (Line A)) (n : ℕ) (line : Line A) (p q r : Printed) (text shown : List ℕ)
-      → n < length lines → line ≡ get_or lines n line → SoFar way h lines n m p q → IsDone way m line.step k text → shown ≡ text → Adds q r shown → SoFar way h lines (n + 1) k p r
-  one_more way h m k lines n line p q r text shown lt at so done is prints =
-      let does : Recorded A → Line A → Recorded A → List ℕ → Type 0 = λ h line k text. IsDone way h line.step k text in
+  pub one_more : (writes : Writing) (way : Way) (h m k : Recorded A) (lines : List (Line A)) (n : ℕ) (line : Line A) (p q r : Printed) (text shown : List ℕ)
+      → n < length lines → line ≡ get_or lines n line → SoFar writes way h lines n m p q → IsDone writes way m line.step k text → shown ≡ text → Adds q r shown → SoFar writes way h lines (n + 1) k p r
+  one_more writes way h m k lines n line p q r text shown lt at so done is prints =
+      let does : Recorded A → Line A → Recorded A → List ℕ → Type 0 = λ h line k text. IsDone writes way h line.step k text in
       let next : take (n + 1) lines ≡ take n lines ++ line ∷ [] = take_more lines n line lt ∙ ap (λ y. take n lines ++ y ∷ []) (sym at) in (
         so.0 ++ text,
         subst (λ ls. AreDone does h ls k (so.0 ++ text)) (sym next) (done_more does h m k (take n lines) line so.0 text so.1 done),
@@ -42,65 +42,65 @@ module _ {A : Type 0} where
       )
 
   -- Lines end once n of them are done and printed.
-  pub stopped : (way : Way) (h k : Recorded A) (lines : List (Line A)) (n : ℕ) (f : Fault) (p q r : Printed) → SoFar way h lines n k p q → Prints q r [] → EndsAt lines n f r → HasStopped way h lines f p r
-  stopped way h k lines n f p q r so none ends = (n, k, so.0, so.1, prints_no_more p q r so.0 (added_is_printed p q so.0 so.2) none, ends)
+  pub stopped : (writes : Writing) (way : Way) (h k : Recorded A) (lines : List (Line A)) (n : ℕ) (f : Fault) (p q r : Printed) → SoFar writes way h lines n k p q → Prints q r [] → EndsAt k lines n f r → HasStopped writes way h lines f p r
+  stopped writes way h k lines n f p q r so none ends = (n, k, so.0, so.1, prints_no_more p q r so.0 (added_is_printed p q so.0 so.2) none, ends)
 
   -- they end by a step
-  pub ends_by_step : (lines : List (Line A)) (n : ℕ) (line : Line A) (f : Fault) (q : Printed) → n < length lines → line ≡ get_or lines n line → Stops line.step f → EndsAt lines n f q
-  ends_by_step lines n line f q lt at stops = inr (inr (line, slice_get_read lines (length lines) n line refl lt at, stops))
+  pub ends_by_step : (k : Recorded A) (lines : List (Line A)) (n : ℕ) (line : Line A) (f : Fault) (q : Printed) → n < length lines → line ≡ get_or lines n line → Stops k line.step f → EndsAt k lines n f q
+  ends_by_step k lines n line f q lt at stops = inr (inr (line, slice_get_read lines (length lines) n line refl lt at, stops))
 
   -- they end since nothing more could be printed
-  pub ends_by_print : (lines : List (Line A)) (n : ℕ) (f : Fault) (q : Printed) → (f ≡ fault.Script 0) ⊎ IsFileFault (codes "-") f × (q.failed ≡ true) → EndsAt lines n f q
-  ends_by_print lines n f q (inl e) = inl e
-  ends_by_print lines n f q (inr e) = inr (inl e)
+  pub ends_by_print : (k : Recorded A) (lines : List (Line A)) (n : ℕ) (f : Fault) (q : Printed) → (f ≡ fault.ScriptOutOfMemory) ⊎ IsFileFault (codes "-") f × (q.failed ≡ true) → EndsAt k lines n f q
+  ends_by_print k lines n f q (inl e) = inl e
+  ends_by_print k lines n f q (inr e) = inr (inl e)
 
-  pub run : (way : Way) (h k : Recorded A) (lines : List (Line A)) (n : ℕ) (p q r : Printed) (shown : List ℕ) → length lines ≤ n → SoFar way h lines n k p q → shown ≡ order_text way.shown k → Adds q r shown → HasRun way h lines p r
-  run way h k lines n p q r shown le so is prints = (
+  pub run : (writes : Writing) (way : Way) (h k : Recorded A) (lines : List (Line A)) (n : ℕ) (p q r : Printed) (shown : List ℕ) → length lines ≤ n → SoFar writes way h lines n k p q → shown ≡ order_text way.shown k → Adds q r shown → HasRun writes way h lines p r
+  run writes way h k lines n p q r shown le so is prints = (
     k,
     so.0,
-    subst (λ ls. AreDone (λ h line k text. IsDone way h line.step k text) h ls k so.0) (take_all n lines le) so.1,
+    subst (λ ls. AreDone (λ h line k text. IsDone writes way h line.step k text) h ls k so.0) (take_all n lines le) so.1,
     adds_twice p q r so.0 (order_text way.shown k) so.2 (subst (λ t. Adds q r t) is prints),
   )
 
   -- All lines were done, and what is held back was written.
-  pub flushed : (way : Way) (h : Recorded A) (lines : List (Line A)) (p q r : Printed) → HasRun way h lines p q → Adds q r [] → HasRun way h lines p r
-  flushed way h lines p q r run next = (run.0, run.1, run.2, adds_no_more p q r (run.1 ++ order_text way.shown run.0) run.3 next)
+  pub flushed : (writes : Writing) (way : Way) (h : Recorded A) (lines : List (Line A)) (p q r : Printed) → HasRun writes way h lines p q → Adds q r [] → HasRun writes way h lines p r
+  flushed writes way h lines p q r run next = (run.0, run.1, run.2, adds_no_more p q r (run.1 ++ order_text way.shown run.0) run.3 next)
 
   -- The first lines were done, and what is held back was written.
-  pub stopped_flushed : (way : Way) (h : Recorded A) (lines : List (Line A)) (f : Fault) (p q r : Printed) → HasStopped way h lines f p q → Adds q r [] → HasStopped way h lines f p r
-  stopped_flushed way h lines f p q r stop next = (stop.0, stop.1, stop.2, stop.3, prints_no_more p q r stop.2 stop.4 (added_is_printed q r [] next), go stop.5)
+  pub stopped_flushed : (writes : Writing) (way : Way) (h : Recorded A) (lines : List (Line A)) (f : Fault) (p q r : Printed) → HasStopped writes way h lines f p q → Adds q r [] → HasStopped writes way h lines f p r
+  stopped_flushed writes way h lines f p q r stop next = (stop.0, stop.1, stop.2, stop.3, prints_no_more p q r stop.2 stop.4 (added_is_printed q r [] next), go stop.5)
     where
-      go : EndsAt lines stop.0 f q → EndsAt lines stop.0 f r
+      go : EndsAt stop.1 lines stop.0 f q → EndsAt stop.1 lines stop.0 f r
       go (inl e) = inl e
       go (inr (inl e)) = inr (inl (e.0, next.1 ∙ e.1))
       go (inr (inr e)) = inr (inr e)
 
   -- The stream has failed: no more than nothing is known to be printed.
-  pub lost : (d : Result (Unit {0}) Fault) (way : Way) (h : Recorded A) (lines : List (Line A)) (f : Fault) (p q r : Printed) → OnOk d (HasRun way h lines p q) → IfErr d (λ g. HasStopped way h lines g p q) → Prints q r [] → IsFileFault (codes "-") f → r.failed ≡ true → HasStopped way h lines f p r
-  lost (Ok x) way h lines f p q r run stop next is failed = (0, h, [], (refl, refl), (next.0 ∙ run.3.0, λ e. failed, inl failed), inr (inl (is, failed)))
-  lost (Err e) way h lines f p q r run stop next is failed = (0, h, [], (refl, refl), (next.0 ∙ stop.4.0, λ e. failed, inl failed), inr (inl (is, failed)))
+  pub lost : (d : Result (Unit {0}) Fault) (writes : Writing) (way : Way) (h : Recorded A) (lines : List (Line A)) (f : Fault) (p q r : Printed) → OnOk d (HasRun writes way h lines p q) → IfErr d (λ g. HasStopped writes way h lines g p q) → Prints q r [] → IsFileFault (codes "-") f → r.failed ≡ true → HasStopped writes way h lines f p r
+  lost (Ok x) writes way h lines f p q r run stop next is failed = (0, h, [], (refl, refl), (next.0 ∙ run.3.0, λ e. failed, inl failed), inr (inl (is, failed)))
+  lost (Err e) writes way h lines f p q r run stop next is failed = (0, h, [], (refl, refl), (next.0 ∙ stop.4.0, λ e. failed, inl failed), inr (inl (is, failed)))
 
   -- A script has run, of which these are the parts.
-  pub script_has_run : (held : List ℕ → Option (List ℕ)) (way : Way) (s : Said A) (catalog : Catalog) (opens : Option (List ℕ)) (lines : List (Line A)) (p q : Printed)
+  pub script_has_run : (writes : Writing) (held : List ℕ → Option (List ℕ)) (way : Way) (s : Said A) (catalog : Catalog) (opens : Option (List ℕ)) (lines : List (Line A)) (p q : Printed)
       → catalog ≡ s.catalog → opens ≡ s.opens → lines ≡ s.lines
-      → ScriptHasRun held way (record { catalog = catalog; opens = opens; lines = lines }) p q → ScriptHasRun held way s p q
-  script_has_run held way s catalog opens lines p q created opened lined run = (
+      → ScriptHasRun writes held way (record { catalog = catalog; opens = opens; lines = lines }) p q → ScriptHasRun writes held way s p q
+  script_has_run writes held way s catalog opens lines p q created opened lined run = (
     run.0,
     run.1,
     subst (λ o. BeginsWith held o s.catalog run.0 run.1) opened (subst (λ c. BeginsWith held opens c run.0 run.1) created run.2),
-    subst (λ ls. HasRun way (begun run.0 run.1 way.most_events) ls p q) lined run.3,
+    subst (λ ls. HasRun writes way (begun run.0 run.1 way.most_events) ls p q) lined run.3,
     run.4,
   )
 
   -- A script has stopped, of which these are the parts.
-  pub script_has_stopped : (held : List ℕ → Option (List ℕ)) (way : Way) (s : Said A) (catalog : Catalog) (opens : Option (List ℕ)) (lines : List (Line A)) (f : Fault) (p q : Printed)
+  pub script_has_stopped : (writes : Writing) (held : List ℕ → Option (List ℕ)) (way : Way) (s : Said A) (catalog : Catalog) (opens : Option (List ℕ)) (lines : List (Line A)) (f : Fault) (p q : Printed)
       → catalog ≡ s.catalog → opens ≡ s.opens → lines ≡ s.lines
-      → ScriptHasStopped held way (record { catalog = catalog; opens = opens; lines = lines }) f p q → ScriptHasStopped held way s f p q
-  script_has_stopped held way s catalog opens lines f p q created opened lined (inl e) = inl (subst (λ o. IsUnbegun A held o s.catalog f) opened (subst (λ c. IsUnbegun A held opens c f) created e.0), e.1)
-  script_has_stopped held way s catalog opens lines f p q created opened lined (inr e) = inr (
+      → ScriptHasStopped writes held way (record { catalog = catalog; opens = opens; lines = lines }) f p q → ScriptHasStopped writes held way s f p q
+  script_has_stopped writes held way s catalog opens lines f p q created opened lined (inl e) = inl (subst (λ o. IsUnbegun A held o s.catalog f) opened (subst (λ c. IsUnbegun A held opens c f) created e.0), e.1)
+  script_has_stopped writes held way s catalog opens lines f p q created opened lined (inr e) = inr (
     e.0,
     e.1,
     subst (λ o. BeginsWith held o s.catalog e.0 e.1) opened (subst (λ c. BeginsWith held opens c e.0 e.1) created e.2),
-    subst (λ ls. HasStopped way (begun e.0 e.1 way.most_events) ls f p q) lined e.3,
+    subst (λ ls. HasStopped writes way (begun e.0 e.1 way.most_events) ls f p q) lined e.3,
     e.4,
   )

@@ -1,8 +1,8 @@
 -- What a command line asks for (this project's own choice). To clap a command's rows are its arguments, with their values.
-use Rattle.std.specs.Prelude.{◌≡◌, ◌≢◌, ◌⊎◌, ◌^◌, ◌<◌, ◌≤◌, ℕ, Bool, true, false, List, [], ◌∷◌, Option, Some, None, codes, unwrap_or}
+use Rattle.std.specs.Prelude.{◌≡◌, ◌≢◌, ◌⊎◌, ◌^◌, ◌<◌, ◌≤◌, ℕ, not, true, false, List, [], ◌∷◌, Option, Some, None, codes, unwrap_or}
 use Rattle.std.specs.Str.Parse.{IsNumeral, digits_value, without_leading_plus}
 use Rattle.clap.specs.Words.{Row, Text, first_of, one_of, subcommand_of}
-use Rattle.program.specs.CommandLine.{pgserial}
+use Rattle.program.specs.CommandLine.{is_set, pgserial}
 use Rattle.program.specs.declared.task.Task.{Task}
 use Rattle.program.specs.declared.task.Task.TheVariants as task
 use Rattle.program.specs.declared.run.Shown.{Shown}
@@ -38,11 +38,6 @@ MayWork n = (1 ≤ n) × (n ≤ 64)
 abbrev pub WritesJobs : List Row → ℕ → Type 0
 WritesJobs rows = Writes MayWork 1 (one_of (codes "jobs") rows)
 
--- whether a flag is among the words
-abbrev pub IsFlag : Option Text → Bool → Type 0
-IsFlag None b = b ≡ false
-IsFlag (Some text) b = (text ≡ codes "true" → b ≡ true) × (text ≡ codes "false" → b ≡ false)
-
 -- The lines of a script one after the other: its path, and for how many events there is room.
 abbrev pub IsInOrder : List Row → Shown → Text → Way → Type 0
 IsInOrder rows shown path way = (path ≡ path_of (codes "SCRIPT") rows) × (way.shown ≡ shown) × WritesEvents rows way.most_events
@@ -57,10 +52,10 @@ abbrev pub AsksToAudit : List Row → Task → Type 0
 AsksToAudit rows (task.Run path way) = IsInOrder rows Order path.now way
 AsksToAudit rows _ = ⊥
 
--- `run`: each session's lines on a thread where `--free` is among the words; else the lines one after the other, with their replies
+-- `run`: each session's lines on a thread where `--free` is among the words, and then the check unless `--no-check` is; else the lines one after the other, with their replies
 abbrev pub AsksToRun : List Row → Task → Type 0
-AsksToRun rows (task.Run path way) = IsInOrder rows Replies path.now way × IsFlag (one_of (codes "free") rows) false
-AsksToRun rows (task.Free path most) = (path.now ≡ path_of (codes "SCRIPT") rows) × WritesEvents rows most × IsFlag (one_of (codes "free") rows) true
+AsksToRun rows (task.Run path way) = IsInOrder rows Replies path.now way × (is_set (codes "free") rows ≡ false)
+AsksToRun rows (task.Free path way) = (path.now ≡ path_of (codes "SCRIPT") rows) × WritesEvents rows way.most_events × (is_set (codes "free") rows ≡ true) × (way.is_checked ≡ not (is_set (codes "no-check") rows))
 AsksToRun rows _ = ⊥
 
 -- the script on standard input, with its replies

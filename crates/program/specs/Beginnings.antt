@@ -4,7 +4,6 @@ use Rattle.schema.specs.Definition.{Catalog}
 use Rattle.schema.specs.Inserting.{empty_tables}
 use Rattle.schema.specs.declared.tables.Tables.{Tables}
 use Rattle.restore.specs.Reading.{read_dump}
-use Rattle.restore.specs.Steps.{no_memory}
 use Rattle.restore.specs.declared.error.RestoreFault.{RestoreFault}
 use Rattle.program.specs.Ends.{dump_fault}
 use Rattle.program.specs.Files.{IsAllOf, IsFileFault}
@@ -23,16 +22,16 @@ IsFaulty A known f = (bytes : List ℕ) × IsAllOf known bytes × (e : RestoreFa
 
 -- Why the dump of a path wasn't read, of which this is known: its file couldn't be read, or it is faulty, or memory was wanting.
 abbrev pub IsUnread : (A : Type 0) → Option (List ℕ) → List ℕ → Fault → Type 0
-IsUnread A known path f = IsFileFault path f ⊎ IsFaulty A known f ⊎ (f ≡ dump_fault no_memory)
+IsUnread A known path f = IsFileFault path f ⊎ IsFaulty A known f ⊎ (f ≡ fault.DumpOutOfMemory)
 
 -- Why a script's tables weren't opened: the dump that it opens wasn't read; or memory was wanting for those that it creates.
 abbrev pub IsUnopened : (A : Type 0) → (List ℕ → Option (List ℕ)) → Option (List ℕ) → Fault → Type 0
-IsUnopened A held None f = f ≡ fault.Script 0
+IsUnopened A held None f = f ≡ fault.ScriptOutOfMemory
 IsUnopened A held (Some path) f = IsUnread A (held path) path f
 
 -- The tables are there, and no core was opened on them: memory was wanting, or there is to be room for no event.
 abbrev pub IsWithoutCore : (A : Type 0) → (List ℕ → Option (List ℕ)) → Option (List ℕ) → Catalog → Fault → Type 0
-IsWithoutCore A held opens created f = (c : Catalog) × (X : Tables A) × BeginsWith held opens created c X × (f ≡ fault.Script 0)
+IsWithoutCore A held opens created f = (c : Catalog) × (X : Tables A) × BeginsWith held opens created c X × (f ≡ fault.ScriptOutOfMemory)
 
 -- Why a script hasn't begun: its tables weren't opened, or no core on them.
 abbrev pub IsUnbegun : (A : Type 0) → (List ℕ → Option (List ℕ)) → Option (List ℕ) → Catalog → Fault → Type 0

@@ -1,10 +1,12 @@
--- The command line (this project's own choice), in the words of clap: `run SCRIPT [--events N] [--free]`, `audit SCRIPT [--events N]`, `--version` and `restore DUMP [--jobs N] --out FILE`.
-use Rattle.std.specs.Prelude.{◌≢◌, ◌==◌, true, List, [], Some, pos, length, codes, if◌then◌else◌}
-use Rattle.clap.specs.Words.{App, IsAmong, Kinds, Rule, Text, fault_of, new_app, new_rule, with_rule, with_subcommand}
+-- The command line (this project's own choice), in the words of clap: `run SCRIPT [--events N] [--free [--no-check]]`, `audit SCRIPT [--events N]`, `--version` and `restore DUMP [--jobs N] --out FILE`.
+use Rattle.std.specs.Prelude.{◌≢◌, ◌&&◌, Bool, not, true, false, List, [], ◌∷◌, Option, Some, None, pos, codes, if◌then◌else◌}
+use Rattle.std.specs.Str.{bytes_eq}
+use Rattle.clap.specs.Kinds.{or_else}
+use Rattle.clap.specs.Words.{App, IsAmong, Kinds, Row, Rule, Text, fault_of, first_of, new_app, new_rule, subcommand_of, with_rule, with_subcommand}
 use Rattle.clap.specs.declared.builder.ArgAction.TheVariants.{Set, SetTrue}
 use Rattle.clap.specs.declared.builder.ValueParser.TheVariants.{Signed}
 use Rattle.clap.specs.declared.error.ErrorKind.{ErrorKind}
-use Rattle.clap.specs.declared.error.ErrorKind.TheVariants.{DisplayHelp, DisplayVersion, OutOfMemory}
+use Rattle.clap.specs.declared.error.ErrorKind.TheVariants.{DisplayHelp, DisplayVersion, MissingRequiredArgument, OutOfMemory}
 
 -- the file of a script
 abbrev pub script : Rule
@@ -17,6 +19,10 @@ events = record (new_rule (codes "events")) { long = Some (codes "events"); valu
 -- `--free`
 abbrev pub free : Rule
 free = record (new_rule (codes "free")) { long = Some (codes "free"); action = Some SetTrue }
+
+-- `--no-check`
+abbrev pub no_check : Rule
+no_check = record (new_rule (codes "no-check")) { long = Some (codes "no-check"); action = Some SetTrue }
 
 -- the file of a dump
 abbrev pub dump : Rule
@@ -35,7 +41,7 @@ abbrev pub of_script : Text → App
 of_script name = with_rule (with_rule (new_app name) script) events
 
 abbrev pub run : App
-run = with_rule (of_script (codes "run")) free
+run = with_rule (with_rule (of_script (codes "run")) free) no_check
 
 abbrev pub restore : App
 restore = with_rule (with_rule (with_rule (new_app (codes "restore")) dump) jobs) out
@@ -47,11 +53,30 @@ alone = let a = new_app (codes "pgserial") in record a { top = record a.top { ha
 abbrev pub pgserial : App
 pgserial = with_subcommand (with_subcommand (with_subcommand alone run.top) (of_script (codes "audit")).top) restore.top
 
+-- a flag's text is that of one that is among the words
+abbrev pub is_yes : Option Text → Bool
+is_yes None = false
+is_yes (Some text) = bytes_eq text (codes "true")
+
+-- whether a flag is among a command's words
+abbrev pub is_set : Text → List Row → Bool
+is_set id rows = is_yes (first_of id rows)
+
+-- a command is told to leave out the check of sessions that run freely, and not to run them so
+abbrev pub lacks_free : Option (Text × List Row) → Bool
+lacks_free None = false
+lacks_free (Some command) = is_set (codes "no-check") command.1 && not (is_set (codes "free") command.1)
+
+-- what is wrong with a command whose arguments are right one by one
+abbrev pub faults_between : Option (Text × List Row) → Kinds
+faults_between command = if lacks_free command then MissingRequiredArgument ∷ [] else []
+
 -- What may be wrong with some words, in the parser's kinds of errors; nothing where they are a command line. No word at all is one: `run -`.
 abbrev pub faults : List Text → Kinds
-faults words = if length words == 0 then [] else fault_of pgserial words
+faults [] = []
+faults (word ∷ words) = or_else (fault_of pgserial (word ∷ words)) (faults_between (subcommand_of pgserial (word ∷ words)))
 
--- a mistake in the words: no call for help, and no want of memory
+-- a mistake in the words: no call for help, and not out of memory
 abbrev pub IsMistake : ErrorKind → Type 0
 IsMistake k = (k ≢ OutOfMemory) × (k ≢ DisplayHelp) × (k ≢ DisplayVersion)
 

@@ -8,6 +8,7 @@ use Rattle.backup.specs.Backed.{IsNone, IsWhole, viewed}
 use Rattle.backup.specs.declared.fault.BackupFault.{BackupFault}
 use Rattle.backup.specs.declared.fault.BackupFault.TheVariants.{View, Dump}
 use Rattle.script.specs.Printing.{done_text, reply_text}
+use Rattle.program.specs.Files.{Writing}
 
 -- what is printed of a dump that came to this, under the session's number; nothing where its file failed
 abbrev pub dump_text : ℕ → Result (Unit {0}) BackupFault → Option (List ℕ)
@@ -23,6 +24,15 @@ module _ {A : Type 0} where
   IsDumped h s (Err (View e)) = AnswersOrNoMemory (Err e) (viewed h s)
   IsDumped h s (Err (Dump Memory)) = Unit {0}
   IsDumped h s (Err (Dump Device)) = ((written : List ℕ) × (failures : ℕ) × IsNone h s [] 0 (Dump Device) written failures) ⊎ ((written : List ℕ) × IsWhole h s [] written)
+
+  -- The same of a dump to the file of a path: where it is done, the whole of it was written there.
+  abbrev pub IsDumpedAt : Writing → Recorded A → ℕ → List ℕ → Result (Unit {0}) BackupFault → Type 0
+  IsDumpedAt writes h s path (Ok done) = (written : List ℕ) × IsWhole h s [] written × writes path written
+  IsDumpedAt writes h s path (Err e) = IsDumped h s (Err e)
+
+  -- The text is what is printed of a dump to the file of a path that session s asked for after the history h.
+  abbrev pub TellsDumpAt : Writing → Recorded A → ℕ → List ℕ → List ℕ → Type 0
+  TellsDumpAt writes h s path text = (done : Result (Unit {0}) BackupFault) × IsDumpedAt writes h s path done × (dump_text s done ≡ Some text)
 
   -- The text is what is printed of a dump that session s asked for after the history h.
   abbrev pub TellsDump : Recorded A → ℕ → List ℕ → Type 0

@@ -1,5 +1,5 @@
 -- How the program ends (this project's own choice).
-use Rattle.std.specs.Prelude.{◌≡◌, ℕ, Result, Ok, Err}
+use Rattle.std.specs.Prelude.{◌≡◌, ◌==◌, ℕ, Result, Ok, Err, if◌then◌else◌}
 use Rattle.restore.specs.declared.error.RestoreFault.{RestoreFault}
 use Rattle.program.specs.declared.fault.Fault.{Fault}
 use Rattle.program.specs.declared.fault.Fault.TheVariants as fault
@@ -18,10 +18,16 @@ abbrev pub status : Fault → Status
 status (fault.Script line) = Refused
 status (fault.Dump line c) = Refused
 status (fault.Device path) = Device
+status fault.ScriptOutOfMemory = Refused
+status fault.DumpOutOfMemory = Refused
 
--- a dump's first faulty line as the program's fault
+-- a script's first faulty line as the program's fault; line 0 stands for out of memory
+abbrev pub script_fault : ℕ → Fault
+script_fault line = if line == 0 then fault.ScriptOutOfMemory else fault.Script line
+
+-- the same of a dump's, with its code
 abbrev pub dump_fault : RestoreFault → Fault
-dump_fault f = fault.Dump f.line f.code
+dump_fault f = if f.line == 0 then fault.DumpOutOfMemory else fault.Dump f.line f.code
 
 -- what is read of a dump, with its first faulty line as the program's fault
 abbrev pub loaded : {X : Type 0} → Result X RestoreFault → Result X Fault

@@ -17,6 +17,10 @@ abbrev pub IsFileFault : List ℕ → Fault → Type 0
 IsFileFault path (fault.Device failed) = failed.now ≡ path
 IsFileFault path _ = ⊥
 
+-- which bytes were written to the files of which paths
+abbrev pub Writing : Type 1
+Writing = List ℕ → List ℕ → Type 0
+
 -- A file of this path was made for which nothing was kept, and then these bytes were.
-abbrev pub IsWritten : {Out : Type 0} → (Out → List ℕ) → (Out → List ℕ) → List ℕ → List ℕ → Type 0
+abbrev pub IsWritten : {Out : Type 0} → (Out → List ℕ) → (Out → List ℕ) → Writing
 IsWritten {Out} path_of kept path bytes = (made : Out) × (path_of made ≡ path) × (kept made ≡ []) × (file : Out) × (kept file ≡ bytes)

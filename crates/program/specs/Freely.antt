@@ -1,5 +1,5 @@
 -- What the lines of sessions do that run freely, each on its thread, and what is printed of them (this project's own choice).
-use Rattle.std.specs.Prelude.{◌≡◌, ◌≢◌, ◌≤◌, ◌⊎◌, ◌++◌, [], ◌∷◌, ℕ, suc, true, List, length, All, Option, Result, Ok, Err}
+use Rattle.std.specs.Prelude.{◌≡◌, ◌≢◌, ◌≤◌, ◌⊎◌, ◌++◌, [], ◌∷◌, ℕ, suc, Bool, List, length, slice_get, All, Option, Some, Result, Ok, Err}
 use Rattle.schema.specs.Definition.{Catalog}
 use Rattle.schema.specs.declared.tables.Tables.{Tables}
 use Rattle.statement.specs.declared.reply.Reply.{Reply}
@@ -19,10 +19,19 @@ use Rattle.script.specs.declared.schedule.Schedule.TheVariants.{Free}
 use Rattle.script.specs.Printing.{reply_text}
 use Rattle.script.specs.Scripts.{Said, said}
 use Rattle.program.specs.Beginnings.{BeginsWith}
-use Rattle.program.specs.Dumps.{TellsDump}
-use Rattle.program.specs.Files.{IsAllOf, read_of}
-use Rattle.program.specs.Orders.{check_line}
+use Rattle.program.specs.Dumps.{TellsDumpAt}
+use Rattle.program.specs.Files.{IsAllOf, Writing, read_of}
+use Rattle.program.specs.Orders.{check_text}
 use Rattle.program.specs.Printed.{Adds, IsFlushed, Printed}
+use Rattle.program.specs.Runs.{Stops}
+use Rattle.program.specs.declared.fault.Fault.{Fault}
+use Rattle.program.specs.declared.fault.Fault.TheVariants as fault
+use Rattle.program.specs.declared.free.FreeWay.{FreeWay}
+
+-- one of them has stopped, for this fault
+abbrev pub IsFaultOf : {V F : Type 0} → F → List (Result V F) → Type 0
+IsFaultOf f [] = ⊥
+IsFaultOf f (r ∷ rs) = (r ≡ Err f) ⊎ IsFaultOf f rs
 
 -- Nobody has stopped, and the text is what all have told, one after the other.
 abbrev pub AreJoined : {V F : Type 0} → (V → List ℕ) → List (Result V F) → List ℕ → Type 0
@@ -48,37 +57,41 @@ module _ {A : Type 0} where
   abbrev pub IsWaitTold : ℕ → Known A → List ℕ → Known A → Type 0
   IsWaitTold most p text q = (r : Reply A) × HasPolled most p r q × (text ≡ reply_text p.session r)
 
-  -- The text is what is printed of a dump after the history that the pass then has seen. A dump is no event.
-  abbrev pub IsDumpTold : Opening A → ℕ → Known A → List ℕ → Known A → Type 0
-  IsDumpTold o most p text q = TellsDump (seen_by o most q) p.session text × (q.session ≡ p.session) × (q.mine ≡ p.mine)
+  -- The text is what is printed of a dump to the file of a path, after the history that the pass then has seen. A dump is no event.
+  abbrev pub IsDumpTold : Writing → Opening A → ℕ → Known A → List ℕ → List ℕ → Known A → Type 0
+  IsDumpTold writes o most p path text q = TellsDumpAt writes (seen_by o most q) p.session path text × (q.session ≡ p.session) × (q.mine ≡ p.mine)
 
   -- The text is what is printed of a session's command, by which its pass, that knew p, came to know q.
-  abbrev pub IsTold : Opening A → ℕ → Known A → Command A → List ℕ → Known A → Type 0
-  IsTold o most p (command.Dump d) text q = IsDumpTold o most p text q
-  IsTold o most p (command.Ask a) text q = IsCallTold o most p a text q
-  IsTold o most p command.Wait text q = IsWaitTold most p text q
+  abbrev pub IsTold : Writing → Opening A → ℕ → Known A → Command A → List ℕ → Known A → Type 0
+  IsTold writes o most p (command.Dump request) text q = IsDumpTold writes o most p request.path text q
+  IsTold writes o most p (command.Ask a) text q = IsCallTold o most p a text q
+  IsTold writes o most p command.Wait text q = IsWaitTold most p text q
 
   -- The same of a line of the script: only a line of the pass's own session does anything.
-  abbrev pub IsAtLine : Opening A → ℕ → Step A → Known A → List ℕ → Known A → Type 0
-  IsAtLine o most (step.Session s k) p text q = ((s ≡ p.session) × IsTold o most p k text q) ⊎ ((s ≢ p.session) × (text ≡ []) × (q ≡ p))
-  IsAtLine o most step.Checkpoint p text q = (text ≡ []) × (q ≡ p)
+  abbrev pub IsAtLine : Writing → Opening A → ℕ → Step A → Known A → List ℕ → Known A → Type 0
+  IsAtLine writes o most (step.Session s k) p text q = ((s ≡ p.session) × IsTold writes o most p k text q) ⊎ ((s ≢ p.session) × (text ≡ []) × (q ≡ p))
+  IsAtLine writes o most step.Checkpoint p text q = (text ≡ []) × (q ≡ p)
 
   -- The text is what is printed of the lines, one after the other, by which the pass came to know q.
-  abbrev pub AreTold : Opening A → ℕ → List (Line A) → Known A → List ℕ → Known A → Type 0
-  AreTold o most [] p text q = (text ≡ []) × (q ≡ p)
-  AreTold o most (l ∷ ls) p text q = (middle : Known A) × (first rest : List ℕ) × IsAtLine o most l.step p first middle × AreTold o most ls middle rest q × (text ≡ first ++ rest)
+  abbrev pub AreTold : Writing → Opening A → ℕ → List (Line A) → Known A → List ℕ → Known A → Type 0
+  AreTold writes o most [] p text q = (text ≡ []) × (q ≡ p)
+  AreTold writes o most (l ∷ ls) p text q = (middle : Known A) × (first rest : List ℕ) × IsAtLine writes o most l.step p first middle × AreTold writes o most ls middle rest q × (text ≡ first ++ rest)
 
   -- The text is what is printed of the lines. Behind the last one the session has left: a transaction that it had open was rolled back, and of that nothing is printed.
-  unfoldable pub HasPlayed : Opening A → ℕ → List (Line A) → Known A → List ℕ → Known A → Type 0
-  HasPlayed o most ls p text q = (middle : Known A) × AreTold o most ls p text middle × HasLeft o most middle q
+  unfoldable pub HasPlayed : Writing → Opening A → ℕ → List (Line A) → Known A → List ℕ → Known A → Type 0
+  HasPlayed writes o most ls p text q = (middle : Known A) × AreTold writes o most ls p text middle × HasLeft o most middle q
+
+  -- Sessions that do these lines end for this fault: memory was refused; or one of the lines has ended its session, after a history that the pass had seen by then.
+  abbrev pub SessionsEnd : Opening A → ℕ → List (Line A) → Fault → Type 0
+  SessionsEnd o most ls f = (f ≡ fault.ScriptOutOfMemory) ⊎ ((n : ℕ) × (line : Line A) × (slice_get ls n ≡ Some line) × (p : Known A) × Stops (seen_by o most p) line.step f)
 
   -- The text is what is printed of the lines that sessions s, s + 1, .. did, one session after the other: each from nothing seen to what its pass knows.
-  abbrev pub ArePrinted : Opening A → ℕ → List (Line A) → ℕ → List (Known A) → List ℕ → Type 0
-  ArePrinted o most ls s [] text = text ≡ []
-  ArePrinted o most ls s (q ∷ qs) text = (first rest : List ℕ) × HasPlayed o most ls (fresh s) first q × ArePrinted o most ls (suc s) qs rest × (text ≡ first ++ rest)
+  abbrev pub ArePrinted : Writing → Opening A → ℕ → List (Line A) → ℕ → List (Known A) → List ℕ → Type 0
+  ArePrinted writes o most ls s [] text = text ≡ []
+  ArePrinted writes o most ls s (q ∷ qs) text = (first rest : List ℕ) × HasPlayed writes o most ls (fresh s) first q × ArePrinted writes o most ls (suc s) qs rest × (text ≡ first ++ rest)
 
-  -- The text is what is printed of the lines that sessions 1, 2, .. did, and that the serial order is one. Each line is of one of them. There is one legal history of this opening, with room for so many events: it begins with what each session has seen, and has of it just what it did.
-  pub record AreServed (o : Opening A) (most : ℕ) (ls : List (Line A)) (text : List ℕ) : Type 0 where
+  -- The text is what is printed of the lines that sessions 1, 2, .. did, and, where that is checked, that the serial order is one. Each line is of one of them. There is one legal history of this opening, with room for so many events: it begins with what each session has seen, and has of it just what it did.
+  pub record AreServed (writes : Writing) (o : Opening A) (most : ℕ) (is_checked : Bool) (ls : List (Line A)) (text : List ℕ) : Type 0 where
     pub history : Recorded A
     pub passes : List (Known A)
     pub printed : List ℕ
@@ -87,18 +100,18 @@ module _ {A : Type 0} where
     pub legal : IsLegal history
     pub among : All (λ l. IsAmong (length passes) l.step) ls
     pub closed : All (λ q. HasClosed q history.records) passes
-    pub told : ArePrinted o most ls 1 passes printed
-    pub whole : text ≡ printed ++ check_line true
+    pub told : ArePrinted writes o most ls 1 passes printed
+    pub whole : text ≡ printed ++ check_text is_checked
 
   -- Sessions did these lines freely, from this opening on, and what they print was printed; it is on the stream, unless that has failed.
-  abbrev pub SessionsHaveRun : Opening A → ℕ → List (Line A) → Printed → Printed → Type 0
-  SessionsHaveRun o most ls p q = (text : List ℕ) × AreServed o most ls text × Adds p q text × IsFlushed q
+  abbrev pub SessionsHaveRun : Writing → Opening A → FreeWay → List (Line A) → Printed → Printed → Type 0
+  SessionsHaveRun writes o way ls p q = (text : List ℕ) × AreServed writes o way.most_events way.is_checked ls text × Adds p q text × IsFlushed q
 
   -- the same of the sessions of a script, from its tables on
-  abbrev pub ScriptHasRunFreely : (List ℕ → Option (List ℕ)) → ℕ → Said A → Printed → Printed → Type 0
-  ScriptHasRunFreely held most s p q = (c : Catalog) × (X : Tables A) × BeginsWith held s.opens s.catalog c X
-      × SessionsHaveRun (record { catalog = c; tables = X; base = zero_base }) most s.lines p q
+  abbrev pub ScriptHasRunFreely : Writing → (List ℕ → Option (List ℕ)) → FreeWay → Said A → Printed → Printed → Type 0
+  ScriptHasRunFreely writes held way s p q = (c : Catalog) × (X : Tables A) × BeginsWith held s.opens s.catalog c X
+      × SessionsHaveRun writes (record { catalog = c; tables = X; base = zero_base }) way s.lines p q
 
 -- What a path has says a script whose sessions may run freely, and they have.
-abbrev pub PathHasRunFreely : (A : Type 0) → (List ℕ → Option (List ℕ)) → Option (List ℕ) → ℕ → List ℕ → Printed → Printed → Type 0
-PathHasRunFreely A held input most path p q = (bytes : List ℕ) × (s : Said A) × IsAllOf (read_of held input path) bytes × (said Free bytes ≡ Ok s) × ScriptHasRunFreely held most s p q
+abbrev pub PathHasRunFreely : (A : Type 0) → Writing → (List ℕ → Option (List ℕ)) → Option (List ℕ) → FreeWay → List ℕ → Printed → Printed → Type 0
+PathHasRunFreely A writes held input way path p q = (bytes : List ℕ) × (s : Said A) × IsAllOf (read_of held input path) bytes × (said Free bytes ≡ Ok s) × ScriptHasRunFreely writes held way s p q

@@ -1,5 +1,5 @@
 -- The serial order of a core's history, as it is printed (this project's own format).
-use Rattle.std.specs.Prelude.{ℕ, Bool, true, false, List, ◌++◌, codes}
+use Rattle.std.specs.Prelude.{ℕ, Bool, true, false, List, [], ◌++◌, codes}
 use Rattle.std.specs.Fmt.{decimal}
 use Rattle.std.specs.List.{flat_map}
 use Rattle.history.specs.Transactions.{World}
@@ -16,6 +16,11 @@ key_lines = flat_map key_line
 abbrev pub check_line : Bool → List ℕ
 check_line true = codes "check yes\n"
 check_line false = codes "check no\n"
+
+-- the check of an order that is one, where it is asked for
+abbrev pub check_text : Bool → List ℕ
+check_text true = check_line true
+check_text false = []
 
 -- the committed transactions of a world in the serial order
 abbrev pub order_lines : {A : Type 0} → World A → List ℕ

@@ -6,7 +6,7 @@ use Rattle.schema.specs.Definition.{Catalog}
 use Rattle.schema.specs.declared.tables.Tables.{Tables}
 use Rattle.dumpplan.specs.Lines.{dump_text}
 use Rattle.restore.specs.Reading.{read_dump}
-use Rattle.program.specs.Files.{IsAllOf, IsWritten, read_of}
+use Rattle.program.specs.Files.{IsAllOf, Writing, read_of}
 use Rattle.program.specs.Printed.{Adds, IsFlushed, Printed}
 
 module _ {A : Type 0} where
@@ -19,7 +19,7 @@ module _ {A : Type 0} where
   restored_text c X = codes "RESTORE " ++ decimal (length c) ++ (codes " tables " ++ decimal (rows_in X)) ++ codes " rows\n"
 
 -- What a path's file has reads as a catalog and tables, their dump was written to the file of another path, and their line was printed.
-abbrev pub IsRestored : (A : Type 0) → {Out : Type 0} → (List ℕ → Option (List ℕ)) → Option (List ℕ) → (Out → List ℕ) → (Out → List ℕ) → List ℕ → List ℕ → Printed → Printed → Type 0
-IsRestored A held input path_of taken path out p q = (bytes : List ℕ) × (c : Catalog) × (X : Tables A)
+abbrev pub IsRestored : (A : Type 0) → Writing → (List ℕ → Option (List ℕ)) → Option (List ℕ) → List ℕ → List ℕ → Printed → Printed → Type 0
+IsRestored A writes held input path out p q = (bytes : List ℕ) × (c : Catalog) × (X : Tables A)
     × IsAllOf (read_of held input path) bytes × (read_dump bytes ≡ Ok (c, X))
-    × IsWritten path_of taken out (dump_text c X) × Adds p q (restored_text c X) × IsFlushed q
+    × writes out (dump_text c X) × Adds p q (restored_text c X) × IsFlushed q

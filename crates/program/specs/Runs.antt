@@ -6,6 +6,8 @@ use Rattle.history.specs.Events.{world}
 use Rattle.history.specs.Opening.{Recorded, zero_base}
 use Rattle.schema.specs.Definition.{Catalog}
 use Rattle.schema.specs.declared.tables.Tables.{Tables}
+use Rattle.dumpworker.specs.declared.fault.DumpFault.TheVariants.{Device}
+use Rattle.backup.specs.declared.fault.BackupFault.TheVariants.{Dump}
 use Rattle.session.specs.Core.{IsCheckpoint}
 use Rattle.request.specs.declared.request.Request.TheVariants as ask
 use Rattle.script.specs.declared.command.Command.{Command}
@@ -16,8 +18,8 @@ use Rattle.script.specs.declared.script.Line.{Line}
 use Rattle.script.specs.declared.schedule.Schedule.TheVariants.{InOrder}
 use Rattle.script.specs.Scripts.{Said, said}
 use Rattle.program.specs.Beginnings.{BeginsWith, IsUnbegun}
-use Rattle.program.specs.Dumps.{TellsDump}
-use Rattle.program.specs.Files.{IsAllOf, IsFileFault, read_of}
+use Rattle.program.specs.Dumps.{IsDumped, TellsDump, TellsDumpAt}
+use Rattle.program.specs.Files.{IsAllOf, IsFileFault, Writing, read_of}
 use Rattle.program.specs.Lines.{Tells}
 use Rattle.program.specs.Orders.{check_line, order_lines}
 use Rattle.program.specs.Printed.{Adds, IsFlushed, Printed, Prints}
@@ -65,61 +67,67 @@ module _ {A : Type 0} where
   TellsCommand h k s (command.Ask request) text = Tells h k s request text
   TellsCommand h k s command.Wait text = Tells h k s ask.Poll text
 
+  -- The same, of a dump to its path.
+  abbrev pub TellsCommandAt : Writing → Recorded A → Recorded A → ℕ → Command A → List ℕ → Type 0
+  TellsCommandAt writes h k s (command.Dump request) text = (k ≡ h) × TellsDumpAt writes h s request.path text
+  TellsCommandAt writes h k s (command.Ask request) text = Tells h k s request text
+  TellsCommandAt writes h k s command.Wait text = Tells h k s ask.Poll text
+
   -- the same, and what is printed of it
-  abbrev pub IsAnswered : Way → Recorded A → ℕ → Command A → Recorded A → List ℕ → Type 0
-  IsAnswered way h s c k text = (told : List ℕ) × TellsCommand h k s c told × (text ≡ shown_text way.shown told)
+  abbrev pub IsAnswered : Writing → Way → Recorded A → ℕ → Command A → Recorded A → List ℕ → Type 0
+  IsAnswered writes way h s c k text = (told : List ℕ) × TellsCommandAt writes h k s c told × (text ≡ shown_text way.shown told)
 
   -- a checkpoint, and what is printed of it: the order is that before it
   abbrev pub IsPassed : Way → Recorded A → Recorded A → List ℕ → Type 0
   IsPassed way h k text = (refusal : Option Refusal) × Checkpoints way.most_events h k refusal × (text ≡ checkpoint_text way.shown (order_text way.shown h) refusal)
 
   -- A step was done: the history h has become k, and the text is what is printed of it.
-  abbrev pub IsDone : Way → Recorded A → Step A → Recorded A → List ℕ → Type 0
-  IsDone way h (Session s c) k text = IsAnswered way h s c k text
-  IsDone way h Checkpoint k text = IsPassed way h k text
+  abbrev pub IsDone : Writing → Way → Recorded A → Step A → Recorded A → List ℕ → Type 0
+  IsDone writes way h (Session s c) k text = IsAnswered writes way h s c k text
+  IsDone writes way h Checkpoint k text = IsPassed way h k text
 
-  -- Why a command ends its script: memory was refused for what is told of it, or the file of its dump has failed.
-  abbrev pub EndsBy : Command A → Fault → Type 0
-  EndsBy (command.Dump request) f = (f ≡ fault.Script 0) ⊎ IsFileFault request.path f
-  EndsBy c f = f ≡ fault.Script 0
+  -- Why a command of session s, after the history h, ends its script: memory was refused for what is told of it; or it is a dump, and its file has failed.
+  abbrev pub EndsBy : Recorded A → ℕ → Command A → Fault → Type 0
+  EndsBy h s (command.Dump request) f = (f ≡ fault.ScriptOutOfMemory) ⊎ (IsFileFault request.path f × IsDumped h s (Err (Dump Device)))
+  EndsBy h s c f = f ≡ fault.ScriptOutOfMemory
 
   -- the same of a step
-  abbrev pub Stops : Step A → Fault → Type 0
-  Stops (Session s c) f = EndsBy c f
-  Stops Checkpoint f = f ≡ fault.Script 0
+  abbrev pub Stops : Recorded A → Step A → Fault → Type 0
+  Stops h (Session s c) f = EndsBy h s c f
+  Stops h Checkpoint f = f ≡ fault.ScriptOutOfMemory
 
   -- the lines, done one after the other from the history h, which has become k; and their texts in that order
-  abbrev pub LinesAreDone : Way → Recorded A → List (Line A) → Recorded A → List ℕ → Type 0
-  LinesAreDone way = AreDone (λ h line k text. IsDone way h line.step k text)
+  abbrev pub LinesAreDone : Writing → Way → Recorded A → List (Line A) → Recorded A → List ℕ → Type 0
+  LinesAreDone writes way = AreDone (λ h line k text. IsDone writes way h line.step k text)
 
   -- All lines were done, and what is to be printed of them was printed, with the serial order behind it where that is shown.
-  abbrev pub HasRun : Way → Recorded A → List (Line A) → Printed → Printed → Type 0
-  HasRun way h lines p q = (k : Recorded A) × (text : List ℕ) × LinesAreDone way h lines k text × Adds p q (text ++ order_text way.shown k)
+  abbrev pub HasRun : Writing → Way → Recorded A → List (Line A) → Printed → Printed → Type 0
+  HasRun writes way h lines p q = (k : Recorded A) × (text : List ℕ) × LinesAreDone writes way h lines k text × Adds p q (text ++ order_text way.shown k)
 
-  -- standard output has failed, or the step behind n lines ends the script
-  abbrev pub IsDeviceAt : List (Line A) → ℕ → Fault → Printed → Type 0
-  IsDeviceAt lines n f q = (IsFileFault (codes "-") f × (q.failed ≡ true)) ⊎ ((line : Line A) × (slice_get lines n ≡ Some line) × Stops line.step f)
+  -- standard output has failed, or the step behind n lines ends the script, after the history k
+  abbrev pub IsDeviceAt : Recorded A → List (Line A) → ℕ → Fault → Printed → Type 0
+  IsDeviceAt k lines n f q = (IsFileFault (codes "-") f × (q.failed ≡ true)) ⊎ ((line : Line A) × (slice_get lines n ≡ Some line) × Stops k line.step f)
 
-  -- Why lines end once n of them are done: memory was refused, or standard output has failed, or the file of the dump that the next line asks for.
-  abbrev pub EndsAt : List (Line A) → ℕ → Fault → Printed → Type 0
-  EndsAt lines n f q = (f ≡ fault.Script 0) ⊎ IsDeviceAt lines n f q
+  -- Why lines end once n of them are done, by which there is the history k: memory was refused, or standard output has failed, or the file of the dump that the next line asks for.
+  abbrev pub EndsAt : Recorded A → List (Line A) → ℕ → Fault → Printed → Type 0
+  EndsAt k lines n f q = (f ≡ fault.ScriptOutOfMemory) ⊎ IsDeviceAt k lines n f q
 
   -- The first lines were done, and what is to be printed of them was printed, and nothing else; and this is why.
-  abbrev pub HasStopped : Way → Recorded A → List (Line A) → Fault → Printed → Printed → Type 0
-  HasStopped way h lines f p q = (n : ℕ) × (k : Recorded A) × (text : List ℕ) × LinesAreDone way h (take n lines) k text × Prints p q text × EndsAt lines n f q
+  abbrev pub HasStopped : Writing → Way → Recorded A → List (Line A) → Fault → Printed → Printed → Type 0
+  HasStopped writes way h lines f p q = (n : ℕ) × (k : Recorded A) × (text : List ℕ) × LinesAreDone writes way h (take n lines) k text × Prints p q text × EndsAt k lines n f q
 
   -- the history of some tables before any event, with room for so many
   abbrev pub begun : Catalog → Tables A → ℕ → Recorded A
   begun c X most = record { opening = record { catalog = c; tables = X; base = zero_base }; records = []; most = most }
 
   -- From its tables all lines of a script were done and printed, and the stream has all that was printed, unless it has failed.
-  abbrev pub ScriptHasRun : (List ℕ → Option (List ℕ)) → Way → Said A → Printed → Printed → Type 0
-  ScriptHasRun held way s p q = (c : Catalog) × (X : Tables A) × BeginsWith held s.opens s.catalog c X × HasRun way (begun c X way.most_events) s.lines p q × IsFlushed q
+  abbrev pub ScriptHasRun : Writing → (List ℕ → Option (List ℕ)) → Way → Said A → Printed → Printed → Type 0
+  ScriptHasRun writes held way s p q = (c : Catalog) × (X : Tables A) × BeginsWith held s.opens s.catalog c X × HasRun writes way (begun c X way.most_events) s.lines p q × IsFlushed q
 
   -- The script hasn't begun, for this fault, and nothing was printed; or the first lines were done, and the stream has what was printed of them, unless it has failed.
-  abbrev pub ScriptHasStopped : (List ℕ → Option (List ℕ)) → Way → Said A → Fault → Printed → Printed → Type 0
-  ScriptHasStopped held way s f p q = (IsUnbegun A held s.opens s.catalog f × (q ≡ p)) ⊎ ((c : Catalog) × (X : Tables A) × BeginsWith held s.opens s.catalog c X × HasStopped way (begun c X way.most_events) s.lines f p q × IsFlushed q)
+  abbrev pub ScriptHasStopped : Writing → (List ℕ → Option (List ℕ)) → Way → Said A → Fault → Printed → Printed → Type 0
+  ScriptHasStopped writes held way s f p q = (IsUnbegun A held s.opens s.catalog f × (q ≡ p)) ⊎ ((c : Catalog) × (X : Tables A) × BeginsWith held s.opens s.catalog c X × HasStopped writes way (begun c X way.most_events) s.lines f p q × IsFlushed q)
 
 -- What a path has says a script, and that has run.
-abbrev pub PathHasRun : (A : Type 0) → (List ℕ → Option (List ℕ)) → Option (List ℕ) → Way → List ℕ → Printed → Printed → Type 0
-PathHasRun A held input way path p q = (bytes : List ℕ) × (s : Said A) × IsAllOf (read_of held input path) bytes × (said InOrder bytes ≡ Ok s) × ScriptHasRun held way s p q
+abbrev pub PathHasRun : (A : Type 0) → Writing → (List ℕ → Option (List ℕ)) → Option (List ℕ) → Way → List ℕ → Printed → Printed → Type 0
+PathHasRun A writes held input way path p q = (bytes : List ℕ) × (s : Said A) × IsAllOf (read_of held input path) bytes × (said InOrder bytes ≡ Ok s) × ScriptHasRun writes held way s p q

@@ -20,22 +20,22 @@ fn refused_text<'p, A: Allocator>(
     refusal: Refusal,
 ) -> Result<Vec<u8, A>, Fault<'p>>
     ensures text { IfOk result (λ text. spec.dump_text session (Err (BackupFault.View refusal)) ≡ Some text.items) }
-    ensures memory { IfErr result (λ f. f ≡ Fault.Script 0) }
+    ensures memory { IfErr result (λ f. f ≡ Fault.ScriptOutOfMemory) }
 {
     match reply_text(alloc, session, &Reply::Refused(refusal)) {
         Ok(text) => Ok(text),
-        Err(_) => Err(Fault::Script { line: 0 }),
+        Err(_) => Err(Fault::ScriptOutOfMemory),
     }
 }
 
 // The line of a dump that is done.
 fn whole_text<'p, A: Allocator>(alloc: A, session: SessionId) -> Result<Vec<u8, A>, Fault<'p>>
     ensures text { IfOk result (λ text. text.items ≡ text_of_done session) }
-    ensures memory { IfErr result (λ f. f ≡ Fault.Script 0) }
+    ensures memory { IfErr result (λ f. f ≡ Fault.ScriptOutOfMemory) }
 {
     match done_text(alloc, session) {
         Ok(text) => Ok(text),
-        Err(_) => Err(Fault::Script { line: 0 }),
+        Err(_) => Err(Fault::ScriptOutOfMemory),
     }
 }
 
@@ -48,7 +48,7 @@ pub(crate) fn dump_text<'p, A: Allocator>(
     done: Result<(), BackupFault>,
 ) -> Result<Vec<u8, A>, Fault<'p>>
     ensures text { IfOk result (λ text. spec.dump_text session done ≡ Some text.items) }
-    ensures fault { IfErr result (λ f. (f ≡ Fault.Script 0) ⊎ (f ≡ Fault.Device path.entry) ×
+    ensures fault { IfErr result (λ f. (f ≡ Fault.ScriptOutOfMemory) ⊎ (f ≡ Fault.Device path.entry) ×
         (done ≡ Err (BackupFault.Dump DumpFault.Device))) }
 {
     match done {

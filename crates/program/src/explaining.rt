@@ -20,9 +20,9 @@ pub(crate) fn tell_line<A: Allocator + Copy, E: Write>(
     number: u64,
     err: &mut E,
 ) -> Status
-    ensures { result ≡ Status.Refused }
+    ensures { result ≡ spec.status (spec.script_fault number) }
 {
-    let status = tell(&Fault::Script { line: number }, err);
+    let status = tell(&Fault::of_line(number), err);
     if number == 0 {
         return status;
     }
@@ -40,8 +40,8 @@ fn holds_events<A: Allocator + Copy>(alloc: A, most_events: u32) -> bool {
     records.is_ok() && keys.is_ok()
 }
 
-/// How a script that was read has ended, with its fault told where there is one. Where memory was wanting that hasn't
-/// so many events, it is told as that.
+/// How a script that was read has ended, with its fault told where there is one. Out of memory that hasn't room for so
+/// many events is told as that.
 pub(crate) fn end_script<A: Allocator + Copy, E: Write>(
     alloc: A,
     most_events: u32,
@@ -51,11 +51,11 @@ pub(crate) fn end_script<A: Allocator + Copy, E: Write>(
     ensures kind { result ≡ spec.end done.entry }
     ensures no_usage { result ≢ Status.Usage }
 {
-    let is_memory = matches!(done, Err(Fault::Script { line: 0 }));
+    let is_memory = matches!(done, Err(Fault::ScriptOutOfMemory));
     if !is_memory || holds_events(alloc, most_events) {
         return end(done, err);
     }
-    let _ = writeln!(err, "script line 0");
+    let _ = writeln!(err, "{}", Fault::ScriptOutOfMemory);
     let _ = writeln!(err, "no room for {most_events} events (--events)");
     Status::Refused
 }

@@ -5,6 +5,7 @@ ghost use Rattle.program.specs.Ends as spec;
 
 use crate::faulty::words_of_dump;
 use crate::shown::Shown;
+use restore::RestoreFault;
 use std::io::Write;
 use thiserror::Error;
 use value::refusal::Code;
@@ -12,15 +13,22 @@ use value::refusal::Code;
 /// Why the program ends before its time, as it is told on standard error.
 #[derive(Debug, Drop, Error)]
 pub enum Fault<'p> {
-    /// A line of the script, 0 for want of memory.
+    /// A line of the script.
     #[error("script line {line}")]
     Script { line: u64 },
-    /// A line of a dump, 0 for want of memory, and its code.
+    /// A line of a dump, and its code.
     #[error("dump line {line}: {code}")]
     Dump { line: u64, code: Code },
     /// A file or a standard stream that couldn't be read or written.
     #[error("device: {}", Shown(path))]
     Device { path: &'p str },
+    /// Out of memory for a script, for its tables or for what is told of its lines, or for the words of the command
+    /// line.
+    #[error("script line 0")]
+    ScriptOutOfMemory,
+    /// Out of memory for a dump that is read, or written again.
+    #[error("dump line 0: {}", Code::OutOfMemory)]
+    DumpOutOfMemory,
 }
 
 /// How the program ended.
@@ -51,32 +59,57 @@ impl Status {
 }
 
 impl<'p> Fault<'p> {
+    /// The first faulty line of a script, or out of memory, which its reader tells of line 0.
+    pub(crate) fn of_line(line: u64) -> Fault<'p>
+        ensures { result ≡ spec.script_fault line }
+    {
+        if line == 0 {
+            Fault::ScriptOutOfMemory
+        } else {
+            Fault::Script { line }
+        }
+    }
+
+    /// The first faulty line of a dump, or out of memory, which its reader tells of line 0.
+    pub(crate) fn of_dump(fault: RestoreFault) -> Fault<'p>
+        ensures { result ≡ spec.dump_fault fault }
+    {
+        if fault.line == 0 {
+            Fault::DumpOutOfMemory
+        } else {
+            Fault::Dump {
+                line: fault.line,
+                code: fault.code,
+            }
+        }
+    }
+
     /// How the program ends for it.
     pub fn status(&self) -> Status
         ensures kind { result ≡ spec.status self.now }
         ensures no_usage { result ≢ Status.Usage }
     {
         match self {
-            Fault::Script { .. } | Fault::Dump { .. } => Status::Refused,
             Fault::Device { .. } => Status::Device,
+            Fault::Script { .. }
+            | Fault::Dump { .. }
+            | Fault::ScriptOutOfMemory
+            | Fault::DumpOutOfMemory => Status::Refused,
         }
     }
 }
 
-// What is told where memory was wanting.
-const NO_MEMORY: &str = "out of memory";
-
-/// Tells a fault in a line, and in another that memory was wanting or what is wrong in a dump; and how the program ends
-/// for it.
+/// Tells a fault in a line, and in another that it is out of memory or what is wrong in a dump; and how the program
+/// ends for it.
 pub(crate) fn tell<E: Write>(fault: &Fault<'_>, err: &mut E) -> Status
     ensures kind { result ≡ spec.status fault.now }
     ensures no_usage { result ≢ Status.Usage }
 {
     let _ = writeln!(err, "{fault}");
     let _ = match fault {
-        Fault::Script { line: 0 } => writeln!(err, "{NO_MEMORY}"),
+        Fault::ScriptOutOfMemory | Fault::DumpOutOfMemory => writeln!(err, "out of memory"),
         Fault::Dump { line, code } => writeln!(err, "{}", words_of_dump(*line, *code)),
-        _ => Ok(()),
+        Fault::Script { .. } | Fault::Device { .. } => Ok(()),
     };
     fault.status()
 }

@@ -2,10 +2,9 @@
 
 use value::refusal::Code;
 
-/// What is wrong with a line of a dump, by its code. Line 0 stands for want of memory.
+/// What is wrong with a line of a dump, by its code.
 pub(crate) fn words_of_dump(line: u64, code: Code) -> &'static str {
     match code {
-        Code::OutOfMemory => "out of memory",
         Code::BadCopyFileFormat if line == 1 => {
             "not a dump of pgserial: its first line is `-- dump 2` or `-- dump 1`"
         }

@@ -45,7 +45,7 @@ pub trait OutFile: Placed {
 pub trait Stored {
     ghost use Rattle.std.specs.Prelude.{ℕ, List, Option};
 
-    type Out: OutFile + Send + Drop;
+    type Out: OutFile + Drop;
 
     ghost held: { Self → List ℕ → Option (List ℕ) };
 

@@ -3,7 +3,7 @@
 ghost use Rattle.std.specs.Prelude.{◌≡◌, ◌++◌, true, map, IfOk, OnOk};
 ghost use Rattle.std.specs.Fmt.{decimal};
 ghost use Rattle.history.specs.Events.{world};
-ghost use Rattle.plain.specs.Keys.{keyed};
+ghost use Rattle.transactions.specs.Keys.{keyed};
 ghost use Rattle.program.specs.Orders as spec;
 
 use audit::keys::{serial_keys, serial_order};

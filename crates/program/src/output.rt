@@ -112,7 +112,7 @@ pub(crate) fn print_whole<'p, W: Write, A: Allocator>(
     ensures printed { OnOk result (Adds printer.old printer.new text.now) }
     ensures flushed { OnOk result (IsFlushed printer.new) }
     ensures stopped { OnErr result (Prints printer.old printer.new []) }
-    ensures fault { IfErr result (λ f. (f ≡ memory.entry) ⊎ IsFileFault (codes "-") f) }
+    ensures fault { IfErr result (λ f. (f ≡ memory.entry) ⊎ IsFileFault (codes "-") f × (printer.new.failed ≡ true)) }
 {
     let printed = printer.print(text);
     let flushed = printer.flush();
@@ -126,10 +126,10 @@ pub(crate) fn print_whole<'p, W: Write, A: Allocator>(
 /// How a fault of printing is told.
 pub(crate) fn fault_of_print(error: PrintError) -> Fault<'static>
     ensures device { error ≡ PrintError.Device → IsFileFault (codes "-") result }
-    ensures memory { error ≡ PrintError.Memory → result ≡ Fault.Script 0 }
+    ensures memory { error ≡ PrintError.Memory → result ≡ Fault.ScriptOutOfMemory }
 {
     match error {
         PrintError::Device => Fault::Device { path: "-" },
-        PrintError::Memory => Fault::Script { line: 0 },
+        PrintError::Memory => Fault::ScriptOutOfMemory,
     }
 }

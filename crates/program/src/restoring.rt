@@ -1,6 +1,6 @@
 //! A dump read, and written again.
 
-ghost use Rattle.std.specs.Prelude.{◌≡◌, ◌⊎◌, [], Err, IfErr, IfOk, OnErr, OnOk, codes, length, true};
+ghost use Rattle.std.specs.Prelude.{◌≡◌, ◌⊎◌, [], Err, IfErr, IfOk, OnErr, OnOk, length, true};
 ghost use Rattle.dumpplan.specs.Lines.{dump_text};
 ghost use Rattle.program.specs.Files.{IsFileFault, IsWritten, read_of};
 ghost use Rattle.program.specs.Printed.{Adds, IsFlushed, Prints};
@@ -9,7 +9,7 @@ ghost use Rattle.schema.specs.Plain.{is_sound};
 ghost use Rattle.restore.specs.Reading.{read_dump};
 ghost use Rattle.restore.specs.Steps.{no_memory};
 ghost use Rattle.program.specs.Ends.{loaded};
-ghost use Rattle.program.specs.Stops.{IsUnrestored};
+ghost use Rattle.program.specs.Stops.{IsUnprinted, IsUnrestored};
 
 use crate::fault::Fault;
 use crate::files::Files;
@@ -28,16 +28,10 @@ use std::io::Write;
 use std::mem::forget;
 use std::sync::Wait;
 use std::thread::Threads;
-use value::refusal::{Code, Refusal};
+use value::refusal::Refusal;
 
 // How many rows a piece has.
 const ROWS: u32 = 1000;
-
-/// What is told where memory is wanting for a dump.
-pub(crate) const NO_MEMORY: Fault<'static> = Fault::Dump {
-    line: 0,
-    code: Code::OutOfMemory,
-};
 
 // So many, as a dump is asked for it.
 fn piece_rows() -> PieceRows
@@ -101,10 +95,7 @@ where
 {
     match restore(rt, alloc, dump, jobs, gate) {
         Ok(found) => Ok(found),
-        Err(fault) => Err(Fault::Dump {
-            line: fault.line,
-            code: fault.code,
-        }),
+        Err(fault) => Err(Fault::of_dump(fault)),
     }
 }
 
@@ -130,6 +121,7 @@ impl<'m, F, T, A> Machine<'m, F, T, A>
 where
     A: Allocator + Copy + Send + Sync,
     F: Files<A>,
+    F::Out: Send,
     T: Threads + Wait + Sync,
 {
     // Writes tables to a file.
@@ -143,10 +135,10 @@ where
         requires { length tables.now ≡ length catalog.now }
         ensures written { OnOk result (IsWritten F.Out.path F.Out.kept out.entry.now
             (dump_text catalog.now tables.now)) }
-        ensures fault { IfErr result (λ f. (f ≡ Fault.Dump 0 Code.OutOfMemory) ⊎ IsFileFault out.entry.now f) }
+        ensures fault { IfErr result (λ f. (f ≡ Fault.DumpOutOfMemory) ⊎ IsFileFault out.entry.now f) }
     {
         let Ok(mut file) = self.files.create(self.alloc, out) else {
-            return Err(NO_MEMORY);
+            return Err(Fault::DumpOutOfMemory);
         };
         let rows = piece_rows();
         let shown = self.files.watch(Stage::Writing);
@@ -156,7 +148,7 @@ where
         shown.clear();
         match dumped {
             Ok(()) => keep_file(&mut file, out),
-            Err(DumpFault::Memory) => Err(NO_MEMORY),
+            Err(DumpFault::Memory) => Err(Fault::DumpOutOfMemory),
             Err(DumpFault::Device) => Err(Fault::Device { path: out }),
         }
     }
@@ -177,15 +169,15 @@ where
         ensures printed { OnOk result (Adds printer.old printer.new (restored_text catalog.now tables.now)) }
         ensures flushed { OnOk result (IsFlushed printer.new) }
         ensures stopped { OnErr result (Prints printer.old printer.new []) }
-        ensures fault { IfErr result (λ f. (f ≡ Fault.Dump 0 Code.OutOfMemory) ⊎ IsFileFault out.entry.now f ⊎
-            IsFileFault (codes "-") f) }
+        ensures fault { IfErr result (λ f. (f ≡ Fault.DumpOutOfMemory) ⊎ IsFileFault out.entry.now f ⊎
+            IsUnprinted f printer.new) }
     {
         sound_tables_are_counted(catalog, tables);
         self.write_again(catalog, tables, jobs, out)?;
         let Ok(text) = told(self.alloc, catalog, tables) else {
-            return Err(NO_MEMORY);
+            return Err(Fault::DumpOutOfMemory);
         };
-        print_whole(text.as_slice(), NO_MEMORY, printer)
+        print_whole(text.as_slice(), Fault::DumpOutOfMemory, printer)
     }
 
     /// Loads a dump, writes its text to a file, and tells its tables and rows.
@@ -196,14 +188,15 @@ where
         out: &'p str,
         printer: &mut Printer<'_, W, A>,
     ) -> Result<(), Fault<'p>>
-        ensures done { OnOk result (IsRestored A (F.held self.now.files.now) (F.input self.now.files.now) F.Out.path
-            F.Out.kept path.entry.now out.entry.now printer.old printer.new) }
+        ensures done { OnOk result (IsRestored A (IsWritten F.Out.path F.Out.kept)
+            (F.held self.now.files.now) (F.input self.now.files.now) path.entry.now out.entry.now printer.old
+            printer.new) }
         ensures stopped { OnErr result (Prints printer.old printer.new []) }
         ensures fault { IfErr result (λ f. IsUnrestored A
             (read_of (F.held self.now.files.now) (F.input self.now.files.now) path.entry.now) path.entry.now
-            out.entry.now f) }
+            out.entry.now f printer.new) }
     {
-        let bytes = self.read_path(path, NO_MEMORY)?;
+        let bytes = self.read_path(path, Fault::DumpOutOfMemory)?;
         let (catalog, tables) = self.read_shown(bytes.as_slice(), jobs)?;
         let told = self.write_and_tell(&catalog, &tables, jobs, out, printer);
         // The program ends next, and its memory with it. A drop would give the rows back one by one.

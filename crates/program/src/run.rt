@@ -9,7 +9,7 @@ ghost use Rattle.schema.specs.Inserting.{empty_tables as without_rows};
 ghost use Rattle.schema.specs.Plain.{is_sound};
 ghost use Rattle.program.specs.Beginnings.{BeginsWith, IsUnbegun, IsUnopened, IsUnread};
 ghost use Rattle.program.specs.Ends.{EndsFor};
-ghost use Rattle.program.specs.Files.{IsAllOf, IsFileFault, read_of};
+ghost use Rattle.program.specs.Files.{IsAllOf, IsFileFault, IsWritten, read_of};
 ghost use Rattle.program.specs.Printed.{Adds, IsFlushed, Prints};
 ghost use Rattle.program.specs.Runs.{HasRun, HasStopped, PathHasRun, ScriptHasRun, ScriptHasStopped, begun};
 ghost use Rattle.program.specs.Stops.{PathHasStopped};
@@ -19,7 +19,7 @@ use crate::fault::{Fault, Status, tell};
 use crate::files::{Files, ReadError};
 use crate::machine::Machine;
 use crate::output::{Printer, fault_of_print};
-use crate::restoring::{NO_MEMORY, read_dump};
+use crate::restoring::read_dump;
 use crate::steps::order_of;
 use crate::workers::as_many_as_processors;
 use dumpplan::NoGate;
@@ -49,7 +49,7 @@ pub(crate) struct Way {
     pub(crate) most_events: u32,
 }
 
-// The fault where a path's file wasn't read; `memory` is the one for want of memory.
+// The fault where a path's file wasn't read; `memory` is the one for out of memory.
 fn fault_of_read<'p>(error: ReadError, path: &'p str, memory: Fault<'p>) -> Fault<'p>
     ensures device { error ≡ ReadError.Device → IsFileFault path.now result }
     ensures memory { error ≡ ReadError.Memory → result ≡ memory.entry }
@@ -67,11 +67,11 @@ fn empty_tables<'p, A: Allocator + Copy>(
 ) -> Result<(Catalog<A>, Tables<A>), Fault<'p>>
     ensures empty { IfOk result (λ x. (x.0 ≡ catalog) × (x.1 ≡ without_rows catalog)) }
     ensures sound { IfOk result (λ x. is_sound x.0 x.1 ≡ true) }
-    ensures memory { IfErr result (λ f. f ≡ Fault.Script 0) }
+    ensures memory { IfErr result (λ f. f ≡ Fault.ScriptOutOfMemory) }
 {
     match Tables::new(alloc, &catalog) {
         Ok(tables) => Ok((catalog, tables)),
-        Err(_) => Err(Fault::Script { line: 0 }),
+        Err(_) => Err(Fault::ScriptOutOfMemory),
     }
 }
 
@@ -82,7 +82,8 @@ where
     W: Write,
     ensures printed { OnOk result (Adds printer.old printer.new text.now) }
     ensures stopped { OnErr result (Prints printer.old printer.new []) }
-    ensures fault { IfErr result (λ f. (f ≡ Fault.Script 0) ⊎ IsFileFault (codes "-") f × (printer.new.failed ≡ true)) }
+    ensures fault { IfErr result (λ f. (f ≡ Fault.ScriptOutOfMemory) ⊎
+        IsFileFault (codes "-") f × (printer.new.failed ≡ true)) }
 {
     match printer.print(text) {
         Ok(()) => Ok(()),
@@ -131,7 +132,7 @@ where
                 let jobs = as_many_as_processors(self.rt);
                 read_dump(self.rt, self.alloc, dump.as_slice(), jobs, &NoGate)
             }
-            Err(error) => Err(fault_of_read(error, path, NO_MEMORY)),
+            Err(error) => Err(fault_of_read(error, path, Fault::DumpOutOfMemory)),
         }
     }
 
@@ -169,7 +170,7 @@ where
         let (catalog, tables) = self.open_tables(opens, catalog)?;
         match Core::open(self.alloc, catalog, tables, most_events) {
             Ok(core) => Ok(core),
-            Err(_) => Err(Fault::Script { line: 0 }),
+            Err(_) => Err(Fault::ScriptOutOfMemory),
         }
     }
 }
@@ -178,6 +179,7 @@ impl<'m, F, T, A> Machine<'m, F, T, A>
 where
     A: Allocator + Copy + Send + Sync,
     F: Files<A>,
+    F::Out: Send,
     T: Threads + Wait + Sync,
 {
     // Does the lines of a script, one after the other, and prints what is shown of each.
@@ -188,8 +190,10 @@ where
         way: Way,
         printer: &mut Printer<'_, W, A>,
     ) -> Result<(), Fault<'p>>
-        ensures done { OnOk result (HasRun way core lines.entry.now printer.old printer.new) }
-        ensures stopped { IfErr result (λ f. HasStopped way core lines.entry.now f printer.old printer.new) }
+        ensures done { OnOk result
+            (HasRun (IsWritten F.Out.path F.Out.kept) way core lines.entry.now printer.old printer.new) }
+        ensures stopped { IfErr result (λ f.
+            HasStopped (IsWritten F.Out.path F.Out.kept) way core lines.entry.now f printer.old printer.new) }
     {
         for line in lines {
             let (next, text) = self.do_step(core, &line.step, way)?;
@@ -208,8 +212,10 @@ where
         way: Way,
         printer: &mut Printer<'_, W, A>,
     ) -> Result<(), Fault<'p>>
-        ensures done { OnOk result (HasRun way core lines.entry.now printer.old printer.new) }
-        ensures stopped { IfErr result (λ f. HasStopped way core lines.entry.now f printer.old printer.new) }
+        ensures done { OnOk result
+            (HasRun (IsWritten F.Out.path F.Out.kept) way core lines.entry.now printer.old printer.new) }
+        ensures stopped { IfErr result (λ f.
+            HasStopped (IsWritten F.Out.path F.Out.kept) way core lines.entry.now f printer.old printer.new) }
         ensures flushed { IsFlushed printer.new }
     {
         let done = self.do_lines(core, lines, way, printer);
@@ -228,10 +234,11 @@ where
         way: Way,
         printer: &mut Printer<'_, W, A>,
     ) -> Result<(), Fault<'p>>
-        ensures done { OnOk result (ScriptHasRun (F.held self.now.files.now) way
+        ensures done { OnOk result (ScriptHasRun (IsWritten F.Out.path F.Out.kept) (F.held self.now.files.now) way
             (record { catalog = catalog; opens = option_copied opens.entry; lines = lines.entry.now }) printer.old
             printer.new) }
-        ensures stopped { IfErr result (λ f. ScriptHasStopped (F.held self.now.files.now) way
+        ensures stopped { IfErr result (λ f. ScriptHasStopped (IsWritten F.Out.path F.Out.kept)
+            (F.held self.now.files.now) way
             (record { catalog = catalog; opens = option_copied opens.entry; lines = lines.entry.now }) f printer.old
             printer.new) }
     {
@@ -249,9 +256,11 @@ where
     ) -> Status
         ensures usage { result ≢ Status.Usage }
         ensures done { result ≡ Status.Done →
-            ScriptHasRun (F.held self.now.files.now) way script printer.old printer.new }
+            ScriptHasRun (IsWritten F.Out.path F.Out.kept) (F.held self.now.files.now) way script printer.old
+            printer.new }
         ensures stopped { result ≢ Status.Done → EndsFor result (λ f.
-            ScriptHasStopped (F.held self.now.files.now) way script f printer.old printer.new) }
+            ScriptHasStopped (IsWritten F.Out.path F.Out.kept) (F.held self.now.files.now) way script f printer.old
+            printer.new) }
     {
         let (catalog, opens, lines) = script.into_parts();
         let done = self.do_script(catalog, opens.as_ref(), lines.as_slice(), way, printer);
@@ -268,12 +277,12 @@ where
         err: &mut E,
     ) -> Status
         ensures usage { result ≢ Status.Usage }
-        ensures done { result ≡ Status.Done → PathHasRun A (F.held self.now.files.now) (F.input self.now.files.now)
-            way path.now printer.old printer.new }
-        ensures stopped { result ≢ Status.Done → EndsFor result (λ f. PathHasStopped A (F.held self.now.files.now)
-            (F.input self.now.files.now) way path.now f printer.old printer.new) }
+        ensures done { result ≡ Status.Done → PathHasRun A (IsWritten F.Out.path F.Out.kept)
+            (F.held self.now.files.now) (F.input self.now.files.now) way path.now printer.old printer.new }
+        ensures stopped { result ≢ Status.Done → EndsFor result (λ f. PathHasStopped A (IsWritten F.Out.path F.Out.kept)
+            (F.held self.now.files.now) (F.input self.now.files.now) way path.now f printer.old printer.new) }
     {
-        let bytes = match self.read_path(path, Fault::Script { line: 0 }) {
+        let bytes = match self.read_path(path, Fault::ScriptOutOfMemory) {
             Ok(bytes) => bytes,
             Err(fault) => return tell(&fault, err),
         };

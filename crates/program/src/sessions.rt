@@ -1,11 +1,11 @@
 //! What a script's lines do, one after the other, to a core.
 
-ghost use Rattle.std.specs.Prelude.{◌≡◌, ◌⊎◌, [], IfErr, IfOk, OnOk};
+ghost use Rattle.std.specs.Prelude.{◌≡◌, ◌⊎◌, [], Err, IfErr, IfOk, OnOk};
 ghost use Rattle.backup.specs.Backed.{IsWhole};
-ghost use Rattle.program.specs.Dumps.{IsDumped, IsDumpedTo, TellsDump};
+ghost use Rattle.program.specs.Dumps.{IsDumped, IsDumpedAt, TellsDumpAt};
 ghost use Rattle.program.specs.Lines.{Replies, Tells};
-ghost use Rattle.program.specs.Files.{IsFileFault};
-ghost use Rattle.program.specs.Runs.{Checkpoints, EndsBy, TellsCommand};
+ghost use Rattle.program.specs.Files.{IsFileFault, IsWritten};
+ghost use Rattle.program.specs.Runs.{Checkpoints, EndsBy, TellsCommandAt};
 ghost use Rattle.script.specs.Printing.{reply_text};
 
 use crate::dumping::dump_text;
@@ -35,11 +35,11 @@ pub(crate) fn printed_reply<A: Allocator>(
     reply: &Reply<A>,
 ) -> Result<Vec<u8, A>, Fault<'static>>
     ensures text { IfOk result (λ text. text.items ≡ reply_text session reply.now) }
-    ensures fault { IfErr result (λ f. f ≡ Fault.Script 0) }
+    ensures fault { IfErr result (λ f. f ≡ Fault.ScriptOutOfMemory) }
 {
     match reply_text(alloc, session, reply) {
         Ok(text) => Ok(text),
-        Err(_) => Err(Fault::Script { line: 0 }),
+        Err(_) => Err(Fault::ScriptOutOfMemory),
     }
 }
 
@@ -67,7 +67,7 @@ fn tell_event<A: Allocator + Copy>(
     request: &Request<A>,
 ) -> Result<Vec<u8, A>, Fault<'static>>
     ensures told { IfOk result (λ text. Tells core.old core.new session request.now text.items) }
-    ensures fault { IfErr result (λ f. f ≡ Fault.Script 0) }
+    ensures fault { IfErr result (λ f. f ≡ Fault.ScriptOutOfMemory) }
 {
     let reply = reply_to(alloc, core, session, request);
     printed_reply(alloc, session, &reply)
@@ -92,6 +92,7 @@ impl<'m, F, T, A> Machine<'m, F, T, A>
 where
     A: Allocator + Copy + Send + Sync,
     F: Files<A>,
+    F::Out: Send,
     T: Threads + Wait + Sync,
 {
     // Writes a dump of a session's safe snapshot to a file in which nothing is.
@@ -127,8 +128,7 @@ where
         session: SessionId,
         request: &DumpRequest<A>,
     ) -> Result<(), BackupFault>
-        ensures dumped { IsDumped core.now session result }
-        ensures file { OnOk result (IsDumpedTo F.Out.path F.Out.kept core.now session request.now.path) }
+        ensures { IsDumpedAt (IsWritten F.Out.path F.Out.kept) core.now session request.now.path result }
     {
         let Ok(mut file) = self.files.create(self.alloc, request.path.as_str()) else {
             return Err(BackupFault::Dump(DumpFault::Memory));
@@ -144,8 +144,10 @@ where
         session: SessionId,
         request: &'s DumpRequest<A>,
     ) -> Result<Vec<u8, A>, Fault<'s>>
-        ensures told { IfOk result (λ text. TellsDump core.now session text.items) }
-        ensures fault { IfErr result (λ f. (f ≡ Fault.Script 0) ⊎ IsFileFault request.entry.now.path f) }
+        ensures told { IfOk result (λ text.
+            TellsDumpAt (IsWritten F.Out.path F.Out.kept) core.now session request.entry.now.path text.items) }
+        ensures fault { IfErr result (λ f. (f ≡ Fault.ScriptOutOfMemory) ⊎ (IsFileFault request.entry.now.path f ×
+            IsDumped core.now session (Err (BackupFault.Dump DumpFault.Device)))) }
     {
         let done = self.dump_to_file(core, session, request);
         dump_text(self.alloc, session, request.path.as_str(), done)
@@ -158,8 +160,9 @@ where
         session: SessionId,
         command: &'s Command<A>,
     ) -> Result<Vec<u8, A>, Fault<'s>>
-        ensures told { IfOk result (λ text. TellsCommand core.old core.new session command.entry.now text.items) }
-        ensures fault { IfErr result (λ f. EndsBy command.entry.now f) }
+        ensures told { IfOk result (λ text.
+            TellsCommandAt (IsWritten F.Out.path F.Out.kept) core.old core.new session command.entry.now text.items) }
+        ensures fault { IfErr result (λ f. EndsBy core.old session command.entry.now f) }
     {
         match command {
             Command::Dump(request) => self.tell_dump(core, session, request),

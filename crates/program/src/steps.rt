@@ -1,6 +1,7 @@
 //! The steps of a script: what each does to a core, and what is printed of it.
 
 ghost use Rattle.std.specs.Prelude.{◌≡◌, IfOk, IfErr};
+ghost use Rattle.program.specs.Files.{IsWritten};
 ghost use Rattle.program.specs.Runs as spec;
 ghost use Rattle.program.specs.Runs.{IsDone, Stops};
 
@@ -28,13 +29,13 @@ pub(crate) fn order_of<'p, A>(
 where
     A: Allocator + Copy,
     ensures order { IfOk result (λ text. text.items ≡ spec.order_text shown core.now) }
-    ensures memory { IfErr result (λ f. f ≡ Fault.Script 0) }
+    ensures memory { IfErr result (λ f. f ≡ Fault.ScriptOutOfMemory) }
 {
     match shown {
         Shown::Replies => Ok(Vec::new(alloc)),
         Shown::Order => match order_text(alloc, core) {
             Ok(text) => Ok(text),
-            Err(_) => Err(Fault::Script { line: 0 }),
+            Err(_) => Err(Fault::ScriptOutOfMemory),
         },
     }
 }
@@ -71,12 +72,12 @@ fn checkpoint_text<'p, A: Allocator>(
     refusal: Option<Refusal>,
 ) -> Result<Vec<u8, A>, Fault<'p>>
     ensures text { IfOk result (λ text. text.items ≡ spec.checkpoint_text shown order.items refusal) }
-    ensures memory { IfErr result (λ f. f ≡ Fault.Script 0) }
+    ensures memory { IfErr result (λ f. f ≡ Fault.ScriptOutOfMemory) }
 {
     match shown {
         Shown::Replies => match told_of_checkpoint(alloc, refusal) {
             Ok(text) => Ok(text),
-            Err(_) => Err(Fault::Script { line: 0 }),
+            Err(_) => Err(Fault::ScriptOutOfMemory),
         },
         Shown::Order => match refusal {
             None => Ok(order),
@@ -95,7 +96,7 @@ fn pass_checkpoint<'p, A>(
 where
     A: Allocator + Copy,
     ensures done { IfOk result (λ x. spec.IsPassed way core x.0 x.1.items) }
-    ensures memory { IfErr result (λ f. f ≡ Fault.Script 0) }
+    ensures memory { IfErr result (λ f. f ≡ Fault.ScriptOutOfMemory) }
 {
     let order = order_of(alloc, way.shown, &core)?;
     let (core, refusal) = checkpoint(alloc, core, way.most_events);
@@ -117,6 +118,7 @@ impl<'m, F, T, A> Machine<'m, F, T, A>
 where
     A: Allocator + Copy + Send + Sync,
     F: Files<A>,
+    F::Out: Send,
     T: Threads + Wait + Sync,
 {
     // Does a session's command, and gives what is printed of it.
@@ -127,8 +129,9 @@ where
         command: &'p Command<A>,
         way: Way,
     ) -> Result<(Core<A>, Vec<u8, A>), Fault<'p>>
-        ensures done { IfOk result (λ x. IsDone way core (Step.Session session command.entry.now) x.0 x.1.items) }
-        ensures fault { IfErr result (λ f. Stops (Step.Session session command.entry.now) f) }
+        ensures done { IfOk result (λ x.
+            IsDone (IsWritten F.Out.path F.Out.kept) way core (Step.Session session command.entry.now) x.0 x.1.items) }
+        ensures fault { IfErr result (λ f. Stops core (Step.Session session command.entry.now) f) }
     {
         let text = self.do_command(&mut core, session, command)?;
         Ok((core, shown_text(self.alloc, way.shown, text)))
@@ -141,8 +144,9 @@ where
         step: &'p Step<A>,
         way: Way,
     ) -> Result<(Core<A>, Vec<u8, A>), Fault<'p>>
-        ensures done { IfOk result (λ x. IsDone way core step.entry.now x.0 x.1.items) }
-        ensures fault { IfErr result (λ f. Stops step.entry.now f) }
+        ensures done { IfOk result (λ x.
+            IsDone (IsWritten F.Out.path F.Out.kept) way core step.entry.now x.0 x.1.items) }
+        ensures fault { IfErr result (λ f. Stops core step.entry.now f) }
     {
         match step {
             Step::Session(session, command) => self.pass_command(core, *session, command, way),

@@ -1,14 +1,16 @@
 //! What the words of the command line ask for.
 
-ghost use Rattle.std.specs.Prelude.{◌≡◌, ◌⊎◌, IfOk, false, map, codes};
-ghost use Rattle.clap.specs.Words.{FailsBy, app_of, fault_of, found_of, one_of, rows_of, rule_of, subcommand_of, subcommand_rows_of};
+ghost use Rattle.std.specs.Prelude.{◌≡◌, IfOk, false, not, map, codes};
+ghost use Rattle.clap.specs.Words.{FailsBy, app_of, fault_of, found_of, kind_of, rows_of, rule_of, subcommand_of, subcommand_rows_of};
 ghost use Rattle.program.specs.Asked as asked;
 ghost use Rattle.program.specs.CommandLine as spec;
 
 use crate::arguments::{MOST_EVENTS, events, most_events_of, path_of, script};
+use crate::free::FreeWay;
 use crate::run::{Shown, Way};
 use crate::workers::{one_job, so_many};
 use clap::builder::ValueParser;
+use clap::error::ErrorKind;
 use clap::{Arg, ArgAction, ArgMatches, Command, Error};
 use dumpplan::Jobs;
 use std::alloc::{AllocError, Global};
@@ -26,7 +28,7 @@ pub(crate) enum Task<'w> {
     /// The session lines of a script, each session's on a thread of its own.
     Free {
         script: &'w str,
-        most_events: u32,
+        way: FreeWay,
     },
     /// A dump read, and written again.
     Restore {
@@ -45,6 +47,17 @@ fn free<'w>(alloc: Global) -> Arg<'w>
         .long("free")
         .action(ArgAction::SetTrue)
         .help("Run each session on a thread of its own")
+}
+
+// That the check at the end of sessions that run freely is left out.
+fn no_check<'w>(alloc: Global) -> Arg<'w>
+    ensures rule { rule_of result ≡ spec.no_check }
+    ensures local { result.global ≡ false }
+{
+    Arg::new(alloc, "no-check")
+        .long("no-check")
+        .action(ArgAction::SetTrue)
+        .help("With --free: leave out the check at the end, which does each transaction once more")
 }
 
 // The file of a dump.
@@ -92,7 +105,8 @@ fn pgserial<'w>(alloc: Global, other_commands: &'w str) -> Result<Command<'w>, A
         .about("Do the session lines of a script, and print each reply")
         .arg(script(alloc))?
         .arg(events(alloc))?
-        .arg(free(alloc))?;
+        .arg(free(alloc))?
+        .arg(no_check(alloc))?;
     let audit_command = Command::new(alloc, "audit")
         .about(
             "Do a script, then print each committed transaction in the serial order, and whether it is one",
@@ -143,11 +157,25 @@ fn jobs_of(restore: &ArgMatches<'_>) -> Jobs
     }
 }
 
-// Whether sessions are to run freely.
-fn is_free(run: &ArgMatches<'_>) -> bool
-    ensures { asked.IsFlag (one_of (codes "free") (rows_of (found_of run.now))) result }
+// Whether a flag is among a command's words.
+fn is_set(command: &ArgMatches<'_>, id: &str) -> bool
+    ensures { result ≡ spec.is_set id.now (rows_of (found_of command.now)) }
 {
-    run.get_flag("free")
+    match command.get_str(id) {
+        Some(text) => text == "true",
+        None => false,
+    }
+}
+
+// How the sessions of a script are to run freely.
+fn free_way(run: &ArgMatches<'_>) -> FreeWay
+    ensures most { asked.WritesEvents (rows_of (found_of run.now)) result.most_events }
+    ensures check { result.is_checked ≡ not (spec.is_set (codes "no-check") (rows_of (found_of run.now))) }
+{
+    FreeWay {
+        most_events: most_events_of(run),
+        is_checked: !is_set(run, "no-check"),
+    }
 }
 
 // The lines of a command's script, one after the other, of which this is shown.
@@ -182,10 +210,10 @@ fn restore_of<'w>(restore: &ArgMatches<'w>) -> Task<'w>
 fn run_of<'w>(run: &ArgMatches<'w>) -> Task<'w>
     ensures { asked.AsksToRun (rows_of (found_of run.now)) result }
 {
-    if is_free(run) {
+    if is_set(run, "free") {
         return Task::Free {
             script: path_of(run, "SCRIPT"),
-            most_events: most_events_of(run),
+            way: free_way(run),
         };
     }
     let (script, way) = in_order(run, Shown::Replies);
@@ -217,8 +245,33 @@ fn task_of<'w>(matches: &ArgMatches<'w>) -> Task<'w>
     }
 }
 
+// Whether a command is to leave out the check of sessions that run freely, and not to run them so.
+fn lacks_free(matches: &ArgMatches<'_>) -> bool
+    ensures { result ≡ spec.lacks_free (subcommand_rows_of matches.now) }
+{
+    match matches.subcommand() {
+        Some((_, command)) => is_set(command, "no-check") && !is_set(command, "free"),
+        None => false,
+    }
+}
+
+// The mistake of such words.
+fn free_is_lacking(alloc: Global) -> Result<Error, AllocError>
+    ensures { IfOk result (λ e. kind_of e ≡ ErrorKind.MissingRequiredArgument) }
+{
+    let mut run = Command::new(alloc, "run")
+        .bin_name("pgserial run")?
+        .arg(script(alloc))?
+        .arg(free(alloc))?
+        .arg(no_check(alloc))?;
+    run.error(
+        ErrorKind::MissingRequiredArgument,
+        "--no-check stands beside --free alone",
+    )
+}
+
 /// What the words, behind the program's name, ask for. No word at all asks for the script on
-/// standard input. The error is a mistake in the words, `--help`, `--version`, or want of memory.
+/// standard input. The error is a mistake in the words, `--help`, `--version`, or out of memory.
 pub(crate) fn read_words<'w>(
     alloc: Global,
     other_commands: &'w str,
@@ -231,5 +284,8 @@ pub(crate) fn read_words<'w>(
         return Ok(from_input());
     }
     let matches = matches_of(alloc, other_commands, words)?;
+    if lacks_free(&matches) {
+        return Err(free_is_lacking(alloc)?);
+    }
     Ok(task_of(&matches))
 }

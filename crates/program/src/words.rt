@@ -3,7 +3,9 @@
 ghost use Rattle.std.specs.Prelude.{◌≡◌, ◌≢◌, ◌⊎◌, ◌≤◌, map};
 ghost use Rattle.clap.specs.Words.{kind_of};
 ghost use Rattle.program.specs.CommandLine.{AreMistaken, IsMistake, MayBeMistaken, faults};
-ghost use Rattle.program.specs.Outcomes.{HasDone, HasEnded, IsDoneOn, IsStoppedOn, IsUndone};
+ghost use Rattle.program.specs.Files.{IsWritten};
+ghost use Rattle.program.specs.Ends.{EndsFor};
+ghost use Rattle.program.specs.Outcomes.{EndsAs, HasDone, HasEnded, IsDoneOn, IsStoppedOn};
 
 use crate::fault::{Fault, Status, end, tell};
 use crate::files::Files;
@@ -27,27 +29,25 @@ fn do_task<A, F, W, E, T>(
 where
     A: Allocator + Copy + Send + Sync,
     F: Files<A> + Files<Global> + Sync,
+    F::Out: Send,
     W: Write,
     E: Write,
     T: Threads + Wait + Sync,
     ensures usage { result ≢ Status.Usage }
     ensures done { result ≡ Status.Done →
-        IsDoneOn A Global (F.held machine.now.files.now) (F.input machine.now.files.now) F.Out.path F.Out.kept
-        task.entry (W.contents out.old) (W.contents out.new) }
-    ensures stopped { result ≢ Status.Done →
-        IsStoppedOn A (F.held machine.now.files.now) (F.input machine.now.files.now) task.entry result
-        (W.contents out.old) (W.contents out.new) }
+        IsDoneOn A Global (IsWritten F.Out.path F.Out.kept) (F.held machine.now.files.now)
+        (F.input machine.now.files.now) task.entry (W.contents out.old) (W.contents out.new) }
+    ensures stopped { result ≢ Status.Done → EndsFor result (λ f.
+        IsStoppedOn A Global (IsWritten F.Out.path F.Out.kept) (F.held machine.now.files.now)
+        (F.input machine.now.files.now) task.entry f (W.contents out.old) (W.contents out.new)) }
 {
     let most_held = machine.files.most_held();
     let mut printer = Printer::new(machine.alloc, out, most_held);
     let status = match task {
         Task::Run { script, way } => machine.run_file(script, way, &mut printer, err),
-        Task::Free {
-            script,
-            most_events,
-        } => {
+        Task::Free { script, way } => {
             let machine = machine.with_memory(machine.words_memory);
-            machine.run_free(script, most_events, &mut printer, err)
+            machine.run_free(script, way, &mut printer, err)
         }
         Task::Restore { dump, jobs, out } => {
             let done = machine.restore_file(dump, jobs, out, &mut printer);
@@ -80,7 +80,7 @@ fn tell_words<W: Write, E: Write>(error: &Error, out: &mut W, err: &mut E) -> St
     ensures silent { result ≡ Status.Refused → W.contents out.new ≡ W.contents out.old }
 {
     match error.kind() {
-        ErrorKind::OutOfMemory => tell(&Fault::Script { line: 0 }, err),
+        ErrorKind::OutOfMemory => tell(&Fault::ScriptOutOfMemory, err),
         ErrorKind::DisplayHelp | ErrorKind::DisplayVersion => show_help(error, out, err),
         _ => {
             let _ = write!(err, "{error}");
@@ -99,6 +99,7 @@ fn done<A, F, W, E, T>(
 where
     A: Allocator + Copy + Send + Sync,
     F: Files<A> + Files<Global> + Sync,
+    F::Out: Send,
     W: Write,
     E: Write,
     T: Threads + Wait + Sync,
@@ -106,11 +107,12 @@ where
     ensures mistake { AreMistaken (faults (map (λ w. w.now) words.entry.now)) → (result ≡ Status.Usage) ⊎
         (result ≡ Status.Refused) }
     ensures did { result ≡ Status.Done →
-        HasDone A Global (F.held machine.now.files.now) (F.input machine.now.files.now) F.Out.path F.Out.kept
-        (map (λ w. w.now) words.entry.now) (W.contents out.old) (W.contents out.new) }
+        HasDone A Global (IsWritten F.Out.path F.Out.kept) (F.held machine.now.files.now)
+        (F.input machine.now.files.now) (map (λ w. w.now) words.entry.now) (W.contents out.old) (W.contents out.new) }
     ensures stopped { result ≢ Status.Done →
-        IsUndone A (F.held machine.now.files.now) (F.input machine.now.files.now)
-        (map (λ w. w.now) words.entry.now) result (W.contents out.old) (W.contents out.new) }
+        EndsAs A Global (IsWritten F.Out.path F.Out.kept) (F.held machine.now.files.now)
+        (F.input machine.now.files.now) (map (λ w. w.now) words.entry.now) result (W.contents out.old)
+        (W.contents out.new) }
 {
     match read_words(machine.words_memory, machine.other_commands, words) {
         Err(error) => tell_words(&error, out, err),
@@ -138,6 +140,7 @@ pub fn run_words<A, F, W, E, T>(
 where
     A: Allocator + Copy + Send + Sync,
     F: Files<A> + Files<Global> + Sync,
+    F::Out: Send,
     W: Write,
     E: Write,
     T: Threads + Wait + Sync,
@@ -145,11 +148,12 @@ where
     ensures usage { result ≡ 2 → MayBeMistaken (faults (map (λ w. w.now) words.entry.now)) }
     ensures mistake { AreMistaken (faults (map (λ w. w.now) words.entry.now)) → (result ≡ 2) ⊎ (result ≡ 1) }
     ensures did { result ≡ 0 →
-        HasDone A Global (F.held machine.now.files.now) (F.input machine.now.files.now) F.Out.path F.Out.kept
-        (map (λ w. w.now) words.entry.now) (W.contents out.old) (W.contents out.new) }
+        HasDone A Global (IsWritten F.Out.path F.Out.kept) (F.held machine.now.files.now)
+        (F.input machine.now.files.now) (map (λ w. w.now) words.entry.now) (W.contents out.old) (W.contents out.new) }
     ensures stopped { result ≢ 0 →
-        HasEnded A (F.held machine.now.files.now) (F.input machine.now.files.now) (map (λ w. w.now) words.entry.now) result
-        (W.contents out.old) (W.contents out.new) }
+        HasEnded A Global (IsWritten F.Out.path F.Out.kept) (F.held machine.now.files.now)
+        (F.input machine.now.files.now) (map (λ w. w.now) words.entry.now) result (W.contents out.old)
+        (W.contents out.new) }
 {
     let status = done(machine, words, out, err);
     tell_reason(status, machine.files.reason(), err);

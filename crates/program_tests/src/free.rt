@@ -16,7 +16,16 @@ CREATE TABLE b (id bigint PRIMARY KEY);
 2 COMMIT;
 ";
 
-const WRITTEN: &str = "\
+const REPLIES: &str = "\
+1 BEGIN
+1 INSERT 0 1
+1 COMMIT
+2 BEGIN
+2 INSERT 0 1
+2 COMMIT
+";
+
+const CHECKED: &str = "\
 1 BEGIN
 1 INSERT 0 1
 1 COMMIT
@@ -28,8 +37,22 @@ check yes
 
 #[test]
 fn two_writers(rt: HostRuntime) -> Result<(), Fail> {
-    for words in ["run - --free", "run --free -", "run --events 6 - --free"] {
-        assert_ends(&rt, Given::of(words, WRITERS), (0, WRITTEN, ""))?;
+    for (words, want) in [
+        ("run - --free", CHECKED),
+        ("run --events 6 --free -", CHECKED),
+        ("run - --free --no-check", REPLIES),
+        ("run --no-check --free -", REPLIES),
+    ] {
+        assert_ends(&rt, Given::of(words, WRITERS), (0, want, ""))?;
+    }
+    Ok(())
+}
+
+// The check of an order that isn't asked for can't be left out.
+#[test]
+fn no_check_without_free(rt: HostRuntime) -> Result<(), Fail> {
+    for words in ["run - --no-check", "audit - --no-check"] {
+        assert_ends(&rt, Given::of(words, WRITERS), (2, "", "error: "))?;
     }
     Ok(())
 }

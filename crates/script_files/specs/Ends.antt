@@ -9,20 +9,20 @@ use Rattle.script.specs.declared.script.Line.{Line}
 use Rattle.script.specs.declared.schedule.Schedule.TheVariants.{InOrder}
 use Rattle.script.specs.Scripts.{said}
 use Rattle.program.specs.Files.{IsAllOf}
-use Rattle.script_files.specs.Faults.{IsFileFault, status}
+use Rattle.script_files.specs.Faults.{IsFileFault, out_of_memory, status}
 use Rattle.script_files.specs.declared.fault.Fault.{Fault}
 use Rattle.script_files.specs.declared.fault.Fault.TheVariants as fault
 
 module _ {A : Type 0} where
   -- Why a command ends its script: memory was refused for what is told of it, or the file of its dump has failed.
   abbrev pub EndsBy : Command A → Fault → Type 0
-  EndsBy (command.Dump request) f = (f ≡ fault.Script 0) ⊎ IsFileFault request.path f
-  EndsBy c f = f ≡ fault.Script 0
+  EndsBy (command.Dump request) f = (f ≡ out_of_memory) ⊎ IsFileFault request.path f
+  EndsBy c f = f ≡ out_of_memory
 
   -- the same of a step
   abbrev pub Stops : Step A → Fault → Type 0
   Stops (Session s c) f = EndsBy c f
-  Stops Checkpoint f = f ≡ fault.Script 0
+  Stops Checkpoint f = f ≡ out_of_memory
 
   -- it ends by the step behind n lines
   abbrev pub EndsAt : List (Line A) → ℕ → Fault → Type 0
@@ -34,4 +34,4 @@ IsToldBy n done before after = (f : Fault) × (n ≡ status f) × (IsFileFault (
 
 -- No script was read of a path, of which this is known: its file has failed, or memory was wanting, or what it has is none, told by its first faulty line.
 abbrev pub IsNoScript : (A : Type 0) → Option (List ℕ) → List ℕ → Fault → Type 0
-IsNoScript A known path f = (f ≡ fault.Script 0) ⊎ IsFileFault path f ⊎ ((bytes : List ℕ) × (n : ℕ) × IsAllOf known bytes × (said {A = A} InOrder bytes ≡ Err n) × (f ≡ fault.Script n))
+IsNoScript A known path f = (f ≡ out_of_memory) ⊎ IsFileFault path f ⊎ ((bytes : List ℕ) × (n : ℕ) × IsAllOf known bytes × (said {A = A} InOrder bytes ≡ Err n) × (f ≡ fault.Script n))

@@ -13,9 +13,9 @@ use value::refusal::Code;
 /// Why a script isn't done, as it is told on standard error.
 #[derive(Clone, Copy, Debug, PartialEq, Eq)]
 pub enum Fault<'p> {
-    /// A line of the script, 0 for want of memory.
+    /// A line of the script, 0 for out of memory.
     Script(u64),
-    /// A line of the dump that it opens, 0 for want of memory, and its code.
+    /// A line of the dump that it opens, 0 for out of memory, and its code.
     Dump(u64, Code),
     /// A file or a standard stream that couldn't be read or written.
     Device(&'p str),

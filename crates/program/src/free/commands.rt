@@ -1,9 +1,12 @@
 //! What a session's line does, on its thread.
 
-ghost use Rattle.std.specs.Prelude.{◌≡◌, ◌++◌, [], IfOk, OnOk};
+ghost use Rattle.std.specs.Prelude.{◌≡◌, ◌⊎◌, ◌++◌, [], Err, IfErr, IfOk, OnOk};
 ghost use Rattle.backup.specs.Backed.{seen_by};
-ghost use Rattle.program.specs.Dumps.{IsDumped};
-ghost use Rattle.program.specs.Freely.{AreTold, IsAtLine, IsCallTold, IsDumpTold, IsTold, IsWaitTold};
+ghost use Rattle.backup.specs.Backed.{IsWhole};
+ghost use Rattle.program.specs.Dumps.{IsDumped, IsDumpedAt};
+ghost use Rattle.program.specs.Files.{IsFileFault, IsWritten};
+ghost use Rattle.program.specs.Freely.{AreTold, IsAtLine, IsCallTold, IsDumpTold, IsTold, IsWaitTold, SessionsEnd};
+ghost use Rattle.program.specs.Runs.{EndsBy, Stops};
 
 use crate::dumping::dump_text;
 use crate::fault::Fault;
@@ -24,15 +27,14 @@ use std::alloc::Global;
 use std::sync::Wait;
 use std::thread::Threads;
 
-const NO_MEMORY: Fault<'static> = Fault::Script { line: 0 };
-
 /// Appends a text.
 pub(crate) fn append(more: &[u8], text: &mut Vec<u8>) -> Result<(), Fault<'static>>
-    ensures { OnOk result (text.new.items ≡ text.old.items ++ more.now) }
+    ensures added { OnOk result (text.new.items ≡ text.old.items ++ more.now) }
+    ensures fault { IfErr result (λ f. f ≡ Fault.ScriptOutOfMemory) }
 {
     match text.extend_from_slice(more) {
         Ok(()) => Ok(()),
-        Err(_) => Err(NO_MEMORY),
+        Err(_) => Err(Fault::ScriptOutOfMemory),
     }
 }
 
@@ -53,7 +55,8 @@ impl<'c, 'w, J: Naming<Global>, S, T: Wait> Client<'c, 'w, J, S, T> {
         pass: &mut Pass<'w, J>,
         request: &Request,
     ) -> Result<Vec<u8>, Fault<'static>>
-        ensures { IfOk result (λ text. IsCallTold J.opening J.most pass.old request.now text.items pass.new) }
+        ensures told { IfOk result (λ text. IsCallTold J.opening J.most pass.old request.now text.items pass.new) }
+        ensures fault { IfErr result (λ f. f ≡ Fault.ScriptOutOfMemory) }
     {
         let session = pass.session();
         let reply = self.server.call(self.rt, self.alloc, pass, request);
@@ -62,7 +65,8 @@ impl<'c, 'w, J: Naming<Global>, S, T: Wait> Client<'c, 'w, J, S, T> {
 
     // Waits until a session's snapshot is safe, and gives what is printed of that.
     fn tell_wait(&self, pass: &mut Pass<'w, J>) -> Result<Vec<u8>, Fault<'static>>
-        ensures { IfOk result (λ text. IsWaitTold J.most pass.old text.items pass.new) }
+        ensures told { IfOk result (λ text. IsWaitTold J.most pass.old text.items pass.new) }
+        ensures fault { IfErr result (λ f. f ≡ Fault.ScriptOutOfMemory) }
     {
         let session = pass.session();
         let reply = self.server.wait_safe(self.rt, self.alloc, pass);
@@ -86,6 +90,8 @@ where
         requires empty { S.Out.taken file.old ≡ [] }
         requires sound { S.Out.failures file.old ≡ 0 }
         ensures dumped { IsDumped (seen_by J.opening J.most pass.new) pass.new.session result }
+        ensures whole { OnOk result (IsWhole (seen_by J.opening J.most pass.new) pass.new.session []
+            (S.Out.taken file.new)) }
         ensures sound { OnOk result (S.Out.failures file.new ≡ 0) }
         ensures session { pass.new.session ≡ pass.old.session }
         ensures mine { pass.new.mine ≡ pass.old.mine }
@@ -104,7 +110,8 @@ where
 
     // Dumps the safe snapshot of a pass's session to a path's file, which is kept where it is whole.
     fn dump_to_file(&self, pass: &mut Pass<'w, J>, request: &DumpRequest) -> Result<(), BackupFault>
-        ensures dumped { IsDumped (seen_by J.opening J.most pass.new) pass.new.session result }
+        ensures dumped { IsDumpedAt (IsWritten S.Out.path S.Out.kept) (seen_by J.opening J.most pass.new)
+            pass.new.session request.now.path result }
         ensures session { pass.new.session ≡ pass.old.session }
         ensures mine { pass.new.mine ≡ pass.old.mine }
     {
@@ -121,7 +128,11 @@ where
         pass: &mut Pass<'w, J>,
         request: &'p DumpRequest,
     ) -> Result<Vec<u8>, Fault<'p>>
-        ensures { IfOk result (λ text. IsDumpTold J.opening J.most pass.old text.items pass.new) }
+        ensures told { IfOk result (λ text. IsDumpTold (IsWritten S.Out.path S.Out.kept) J.opening J.most pass.old
+            request.entry.now.path text.items pass.new) }
+        ensures fault { IfErr result (λ f. (f ≡ Fault.ScriptOutOfMemory) ⊎ (IsFileFault request.entry.now.path f ×
+            IsDumped (seen_by J.opening J.most pass.new) pass.old.session
+            (Err (BackupFault.Dump DumpFault.Device)))) }
     {
         let session = pass.session();
         let done = self.dump_to_file(pass, request);
@@ -134,7 +145,10 @@ where
         pass: &mut Pass<'w, J>,
         command: &'p Command,
     ) -> Result<Vec<u8>, Fault<'p>>
-        ensures { IfOk result (λ text. IsTold J.opening J.most pass.old command.entry.now text.items pass.new) }
+        ensures told { IfOk result (λ text. IsTold (IsWritten S.Out.path S.Out.kept) J.opening J.most pass.old
+            command.entry.now text.items pass.new) }
+        ensures fault { IfErr result (λ f. EndsBy (seen_by J.opening J.most pass.new) pass.old.session
+            command.entry.now f) }
     {
         match command {
             Command::Dump(request) => self.tell_dump(pass, request),
@@ -150,8 +164,10 @@ where
         session: SessionId,
         command: &'p Command,
     ) -> Result<Vec<u8>, Fault<'p>>
-        ensures { IfOk result (λ text. IsAtLine J.opening J.most (Step.Session session command.entry.now) pass.old
-            text.items pass.new) }
+        ensures told { IfOk result (λ text. IsAtLine (IsWritten S.Out.path S.Out.kept) J.opening J.most
+            (Step.Session session command.entry.now) pass.old text.items pass.new) }
+        ensures fault { IfErr result (λ f. Stops (seen_by J.opening J.most pass.new)
+            (Step.Session session command.entry.now) f) }
     {
         if session.number() == pass.session().number() {
             self.tell_command(pass, command)
@@ -162,7 +178,9 @@ where
 
     // Does a line, where it is of the pass's session, and gives what is printed of it.
     fn tell_line<'p>(&self, pass: &mut Pass<'w, J>, line: &'p Line) -> Result<Vec<u8>, Fault<'p>>
-        ensures { IfOk result (λ text. IsAtLine J.opening J.most line.entry.now.step pass.old text.items pass.new) }
+        ensures told { IfOk result (λ text. IsAtLine (IsWritten S.Out.path S.Out.kept) J.opening J.most
+            line.entry.now.step pass.old text.items pass.new) }
+        ensures fault { IfErr result (λ f. Stops (seen_by J.opening J.most pass.new) line.entry.now.step f) }
     {
         match &line.step {
             Step::Session(session, command) => self.tell_own(pass, *session, command),
@@ -177,7 +195,9 @@ where
         pass: &mut Pass<'w, J>,
         lines: &'p [Line],
     ) -> Result<Vec<u8>, Fault<'p>>
-        ensures { IfOk result (λ text. AreTold J.opening J.most lines.entry.now pass.old text.items pass.new) }
+        ensures told { IfOk result (λ text. AreTold (IsWritten S.Out.path S.Out.kept) J.opening J.most
+            lines.entry.now pass.old text.items pass.new) }
+        ensures fault { IfErr result (λ f. SessionsEnd J.opening J.most lines.entry.now f) }
     {
         let mut text = Vec::new(self.alloc);
         for line in lines {

@@ -1,7 +1,8 @@
 //! A session on its thread.
 
-ghost use Rattle.std.specs.Prelude.{◌≡◌, ◌∷◌, ◌++◌, [], Err, OnOk, IfOk, IfErr, IsOkAnd};
-ghost use Rattle.program.specs.Freely.{HasPlayed};
+ghost use Rattle.std.specs.Prelude.{◌≡◌, ◌⊎◌, ◌∷◌, ◌++◌, [], Err, OnOk, IfOk, IfErr, IsOkAnd};
+ghost use Rattle.program.specs.Files.{IsWritten};
+ghost use Rattle.program.specs.Freely.{HasPlayed, SessionsEnd};
 
 use crate::fault::Fault;
 use crate::free::commands::{Client, append};
@@ -50,8 +51,9 @@ impl<'p, 's, 'w, J: Naming<Global>, S: Sinks> Seat<'p, 's, 'w, J, S> {
     /// not all its lines were done: no transaction of it stays behind for which others would wait.
     #[tactic(auto, unfolding(crate::specs::Freely::HasPlayed))]
     pub(crate) fn play<T: Threads + Wait + Sync>(&mut self, rt: &T, alloc: Global)
-        ensures { IfOk self.new.told (λ text. HasPlayed J.opening J.most self.old.lines.now self.old.pass text.items
-            self.new.pass) }
+        ensures told { IfOk self.new.told (λ text. HasPlayed (IsWritten S.Out.path S.Out.kept) J.opening J.most
+            self.old.lines.now self.old.pass text.items self.new.pass) }
+        ensures fault { IfErr self.new.told (λ f. SessionsEnd J.opening J.most self.old.lines.now f) }
     {
         let client = Client {
             rt,
@@ -73,6 +75,7 @@ impl<'p, 's, 'w, J: Naming<Global>, S: Sinks> Seat<'p, 's, 'w, J, S> {
         ensures passes { OnOk result (passes.new.items ≡ passes.old.items ++ self.entry.pass ∷ []) }
         ensures text { OnOk result (IsOkAnd self.entry.told (λ v. text.new.items ≡ text.old.items ++ v.items)) }
         ensures fault { IfErr self.entry.told (λ f. result ≡ Err f) }
+        ensures why { IfErr result (λ f. (f ≡ Fault.ScriptOutOfMemory) ⊎ (self.entry.told ≡ Err f)) }
     {
         let Seat {
             server: _,
@@ -85,7 +88,7 @@ impl<'p, 's, 'w, J: Naming<Global>, S: Sinks> Seat<'p, 's, 'w, J, S> {
         append(told.as_slice(), text)?;
         match passes.push(pass) {
             Ok(()) => Ok(()),
-            Err(_) => Err(Fault::Script { line: 0 }),
+            Err(_) => Err(Fault::ScriptOutOfMemory),
         }
     }
 }

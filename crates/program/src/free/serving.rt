@@ -1,12 +1,14 @@
 //! The sessions of a script over one server: each is seated once, does its lines on a thread of its own, and
 //! what they print is joined in the order of the sessions.
 
-ghost use Rattle.std.specs.Prelude.{◌≡◌, ◌<◌, ℕ, length, map, slice_index_or, All, IfOk, true};
+ghost use Rattle.std.specs.Prelude.{◌≡◌, ◌⊎◌, ◌<◌, ◌++◌, ℕ, length, map, slice_index_or, All, IfErr, IfOk, OnOk, true};
 ghost use Rattle.std.specs.Fork.{AcceptsEach, ChangesEach};
 ghost use Rattle.schema.specs.Plain.{is_sound};
 ghost use Rattle.history.specs.Opening.{zero_base};
 ghost use Rattle.server.specs.Calls.{AreFresh};
-ghost use Rattle.program.specs.Freely.{AreJoined, ArePrinted, AreServed, HasPlayed, IsAmong};
+ghost use Rattle.program.specs.Files.{IsWritten};
+ghost use Rattle.program.specs.Freely.{AreJoined, ArePrinted, AreServed, HasPlayed, IsAmong, IsFaultOf, SessionsEnd};
+ghost use Rattle.program.specs.Orders.{check_text};
 
 use crate::fault::Fault;
 use crate::free::seat::Seat;
@@ -19,23 +21,24 @@ use schema::catalog::Catalog;
 use schema::tables::Tables;
 use script::script::{Line, Step};
 use server::shared::Server;
+use session::sessions::Core;
 use std::alloc::{AllocError, Global};
 use std::marker::Brand;
 use std::sync::Wait;
 use std::thread;
 use std::thread::Threads;
 
-const NO_MEMORY: Fault<'static> = Fault::Script { line: 0 };
-
 /// The greatest number of sessions, and so of threads.
 const MOST_SESSIONS: usize = 64;
 
-/// What sessions begin with: tables, room for so many events, and the lines of their script.
+/// What sessions begin with: tables, room for so many events, whether their order is checked at the end, and the lines
+/// of their script.
 #[derive(Drop)]
 pub(crate) struct Beginning<'p> {
     pub(crate) catalog: Catalog,
     pub(crate) tables: Tables,
     pub(crate) most_events: u32,
+    pub(crate) is_checked: bool,
     pub(crate) lines: &'p [Line],
     ghost sound: { is_sound catalog tables ≡ true },
 }
@@ -96,6 +99,8 @@ where
     S: Sinks,
     ensures passes { IfOk result (λ r. r.0.items ≡ map (λ s. s.pass) seats.entry.items) }
     ensures text { IfOk result (λ r. AreJoined (λ v. v.items) (map (λ s. s.told) seats.entry.items) r.1.items) }
+    ensures fault { IfErr result (λ f. (f ≡ Fault.ScriptOutOfMemory) ⊎
+        IsFaultOf f (map (λ s. s.told) seats.entry.items)) }
 {
     let mut passes = Vec::new(alloc);
     let mut text = Vec::new(alloc);
@@ -132,8 +137,12 @@ where
     ensures count { length result.items ≡ length seats.entry.items }
     ensures each { (i : ℕ) (d : _) → i < length seats.entry.items →
         IfOk (slice_index_or result.items i d).told
-        (λ v. HasPlayed J.opening J.most (slice_index_or seats.entry.items i d).lines.now
+        (λ v. HasPlayed (IsWritten S.Out.path S.Out.kept) J.opening J.most
+        (slice_index_or seats.entry.items i d).lines.now
         (slice_index_or seats.entry.items i d).pass v.items (slice_index_or result.items i d).pass) }
+    ensures faults { (i : ℕ) (d : _) → i < length seats.entry.items →
+        IfErr (slice_index_or result.items i d).told
+        (λ f. SessionsEnd J.opening J.most (slice_index_or seats.entry.items i d).lines.now f) }
 {
     changed(
         rt,
@@ -158,17 +167,38 @@ where
     S: Sinks,
     T: Threads + Wait + Sync,
     requires { AreFresh passes.items }
-    ensures text { IfOk result (λ r. ArePrinted J.opening J.most lines.entry.now 1 r.0.items r.1.items) }
+    ensures text { IfOk result (λ r. ArePrinted (IsWritten S.Out.path S.Out.kept) J.opening J.most
+        lines.entry.now 1 r.0.items r.1.items) }
     ensures count { IfOk result (λ r. length r.0.items ≡ length passes.entry.items) }
+    ensures fault { IfErr result (λ f. SessionsEnd J.opening J.most lines.entry.now f) }
 {
     let Ok(seats) = seats_of(alloc, server, sinks, lines, passes) else {
-        return Err(NO_MEMORY);
+        return Err(Fault::ScriptOutOfMemory);
     };
     ended(alloc, play(rt, alloc, seats))
 }
 
-// What the sessions print over a server of this word, and whether the serial order of its history is
-// one.
+// Appends whether the serial order of a history is one, where that is checked.
+fn append_checked<'p>(
+    alloc: Global,
+    core: &Core,
+    is_checked: bool,
+    text: &mut Vec<u8>,
+) -> Result<(), Fault<'p>>
+    ensures added { OnOk result (text.new.items ≡ text.old.items ++ check_text is_checked) }
+    ensures fault { IfErr result (λ f. f ≡ Fault.ScriptOutOfMemory) }
+{
+    if !is_checked {
+        return Ok(());
+    }
+    match append_check(alloc, core, text) {
+        Ok(()) => Ok(()),
+        Err(_) => Err(Fault::ScriptOutOfMemory),
+    }
+}
+
+// What the sessions print over a server of this word, and, where that is checked, whether the serial order
+// of its history is one.
 fn serve_on<'p, J, S, T>(
     rt: &T,
     alloc: Global,
@@ -185,28 +215,30 @@ where
     requires first { first ≡ J.table }
     requires opening { J.opening ≡ record { catalog = beginning.catalog; tables = beginning.tables; base = zero_base } }
     requires most { J.most ≡ beginning.most_events }
-    ensures { IfOk result (λ text. AreServed J.opening J.most beginning.entry.lines.now text.items) }
+    ensures served { IfOk result (λ text. AreServed (IsWritten S.Out.path S.Out.kept) J.opening J.most
+        beginning.entry.is_checked beginning.entry.lines.now text.items) }
+    ensures fault { IfErr result (λ f. SessionsEnd J.opening J.most beginning.entry.lines.now f) }
 {
     let Beginning {
         catalog,
         tables,
         most_events,
+        is_checked,
         lines,
     } = beginning;
     let sessions = greatest_session(lines);
     let opened = Server::<J>::open(alloc, word, first, catalog, tables, most_events, sessions);
     let Ok((server, passes)) = opened else {
-        return Err(NO_MEMORY);
+        return Err(Fault::ScriptOutOfMemory);
     };
     let (passes, mut text) = play_all(rt, alloc, &server, sinks, lines, passes)?;
     let core = server.close(passes);
-    match append_check(alloc, &core, &mut text) {
-        Ok(()) => Ok(text),
-        Err(_) => Err(NO_MEMORY),
-    }
+    append_checked(alloc, &core, is_checked, &mut text)?;
+    Ok(text)
 }
 
-/// What the sessions print, one after the other, and whether the serial order of their history is one.
+/// What the sessions print, one after the other, and, where that is checked, whether the serial order of their history
+/// is one.
 /// It stops at the fault of the first session that has one, once all have ended.
 pub(crate) fn serve<'p, S, T>(
     rt: &T,
@@ -217,9 +249,12 @@ pub(crate) fn serve<'p, S, T>(
 where
     S: Sinks,
     T: Threads + Wait + Sync,
-    ensures { IfOk result (λ text. AreServed
+    ensures served { IfOk result (λ text. AreServed (IsWritten S.Out.path S.Out.kept)
         (record { catalog = beginning.entry.catalog; tables = beginning.entry.tables; base = zero_base })
-        beginning.entry.most_events beginning.entry.lines.now text.items) }
+        beginning.entry.most_events beginning.entry.is_checked beginning.entry.lines.now text.items) }
+    ensures fault { IfErr result (λ f. SessionsEnd
+        (record { catalog = beginning.entry.catalog; tables = beginning.entry.tables; base = zero_base })
+        beginning.entry.most_events beginning.entry.lines.now f) }
 {
     let Ok((word, first)) = HistoryWord::new(
         alloc,
@@ -227,7 +262,7 @@ where
         &beginning.tables,
         Base::zero(),
     ) else {
-        return Err(NO_MEMORY);
+        return Err(Fault::ScriptOutOfMemory);
     };
     serve_on::<Brand, _, _>(rt, alloc, &word, first, sinks, beginning)
 }

@@ -1,5 +1,5 @@
 use Rattle.std.proofs.Common.{◌≡◌, map, take}
-use Rattle.plain.specs.Keys.{keyed}
+use Rattle.transactions.specs.Keys.{keyed}
 use Rattle.program.specs.Orders.{key_lines}
 use Rattle.program.proofs.ordering.lines_of.Given as goal
 

@@ -16,4 +16,6 @@ pub returns-clause-did : goal.returns-clause-did
 returns-clause-did g c zero = c.done-status.ensures.did (only_done c.done-status.result (sym c.code.ensures ∙ zero))
 
 pub returns-clause-stopped : goal.returns-clause-stopped
-returns-clause-stopped g c other = (c.done-status.result, c.code.ensures, c.done-status.ensures.stopped (λ told. other (c.code.ensures ∙ ap code told)))
+returns-clause-stopped g c other =
+    let ends = c.done-status.ensures.stopped (λ told. other (c.code.ensures ∙ ap code told)) in
+    (ends.0, c.code.ensures ∙ ap code ends.1, ends.2)

@@ -2,8 +2,8 @@ use Rattle.std.proofs.Common.{◌∙◌, All, sym, subst}
 use Rattle.program.specs.Freely.{IsAmong}
 use Rattle.program.proofs.free.serving.serve_on.Goals as goal
 
-pub returns-in-Ok-append_check : goal.returns-in-Ok-append_check
-returns-in-Ok-append_check g c =
+pub returns-clause-served : goal.returns-clause-served
+returns-clause-served g c =
     record {
       history = c.close-core.result;
       passes = c.in_ok-passes.passes.items;
@@ -14,5 +14,5 @@ returns-in-Ok-append_check g c =
       among = subst (λ n. All (λ l. IsAmong n l.step) c.args.beginning.lines.now) (sym (c.in_ok-passes.ensures.count ∙ c.in-Ok.ensures.opened.count)) c.greatest_session-sessions.ensures;
       closed = c.close-core.ensures.passes;
       told = c.in_ok-passes.ensures.text;
-      whole = c.in-Ok-append_check.ensures;
+      whole = c.in_ok-append_checked.ensures.added;
     }

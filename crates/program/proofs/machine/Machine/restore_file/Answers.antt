@@ -22,4 +22,4 @@ returns-clause-done g c =
     c.write_and_tell-told.ensures.written c.write_and_tell-told.ensures.printed c.write_and_tell-told.ensures.flushed
 
 pub returns-clause-fault : goal.returns-clause-fault
-returns-clause-fault g c = IfErr-weaker c.write_and_tell-told.result _ _ (λ f e. unwritten _ _ _ _ f e) c.write_and_tell-told.ensures.fault
+returns-clause-fault g c = IfErr-weaker c.write_and_tell-told.result _ _ (λ f e. unwritten _ _ _ _ f c.write_and_tell-told.new.printer e) c.write_and_tell-told.ensures.fault

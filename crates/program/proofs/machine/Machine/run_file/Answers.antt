@@ -2,7 +2,7 @@ use Rattle.std.proofs.Common.{◌≡◌, Ok, inl, inr, refl, subst}
 use Rattle.script.specs.Scripts.{said}
 use Rattle.script.specs.declared.schedule.Schedule.TheVariants.{InOrder}
 use Rattle.program.specs.Files.{read_of}
-use Rattle.program.specs.declared.fault.Fault.TheVariants as fault
+use Rattle.program.specs.Ends.{script_fault}
 use Rattle.program.proofs.StopLemmas.{no_script, unread}
 use Rattle.program.proofs.machine.Machine.run_file.Goals as goal
 
@@ -24,4 +24,4 @@ returns-in-Ok-read_script-clause-stopped g c other =
     (s.0, s.1, inr (c.in-Ok.bytes.items, c.in-Ok-read_script.script, c.in-Ok.ensures.read, subst (λ b. said InOrder b ≡ Ok c.in-Ok-read_script.script) c.as_slice-text.ensures.value c.in-Ok-read_script.ensures, s.2))
 
 pub returns-clause-stopped : goal.returns-clause-stopped
-returns-clause-stopped g c other = (fault.Script c.in-Err-read_script.fault.line, c.tell_line.ensures, inl (no_script g.row.A.Denot InOrder (read_of (g.F.Stored.held c.args.self.now.files.now) (g.F.Stored.input c.args.self.now.files.now) c.args.path.now) c.args.path.now c.in-Ok.bytes.items c.as_slice-text.result.now c.in-Err-read_script.fault.line c.in-Ok.ensures.read c.as_slice-text.ensures.value c.in-Err-read_script.ensures, refl))
+returns-clause-stopped g c other = (script_fault c.in-Err-read_script.fault.line, c.tell_line.ensures, inl (no_script g.row.A.Denot InOrder (read_of (g.F.Stored.held c.args.self.now.files.now) (g.F.Stored.input c.args.self.now.files.now) c.args.path.now) c.args.path.now c.in-Ok.bytes.items c.as_slice-text.result.now c.in-Err-read_script.fault.line c.in-Ok.ensures.read c.as_slice-text.ensures.value c.in-Err-read_script.ensures, refl))
