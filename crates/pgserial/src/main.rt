@@ -1,21 +1,23 @@
 //! `pgserial`: scripts of sessions on an in-memory relational server whose transactions are
-//! serializable, and dumps; what can come of a script, why a transaction was refused, and whether a recorded
-//! history has a serial order.
+//! serializable, and dumps; a shell that answers lines at once; what can come of a script, why a
+//! transaction was refused, and whether a recorded history has a serial order.
 
 #![tactic(auto)]
 
 use command_check::words::check_words;
 use command_draw::words::draw_words;
 use command_explore::words::explore_words;
+use command_shell::words::shell_words;
 use command_transcript::words::transcript_words;
 use command_why::words::why_words;
+use conversation::streams::Streams;
 use program::host::HostFiles;
 use program::machine::Machine;
 use program::naming::NamingOutput;
 use program::reasons::SystemErrors;
 use program::words::run_words;
 use std::alloc::Global;
-use std::io::{ErrorKind, IsTerminal, Write};
+use std::io::{BufReader, ErrorKind, IsTerminal, Write};
 use std::process::ExitCode;
 use std::sync::Wait;
 use std::thread::Threads;
@@ -23,6 +25,7 @@ use std::{env, io};
 
 // What the help tells of the commands that have their words to themselves.
 const OTHER_COMMANDS: &str = "Commands with a help of their own (pgserial COMMAND --help):
+  shell    Answer lines at once, for a program that sends them through pipes
   explore  Do a script in every interleaving of its sessions, and count what comes of it
   check    Tell whether some serial order explains a recorded transcript
   draw     Draw a script's run as a picture
@@ -66,6 +69,22 @@ fn greet(rt: &HostRuntime, words: &[&str]) {
     }
 }
 
+// Answers the lines of standard input.
+fn shell<R: Threads + Wait + Sync, W: Write, E: Write>(
+    machine: &Machine<'_, HostFiles<'_>, R, Global>,
+    words: &[&str],
+    out: &mut W,
+    err: &mut E,
+) -> u8 {
+    let rt = machine.files.rt;
+    let Ok(reader) = BufReader::new(machine.alloc, rt.reader()) else {
+        let _ = writeln!(err, "script line 0");
+        return 1;
+    };
+    let mut streams = Streams::new(reader, rt.stdout());
+    shell_words(machine, words, &mut streams, out, err)
+}
+
 // Does what the words ask for: a command that has its words to itself, or else the program's.
 fn do_words<R: Threads + Wait + Sync, W: Write, E: Write>(
     rt: &R,
@@ -90,6 +109,7 @@ fn do_words<R: Threads + Wait + Sync, W: Write, E: Write>(
         "check" => check_words(rt, alloc, alloc, rest, files, out, err),
         "draw" => draw_words(&machine, rest, out, err),
         "explore" => explore_words(&machine, rest, out, err),
+        "shell" => shell(&machine, rest, out, err),
         "run" if rest.contains(&"--why") => why_words(&machine, rest, out, err),
         "run" if rest.contains(&"--transcript") => transcript_words(&machine, rest, out, err),
         _ => run_words(&machine, words, out, err),

@@ -1,0 +1,51 @@
+//! A line's answer, over files.
+
+ghost use Rattle.std.specs.Prelude.{◌≡◌, IfOk, IfErr};
+ghost use Rattle.value.specs.Refusals.{out_of_memory};
+ghost use Rattle.command_shell.specs.Serves.{Serves, ServesLine};
+
+use crate::asked::{answer_line, open_path, tell_word, word_of};
+use program::files::Files;
+use program::machine::Machine;
+use shell::shell::Shell;
+use std::alloc::Allocator;
+use value::refusal::Refusal;
+
+// The answer to a line that is no word.
+fn serve_line<A, F, T>(
+    machine: &Machine<'_, F, T, A>,
+    shell: Shell<A>,
+    line: &[u8],
+) -> Result<(Shell<A>, Vec<u8, A>), Refusal>
+where
+    A: Allocator + Copy,
+    F: Files<A>,
+    ensures told { IfOk result (λ x. ServesLine (F.held machine.now.files.now) shell line.now x.0 x.1.items) }
+    ensures memory { IfErr result (λ e. e ≡ out_of_memory) }
+{
+    match shell.opened_by(machine.alloc, line)? {
+        Some(path) => open_path(machine.alloc, machine.files, shell, &path),
+        None => answer_line(machine, shell, line),
+    }
+}
+
+/// The answer to a line, and the shell that goes on. Out of memory is the only failure, and ends the conversation.
+pub(crate) fn serve<A, F, T>(
+    machine: &Machine<'_, F, T, A>,
+    shell: Shell<A>,
+    line: &[u8],
+) -> Result<(Shell<A>, Vec<u8, A>), Refusal>
+where
+    A: Allocator + Copy,
+    F: Files<A>,
+    ensures told { IfOk result (λ x. Serves (F.held machine.now.files.now) shell line.now x.0 x.1.items) }
+    ensures memory { IfErr result (λ e. e ≡ out_of_memory) }
+{
+    match word_of(line) {
+        Some(word) => {
+            let text = tell_word(machine.alloc, &shell, word)?;
+            Ok((shell, text))
+        }
+        None => serve_line(machine, shell, line),
+    }
+}

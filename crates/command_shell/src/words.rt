@@ -1,0 +1,120 @@
+//! The command, over any files and any conversation.
+
+ghost use Rattle.std.specs.Prelude.{◌≡◌, ◌≢◌, ◌⊎◌, ◌≤◌, map, IfOk, IfErr, IsErrAnd};
+ghost use Rattle.std.specs.Option.{option_map};
+ghost use Rattle.clap.specs.Words.{fault_of};
+ghost use Rattle.program.specs.CommandLine.{AreMistaken, MayBeMistaken};
+ghost use Rattle.command_shell.specs.Words as spec;
+ghost use Rattle.command_shell.specs.Words.{Begins, EndsUnbegun, HasBegun, HasDone, IsUnbegunBy};
+
+use crate::beginning::{begin, path_text};
+use crate::served::Served;
+use crate::task::{Task, read_words};
+use conversation::conversing::{End, converse};
+use conversation::heard::Conversation;
+use program::files::Files;
+use program::machine::Machine;
+use script_files::fault::{Fault, tell};
+use script_files::mistake::tell_words;
+use std::alloc::Allocator;
+use std::io::Write;
+
+/// Tells why a conversation has ended, where something failed; and gives the exit status.
+pub fn end<E: Write>(end: End, err: &mut E) -> u8
+    ensures status { result ≡ spec.end_status end }
+    ensures within { result ≤ 3 }
+    ensures no_usage { result ≢ 2 }
+{
+    match end {
+        End::Input | End::Quit => 0,
+        End::Reader | End::Writer => tell(&Fault::Device("-"), None, err),
+        End::Memory => tell(&Fault::Script(0), None, err),
+    }
+}
+
+// The shell that begins on the dump that is asked for, where one is; or it is told why that isn't opened.
+fn begin_task<'s, 'm, A, F, T, E>(
+    machine: &'s Machine<'m, F, T, A>,
+    task: Task<'_>,
+    err: &mut E,
+) -> Result<Served<'s, 'm, F, T, A>, u8>
+where
+    A: Allocator + Copy,
+    F: Files<A>,
+    E: Write,
+    ensures files { IfOk result (λ p. p.files ≡ machine.now.files.now) }
+    ensures begun { IfOk result (λ p. Begins (F.held machine.now.files.now) task.entry.most_events
+        (option_map (λ s. s.now) task.entry.dump) p.shell) }
+    ensures unbegun { IfErr result (λ n.
+        EndsUnbegun A (F.held machine.now.files.now) (option_map (λ s. s.now) task.entry.dump) n) }
+{
+    let Ok(path) = path_text(machine.alloc, task.dump) else {
+        return Err(tell(&Fault::Script(0), None, err));
+    };
+    match begin(
+        machine.alloc,
+        machine.files,
+        path.as_ref(),
+        task.most_events,
+    ) {
+        Ok(shell) => Ok(Served { machine, shell }),
+        Err(fault) => Err(tell(&fault, machine.files.reason(), err)),
+    }
+}
+
+/// The shell that the words behind `pgserial shell` ask for, over the machine's files; or the exit status, where it is
+/// told why there is none: 1 where the dump that is asked for is refused, or out of memory; 2 for mistaken words; 3 where
+/// a file failed. A call for help is told, and ends with 0.
+pub fn begin_words<'s, 'm, A, F, T, W, E>(
+    machine: &'s Machine<'m, F, T, A>,
+    words: &[&str],
+    out: &mut W,
+    err: &mut E,
+) -> Result<Served<'s, 'm, F, T, A>, u8>
+where
+    A: Allocator + Copy,
+    F: Files<A>,
+    W: Write,
+    E: Write,
+    ensures begun { IfOk result (λ p. HasBegun F.held machine.now.files.now (map (λ w. w.now) words.entry.now) p) }
+    ensures unbegun { IfErr result (λ n.
+        IsUnbegunBy A (F.held machine.now.files.now) (map (λ w. w.now) words.entry.now) n) }
+    ensures within { IfErr result (λ n. n ≤ 3) }
+    ensures usage { IfErr result (λ n. n ≡ 2 → MayBeMistaken (fault_of spec.shell (map (λ w. w.now) words.entry.now))) }
+    ensures mistake { AreMistaken (fault_of spec.shell (map (λ w. w.now) words.entry.now)) →
+        IsErrAnd result (λ n. (n ≡ 2) ⊎ (n ≡ 1)) }
+{
+    match read_words(machine.words_memory, words) {
+        Err(error) => Err(tell_words(&error, out, err)),
+        Ok(task) => begin_task(machine, task, err),
+    }
+}
+
+/// Does what the words behind `pgserial shell` ask for: answers the lines of a conversation, each before it hears the
+/// next. The exit status is that of `begin_words` where no shell begins; else 0 at the end of the input, 1 where an
+/// answer is out of memory, 3 where the input or the output failed.
+pub fn shell_words<A, F, T, C, W, E>(
+    machine: &Machine<'_, F, T, A>,
+    words: &[&str],
+    conversation: &mut C,
+    out: &mut W,
+    err: &mut E,
+) -> u8
+where
+    A: Allocator + Copy,
+    F: Files<A>,
+    C: Conversation<A>,
+    W: Write,
+    E: Write,
+    ensures within { result ≤ 3 }
+    ensures usage { result ≡ 2 → MayBeMistaken (fault_of spec.shell (map (λ w. w.now) words.entry.now)) }
+    ensures mistake { AreMistaken (fault_of spec.shell (map (λ w. w.now) words.entry.now)) →
+        (result ≡ 2) ⊎ (result ≡ 1) }
+    ensures did { HasDone A F.held machine.now.files.now (map (λ w. w.now) words.entry.now) result
+        (C.turns conversation.old) (C.turns conversation.new) }
+{
+    match begin_words(machine, words, out, err) {
+        Ok(served) => end(converse(machine.alloc, served, conversation), err),
+        Err(status) => status,
+    }
+}

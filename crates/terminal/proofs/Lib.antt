@@ -1,0 +1,4 @@
+pub mod HeaderLemmas
+pub mod MarkLemmas
+pub mod PlayLemmas
+pub mod RowLemmas

@@ -1,0 +1,41 @@
+-- How an answer is drawn at a terminal (this project's own choice).
+use Rattle.std.specs.Prelude.{ℕ, ◌+◌, ◌-◌, ◌/◌, ◌%◌, ◌<◌, ◌==◌, ◌||◌, ◌&&◌, not, Bool, true, false, List, [], ◌∷◌, ◌++◌, Option, Some, None, length, map, codes, take, drop, nat_lt, if◌then◌else◌}
+use Rattle.std.specs.Fmt.{decimal}
+use Rattle.std.specs.List.{flat_map, slice_split}
+use Rattle.aligned.specs.Tables.{table_text}
+use Rattle.typing.specs.Typing.{begins}
+
+-- A byte is shown as it is: a newline, a tab, or what doesn't control a terminal.
+abbrev pub is_shown : ℕ → Bool
+is_shown b = (nat_lt 31 b && not (b == 127)) || b == 9 || b == 10
+
+-- one of sixteen digits
+abbrev pub digit_text : ℕ → ℕ
+digit_text n = if nat_lt n 10 then 48 + n else 87 + n
+
+-- a byte as it is shown: others by their numbers
+abbrev pub shown_byte : ℕ → List ℕ
+shown_byte b = if is_shown b then b ∷ [] else 92 ∷ 120 ∷ digit_text (b / 16) ∷ digit_text (b % 16) ∷ []
+
+abbrev pub shown : List ℕ → List ℕ
+shown text = flat_map shown_byte text
+
+-- the rows of an answer, whose lines stand behind its first: each without the n bytes before its fields
+abbrev pub rows_in : ℕ → List ℕ → List (List ℕ)
+rows_in n text =
+    let parts = slice_split (λ b. b == 10) text in
+    map (λ row. drop n row) (drop 1 (take (length parts - 1) parts))
+
+-- whether session s is answered rows
+abbrev pub has_rows : ℕ → List ℕ → Bool
+has_rows s answer = begins (codes "SELECT ") (drop (length (decimal s) + 1) answer)
+
+-- the session that asks for rows, and the names of their columns, parted by tabs
+pub record Header : Type 0 where
+  pub session : ℕ
+  pub names : List ℕ
+
+-- an answer as it is drawn: rows as a table, where the names of their columns are known
+abbrev pub drawn : Option Header → List ℕ → List ℕ
+drawn None answer = shown answer
+drawn (Some h) answer = if has_rows h.session answer then table_text h.names (rows_in (length (decimal h.session) + 3) (shown answer)) else shown answer

@@ -1,0 +1,5 @@
+pub mod Described
+pub mod Drawn
+pub mod Headers
+pub mod Marks
+pub mod Terminals

@@ -1,0 +1,199 @@
+-- What is answered to each line that is typed at a terminal, by one who answers lines (this project's own choice).
+use Rattle.std.specs.Prelude.{◌≡◌, ◌⊎◌, ℕ, ◌+◌, ◌-◌, ◌/◌, ◌%◌, ◌==◌, ◌&&◌, not, Bool, true, false, List, [], ◌∷◌, ◌++◌, Option, Some, None, length, codes, slice_index, take, unwrap_or, if◌then◌else◌, IfSome}
+use Rattle.std.specs.Fmt.{decimal}
+use Rattle.std.specs.List.{slice_split}
+use Rattle.shell.specs.Asked.{catalog_of}
+use Rattle.shell.specs.Shells.{Held}
+use Rattle.typing.specs.Typing.{behind_word, begins, line_of, session_in, text_in, typed_as}
+use Rattle.typing.specs.declared.Typed.{Typed}
+use Rattle.typing.specs.declared.Typed.TheVariants as typed
+use Rattle.terminal.specs.Described.{table_described}
+use Rattle.terminal.specs.Drawn.{drawn, shown}
+use Rattle.terminal.specs.Headers.{header_of}
+use Rattle.terminal.specs.Marks.{is_near, mark_in, prompt_text}
+use Rattle.terminal.specs.declared.attended.Aside.{Aside}
+use Rattle.terminal.specs.declared.attended.Aside.TheVariants as aside
+use Rattle.terminal.specs.declared.marks.Mark.TheVariants as mark
+
+-- what may be typed
+abbrev pub help_text : List ℕ
+help_text = codes "SELECT .., INSERT .., UPDATE .., DELETE ..   a statement of this session\nBEGIN [READ ONLY [DEFERRABLE]]               begins a transaction; COMMIT and ROLLBACK end it\nPOLL, EXPORT, IMPORT n, PRUNE, DUMP ..       other commands; CHECKPOINT makes room for events\nCREATE TABLE .., OPEN path                   before the first line of a session\n2                                            goes to session 2, of 64\n2 BEGIN                                      a line of session 2\n\\d [NAME]                                    the tables, or one of them\n\\serial                                      the committed transactions in their serial order\n\\why                                         why a transaction was refused last\n\\draw FILE                                   a picture of the transactions\n\\dump FILE                                   a dump of a safe snapshot\n\\i FILE                                      the lines of a file\n\\timing                                      tells how long answers take, or no longer\n\\q                                           ends the shell\n"
+
+-- what is told of a word that is none
+abbrev pub unknown_text : List ℕ
+unknown_text = codes "there is no such word: \\? tells what may be typed\n"
+
+-- what is told where no session may begin a dump
+abbrev pub no_session_text : List ℕ
+no_session_text = codes "each session has a transaction: a dump needs one without\n"
+
+-- what is told of a dump that is given up
+abbrev pub not_safe_text : List ℕ
+not_safe_text = codes "nothing was dumped: the snapshot isn't known to be safe while other transactions write\n"
+
+-- what is told once a tenth of the room for events is left
+abbrev pub near_text : List ℕ
+near_text = codes "nearly all of --events are used: CHECKPOINT makes room, but not while a session has a transaction\n"
+
+-- what is told where little room is left now, and more was before
+abbrev pub warning : Bool → Bool → List ℕ
+warning was is = if not was && is then near_text else []
+
+-- a line of session s
+abbrev pub session_line : ℕ → List ℕ → List ℕ
+session_line s command = decimal s ++ codes " " ++ command
+
+module _ {H : Type 0} where
+  -- Who is p was asked a line and has become q, and its answer is shown as it is.
+  abbrev pub AsksPlainly : (H → List ℕ → H → List ℕ → Type 0) → H → List ℕ → H → List ℕ → Type 0
+  AsksPlainly answers p line q told = (text : List ℕ) × answers p line q text × (told ≡ shown text)
+
+  -- A dump's last two lines: the dump to a path, and the end of its transaction.
+  abbrev pub EndsDump : (H → List ℕ → H → List ℕ → Type 0) → ℕ → List ℕ → H → H → List ℕ → Type 0
+  EndsDump answers s path p q told = (m : H) × (last : List ℕ) × AsksPlainly answers p (session_line s (codes "DUMP 1 1000 " ++ path ++ codes ";")) m told × answers m (session_line s (codes "COMMIT;")) q last
+
+  -- A dump that is given up, since its snapshot isn't safe: its transaction is rolled back.
+  abbrev pub GivesUp : (H → List ℕ → H → List ℕ → Type 0) → ℕ → List ℕ → H → H → List ℕ → Type 0
+  GivesUp answers s polled p q told = (last : List ℕ) × answers p (session_line s (codes "ROLLBACK;")) q last × (told ≡ shown polled ++ not_safe_text)
+
+  abbrev pub GoesOnTo : Bool → (H → List ℕ → H → List ℕ → Type 0) → ℕ → List ℕ → List ℕ → H → H → List ℕ → Type 0
+  GoesOnTo true answers s path polled p q told = EndsDump answers s path p q told
+  GoesOnTo false answers s path polled p q told = GivesUp answers s polled p q told
+
+  -- Session s makes a dump to a path by a transaction of its own, whose snapshot is asked for once; or gives it up.
+  abbrev pub DumpsBy : (H → List ℕ → H → List ℕ → Type 0) → ℕ → List ℕ → H → H → List ℕ → Type 0
+  DumpsBy answers s path p q told = (m : H) × (n : H) × (begun : List ℕ) × (polled : List ℕ)
+      × answers p (session_line s (codes "BEGIN READ ONLY DEFERRABLE;")) m begun × answers m (session_line s (codes "POLL;")) n polled
+      × GoesOnTo (begins (session_line s (codes "SAFE ")) polled) answers s path polled n q told
+
+module _ {A H : Type 0} where
+  -- Who is p, and holds what a shell holds, was asked a line and has become q, and its answer was drawn as this text.
+  abbrev pub Asks : (H → List ℕ → H → List ℕ → Type 0) → (H → Held A) → H → List ℕ → H → List ℕ → Type 0
+  Asks answers held p line q told = (text : List ℕ) × answers p line q text × (told ≡ drawn (header_of (held p) line) text)
+
+  -- A session without a transaction makes the dump; or there is none.
+  abbrev pub Dumps : (H → List ℕ → H → List ℕ → Type 0) → (H → Held A) → List ℕ → H → H → List ℕ → Type 0
+  Dumps answers held path p q told = ((s : ℕ) × (mark_in (held p) s ≡ mark.Idle) × DumpsBy answers s path p q told) ⊎ ((q ≡ p) × (told ≡ no_session_text))
+
+-- What a terminal knows: who answers, the session of the prompt, whether it tells how long answers take, and whether it was told to end.
+pub record At (H : Type 0) : Type 0 where
+  pub attended : H
+  pub session : ℕ
+  pub is_timed : Bool
+  pub has_quit : Bool
+
+-- the terminal p, where who answers has become h
+abbrev pub with : {H : Type 0} → At H → H → At H
+with p h = record p { attended = h }
+
+-- ---- how long an answer took
+
+-- three digits of a number
+abbrev pub three_digits : ℕ → List ℕ
+three_digits n = (48 + n / 100 % 10) ∷ (48 + n / 10 % 10) ∷ (48 + n % 10) ∷ []
+
+-- so many microseconds, as psql tells them
+abbrev pub time_text : ℕ → List ℕ
+time_text n = codes "Time: " ++ decimal (n / 1000) ++ codes "." ++ three_digits n ++ codes " ms\n"
+
+-- An answer, and behind it how long it took, where that is to be told.
+abbrev pub IsTimed : Bool → List ℕ → List ℕ → Type 0
+IsTimed true answer told = (n : ℕ) × (told ≡ answer ++ time_text n)
+IsTimed false answer told = told ≡ answer
+
+-- what is told once answers are timed, or no longer
+abbrev pub timing_text : Bool → List ℕ
+timing_text true = codes "Timing is on.\n"
+timing_text false = codes "Timing is off.\n"
+
+-- ---- the lines of files
+
+-- a text without the newline at its end
+abbrev pub unended : List ℕ → List ℕ
+unended text = if not (length text == 0) && slice_index text (length text - 1) == 10 then take (length text - 1) text else text
+
+-- the lines of a file's text, of which the last may lack its newline
+abbrev pub lines_in : List ℕ → List (List ℕ)
+lines_in text = slice_split (λ b. b == 10) (unended text)
+
+-- what is told of a file that can't be read
+abbrev pub unread_text : List ℕ → List ℕ
+unread_text path = shown path ++ codes ": there is no such file, or it can't be read\n"
+
+-- what is told of a file's line that asks for a file's lines
+abbrev pub nested_text : List ℕ
+nested_text = codes "a file can't ask for the lines of another\n"
+
+-- These bytes are what a file has, where it is known what it has.
+abbrev pub IsFile : Option (List ℕ) → List ℕ → Type 0
+IsFile known text = IfSome known (λ there. text ≡ there)
+
+-- whether the lines of a file are asked for
+abbrev pub is_file : Typed → Bool
+is_file typed.File = true
+is_file other = false
+
+module _ {A H : Type 0} (held : H → Held A) where
+  -- the prompt
+  abbrev pub prompt_of : At H → List ℕ
+  prompt_of p = prompt_text p.session (mark_in (held p.attended) p.session)
+
+  -- What stands behind what is told: a warning, and the next prompt, unless the conversation is to end.
+  abbrev pub behind : Bool → At H → List ℕ
+  behind was q = if q.has_quit then [] else warning was (is_near (held q.attended)) ++ prompt_of q
+
+module _ {A H : Type 0} (answers : H → List ℕ → H → List ℕ → Type 0) (held : H → Held A) (tells : H → Aside → List ℕ → List ℕ → Type 0) where
+  -- Who is p was asked a line, and its answer is told, with how long it took where that is to be told.
+  abbrev pub AsksTimed : Bool → H → List ℕ → H → List ℕ → Type 0
+  AsksTimed is_timed p line q told = (answer : List ℕ) × Asks answers held p line q answer × IsTimed is_timed answer told
+
+  -- The line was asked that a command stands for.
+  abbrev pub DoesCommand : At H → List ℕ → At H → List ℕ → Type 0
+  DoesCommand p text q told = (h : H) × AsksTimed p.is_timed p.attended (line_of p.session text) h told × (q ≡ with p h)
+
+  -- What a text that was typed asks for was done, and this is told; but a file's lines weren't.
+  abbrev pub DoesAlone : Typed → At H → List ℕ → At H → List ℕ → Type 0
+  DoesAlone typed.Nothing p text q told = (q ≡ p) × (told ≡ [])
+  DoesAlone typed.Session p text q told = (q ≡ record p { session = unwrap_or (session_in text) p.session }) × (told ≡ [])
+  DoesAlone typed.Help p text q told = (q ≡ p) × (told ≡ help_text)
+  DoesAlone typed.Quit p text q told = (q ≡ record p { has_quit = true }) × (told ≡ [])
+  DoesAlone typed.Timing p text q told = (q ≡ record p { is_timed = not p.is_timed }) × (told ≡ timing_text (not p.is_timed))
+  DoesAlone typed.Columns p text q told = (q ≡ p) × (told ≡ table_described (catalog_of (held p.attended)) (behind_word text))
+  DoesAlone typed.Why p text q told = (q ≡ p) × tells p.attended aside.Why (behind_word text) told
+  DoesAlone typed.Drawing p text q told = (q ≡ p) × tells p.attended aside.Drawing (behind_word text) told
+  DoesAlone typed.Dump p text q told = (h : H) × Dumps answers held (behind_word text) p.attended h told × (q ≡ with p h)
+  DoesAlone typed.Word p text q told = (h : H) × AsksPlainly answers p.attended text h told × (q ≡ with p h)
+  DoesAlone typed.File p text q told = (q ≡ p) × (told ≡ nested_text)
+  DoesAlone typed.Unknown p text q told = (q ≡ p) × (told ≡ unknown_text)
+  DoesAlone typed.Command p text q told = DoesCommand p text q told
+
+  -- A file's line was typed behind the prompt, which is shown with it, and what it asks for was done.
+  abbrev pub PlaysLine : List ℕ → At H → At H → List ℕ → Type 0
+  PlaysLine line p q told = (text : List ℕ) × DoesAlone (typed_as (text_in line)) p (text_in line) q text × (told ≡ prompt_of held p ++ shown line ++ codes "\n" ++ text)
+
+  -- The same; but nothing more once the conversation is to end.
+  abbrev pub PlaysUnless : Bool → List ℕ → At H → At H → List ℕ → Type 0
+  PlaysUnless true line p q told = (q ≡ p) × (told ≡ [])
+  PlaysUnless false line p q told = PlaysLine line p q told
+
+  -- Lines of a file were typed, one after the other.
+  abbrev pub Plays : List (List ℕ) → At H → At H → List ℕ → Type 0
+  Plays [] p q told = (q ≡ p) × (told ≡ [])
+  Plays (line ∷ more) p q told = (m : At H) × (first : List ℕ) × (rest : List ℕ) × PlaysUnless p.has_quit line p m first × Plays more m q rest × (told ≡ first ++ rest)
+
+module _ {A H : Type 0} (answers : H → List ℕ → H → List ℕ → Type 0) (held : H → Held A) (tells : H → Aside → List ℕ → List ℕ → Type 0) (files : H → List ℕ → Option (List ℕ)) where
+  -- All lines of a path's file were typed; or it couldn't be read.
+  abbrev pub PlaysFile : List ℕ → At H → At H → List ℕ → Type 0
+  PlaysFile path p q told = ((text : List ℕ) × IsFile (files p.attended path) text × Plays answers held tells (lines_in text) p q told) ⊎ ((q ≡ p) × (told ≡ unread_text path))
+
+  abbrev pub DoesAs : Bool → Typed → At H → List ℕ → At H → List ℕ → Type 0
+  DoesAs true t p text q told = PlaysFile (behind_word text) p q told
+  DoesAs false t p text q told = DoesAlone answers held tells t p text q told
+
+  -- What a text that was typed asks for was done, and this is told.
+  abbrev pub Does : Typed → At H → List ℕ → At H → List ℕ → Type 0
+  Does t p text q told = DoesAs (is_file t) t p text q told
+
+  -- A terminal p was typed a line, and has become q, and this text is shown: what is told of it, and the next prompt.
+  abbrev pub Types : At H → List ℕ → At H → List ℕ → Type 0
+  Types p line q text = (told : List ℕ) × Does (typed_as (text_in line)) p (text_in line) q told × (text ≡ told ++ behind held (is_near (held p.attended)) q)

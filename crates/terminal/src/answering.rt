@@ -1,0 +1,79 @@
+//! Lines that are asked for what is typed, and their answers as they are drawn.
+
+ghost use Rattle.std.specs.Prelude.{◌≡◌, IfOk, IfErr};
+ghost use Rattle.std.specs.Option.{option_copied};
+ghost use Rattle.value.specs.Refusals.{out_of_memory};
+ghost use Rattle.typing.specs.Typing.{line_of as script_line};
+ghost use Rattle.terminal.specs.Terminals.{Asks, AsksPlainly, AsksTimed};
+
+use crate::attended::Attended;
+use crate::drawing::{draw_answer, shown};
+use crate::header::header_of;
+use crate::timing::timed;
+use history::session_id::SessionId;
+use std::alloc::Allocator;
+use typing::line_of;
+use value::refusal::Refusal;
+
+// Asks a line, and draws its answer.
+fn ask<A: Allocator + Copy, H: Attended<A>>(
+    alloc: A,
+    attended: H,
+    line: &[u8],
+) -> Result<(H, Vec<u8, A>), Refusal>
+    ensures asked { IfOk result (λ x. Asks H.answers H.held attended line.now x.0 x.1.items) }
+    ensures memory { IfErr result (λ e. e ≡ out_of_memory) }
+{
+    let header = header_of(alloc, attended.shell(), line)?;
+    let (next, answer) = attended.answer(alloc, line)?;
+    let told = draw_answer(alloc, header.as_ref(), answer.as_slice())?;
+    Ok((next, told))
+}
+
+// Asks a line, draws its answer, and tells how long that took, where that is to be told.
+fn ask_timed<A: Allocator + Copy, H: Attended<A>>(
+    alloc: A,
+    attended: H,
+    is_timed: bool,
+    line: &[u8],
+) -> Result<(H, Vec<u8, A>), Refusal>
+    ensures asked { IfOk result (λ x.
+        AsksTimed H.answers H.held H.tells is_timed attended line.now x.0 x.1.items) }
+    ensures memory { IfErr result (λ e. e ≡ out_of_memory) }
+{
+    let start = attended.microseconds();
+    let (next, answer) = ask(alloc, attended, line)?;
+    let passed = next.microseconds().saturating_sub(start);
+    let told = timed(is_timed, passed, answer)?;
+    Ok((next, told))
+}
+
+/// Asks the line that a command stands for at the prompt of a session.
+pub(crate) fn ask_command<A: Allocator + Copy, H: Attended<A>>(
+    alloc: A,
+    attended: H,
+    session: SessionId,
+    is_timed: bool,
+    command: &[u8],
+) -> Result<(H, Vec<u8, A>), Refusal>
+    ensures asked { IfOk result (λ x. AsksTimed H.answers H.held H.tells is_timed attended
+        (script_line session command.now) x.0 x.1.items) }
+    ensures memory { IfErr result (λ e. e ≡ out_of_memory) }
+{
+    let line = line_of(alloc, session, command)?;
+    ask_timed(alloc, attended, is_timed, line.as_slice())
+}
+
+/// Asks a line whose answer stands as it is.
+pub(crate) fn ask_plainly<A: Allocator + Copy, H: Attended<A>>(
+    alloc: A,
+    attended: H,
+    line: &[u8],
+) -> Result<(H, Vec<u8, A>), Refusal>
+    ensures asked { IfOk result (λ x. AsksPlainly H.answers attended line.now x.0 x.1.items) }
+    ensures memory { IfErr result (λ e. e ≡ out_of_memory) }
+{
+    let (next, answer) = attended.answer(alloc, line)?;
+    let told = shown(alloc, answer.as_slice())?;
+    Ok((next, told))
+}

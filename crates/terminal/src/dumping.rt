@@ -1,0 +1,165 @@
+//! A dump that is made by a session's transaction of its own.
+
+ghost use Rattle.std.specs.Prelude.{◌≡◌, ◌++◌, codes, IfOk, IfErr, IfSome};
+ghost use Rattle.typing.specs.Typing.{begins};
+ghost use Rattle.value.specs.Refusals.{out_of_memory};
+ghost use Rattle.terminal.specs.Marks as marks;
+ghost use Rattle.terminal.specs.Terminals as spec;
+ghost use Rattle.terminal.specs.Terminals.{Dumps, DumpsBy, EndsDump, GivesUp, GoesOnTo};
+
+use crate::answering::ask_plainly;
+use crate::attended::Attended;
+use crate::drawing::shown;
+use crate::marks::{Mark, mark_in};
+use crate::wording::{no_session_text, not_safe_text};
+use history::session_id::SessionId;
+use itoa::Buffer;
+use shell::shell::Shell;
+use std::alloc::Allocator;
+use typing::begins;
+use value::refusal::Refusal;
+
+// A line of a session.
+fn session_line<A: Allocator>(
+    alloc: A,
+    session: SessionId,
+    command: &[u8],
+) -> Result<Vec<u8, A>, Refusal>
+    ensures text { IfOk result (λ t. t.items ≡ spec.session_line session command.now) }
+    ensures memory { IfErr result (λ e. e ≡ out_of_memory) }
+{
+    let mut digits = Buffer::new();
+    let mut text = Vec::from_slice(alloc, digits.format(session.number()).as_bytes())?;
+    text.push(b' ')?;
+    text.extend_from_slice(command)?;
+    Ok(text)
+}
+
+// The command of a dump to a path.
+fn dump_command<A: Allocator>(alloc: A, path: &[u8]) -> Result<Vec<u8, A>, Refusal>
+    ensures text { IfOk result (λ t. t.items ≡ codes "DUMP 1 1000 " ++ path.now ++ codes ";") }
+    ensures memory { IfErr result (λ e. e ≡ out_of_memory) }
+{
+    let mut text = Vec::from_slice(alloc, b"DUMP 1 1000 ")?;
+    text.extend_from_slice(path)?;
+    text.push(b';')?;
+    Ok(text)
+}
+
+// Lets a session ask a command.
+fn ask_session<A: Allocator + Copy, H: Attended<A>>(
+    alloc: A,
+    attended: H,
+    session: SessionId,
+    command: &[u8],
+) -> Result<(H, Vec<u8, A>), Refusal>
+    ensures asked { IfOk result (λ x. H.answers attended (spec.session_line session command.now) x.0 x.1.items) }
+    ensures memory { IfErr result (λ e. e ≡ out_of_memory) }
+{
+    let line = session_line(alloc, session, command)?;
+    attended.answer(alloc, line.as_slice())
+}
+
+// Makes the dump, and ends its transaction.
+fn end_dump<A: Allocator + Copy, H: Attended<A>>(
+    alloc: A,
+    attended: H,
+    session: SessionId,
+    path: &[u8],
+) -> Result<(H, Vec<u8, A>), Refusal>
+    ensures done { IfOk result (λ x. EndsDump H.answers session path.now attended x.0 x.1.items) }
+    ensures memory { IfErr result (λ e. e ≡ out_of_memory) }
+{
+    let command = dump_command(alloc, path)?;
+    let line = session_line(alloc, session, command.as_slice())?;
+    let (next, told) = ask_plainly(alloc, attended, line.as_slice())?;
+    let (last, _) = ask_session(alloc, next, session, b"COMMIT;")?;
+    Ok((last, told))
+}
+
+// Gives the dump up.
+fn give_up<A: Allocator + Copy, H: Attended<A>>(
+    alloc: A,
+    attended: H,
+    session: SessionId,
+    polled: &[u8],
+) -> Result<(H, Vec<u8, A>), Refusal>
+    ensures done { IfOk result (λ x. GivesUp H.answers session polled.now attended x.0 x.1.items) }
+    ensures memory { IfErr result (λ e. e ≡ out_of_memory) }
+{
+    let (last, _) = ask_session(alloc, attended, session, b"ROLLBACK;")?;
+    let mut told = shown(alloc, polled)?;
+    told.extend_from_slice(not_safe_text())?;
+    Ok((last, told))
+}
+
+// Goes on with a dump whose transaction was polled.
+fn go_on<A: Allocator + Copy, H: Attended<A>>(
+    alloc: A,
+    attended: H,
+    session: SessionId,
+    path: &[u8],
+    polled: &[u8],
+) -> Result<(H, Vec<u8, A>), Refusal>
+    ensures done { IfOk result (λ x. GoesOnTo (begins (spec.session_line session (codes "SAFE ")) polled.now)
+        H.answers session path.now polled.now attended x.0 x.1.items) }
+    ensures memory { IfErr result (λ e. e ≡ out_of_memory) }
+{
+    let safe = session_line(alloc, session, b"SAFE ")?;
+    if begins(safe.as_slice(), polled) {
+        end_dump(alloc, attended, session, path)
+    } else {
+        give_up(alloc, attended, session, polled)
+    }
+}
+
+// Makes a dump by a session's transaction of its own.
+fn dump_by<A: Allocator + Copy, H: Attended<A>>(
+    alloc: A,
+    attended: H,
+    session: SessionId,
+    path: &[u8],
+) -> Result<(H, Vec<u8, A>), Refusal>
+    ensures done { IfOk result (λ x. DumpsBy H.answers session path.now attended x.0 x.1.items) }
+    ensures memory { IfErr result (λ e. e ≡ out_of_memory) }
+{
+    let (begun, _) = ask_session(alloc, attended, session, b"BEGIN READ ONLY DEFERRABLE;")?;
+    let (next, polled) = ask_session(alloc, begun, session, b"POLL;")?;
+    go_on(alloc, next, session, path, polled.as_slice())
+}
+
+// The least session without a transaction.
+fn idle_session<A: Allocator + Copy>(
+    alloc: A,
+    shell: &Shell<A>,
+) -> Result<Option<SessionId>, Refusal>
+    ensures idle { IfOk result (λ s. IfSome s (λ n. marks.mark_in shell.now n ≡ Mark.Idle)) }
+    ensures memory { IfErr result (λ e. e ≡ out_of_memory) }
+{
+    for number in 1..65u32 {
+        if let Some(session) = SessionId::new(number) {
+            if mark_in(alloc, shell, session)? == Mark::Idle {
+                return Ok(Some(session));
+            }
+        }
+    }
+    Ok(None)
+}
+
+/// Makes a dump to a path by a transaction of the least session that has none.
+pub(crate) fn dump<A: Allocator + Copy, H: Attended<A>>(
+    alloc: A,
+    attended: H,
+    path: &[u8],
+) -> Result<(H, Vec<u8, A>), Refusal>
+    ensures done { IfOk result (λ x. Dumps H.answers H.held path.now attended x.0 x.1.items) }
+    ensures memory { IfErr result (λ e. e ≡ out_of_memory) }
+{
+    match idle_session(alloc, attended.shell())? {
+        Some(session) => dump_by(alloc, attended, session, path),
+        None => {
+            let told = Vec::from_slice(alloc, no_session_text())?;
+            Ok((attended, told))
+        }
+    }
+}

@@ -1,0 +1,118 @@
+//! A terminal, as who answers in a conversation.
+
+ghost use Rattle.std.specs.Prelude.{◌≡◌, true, IfOk, IfErr};
+ghost use Rattle.value.specs.Refusals.{out_of_memory};
+ghost use Rattle.terminal.specs.Terminals as spec;
+ghost use Rattle.terminal.specs.Terminals.{Does, Types};
+
+use crate::attended::Attended;
+use crate::doing::do_alone;
+use crate::marks::{is_near, prompt};
+use crate::playing::play_file;
+use crate::terminal::Terminal;
+use crate::wording::near_text;
+use conversation::handler::Handler;
+use std::alloc::Allocator;
+use typing::{Typed, behind_word, text_in, typed_as};
+use value::refusal::Refusal;
+
+// Whether the lines of a file are asked for.
+fn is_file(typed: Typed) -> bool
+    ensures { result ≡ spec.is_file typed }
+{
+    match typed {
+        Typed::File => true,
+        _ => false,
+    }
+}
+
+// Does what a text asks for.
+fn do_typed<A: Allocator + Copy, H: Attended<A>>(
+    alloc: A,
+    terminal: Terminal<H>,
+    typed: Typed,
+    text: &[u8],
+) -> Result<(Terminal<H>, Vec<u8, A>), Refusal>
+    ensures done { IfOk result (λ x.
+        Does H.answers H.held H.tells H.files typed terminal text.now x.0 x.1.items) }
+    ensures memory { IfErr result (λ e. e ≡ out_of_memory) }
+{
+    if is_file(typed) {
+        play_file(alloc, terminal, behind_word(text))
+    } else {
+        do_alone(alloc, terminal, typed, text)
+    }
+}
+
+// What is told where little room is left now, and more was before.
+fn warning(was_near: bool, is_near: bool) -> &'static [u8]
+    ensures { result.now ≡ spec.warning was_near is_near }
+{
+    if !was_near && is_near {
+        near_text()
+    } else {
+        b""
+    }
+}
+
+// What stands behind what is told.
+fn behind<A: Allocator + Copy, H: Attended<A>>(
+    alloc: A,
+    was_near: bool,
+    terminal: &Terminal<H>,
+) -> Result<Vec<u8, A>, Refusal>
+    ensures text { IfOk result (λ t. t.items ≡ spec.behind H.held was_near terminal.now) }
+    ensures memory { IfErr result (λ e. e ≡ out_of_memory) }
+{
+    if terminal.prompt.has_quit {
+        return Ok(Vec::new(alloc));
+    }
+    let shell = terminal.attended.shell();
+    let prompt = prompt(alloc, shell, terminal.prompt.session)?;
+    let mut text = Vec::from_slice(alloc, warning(was_near, is_near(shell)))?;
+    text.extend_from_slice(prompt.as_slice())?;
+    Ok(text)
+}
+
+// Answers a typed line.
+fn answer_typed<A: Allocator + Copy, H: Attended<A>>(
+    alloc: A,
+    terminal: Terminal<H>,
+    line: &[u8],
+) -> Result<(Terminal<H>, Vec<u8, A>), Refusal>
+    ensures told { IfOk result (λ x. Types H.answers H.held H.tells H.files terminal line.now x.0 x.1.items) }
+    ensures memory { IfErr result (λ e. e ≡ out_of_memory) }
+{
+    let text = text_in(line);
+    let was_near = is_near(terminal.attended.shell());
+    let (next, mut told) = do_typed(alloc, terminal, typed_as(text), text)?;
+    let behind = behind(alloc, was_near, &next)?;
+    told.extend_from_slice(behind.as_slice())?;
+    Ok((next, told))
+}
+
+impl<H: Drop> Terminal<H> {
+    /// What stands before the first line: the prompt.
+    pub fn greeting<A: Allocator + Copy>(&self, alloc: A) -> Result<Vec<u8, A>, Refusal>
+    where
+        H: Attended<A>,
+        ensures text { IfOk result (λ t. t.items ≡ spec.behind H.held true self.now) }
+        ensures memory { IfErr result (λ e. e ≡ out_of_memory) }
+    {
+        behind(alloc, true, self)
+    }
+}
+
+impl<A: Allocator + Copy, H: Attended<A>> Handler<A> for Terminal<H> {
+    ghost use Rattle.terminal.specs.Terminals.{Types};
+
+    ghost answers = { Types H.answers H.held H.tells H.files };
+
+    fn answer(self, alloc: A, line: &[u8]) -> Result<(Terminal<H>, Vec<u8, A>), Refusal> {
+        answer_typed(alloc, self, line)
+    }
+
+    fn has_quit(&self) -> bool {
+        self.prompt.has_quit
+    }
+}

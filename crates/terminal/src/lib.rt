@@ -1,0 +1,17 @@
+//! A shell at a terminal: what is typed stands for lines of a script, and what they are answered is drawn.
+
+#![tactic(auto)]
+
+mod answering;
+pub mod attended;
+mod describing;
+mod doing;
+mod drawing;
+mod dumping;
+mod handling;
+mod header;
+mod marks;
+mod playing;
+pub mod terminal;
+mod timing;
+mod wording;

@@ -1,0 +1,80 @@
+//! What is told of what a terminal does by itself.
+
+ghost use Rattle.std.specs.Prelude.{◌≡◌};
+ghost use Rattle.terminal.specs.Described.{no_table_text as absent_text};
+ghost use Rattle.terminal.specs.Terminals as spec;
+
+/// What may be typed.
+pub(crate) fn help_text() -> &'static [u8]
+    ensures { result.now ≡ spec.help_text }
+{
+    b"\
+      SELECT .., INSERT .., UPDATE .., DELETE ..   a statement of this session\n\
+      BEGIN [READ ONLY [DEFERRABLE]]               begins a transaction; COMMIT and ROLLBACK end it\n\
+      POLL, EXPORT, IMPORT n, PRUNE, DUMP ..       other commands; CHECKPOINT makes room for events\n\
+      CREATE TABLE .., OPEN path                   before the first line of a session\n\
+      2                                            goes to session 2, of 64\n\
+      2 BEGIN                                      a line of session 2\n\
+      \\d [NAME]                                    the tables, or one of them\n\
+      \\serial                                      the committed transactions in their serial order\n\
+      \\why                                         why a transaction was refused last\n\
+      \\draw FILE                                   a picture of the transactions\n\
+      \\dump FILE                                   a dump of a safe snapshot\n\
+      \\i FILE                                      the lines of a file\n\
+      \\timing                                      tells how long answers take, or no longer\n\
+      \\q                                           ends the shell\n\
+    "
+}
+
+/// What is told of a word that is none.
+pub(crate) fn unknown_text() -> &'static [u8]
+    ensures { result.now ≡ spec.unknown_text }
+{
+    b"there is no such word: \\? tells what may be typed\n"
+}
+
+/// What is told of a table that isn't there.
+pub(crate) fn no_table_text() -> &'static [u8]
+    ensures { result.now ≡ absent_text }
+{
+    b"there is no such table: \\d tells which there are\n"
+}
+
+/// What is told where no session may begin a dump.
+pub(crate) fn no_session_text() -> &'static [u8]
+    ensures { result.now ≡ spec.no_session_text }
+{
+    b"each session has a transaction: a dump needs one without\n"
+}
+
+/// What is told of a dump that is given up.
+pub(crate) fn not_safe_text() -> &'static [u8]
+    ensures { result.now ≡ spec.not_safe_text }
+{
+    b"nothing was dumped: the snapshot isn't known to be safe while other transactions write\n"
+}
+
+/// What is told once a tenth of the room for events is left.
+pub(crate) fn near_text() -> &'static [u8]
+    ensures { result.now ≡ spec.near_text }
+{
+    b"nearly all of --events are used: CHECKPOINT makes room, but not while a session has a transaction\n"
+}
+
+/// What is told once answers are timed, or no longer.
+pub(crate) fn timing_text(is_timed: bool) -> &'static [u8]
+    ensures { result.now ≡ spec.timing_text is_timed }
+{
+    if is_timed {
+        b"Timing is on.\n"
+    } else {
+        b"Timing is off.\n"
+    }
+}
+
+/// What is told of a file's line that asks for a file's lines.
+pub(crate) fn nested_text() -> &'static [u8]
+    ensures { result.now ≡ spec.nested_text }
+{
+    b"a file can't ask for the lines of another\n"
+}
