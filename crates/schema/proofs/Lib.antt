@@ -12,5 +12,5 @@ mod PagedLemmas
 pub mod RowsInOrder
 pub mod PlainLemmas
 pub mod SoundLemmas
-mod WalkLemmas
+pub mod WalkLemmas
 pub mod WellFormedLemmas

@@ -254,7 +254,7 @@ fn put_within<A: Allocator + Copy>(pages: &mut Vec<Page<A>, A>, row: Row<A>) -> 
     put_at(pages, row)
 }
 
-// A row more. A number past those of 64 bits is told as want of memory: no table has so many rows.
+// A row more. A number past those of 64 bits is told as out of memory: no table has so many rows.
 fn one_more(count: usize) -> Result<usize, Refusal>
     ensures ok { IfOk result (λ n. n ≡ count + 1) }
     ensures memory { IfErr result (λ e. e ≡ out_of_memory) }
@@ -434,18 +434,6 @@ impl<A: Allocator> Table<A> {
                 Ok(())
             }
         }
-    }
-
-    /// The rows in the order of their keys, moved out.
-    pub fn into_rows(self, alloc: A) -> Result<Vec<Row<A>, A>, Refusal>
-        ensures ok { IfOk result (λ rows. rows.items ≡ self) }
-        ensures err { IfErr result (λ e. e ≡ out_of_memory) }
-    {
-        let mut moved = Vec::with_capacity(alloc, self.count)?;
-        for page in self.pages {
-            page.move_into(&mut moved)?;
-        }
-        Ok(moved)
     }
 
     /// Equal rows.

@@ -113,7 +113,7 @@ impl<A: Allocator> Tables<A> {
         Ok(())
     }
 
-    /// Puts in changes, one after another. One of a table that isn't there changes nothing. After want of memory those
+    /// Puts in changes, one after another. One of a table that isn't there changes nothing. After out of memory those
     /// before some change are put in.
     pub fn apply_all(&mut self, alloc: A, changes: &[Change<A>]) -> Result<(), Refusal>
     where
@@ -126,21 +126,6 @@ impl<A: Allocator> Tables<A> {
             self.put_in(alloc, change)?;
         }
         Ok(())
-    }
-
-    /// Each table's rows in the order of their keys, moved out.
-    pub fn into_rows(self, alloc: A) -> Result<Vec<Vec<Row<A>, A>, A>, Refusal>
-    where
-        A: Copy,
-        ensures ok { IfOk result (λ tables. map (λ rows. rows.items) tables.items ≡ self) }
-        ensures err { IfErr result (λ e. e ≡ out_of_memory) }
-    {
-        let Tables { tables } = self;
-        let mut moved = Vec::with_capacity(alloc, tables.len())?;
-        for table in tables {
-            moved.push(table.into_rows(alloc)?)?;
-        }
-        Ok(moved)
     }
 
     /// Equal tables, with memory of their own. Refused only for want of it (53200).

@@ -38,14 +38,6 @@ impl<A: Allocator> Bytes<A> {
         Bytes { bytes }
     }
 
-    /// The bytes, which it gives up.
-    pub fn into_vec(self) -> Vec<u8, A>
-        ensures { result.items ≡ self }
-    {
-        let Bytes { bytes } = self;
-        bytes
-    }
-
     /// The bytes.
     pub fn as_slice(&self) -> &[u8]
         ensures { result.now ≡ self.now }

@@ -55,14 +55,6 @@ impl<A: Allocator> Key<A> {
         &self.value
     }
 
-    /// The value, which it gives up.
-    pub fn into_value(self) -> Value<A>
-        ensures { result ≡ self }
-    {
-        let Key { value } = self;
-        value
-    }
-
     /// An equal key, with memory of its own. Refused only for want of it (53200).
     pub fn copy(&self, alloc: A) -> Result<Key<A>, Refusal>
         ensures ok { IfOk result (λ k. k ≡ self.now) }

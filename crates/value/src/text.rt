@@ -49,14 +49,6 @@ impl<A: Allocator> Text<A> {
         Ok(Text { text })
     }
 
-    /// The text, which it gives up.
-    pub fn into_string(self) -> String<A>
-        ensures { string_bytes result ≡ self }
-    {
-        let Text { text } = self;
-        text
-    }
-
     /// The text.
     pub fn as_str(&self) -> &str
         ensures { result.now ≡ self.now }

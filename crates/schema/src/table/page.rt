@@ -248,17 +248,6 @@ impl<A: Allocator> Page<A> {
         Ok(Page { rows })
     }
 
-    /// Moves the rows out, behind others.
-    pub fn move_into(self, moved: &mut Vec<Row<A>, A>) -> Result<(), Refusal>
-        ensures ok { OnOk result (moved.new.items ≡ moved.old.items ++ self) }
-        ensures err { IfErr result (λ e. e ≡ out_of_memory) }
-    {
-        for row in self.rows {
-            moved.push(row)?;
-        }
-        Ok(())
-    }
-
     /// Equal rows.
     pub fn copy(&self, alloc: A) -> Result<Page<A>, Refusal>
     where
