@@ -4,3 +4,4 @@ pub mod FieldLemmas
 pub mod ValueLemmas
 pub mod EscapedLemmas
 pub mod RoundTrip
+pub mod ContentLemmas

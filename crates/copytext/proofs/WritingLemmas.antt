@@ -79,3 +79,13 @@ left_with r old more new h = on_err r (ap (take (length old)) h ∙ starts old m
 
 pub left_by : {T E : Type 0} (r : Result T E) (old more mid new : List ℕ) → mid ≡ old ++ more → take (length mid) new ≡ mid → OnErr r (take (length old) new ≡ old)
 left_by r old more mid new h k = on_err r (starts_by old more new (subst (λ (m : List ℕ). take (length m) new ≡ m) h k))
+
+-- one more byte, as it is written
+pub one_more_escaped : (old bytes : List ℕ) (i : ℕ) → i < length bytes
+    → (old ++ escaped (take i bytes)) ++ escaped (get_or bytes i 0 ∷ []) ≡ old ++ escaped (take (i + 1) bytes)
+one_more_escaped old bytes i lt =
+    let text : ℕ → List ℕ = λ b. by_letter b (letter_of b) in
+    let byte : ℕ = get_or bytes i 0 in
+    ap (λ (t : List ℕ). (old ++ escaped (take i bytes)) ++ t) (append-nil (text byte))
+    ∙ flat_map_more text old (take i bytes) byte
+    ∙ ap (λ (bs : List ℕ). old ++ escaped bs) (sym (take_more bytes i 0 lt))

@@ -102,12 +102,14 @@ fn append_field<A: Allocator>(value: &Value<A>, out: &mut Vec<u8, A>) -> Result<
     ensures memory { IfErr result (λ e. e ≡ out_of_memory) }
 {
     match value {
-        Value::Null => out.extend_from_slice(b"\\N")?,
-        Value::Int(number) => push_decimal(*number, out)?,
-        Value::Text(text) => append_escaped(text.as_str().as_bytes(), out)?,
-        Value::Bytes(bytes) => append_bytea(bytes.as_slice(), out)?,
+        Value::Null => {
+            out.extend_from_slice(b"\\N")?;
+            Ok(())
+        }
+        Value::Int(number) => push_decimal(*number, out),
+        Value::Text(text) => append_escaped(text.as_str().as_bytes(), out),
+        Value::Bytes(bytes) => append_bytea(bytes.as_slice(), out),
     }
-    Ok(())
 }
 
 // Appends a tab and a field's text, for each value. A refused growth may leave some of it.

@@ -254,6 +254,37 @@ impl<'h, A: Allocator> Account<'h, A> {
         )
     }
 
+    // Adds the remarks on a dangerous structure.
+    fn push_structure(
+        &self,
+        alloc: A,
+        cause: Cause,
+        remarks: &mut Vec<Vec<u8, A>, A>,
+    ) -> Result<(), Refusal>
+    where
+        A: Copy,
+        ensures memory { IfErr result (λ e. e ≡ out_of_memory) }
+    {
+        let base = self.history.base().transactions;
+        let danger = danger_of(alloc, self.runs, base, cause)?;
+        self.push_danger(alloc, &danger, remarks)
+    }
+
+    // Adds the remark on what follows of it.
+    fn push_consequence(
+        &self,
+        alloc: A,
+        session: SessionId,
+        cause: Cause,
+        remarks: &mut Vec<Vec<u8, A>, A>,
+    ) -> Result<(), Refusal>
+        ensures memory { IfErr result (λ e. e ≡ out_of_memory) }
+    {
+        let consequence = self.consequence(alloc, session, cause)?;
+        remarks.push(consequence)?;
+        Ok(())
+    }
+
     /// Remarks on a refusal for the sake of a dangerous structure.
     pub(crate) fn on_cause(
         &self,
@@ -265,11 +296,9 @@ impl<'h, A: Allocator> Account<'h, A> {
         A: Copy,
         ensures memory { IfErr result (λ e. e ≡ out_of_memory) }
     {
-        let base = self.history.base().transactions;
-        let danger = danger_of(alloc, self.runs, base, cause)?;
         let mut remarks = Vec::new(alloc);
-        self.push_danger(alloc, &danger, &mut remarks)?;
-        remarks.push(self.consequence(alloc, session, cause)?)?;
+        self.push_structure(alloc, cause, &mut remarks)?;
+        self.push_consequence(alloc, session, cause, &mut remarks)?;
         Ok(remarks)
     }
 

@@ -8,6 +8,7 @@ use crate::words::{before_last, cut, first_word, session_of};
 use schema::catalog::Catalog;
 use sqltext::create::parse_create;
 use sqltext::source::bytes_of;
+use sqltext::token::Token;
 use std::alloc::{AllocError, Allocator};
 use value::refusal::Code;
 
@@ -107,24 +108,60 @@ fn found_in_table<'l, A: Allocator + Copy>(
     }
 }
 
+// What is wrong with a line that is no session's and no OPEN, as its first token tells that is out of place.
+fn found_at_token<'l>(
+    takes_tables: bool,
+    wrong: Option<(Token, Reason)>,
+    line: &'l [u8],
+) -> Option<Found<'l>> {
+    match wrong {
+        Some((token, Reason::NoSession)) if token.start == token.end => {
+            Some(Found::of(Reason::NoSession))
+        }
+        Some((token, Reason::NoSession)) => {
+            Some(Found::at(bytes_of(token, line), Reason::NoSession))
+        }
+        _ if !takes_tables => Some(Found::of(Reason::LateTable)),
+        Some((token, reason)) => Some(Found::at(bytes_of(token, line), reason)),
+        None => None,
+    }
+}
+
 // What is wrong with a line that is no session's and no OPEN.
 fn found_in_create<A: Allocator + Copy>(
     alloc: A,
     before: Script<A>,
     line: &str,
 ) -> Result<Found<'_>, AllocError> {
-    let takes_tables = before.takes_tables();
-    let (catalog, _, _) = before.into_parts();
-    match wrong_token(alloc, line.as_bytes())? {
-        Some((token, Reason::NoSession)) if token.start == token.end => {
-            Ok(Found::of(Reason::NoSession))
+    let wrong = wrong_token(alloc, line.as_bytes())?;
+    match found_at_token(before.takes_tables(), wrong, line.as_bytes()) {
+        Some(found) => Ok(found),
+        None => {
+            let (catalog, _, _) = before.into_parts();
+            Ok(found_in_table(alloc, catalog, line))
         }
-        Some((token, Reason::NoSession)) => {
-            Ok(Found::at(bytes_of(token, line.as_bytes()), Reason::NoSession))
-        }
-        _ if !takes_tables => Ok(Found::of(Reason::LateTable)),
-        Some((token, reason)) => Ok(Found::at(bytes_of(token, line.as_bytes()), reason)),
-        None => Ok(found_in_table(alloc, catalog, line)),
+    }
+}
+
+// What is wrong with a line whose first bytes tell.
+fn found_at_start<'l, A: Allocator>(
+    schedule: Schedule,
+    before: &Script<A>,
+    line: &'l [u8],
+) -> Option<Found<'l>> {
+    if line.starts_with(b"\xef\xbb\xbf") {
+        Some(Found::of(Reason::ByteOrderMark))
+    } else if line == b"\r".as_slice() {
+        Some(Found::of(Reason::CarriageReturn))
+    } else if begins_with_digit(line) {
+        Some(found_in_session(schedule, line))
+    } else if begins_with_open(line) {
+        let is_first = before.takes_tables() && before.catalog().is_empty();
+        Some(found_in_open(is_first, line))
+    } else if line == b"CHECKPOINT;".as_slice() {
+        Some(Found::of(Reason::Checkpoint))
+    } else {
+        None
     }
 }
 
@@ -135,18 +172,8 @@ pub(crate) fn found_in_line<A: Allocator + Copy>(
     before: Script<A>,
     line: &str,
 ) -> Result<Found<'_>, AllocError> {
-    let bytes = line.as_bytes();
-    if bytes.starts_with(b"\xef\xbb\xbf") {
-        Ok(Found::of(Reason::ByteOrderMark))
-    } else if bytes == b"\r".as_slice() {
-        Ok(Found::of(Reason::CarriageReturn))
-    } else if begins_with_digit(bytes) {
-        Ok(found_in_session(schedule, bytes))
-    } else if begins_with_open(bytes) {
-        Ok(found_in_open(before.takes_tables() && before.catalog().is_empty(), bytes))
-    } else if bytes == b"CHECKPOINT;".as_slice() {
-        Ok(Found::of(Reason::Checkpoint))
-    } else {
-        found_in_create(alloc, before, line)
+    match found_at_start(schedule, &before, line.as_bytes()) {
+        Some(found) => Ok(found),
+        None => found_in_create(alloc, before, line),
     }
 }

@@ -131,7 +131,7 @@ fn shown_as<A: Allocator>(alloc: A, bytes: &[u8]) -> Result<Vec<u8, A>, AllocErr
 
 /// What is wrong with a script's first faulty line, of this number, and what would be right: for a person, and worked
 /// out anew from the text. It has printable bytes of ASCII alone, whatever the text has: others are shown as `\x` and
-/// their number; and of the text 200 bytes at most. Of line 0 it tells that memory was wanting.
+/// their number; and of the text 200 bytes at most. Of line 0 it tells that it was out of memory.
 pub fn explain<A: Allocator + Copy>(
     alloc: A,
     schedule: Schedule,

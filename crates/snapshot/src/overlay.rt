@@ -1,13 +1,13 @@
 //! Own changes over a lent reader.
 
-ghost use Rattle.std.specs.Prelude.{◌≡◌, false, ◌<◌, ◌++◌, OnOk, IfOk, IfErr, IfSome, length, take};
+ghost use Rattle.std.specs.Prelude.{◌≡◌, false, ◌<◌, [], ◌∷◌, ◌++◌, OnOk, IfOk, IfErr, IfSome, drop, length, take};
 ghost use Rattle.std.specs.Option.{option_copied, option_map, option_map_or};
 ghost use Rattle.value.specs.Refusals.{out_of_memory};
 ghost use Rattle.schema.specs.Changing.{next_change};
 ghost use Rattle.schema.specs.Plain.{put_all, rows_of};
 ghost use Rattle.schema.specs.Rows.{HasTable, IsInKeyOrder, next_row, row_of, rows_within};
 ghost use Rattle.schema.specs.Walking.{lent};
-ghost use Rattle.snapshot.specs.Merging.{last_is_before, listed, unless_before};
+ghost use Rattle.snapshot.specs.Merging.{last_is_before, listed, past_key, unless_before};
 ghost use Rattle.snapshot.specs.Overlaid.{rows_with, is_before, next_after, changes_after, changes_within};
 
 use crate::ahead::Ahead;
@@ -69,6 +69,35 @@ fn push_own<'c, A: Allocator>(
         rows.push(row)?;
     }
     Ok(())
+}
+
+// Takes the row of a change, where it has one, and goes past its key.
+fn take_own<'a, R: RowsReader<A>, A: Allocator + Copy>(
+    key: &Key<A>,
+    own: &'a Option<Row<A>>,
+    ahead: &mut Ahead<'_, R, A>,
+    rows: &mut Vec<&'a Row<A>, A>,
+) -> Result<(), Refusal>
+    ensures rows { OnOk result (lent rows.new.items ≡ lent rows.old.items ++ listed own.now) }
+    ensures ahead { OnOk result (ahead.new ≡ past_key key.now ahead.old) }
+    ensures err { IfErr result (λ e. e ≡ out_of_memory) }
+{
+    push_own(own, rows)?;
+    ahead.pass(key)
+}
+
+// Takes the first row to come, and goes past it.
+fn take_lent<'a, R: RowsReader<A>, A: Allocator + Copy>(
+    row: &'a Row<A>,
+    ahead: &mut Ahead<'_, R, A>,
+    rows: &mut Vec<&'a Row<A>, A>,
+) -> Result<(), Refusal>
+    ensures rows { OnOk result (lent rows.new.items ≡ lent rows.old.items ++ row.now ∷ []) }
+    ensures ahead { OnOk result (ahead.new ≡ drop 1 ahead.old) }
+    ensures err { IfErr result (λ e. e ≡ out_of_memory) }
+{
+    rows.push(row)?;
+    ahead.step()
 }
 
 // Whether there are rows, the last of a lesser key.
@@ -148,8 +177,8 @@ impl<'a, R: SnapshotReader<A>, A: Allocator> Overlay<'a, R, A> {
         }
     }
 
-    /// The lent reader, where none of the changes is within a bound: it has the same rows there.
-    pub fn unchanged(&self, table: TableNo, after: Bound<&Key<A>>) -> Option<&'a R>
+    // The lent reader, where none of the changes is within a bound: it has the same rows there.
+    fn unchanged(&self, table: TableNo, after: Bound<&Key<A>>) -> Option<&'a R>
         requires { HasTable (put_all self.now.changes.now (R.tables self.now.reader.now)) table }
         ensures has { IfSome result (λ reader. HasTable (R.tables reader.now) table) }
         ensures ordered { IfSome result (λ reader. IsInKeyOrder (rows_of (R.tables reader.now) table) →
@@ -223,16 +252,14 @@ impl<'a, R: RowsReader<A>, A: Allocator + Copy> Overlay<'a, R, A> {
         'both: while rows.len() < most {
             match unless_before(ahead.first(), change) {
                 Some((key, own)) => {
-                    push_own(own, &mut rows)?;
-                    ahead.pass(key)?;
+                    take_own(key, own, &mut ahead, &mut rows)?;
                     change = self.changes.next(table, Bound::After(key));
                 }
                 None => {
                     let Some(row) = ahead.first() else {
                         return Ok(rows);
                     };
-                    rows.push(row)?;
-                    ahead.step()?;
+                    take_lent(row, &mut ahead, &mut rows)?;
                 }
             }
         }

@@ -411,6 +411,44 @@ fn insert<A: Allocator + Copy>(
     values(alloc, columns, text, literals)
 }
 
+// The statement of a SELECT's tree.
+#[tactic(auto, unfolding(crate::specs::Resolving::resolved))]
+fn select<A: Allocator + Copy>(
+    alloc: A,
+    catalog: &Catalog<A>,
+    text: &[u8],
+    shown: &Shown<A>,
+    name: Name,
+    tests: &[Test],
+) -> Result<Statement<A>, ParseError>
+    ensures { Gives (λ q. q) result (spec.resolved catalog.now text.now (Tree.Select shown.now name tests.now)) }
+{
+    let number = table_of(catalog, text, name)?;
+    let table = catalog.table(number);
+    let projection = projection(alloc, table, text, shown)?;
+    let conditions = conditions(alloc, table, text, tests)?;
+    Ok(Statement::Select(number, projection, conditions))
+}
+
+// The statement of an UPDATE's tree.
+#[tactic(auto, unfolding(crate::specs::Resolving::resolved))]
+fn update<A: Allocator + Copy>(
+    alloc: A,
+    catalog: &Catalog<A>,
+    text: &[u8],
+    name: Name,
+    settings: &[Setting],
+    tests: &[Test],
+) -> Result<Statement<A>, ParseError>
+    ensures { Gives (λ q. q) result (spec.resolved catalog.now text.now (Tree.Update name settings.now tests.now)) }
+{
+    let number = table_of(catalog, text, name)?;
+    let table = catalog.table(number);
+    let assignments = assignments(alloc, table, text, settings)?;
+    let conditions = conditions(alloc, table, text, tests)?;
+    Ok(Statement::Update(number, assignments, conditions))
+}
+
 /// The statement that a tree says of the catalog's tables.
 #[tactic(auto, unfolding(crate::specs::Resolving::resolved))]
 pub fn resolve<A: Allocator + Copy>(
@@ -423,11 +461,7 @@ pub fn resolve<A: Allocator + Copy>(
 {
     match tree {
         Tree::Select(shown, name, tests) => {
-            let number = table_of(catalog, text, *name)?;
-            let table = catalog.table(number);
-            let projection = projection(alloc, table, text, shown)?;
-            let conditions = conditions(alloc, table, text, tests.as_slice())?;
-            Ok(Statement::Select(number, projection, conditions))
+            select(alloc, catalog, text, shown, *name, tests.as_slice())
         }
         Tree::Insert(name, word, literals) => {
             let number = table_of(catalog, text, *name)?;
@@ -436,11 +470,8 @@ pub fn resolve<A: Allocator + Copy>(
             Ok(Statement::Insert(number, values))
         }
         Tree::Update(name, settings, tests) => {
-            let number = table_of(catalog, text, *name)?;
-            let table = catalog.table(number);
-            let assignments = assignments(alloc, table, text, settings.as_slice())?;
-            let conditions = conditions(alloc, table, text, tests.as_slice())?;
-            Ok(Statement::Update(number, assignments, conditions))
+            let settings = settings.as_slice();
+            update(alloc, catalog, text, *name, settings, tests.as_slice())
         }
         Tree::Delete(name, tests) => {
             let number = table_of(catalog, text, *name)?;

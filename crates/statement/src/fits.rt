@@ -1,7 +1,8 @@
 //! Whether a statement fits a catalog.
 
-ghost use Rattle.std.specs.Prelude.{◌≡◌, ◌<◌, ◌≤◌, ◌&&◌, true, nat_lt, length};
+ghost use Rattle.std.specs.Prelude.{◌≡◌, ◌<◌, ◌≤◌, ◌&&◌, true, nat_lt, length, slice_get};
 ghost use Rattle.std.specs.List.{list_all};
+ghost use Rattle.std.specs.Option.{option_copied};
 ghost use Rattle.schema.specs.Plain.{columns_of};
 ghost use Rattle.statement.specs.Evaluation.{is_assigned};
 ghost use Rattle.statement.specs.Fits.{fits, column_passes, has_table, is_bigint, takes, condition_fits, projection_fits, literals_fit, source_fits, assignment_fits, assigns_once};
@@ -14,17 +15,24 @@ use std::alloc::Allocator;
 use value::kind::Kind;
 use value::value::Value;
 
+/// The column of a place, counted from 0.
+pub(crate) fn column_at<A: Allocator>(columns: &[Column<A>], place: u32) -> Option<&Column<A>>
+    ensures { option_copied result ≡ slice_get columns.now place }
+{
+    columns.get(place as usize)
+}
+
 fn has_column<A: Allocator>(columns: &[Column<A>], place: u32) -> bool
     ensures { result ≡ column_passes (λ d. true) columns.now place }
 {
-    columns.get(place as usize).is_some()
+    column_at(columns, place).is_some()
 }
 
 // Whether a column is there and may have a literal.
 fn takes<A: Allocator>(columns: &[Column<A>], place: u32, literal: &Value<A>) -> bool
     ensures { result ≡ column_passes (takes literal.now) columns.now place }
 {
-    match columns.get(place as usize) {
+    match column_at(columns, place) {
         Some(column) => has_kind(column.kind(), literal),
         None => false,
     }
@@ -39,7 +47,7 @@ fn takes_both<A: Allocator>(
 ) -> bool
     ensures { result ≡ column_passes (λ d. takes low.now d && takes high.now d) columns.now place }
 {
-    match columns.get(place as usize) {
+    match column_at(columns, place) {
         Some(column) => has_kind(column.kind(), low) && has_kind(column.kind(), high),
         None => false,
     }
@@ -103,7 +111,7 @@ fn is_bigint(kind: Kind) -> bool
 fn is_bigint_column<A: Allocator>(columns: &[Column<A>], place: u32) -> bool
     ensures { result ≡ column_passes (λ d. is_bigint d.kind) columns.now place }
 {
-    match columns.get(place as usize) {
+    match column_at(columns, place) {
         Some(column) => is_bigint(column.kind()),
         None => false,
     }
@@ -125,7 +133,7 @@ fn assignment_fits<A: Allocator>(columns: &[Column<A>], assignment: &Assignment<
     ensures { result ≡ assignment_fits columns.now assignment.now }
 {
     0 < assignment.column
-        && match columns.get(assignment.column as usize) {
+        && match column_at(columns, assignment.column) {
             Some(column) => source_fits(columns, &assignment.source, column),
             None => false,
         }

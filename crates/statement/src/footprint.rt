@@ -1,8 +1,8 @@
 //! What a statement reads, by its text and the catalog alone.
 
-ghost use Rattle.std.specs.Prelude.{◌≡◌, ◌+◌, ◌≤◌, ◌++◌, [], ◌∷◌, Ok, OnOk, IfOk, IfErr, if◌then◌else◌, length, slice_get};
+ghost use Rattle.std.specs.Prelude.{◌≡◌, ◌+◌, ◌≤◌, ◌++◌, [], ◌∷◌, Ok, OnOk, IfOk, IfErr, if◌then◌else◌, length};
 ghost use Rattle.std.specs.List.{list_any};
-ghost use Rattle.std.specs.Option.{option_map_or, option_copied};
+ghost use Rattle.std.specs.Option.{option_map_or};
 ghost use Rattle.value.specs.Refusals.{out_of_memory, AnswersOrNoMemory};
 ghost use Rattle.statement.specs.Evaluation.{references};
 ghost use Rattle.statement.specs.Fits.{Fits};
@@ -10,7 +10,7 @@ ghost use Rattle.statement.specs.Footprint.{column_at, extent_of, extents_of, fo
 ghost use Rattle.statement.specs.Walk.{listed};
 
 use crate::condition::Condition;
-use crate::fits::columns_of;
+use crate::fits::{column_at, columns_of};
 use crate::interval::{Interval, intersection, key_of};
 use crate::reading::{End, Extent, Footprint, Reading};
 use crate::statement::{Assignment, Source, Statement};
@@ -199,13 +199,6 @@ fn read_assigned<A: Allocator>(
     }
 }
 
-// The column of a place, counted from 0.
-fn column_at<A: Allocator>(columns: &[Column<A>], place: u32) -> Option<&Column<A>>
-    ensures { option_copied result ≡ slice_get columns.now place }
-{
-    columns.get(place as usize)
-}
-
 // Reads what an assignment reads.
 fn read_assignment<A: Allocator>(
     alloc: A,
@@ -357,6 +350,57 @@ fn read_referencing<A: Allocator + Copy>(
     Ok(())
 }
 
+// Reads what an INSERT reads.
+fn read_insert<A: Allocator + Copy>(
+    alloc: A,
+    table: TableNo,
+    columns: &[Column<A>],
+    values: &[Value<A>],
+    readings: &mut Vec<Reading<A>, A>,
+) -> Result<(), Refusal>
+    ensures ok { OnOk result (readings.new.items ≡ readings.old.items ++
+        (reads_inserted table values.now ++ reads_fields columns.now values.now)) }
+    ensures err { IfErr result (λ e. e ≡ out_of_memory) }
+{
+    read_inserted(alloc, table, values, readings)?;
+    read_fields(alloc, columns, values, readings)
+}
+
+// Reads what an UPDATE reads.
+fn read_update<A: Allocator + Copy>(
+    alloc: A,
+    table: TableNo,
+    columns: &[Column<A>],
+    assignments: &[Assignment<A>],
+    conditions: &[Condition<A>],
+    readings: &mut Vec<Reading<A>, A>,
+) -> Result<(), Refusal>
+    ensures ok { OnOk result (readings.new.items ≡ readings.old.items ++
+        (in_table table (extents_of conditions.now) ++ reads_assignments columns.now assignments.now)) }
+    ensures err { IfErr result (λ e. e ≡ out_of_memory) }
+{
+    read_chosen(alloc, table, conditions, readings)?;
+    read_assignments(alloc, columns, assignments, readings)
+}
+
+// Reads what a DELETE reads.
+fn read_delete<A: Allocator + Copy>(
+    alloc: A,
+    table: TableNo,
+    conditions: &[Condition<A>],
+    catalog: &Catalog<A>,
+    readings: &mut Vec<Reading<A>, A>,
+) -> Result<(), Refusal>
+    ensures ok { OnOk result (readings.new.items ≡ readings.old.items ++
+        (in_table table (extents_of conditions.now) ++
+        reads_referencing (extents_of conditions.now) table 0 catalog.now)) }
+    ensures err { IfErr result (λ e. e ≡ out_of_memory) }
+{
+    read_chosen(alloc, table, conditions, readings)?;
+    let gone = extent(alloc, conditions)?;
+    read_referencing(alloc, &gone, table, catalog, readings)
+}
+
 // Reads what a statement reads.
 fn read_all<A: Allocator + Copy>(
     alloc: A,
@@ -373,23 +417,23 @@ fn read_all<A: Allocator + Copy>(
             read_chosen(alloc, *table, conditions.as_slice(), readings)
         }
         Statement::Insert(table, values) => {
-            read_inserted(alloc, *table, values.as_slice(), readings)?;
-            read_fields(
+            let columns = columns_of(catalog, *table);
+            read_insert(alloc, *table, columns, values.as_slice(), readings)
+        }
+        Statement::Update(table, assignments, conditions) => {
+            let columns = columns_of(catalog, *table);
+            let assignments = assignments.as_slice();
+            read_update(
                 alloc,
-                columns_of(catalog, *table),
-                values.as_slice(),
+                *table,
+                columns,
+                assignments,
+                conditions.as_slice(),
                 readings,
             )
         }
-        Statement::Update(table, assignments, conditions) => {
-            read_chosen(alloc, *table, conditions.as_slice(), readings)?;
-            let columns = columns_of(catalog, *table);
-            read_assignments(alloc, columns, assignments.as_slice(), readings)
-        }
         Statement::Delete(table, conditions) => {
-            read_chosen(alloc, *table, conditions.as_slice(), readings)?;
-            let gone = extent(alloc, conditions.as_slice())?;
-            read_referencing(alloc, &gone, *table, catalog, readings)
+            read_delete(alloc, *table, conditions.as_slice(), catalog, readings)
         }
     }
 }

@@ -1,6 +1,6 @@
 //! The keys that the conditions on the key column leave.
 
-ghost use Rattle.std.specs.Prelude.{◌≡◌, true, false, IfOk, IfErr, MatchOption};
+ghost use Rattle.std.specs.Prelude.{◌≡◌, true, false, if◌then◌else◌, IfOk, IfErr, MatchOption};
 ghost use Rattle.value.specs.Refusals.{out_of_memory};
 ghost use Rattle.schema.specs.Plain.{is_null};
 ghost use Rattle.statement.specs.Footprint.{by_comparison, interval, later, sooner, meet, meet_both, intersection};
@@ -121,41 +121,50 @@ fn interval_of<A: Allocator + Copy>(
     }
 }
 
+// Whether the greater of two lower ends is the second.
+fn is_later<A: Allocator>(first: &End<A>, second: &End<A>) -> bool
+    ensures { later first.now second.now ≡ (if result then second.now else first.now) }
+{
+    match first {
+        End::Open => true,
+        End::Closed(first) => match second {
+            End::Open => false,
+            End::Closed(second) => first.cmp(second).is_lt(),
+            End::Without(second) => !first.cmp(second).is_gt(),
+        },
+        End::Without(first) => match second {
+            End::Open => false,
+            End::Closed(second) | End::Without(second) => first.cmp(second).is_lt(),
+        },
+    }
+}
+
 // The greater of two lower ends.
 fn later<A: Allocator>(first: End<A>, second: End<A>) -> End<A>
     ensures { result ≡ later first second }
 {
-    match (first, second) {
-        (End::Open, end) => end,
-        (end, End::Open) => end,
-        (End::Closed(first), End::Closed(second)) => {
-            End::Closed(if first.cmp(&second).is_lt() {
-                second
-            } else {
-                first
-            })
-        }
-        (End::Closed(first), End::Without(second)) => {
-            if first.cmp(&second).is_gt() {
-                End::Closed(first)
-            } else {
-                End::Without(second)
-            }
-        }
-        (End::Without(first), End::Closed(second)) => {
-            if first.cmp(&second).is_lt() {
-                End::Closed(second)
-            } else {
-                End::Without(first)
-            }
-        }
-        (End::Without(first), End::Without(second)) => {
-            End::Without(if first.cmp(&second).is_lt() {
-                second
-            } else {
-                first
-            })
-        }
+    if is_later(&first, &second) {
+        second
+    } else {
+        first
+    }
+}
+
+// Whether the lesser of two upper ends is the second.
+fn is_sooner<A: Allocator>(first: &End<A>, second: &End<A>) -> bool
+    ensures { sooner first.now second.now ≡ (if result then second.now else first.now) }
+{
+    match first {
+        End::Open => true,
+        End::Closed(first) => match second {
+            End::Open => false,
+            End::Closed(second) => first.cmp(second).is_gt(),
+            End::Without(second) => !first.cmp(second).is_lt(),
+        },
+        End::Without(first) => match second {
+            End::Open => false,
+            End::Closed(second) | End::Without(second) => first.cmp(second).is_gt(),
+        },
     }
 }
 
@@ -163,37 +172,10 @@ fn later<A: Allocator>(first: End<A>, second: End<A>) -> End<A>
 fn sooner<A: Allocator>(first: End<A>, second: End<A>) -> End<A>
     ensures { result ≡ sooner first second }
 {
-    match (first, second) {
-        (End::Open, end) => end,
-        (end, End::Open) => end,
-        (End::Closed(first), End::Closed(second)) => {
-            End::Closed(if first.cmp(&second).is_gt() {
-                second
-            } else {
-                first
-            })
-        }
-        (End::Closed(first), End::Without(second)) => {
-            if first.cmp(&second).is_lt() {
-                End::Closed(first)
-            } else {
-                End::Without(second)
-            }
-        }
-        (End::Without(first), End::Closed(second)) => {
-            if first.cmp(&second).is_gt() {
-                End::Closed(second)
-            } else {
-                End::Without(first)
-            }
-        }
-        (End::Without(first), End::Without(second)) => {
-            End::Without(if first.cmp(&second).is_gt() {
-                second
-            } else {
-                first
-            })
-        }
+    if is_sooner(&first, &second) {
+        second
+    } else {
+        first
     }
 }
 

@@ -5,7 +5,7 @@ use Rattle.std.specs.Option.{option_map}
 use Rattle.schema.specs.Walking.{lent}
 use Rattle.schema.proofs.PlainLemmas.{length-put_all}
 use Rattle.snapshot.specs.Merging.{unless_before}
-use Rattle.snapshot.proofs.MergeLemmas.{own_stands, lent_stands, ends, own_smaller, lent_more, few_more}
+use Rattle.snapshot.proofs.MergeLemmas.{own_stands, lent_stands, ends, own_smaller, few_more}
 use Rattle.snapshot.proofs.OverlayLemmas.{put_all-in_order}
 use Rattle.snapshot.proofs.overlay.Overlay.merge_rows.Goals as goal
 
@@ -15,20 +15,14 @@ within-requires g c = omega (arith, c.requires, length-put_all c.args.self.now.c
 pub returns-in_err-ahead-clause-ordered : goal.returns-in_err-ahead-clause-ordered
 returns-in_err-ahead-clause-ordered g c = put_all-in_order c.args.self.now.changes.now (g.R.SnapshotReader.tables c.args.self.now.reader.now) c.args.table (omega (arith, c.requires, length-put_all c.args.self.now.changes.now (g.R.SnapshotReader.tables c.args.self.now.reader.now))) c.within.ensures.ordered
 
-pub returns-in_err-push_own-in-Some-clause-ordered : goal.returns-in_err-push_own-in-Some-clause-ordered
-returns-in_err-push_own-in-Some-clause-ordered g c = put_all-in_order c.args.self.now.changes.now (g.R.SnapshotReader.tables c.args.self.now.reader.now) c.args.table (omega (arith, c.requires, length-put_all c.args.self.now.changes.now (g.R.SnapshotReader.tables c.args.self.now.reader.now))) c.within.ensures.ordered
-
-pub returns-in_err-pass-in-Some-clause-ordered : goal.returns-in_err-pass-in-Some-clause-ordered
-returns-in_err-pass-in-Some-clause-ordered g c = put_all-in_order c.args.self.now.changes.now (g.R.SnapshotReader.tables c.args.self.now.reader.now) c.args.table (omega (arith, c.requires, length-put_all c.args.self.now.changes.now (g.R.SnapshotReader.tables c.args.self.now.reader.now))) c.within.ensures.ordered
+pub returns-in_err-take_own-in-Some-clause-ordered : goal.returns-in_err-take_own-in-Some-clause-ordered
+returns-in_err-take_own-in-Some-clause-ordered g c = put_all-in_order c.args.self.now.changes.now (g.R.SnapshotReader.tables c.args.self.now.reader.now) c.args.table (omega (arith, c.requires, length-put_all c.args.self.now.changes.now (g.R.SnapshotReader.tables c.args.self.now.reader.now))) c.within.ensures.ordered
 
 pub returns-in_default-clause-ordered : goal.returns-in_default-clause-ordered
 returns-in_default-clause-ordered g c = put_all-in_order c.args.self.now.changes.now (g.R.SnapshotReader.tables c.args.self.now.reader.now) c.args.table (omega (arith, c.requires, length-put_all c.args.self.now.changes.now (g.R.SnapshotReader.tables c.args.self.now.reader.now))) c.within.ensures.ordered
 
-pub returns-in_err-push-in-None-clause-ordered : goal.returns-in_err-push-in-None-clause-ordered
-returns-in_err-push-in-None-clause-ordered g c = put_all-in_order c.args.self.now.changes.now (g.R.SnapshotReader.tables c.args.self.now.reader.now) c.args.table (omega (arith, c.requires, length-put_all c.args.self.now.changes.now (g.R.SnapshotReader.tables c.args.self.now.reader.now))) c.within.ensures.ordered
-
-pub returns-in_err-step-in-None-clause-ordered : goal.returns-in_err-step-in-None-clause-ordered
-returns-in_err-step-in-None-clause-ordered g c = put_all-in_order c.args.self.now.changes.now (g.R.SnapshotReader.tables c.args.self.now.reader.now) c.args.table (omega (arith, c.requires, length-put_all c.args.self.now.changes.now (g.R.SnapshotReader.tables c.args.self.now.reader.now))) c.within.ensures.ordered
+pub returns-in_err-take_lent-in-None-clause-ordered : goal.returns-in_err-take_lent-in-None-clause-ordered
+returns-in_err-take_lent-in-None-clause-ordered g c = put_all-in_order c.args.self.now.changes.now (g.R.SnapshotReader.tables c.args.self.now.reader.now) c.args.table (omega (arith, c.requires, length-put_all c.args.self.now.changes.now (g.R.SnapshotReader.tables c.args.self.now.reader.now))) c.within.ensures.ordered
 
 pub returns-clause-ordered : goal.returns-clause-ordered
 returns-clause-ordered g c = put_all-in_order c.args.self.now.changes.now (g.R.SnapshotReader.tables c.args.self.now.reader.now) c.args.table (omega (arith, c.requires, length-put_all c.args.self.now.changes.now (g.R.SnapshotReader.tables c.args.self.now.reader.now))) c.within.ensures.ordered
@@ -37,7 +31,7 @@ pub both-smaller-in-Some : goal.both-smaller-in-Some
 both-smaller-in-Some g c =
     let change = option_map (λ p. (p.0.now, p.1.now)) c.both.change in
     let is : unless_before (slice_get c.both.ahead 0) change ≡ Some (c.in-Some.key.now, c.in-Some.own.now) = ap (λ o. unless_before o change) (sym c.first.ensures) ∙ sym c.in-Some.ensures in
-    own_smaller c.args.self.now.changes.now c.args.table c.both.ahead change c.in-Some.key c.in-Some.own.now c.pass.new.self (option_map (λ p. (p.0.now, p.1.now)) c.next-change-in-Some.result) c.in_key_order.ensures is c.in_ok-pass-in-Some.ensures.ok c.next-change-in-Some.ensures
+    own_smaller c.args.self.now.changes.now c.args.table c.both.ahead change c.in-Some.key c.in-Some.own.now c.take_own.new.ahead (option_map (λ p. (p.0.now, p.1.now)) c.next-change-in-Some.result) c.in_key_order.ensures is c.in_ok-take_own-in-Some.ensures.ahead c.next-change-in-Some.ensures
 
 pub both-preserved-in-Some : goal.both-preserved-in-Some
 both-preserved-in-Some g c =
@@ -47,8 +41,8 @@ both-preserved-in-Some g c =
     let change = option_map (λ p. (p.0.now, p.1.now)) c.both.change in
     let is : unless_before (slice_get c.both.ahead 0) change ≡ Some (c.in-Some.key.now, c.in-Some.own.now) = ap (λ o. unless_before o change) (sym c.first.ensures) ∙ sym c.in-Some.ensures in
     let few : length (lent c.both.rows.items) < c.args.most = omega (arith, c.both-test.true, c.len.ensures, c.both.rows.ok.0, length-map c.both.rows.items (λ row. row.now)) in (
-      own_stands xs X c.args.table c.args.after within c.in_key_order.ensures c.within.ensures.ordered (lent c.both.rows.items) c.both.ahead change c.in-Some.key c.in-Some.own.now (lent c.push_own.new.rows.items) c.pass.new.self (option_map (λ p. (p.0.now, p.1.now)) c.next-change-in-Some.result) c.both.invariant.0 is c.in_ok-push_own-in-Some.ensures.ok c.in_ok-pass-in-Some.ensures.ok c.next-change-in-Some.ensures,
-      few_more (lent c.both.rows.items) (lent c.push_own.new.rows.items) c.in-Some.own.now c.args.most c.in_ok-push_own-in-Some.ensures.ok few,
+      own_stands xs X c.args.table c.args.after within c.in_key_order.ensures c.within.ensures.ordered (lent c.both.rows.items) c.both.ahead change c.in-Some.key c.in-Some.own.now (lent c.take_own.new.rows.items) c.take_own.new.ahead (option_map (λ p. (p.0.now, p.1.now)) c.next-change-in-Some.result) c.both.invariant.0 is c.in_ok-take_own-in-Some.ensures.rows c.in_ok-take_own-in-Some.ensures.ahead c.next-change-in-Some.ensures,
+      few_more (lent c.both.rows.items) (lent c.take_own.new.rows.items) c.in-Some.own.now c.args.most c.in_ok-take_own-in-Some.ensures.rows few,
     )
 
 pub returns-in_default-clause-rows : goal.returns-in_default-clause-rows
@@ -69,7 +63,7 @@ both-preserved g c =
     let change = option_map (λ p. (p.0.now, p.1.now)) c.both.change in
     let is : unless_before (slice_get c.both.ahead 0) change ≡ None = ap (λ o. unless_before o change) (sym c.first.ensures) ∙ sym c.in-None.ensures in
     let few : length (lent c.both.rows.items) < c.args.most = omega (arith, c.both-test.true, c.len.ensures, c.both.rows.ok.0, length-map c.both.rows.items (λ row. row.now)) in
-    let more : lent c.push.new.self.items ≡ lent c.both.rows.items ++ c.in-Some-first.row.now ∷ [] = ap lent c.in_ok-push-in-None.ensures.items ∙ lent_more c.both.rows.items c.in-Some-first.row in (
-      lent_stands xs X c.args.table c.args.after within c.in_key_order.ensures c.within.ensures.ordered (lent c.both.rows.items) c.both.ahead change c.in-Some-first.row.now (lent c.push.new.self.items) c.step.new.self c.both.invariant.0 is (sym c.in-Some-first.ensures) more c.in_ok-step-in-None.ensures.ok,
-      few_more (lent c.both.rows.items) (lent c.push.new.self.items) (Some c.in-Some-first.row.now) c.args.most more few,
+    let more = c.in_ok-take_lent-in-None.ensures.rows in (
+      lent_stands xs X c.args.table c.args.after within c.in_key_order.ensures c.within.ensures.ordered (lent c.both.rows.items) c.both.ahead change c.in-Some-first.row.now (lent c.take_lent.new.rows.items) c.take_lent.new.ahead c.both.invariant.0 is (sym c.in-Some-first.ensures) more c.in_ok-take_lent-in-None.ensures.ahead,
+      few_more (lent c.both.rows.items) (lent c.take_lent.new.rows.items) (Some c.in-Some-first.row.now) c.args.most more few,
     )
