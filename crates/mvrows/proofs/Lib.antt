@@ -3,6 +3,7 @@ pub mod ChainLemmas
 pub mod CopiedLemmas
 pub mod HeldLemmas
 pub mod JoinedLemmas
+pub mod KeptLemmas
 pub mod LeavesLemmas
 pub mod NewestLemmas
 pub mod PageLemmas

@@ -4,7 +4,7 @@ use Rattle.std.specs.Prelude.{slice_get, is_some, OnSome}
 use Rattle.std.specs.List.{remove}
 use Rattle.std.specs.Option.{option_map}
 use Rattle.value.specs.declared.value.Value.{Value}
-use Rattle.mvrows.specs.declared.chain.Stored.{Stored}
+use Rattle.mvrows.specs.declared.version_list.Stored.{Stored}
 use Rattle.mvrows.specs.Stored.{told, stored}
 use Rattle.mvrows.specs.Versions.{Version, KeyVersions, newest_version}
 use Rattle.mvrows.specs.Settling.{is_shown_to, shown_versions, read_versions}

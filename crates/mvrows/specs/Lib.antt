@@ -4,6 +4,7 @@ pub mod Fresh
 pub mod Held
 pub mod HeldRows
 pub mod Installing
+pub mod Kept
 pub mod Laws
 pub mod Pruning
 pub mod Settling

@@ -1,5 +1,5 @@
 -- Versions without those of a commit that wasn't finished.
-use Rattle.std.specs.Prelude.{ℕ, nat_lt, if◌then◌else◌, List, [], ◌∷◌, map, filter}
+use Rattle.std.specs.Prelude.{ℕ, Bool, nat_lt, if◌then◌else◌, List, [], ◌∷◌, map, filter}
 use Rattle.mvrows.specs.Versions.{Version, KeyVersions, VersionedRows}
 use Rattle.mvrows.specs.Pruning.{has_version}
 
@@ -15,3 +15,11 @@ module _ {A : Type 0} where
   -- a table's keys that have such versions
   abbrev pub rows_before : ℕ → VersionedRows A → VersionedRows A
   rows_before commit rows = filter has_version (map (key_before commit) rows)
+
+  -- a key has a version from before a commit
+  abbrev pub was_there : ℕ → KeyVersions A → Bool
+  was_there commit k = has_version (key_before commit k)
+
+  -- such a key without the versions of the commit; others as they are
+  abbrev pub taken_back : ℕ → KeyVersions A → KeyVersions A
+  taken_back commit k = if was_there commit k then key_before commit k else k

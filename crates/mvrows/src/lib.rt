@@ -10,4 +10,5 @@ mod page;
 pub mod rows;
 mod shared;
 mod table;
+mod version_list;
 pub mod view;

@@ -13,7 +13,7 @@ ghost use Rattle.mvrows.specs.Versions.{IsInOrder, shown_rows};
 ghost use Rattle.mvrows.specs.Installing.{put_version, opened_row, first_version};
 ghost use Rattle.mvrows.specs.Pruning.{pruned_key, has_version, pruned_rows};
 ghost use Rattle.mvrows.specs.Settling.{settle_key};
-ghost use Rattle.mvrows.specs.TakenBack.{key_before, rows_before};
+ghost use Rattle.mvrows.specs.TakenBack.{was_there, taken_back, rows_before};
 ghost use Rattle.mvrows.specs.HeldRows.{is_before, has_keys};
 ghost use Rattle.mvrows.specs.Copied.{with_rows};
 
@@ -123,9 +123,16 @@ fn prune_all<A: Allocator>(chains: &mut Vec<Chain<A>, A>, oldest: u64)
     }
 }
 
-// Takes back the versions of a commit of each key.
+// Drops the keys that weren't there before a commit.
+fn drop_new<A: Allocator>(chains: &mut Vec<Chain<A>, A>, commit: u64)
+    ensures { chains.new.items ≡ filter (was_there commit) chains.old.items }
+{
+    chains.retain(|chain| chain.was_there(commit));
+}
+
+// Takes back the versions of a commit of each key that was there before.
 fn take_all_back<A: Allocator>(chains: &mut Vec<Chain<A>, A>, commit: u64)
-    ensures { chains.new.items ≡ map (key_before commit) chains.old.items }
+    ensures { chains.new.items ≡ map (taken_back commit) chains.old.items }
 {
     for chain in chains.iter_mut() {
         chain.take_back(commit);
@@ -296,15 +303,12 @@ impl<A: Allocator> Page<A> {
     }
 
     /// Puts in a row of the opening, whose key is above all.
-    pub fn push_opened(&mut self, alloc: A, row: Row<A>) -> Result<(), Refusal>
-    where
-        A: Copy,
+    pub fn push_opened(&mut self, row: Row<A>) -> Result<(), Refusal>
         requires { IsInOrder (self.old ++ opened_row row ∷ []) }
         ensures ok { OnOk result (self.new ≡ self.old ++ opened_row row ∷ []) }
         ensures memory { IfErr result (λ e. e ≡ out_of_memory) }
     {
-        let chain = Chain::opened(alloc, row)?;
-        self.chains.push(chain)?;
+        self.chains.push(Chain::opened(row))?;
         Ok(())
     }
 
@@ -383,8 +387,8 @@ impl<A: Allocator> Page<A> {
     pub fn take_back(&mut self, commit: u64)
         ensures { self.new ≡ rows_before commit self.old }
     {
+        drop_new(&mut self.chains, commit);
         take_all_back(&mut self.chains, commit);
-        drop_empty(&mut self.chains);
     }
 
     /// Puts a copy of each row that a snapshot shows into a table.

@@ -187,7 +187,7 @@ fn open_pages<A: Allocator + Copy>(
     let mut walk = Walk::over(alloc, tables, table)?;
     while let Some(row) = walk.next()? {
         page = with_room(alloc, &mut leaves, page)?;
-        page.push_opened(alloc, row.copy(alloc)?)?;
+        page.push_opened(row.copy(alloc)?)?;
     }
     push_page(&mut leaves, page)?;
     Ok(leaves)

@@ -162,36 +162,67 @@ fn shown(
     Ok(shown)
 }
 
+// A snapshot shows these rows.
+fn assert_shown(
+    rt: &impl Abort,
+    alloc: Global,
+    versions: &Rows,
+    number: u64,
+    want: &[(i64, i64)],
+) -> Result<(), Fail>
+    requires { 0 < length versions.now }
+{
+    let shown = shown(rt, alloc, versions, number)?;
+    assert_eq!(rt; shown.as_slice(), want, "{number}");
+    Ok(())
+}
+
+// The newest commit that wrote a key is this.
+fn assert_newest(
+    rt: &impl Abort,
+    versions: &Rows,
+    number: i64,
+    want: Option<u64>,
+) -> Result<(), Fail>
+    requires { 0 < length versions.now }
+{
+    let key = key(number)?;
+    assert_eq!(rt; versions.newest(TableNo::at(0), &key), want, "{number}");
+    Ok(())
+}
+
+// A key is put in beside another, taken away, and put in again.
+fn write_three(rt: &impl Abort, alloc: Global, versions: &mut Rows) -> Result<(), Fail>
+    requires below { TablesAreBelow 1 versions.old }
+    requires has { 0 < length versions.old }
+    ensures { OnOk result (length versions.new ≡ length versions.old) }
+{
+    commit(alloc, versions, 1, [(5, Some(50))].as_slice())?;
+    assert_shown(rt, alloc, versions, 1, [(0, 0), (5, 50)].as_slice())?;
+    commit(alloc, versions, 2, [(5, None)].as_slice())?;
+    assert_shown(rt, alloc, versions, 2, [(0, 0)].as_slice())?;
+    commit(alloc, versions, 3, [(5, Some(51))].as_slice())
+}
+
+// What is shown of that, and which commits were the newest.
+fn assert_three(rt: &impl Abort, alloc: Global, versions: &Rows) -> Result<(), Fail>
+    requires { 0 < length versions.now }
+{
+    assert_shown(rt, alloc, versions, 1, [(0, 0), (5, 50)].as_slice())?;
+    assert_shown(rt, alloc, versions, 3, [(0, 0), (5, 51)].as_slice())?;
+    assert_newest(rt, versions, 0, Some(0))?;
+    assert_newest(rt, versions, 5, Some(3))?;
+    assert_newest(rt, versions, 6, None)
+}
+
 #[test]
 fn a_key_that_goes_and_comes_again(rt: HostRuntime) -> Result<(), Fail> {
     let alloc = rt.alloc();
     let mut versions = opening(&rt, alloc, 1)?;
-    commit(alloc, &mut versions, 1, [(5, Some(50))].as_slice())?;
-    assert_eq!(rt;
-        shown(&rt, alloc, &versions, 1)?.as_slice(),
-        [(0, 0), (5, 50)].as_slice()
-    );
-    commit(alloc, &mut versions, 2, [(5, None)].as_slice())?;
-    assert_eq!(rt;
-        shown(&rt, alloc, &versions, 2)?.as_slice(),
-        [(0, 0)].as_slice()
-    );
-    commit(alloc, &mut versions, 3, [(5, Some(51))].as_slice())?;
-    assert_eq!(rt;
-        shown(&rt, alloc, &versions, 1)?.as_slice(),
-        [(0, 0), (5, 50)].as_slice()
-    );
-    assert_eq!(rt;
-        shown(&rt, alloc, &versions, 3)?.as_slice(),
-        [(0, 0), (5, 51)].as_slice()
-    );
-    let table = TableNo::at(0);
-    assert_eq!(rt; versions.newest(table, &key(0)?), Some(0));
-    assert_eq!(rt; versions.newest(table, &key(5)?), Some(3));
-    assert_eq!(rt; versions.newest(table, &key(6)?), None);
+    write_three(&rt, alloc, &mut versions)?;
+    assert_three(&rt, alloc, &versions)?;
     versions.prune(alloc, 3)?;
-    assert_eq!(rt; versions.newest(table, &key(5)?), Some(3));
-    Ok(())
+    assert_newest(&rt, &versions, 5, Some(3))
 }
 
 // Writes a key by a thousand commits beside the snapshot of the opening, and beside that of the third
@@ -229,13 +260,7 @@ fn a_key_keeps_what_open_snapshots_show(rt: HostRuntime) -> Result<(), Fail> {
         (999, 3),
         (1000, 1000),
     ] {
-        assert_eq!(rt;
-            shown(&rt, alloc, &versions, number)?.as_slice(),
-            [(0, want)].as_slice(),
-            "{number}"
-        );
+        assert_shown(&rt, alloc, &versions, number, [(0, want)].as_slice())?;
     }
-    let table = TableNo::at(0);
-    assert_eq!(rt; versions.newest(table, &key(0)?), Some(1000));
-    Ok(())
+    assert_newest(&rt, &versions, 0, Some(1000))
 }

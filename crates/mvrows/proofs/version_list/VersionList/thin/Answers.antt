@@ -1,7 +1,7 @@
 use Rattle.std.proofs.Common.{sym, ap, ◌∙◌, length, arith}
 use Rattle.mvrows.specs.Versions.{KeyVersions}
 use Rattle.mvrows.proofs.ThinningLemmas.{at-below, removed-shorter, thinned_from, thinning-begins, thinning-ends, version-cut, version-kept}
-use Rattle.mvrows.proofs.chain.Chain.thin.Goals as goal
+use Rattle.mvrows.proofs.version_list.VersionList.thin.Goals as goal
 
 pub versions-init : goal.versions-init
 versions-init g c = thinning-begins c.args.snapshots.now c.in-Some.newest c.args.self.now c.in-Some.ensures

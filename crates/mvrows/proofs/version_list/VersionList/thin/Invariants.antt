@@ -1,6 +1,6 @@
 use Rattle.std.proofs.Common.{◌≡◌, ◌-◌, length}
 use Rattle.mvrows.proofs.ThinningLemmas.{thinned, thinned_from}
-use Rattle.mvrows.proofs.chain.Chain.thin.Given as goal
+use Rattle.mvrows.proofs.version_list.VersionList.thin.Given as goal
 
 -- with the versions behind the place thinned it is all
 abbrev pub invariant-versions : goal.invariant-versions
