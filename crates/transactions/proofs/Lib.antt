@@ -8,6 +8,7 @@ pub mod StretchLemmas
 pub mod WalkLemmas
 pub mod LedgerLemmas
 pub mod MergedLemmas
+mod RisingLemmas
 pub mod OwedLemmas
 pub mod CommitLemmas
 pub mod RunLemmas

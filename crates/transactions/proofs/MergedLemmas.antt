@@ -26,7 +26,7 @@ use Rattle.schema.proofs.PlainLemmas.{IsOrdered, touches, left_by, length-put_in
 use Rattle.schema.proofs.InsertingLemmas.{sorted_from}
 use Rattle.transactions.specs.Merged.{AreInKeyOrder, AreMerged, is_changed}
 
-both_of : (a b : Bool) → (a && b) ≡ true → (a ≡ true) × (b ≡ true)
+pub both_of : (a b : Bool) → (a && b) ≡ true → (a ≡ true) × (b ≡ true)
 both_of true b e = (refl, e)
 both_of false b e = absurd (true≢false (sym e))
 
@@ -58,14 +58,14 @@ either_same false b c e = ap (λ d. d || c) e
 module _ {A : Type 0} where
   -- ---- the order of changes
 
-  change_cmp-total : IsTotalOrder (change_cmp {A = A})
+  pub change_cmp-total : IsTotalOrder (change_cmp {A = A})
   change_cmp-total = then_total (on_total (λ (x : Change A). x.table) nat_cmp_total) (on_total (λ (x : Change A). x.key) value_cmp-total)
 
   -- changes above one
-  abbrev AreAbove : Change A → List (Change A) → Type 0
+  abbrev pub AreAbove : Change A → List (Change A) → Type 0
   AreAbove x ys = AllByRecursion (λ y. change_cmp x y ≡ Less) ys
 
-  above_too : (x y : Change A) (ys : List (Change A)) → change_cmp x y ≡ Less → AreAbove y ys → AreAbove x ys
+  pub above_too : (x y : Change A) (ys : List (Change A)) → change_cmp x y ≡ Less → AreAbove y ys → AreAbove x ys
   above_too x y [] less above = tt
   above_too x y (z ∷ zs) less above = (change_cmp-total.trans x y z less above.0, above_too x y zs less above.1)
 
@@ -81,12 +81,12 @@ module _ {A : Type 0} where
       by_order Equal rest = (less, above.1)
       by_order Greater rest = (above.0, rest)
 
-  same_place : (x y : Change A) → change_cmp x y ≡ Equal → (x.table ≡ y.table) × (x.key ≡ y.key)
+  pub same_place : (x y : Change A) → change_cmp x y ≡ Equal → (x.table ≡ y.table) × (x.key ≡ y.key)
   same_place x y e =
       let p = tied_parts (nat_cmp x.table y.table) (value_cmp x.key y.key) e in
       (exact_unsigned x.table y.table p.0, value_cmp-exact x.key y.key p.1)
 
-  same_order : (x y z : Change A) → x.table ≡ y.table → x.key ≡ y.key → change_cmp x z ≡ change_cmp y z
+  pub same_order : (x y z : Change A) → x.table ≡ y.table → x.key ≡ y.key → change_cmp x z ≡ change_cmp y z
   same_order x y z t k = ap (λ n. ordering_then (nat_cmp n z.table) (value_cmp x.key z.key)) t ∙ ap (λ v. ordering_then (nat_cmp y.table z.table) (value_cmp v z.key)) k
 
   above_same : (x y : Change A) (ys : List (Change A)) → x.table ≡ y.table → x.key ≡ y.key → AreAbove y ys → AreAbove x ys
@@ -198,7 +198,7 @@ module _ {A : Type 0} where
   -- ---- by key
 
   -- a change is of the key
-  abbrev is_at : ℕ → Value A → Change A → Bool
+  abbrev pub is_at : ℕ → Value A → Change A → Bool
   is_at t k x = eqb t x.table && same k x.key
 
   at_alike : (t : ℕ) (k : Value A) (x y : Change A) → x.table ≡ y.table → x.key ≡ y.key → is_at t k x ≡ is_at t k y

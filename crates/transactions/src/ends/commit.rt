@@ -207,6 +207,9 @@ fn install<A: Allocator + Copy>(
     ensures same { changes.new ≡ changes.old }
     ensures memory { IfErr result (λ e. e ≡ out_of_memory) }
 {
+    if changes.is_merged() {
+        return rows.install(alloc, oldest, snapshots, number, changes.as_slice());
+    }
     let last = changes.last_changes(alloc)?;
     rows.install(alloc, oldest, snapshots, number, last.as_slice())
 }

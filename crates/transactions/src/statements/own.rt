@@ -1,8 +1,9 @@
 //! What a transaction has written, and what its statements come to on tables with that put in.
 
-ghost use Rattle.std.specs.Prelude.{◌≡◌, ◌==◌, ◌≤◌, ◌++◌, ◌&&◌, [], true, length, take, drop, OnOk, OnErr, IfOk, IfErr};
+ghost use Rattle.std.specs.Prelude.{◌≡◌, ◌==◌, ◌≤◌, ◌++◌, ◌&&◌, [], true, length, take, drop, IsTrue, OnOk, OnErr, IfOk, IfErr};
+ghost use Rattle.std.specs.List.Sorted.{IsStrictlySortedBy};
 ghost use Rattle.value.specs.Refusals.{out_of_memory};
-ghost use Rattle.schema.specs.Changing.{put_change};
+ghost use Rattle.schema.specs.Changing.{change_cmp, put_change};
 ghost use Rattle.schema.specs.Plain.{put_all, same};
 ghost use Rattle.statement.specs.Evaluation.{outcome};
 ghost use Rattle.statement.specs.Fits.{Fits};
@@ -19,6 +20,7 @@ use statement::evaluate::evaluate;
 use statement::outcome::Outcome;
 use statement::statement::Statement;
 use std::alloc::{Allocator, Global};
+use std::cmp::Ordering;
 use std::marker::Model;
 use std::mem;
 use value::refusal::Refusal;
@@ -28,22 +30,27 @@ use value::value::Value;
 #[derive(Drop)]
 pub struct OwnChanges<A: Allocator = Global> {
     list: Vec<Change<A>, A>,
-    // The first of the list by their keys, of each key the last. The others come to them when they
-    // are many, or a statement next asks.
+    // The first of the list by their keys, of each key the last. The others come to them when a
+    // statement next asks.
     merged: Changes<A>,
     count: usize,
+    // Whether the others are known to be by table, then by key, as those of one statement are.
+    is_by_key: bool,
 }
 
 impl<A: Allocator> Model for OwnChanges<A> {
-    ghost use Rattle.std.specs.Prelude.{◌≤◌, List, length, take};
+    ghost use Rattle.std.specs.Prelude.{◌≤◌, List, IsTrue, length, take, drop};
+    ghost use Rattle.std.specs.List.Sorted.{IsStrictlySortedBy};
     ghost use Rattle.schema.specs.declared.changes.Change.{Change};
+    ghost use Rattle.schema.specs.Changing.{change_cmp};
     ghost use Rattle.transactions.specs.Merged.{AreMerged};
 
     ghost Value = { List (Change A) };
 
     ghost view = { λ o. o.list.items };
 
-    ghost invariant = { λ o. (o.count ≤ length o.list.items) × AreMerged o.merged (take o.count o.list.items) };
+    ghost invariant = { λ o. (o.count ≤ length o.list.items) × AreMerged o.merged (take o.count o.list.items)
+        × (IsTrue o.is_by_key → IsStrictlySortedBy change_cmp (drop o.count o.list.items)) };
 }
 
 // So few changes are looked through, and not by their keys.
@@ -90,6 +97,40 @@ fn merge_rest<A: Allocator + Copy>(
     Ok(())
 }
 
+// How two changes stand, by table and then by key.
+fn order_of<A: Allocator>(change: &Change<A>, other: &Change<A>) -> Ordering
+    ensures { result ≡ change_cmp change.now other.now }
+{
+    let table = change.table().place();
+    table
+        .cmp(&other.table().place())
+        .then(change.key().cmp(other.key()))
+}
+
+// Whether changes are by table, then by key, one at most for each.
+fn are_by_key<A: Allocator>(changes: &[Change<A>]) -> bool
+    ensures { IsTrue result → IsStrictlySortedBy change_cmp changes.now }
+{
+    let mut rising = changes.len();
+    while rising > 1 {
+        let last = rising - 1;
+        if !order_of(&changes[last - 1], &changes[last]).is_lt() {
+            return false;
+        }
+        rising = last;
+    }
+    true
+}
+
+// Whether the changes behind so many are by table, then by key, one at most for each.
+fn are_by_key_behind<A: Allocator>(list: &[Change<A>], count: usize) -> bool
+    requires { count ≤ length list.now }
+    ensures { IsTrue result → IsStrictlySortedBy change_cmp (drop count list.now) }
+{
+    let (_, rest) = list.split_at(count);
+    are_by_key(rest)
+}
+
 // Whether one of merged changes is of the key of a change.
 fn has_merged<A: Allocator>(merged: &Changes<A>, change: &Change<A>) -> bool
     ensures { result ≡ is_changed change.now.table change.now.key merged.now }
@@ -111,13 +152,37 @@ fn has_among<A: Allocator>(written: &[Change<A>], change: &Change<A>) -> bool
     written.iter().any(|own| is_of_same_key(change, own))
 }
 
+// Whether one of these changes, which are by table and key, is of the key of a change.
+fn has_by_key<A: Allocator>(written: &[Change<A>], change: &Change<A>) -> bool
+    requires { IsStrictlySortedBy change_cmp written.now }
+    ensures { result ≡ is_changed change.now.table change.now.key written.now }
+{
+    written
+        .binary_search_by(
+            |own: &Change<A>| -> Ordering
+                ensures { result ≡ change_cmp own.now change.entry.now }
+            { order_of(own, change) },
+        )
+        .is_ok()
+}
+
 // Whether one of the changes behind so many is of the key of a change.
-fn has_behind<A: Allocator>(list: &[Change<A>], count: usize, change: &Change<A>) -> bool
-    requires { count ≤ length list.now }
+fn has_behind<A: Allocator>(
+    list: &[Change<A>],
+    count: usize,
+    is_by_key: bool,
+    change: &Change<A>,
+) -> bool
+    requires within { count ≤ length list.now }
+    requires by_key { IsTrue is_by_key → IsStrictlySortedBy change_cmp (drop count list.now) }
     ensures { result ≡ is_changed change.now.table change.now.key (drop count list.now) }
 {
     let (_, rest) = list.split_at(count);
-    has_among(rest, change)
+    if is_by_key {
+        has_by_key(rest, change)
+    } else {
+        has_among(rest, change)
+    }
 }
 
 // What comes of a statement on the tables of a reader.
@@ -149,6 +214,7 @@ impl<A: Allocator> OwnChanges<A> {
             list: Vec::new(alloc),
             merged: Changes::new(alloc),
             count: 0,
+            is_by_key: false,
         }
     }
 
@@ -163,46 +229,19 @@ impl<A: Allocator> OwnChanges<A> {
     pub(crate) fn has_key_of(&self, change: &Change<A>) -> bool
         ensures { result ≡ is_changed change.now.table change.now.key self.now }
     {
-        has_merged(&self.merged, change) || has_behind(self.list.as_slice(), self.count, change)
-    }
-
-    // Merges them all.
-    fn catch_up(&mut self, alloc: A) -> Result<(), Refusal>
-    where
-        A: Copy,
-        ensures same { self.new ≡ self.old }
-        ensures memory { IfErr result (λ e. e ≡ out_of_memory) }
-    {
-        merge_rest(
-            alloc,
-            &mut self.merged,
-            &mut self.count,
-            self.list.as_slice(),
-        )
-    }
-
-    // Merges them where many aren't. Where there is no memory for it, they stay as they are.
-    fn merge_many(&mut self, alloc: A)
-    where
-        A: Copy,
-        ensures { self.new ≡ self.old }
-    {
-        if self.list.len() - self.count > FEW {
-            let _ = self.catch_up(alloc);
-        }
+        has_merged(&self.merged, change)
+            || has_behind(self.list.as_slice(), self.count, self.is_by_key, change)
     }
 
     /// Adds changes at the end.
-    pub(crate) fn append(&mut self, alloc: A, changes: Vec<Change<A>, A>) -> Result<(), Refusal>
-    where
-        A: Copy,
+    pub(crate) fn append(&mut self, changes: Vec<Change<A>, A>) -> Result<(), Refusal>
         ensures ok { OnOk result (self.new ≡ self.old ++ changes.items) }
         ensures err { OnErr result (self.new ≡ self.old) }
         ensures memory { IfErr result (λ e. e ≡ out_of_memory) }
     {
         reserve(&mut self.list, changes.len())?;
         append_reserved(&mut self.list, changes);
-        self.merge_many(alloc);
+        self.is_by_key = are_by_key_behind(self.list.as_slice(), self.count);
         Ok(())
     }
 
@@ -235,6 +274,13 @@ impl<A: Allocator> OwnChanges<A> {
         }
     }
 
+    /// Whether they are by their keys as they are, one for each key.
+    pub(crate) fn is_merged(&self) -> bool
+        ensures { IsTrue result → AreMerged self.now self.now }
+    {
+        are_by_key(self.list.as_slice())
+    }
+
     // The changes by their keys, of each key the last, moved out: no change is merged then.
     fn move_merged(&mut self, alloc: A) -> Result<Vec<Change<A>, A>, Refusal>
     where
@@ -243,6 +289,7 @@ impl<A: Allocator> OwnChanges<A> {
         ensures same { self.new ≡ self.old }
         ensures memory { IfErr result (λ e. e ≡ out_of_memory) }
     {
+        self.is_by_key = false;
         merge_rest(
             alloc,
             &mut self.merged,
@@ -272,6 +319,7 @@ impl<A: Allocator> OwnChanges<A> {
         ensures same { self.new ≡ self.old }
         ensures memory { IfErr result (λ e. e ≡ out_of_memory) }
     {
+        self.is_by_key = false;
         merge_rest(
             alloc,
             &mut self.merged,

@@ -22,7 +22,7 @@ use schema::catalog::TableNo;
 use schema::changes::Changes;
 use schema::reader::{Bound, SnapshotReader};
 use schema::row::Row;
-use schema::walk::{RowsReader, rows_one_by_one};
+use schema::walk::RowsReader;
 use snapshot::overlay::Overlay;
 use std::alloc::{Allocator, Global};
 use std::marker::Model;
@@ -69,7 +69,7 @@ impl<A: Allocator> SnapshotReader<A> for SessionReader<A> {
     }
 }
 
-impl<A: Allocator> RowsReader<A> for SessionReader<A> {
+impl<A: Allocator + Copy> RowsReader<A> for SessionReader<A> {
     fn next_rows(
         &self,
         alloc: A,
@@ -77,10 +77,7 @@ impl<A: Allocator> RowsReader<A> for SessionReader<A> {
         after: Bound<&Key<A>>,
         most: usize,
     ) -> Result<Vec<&Row<A>, A>, Refusal> {
-        match Overlay::new(&self.view, &self.own).unchanged(table, after) {
-            Some(view) => view.next_rows(alloc, table, after, most),
-            None => rows_one_by_one(alloc, self, table, after, most),
-        }
+        Overlay::new(&self.view, &self.own).lend_rows(alloc, table, after, most)
     }
 }
 

@@ -65,7 +65,7 @@ impl<A: Allocator> OwnReads<A> {
     }
 
     /// Adds what a statement has read and what it has written, each at the end of what its transaction
-    /// has: both or, for want of memory, neither.
+    /// has: both or, out of memory, neither.
     pub(crate) fn append_with(
         &mut self,
         alloc: A,
@@ -82,7 +82,7 @@ impl<A: Allocator> OwnReads<A> {
         ensures memory { IfErr result (λ e. e ≡ out_of_memory) }
     {
         self.locks.read(alloc, reads.as_slice())?;
-        if let Err(refusal) = written.append(alloc, changes) {
+        if let Err(refusal) = written.append(changes) {
             self.locks.undo();
             return Err(refusal);
         }

@@ -26,3 +26,7 @@ returns-in_err-install_at-clause-err g c =
     on_err_so _ c.from_residual-in_err-install_at.result
     (ap (λ ts. record { base = inside.base; txns = ts; exports = inside.exports.items; place = inside.place }) c.install_at.ensures.same
     ∙ c.self.view_is ∙ c.snapshots_after.ensures.same ∙ c.lowest_after-oldest.ensures.same)
+
+pub returns-in_err-causes-clause-err : goal.returns-in_err-causes-clause-err
+returns-in_err-causes-clause-err g c =
+    on_err_so _ c.from_residual-in_err-causes.result (c.snapshots_after.ensures.same ∙ c.lowest_after-oldest.ensures.same)
