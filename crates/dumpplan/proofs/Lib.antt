@@ -1,3 +1,4 @@
+pub mod CuttingLemmas
 pub mod LineLemmas
 pub mod PieceLemmas
 pub mod PlanLemmas

@@ -1,6 +1,5 @@
 -- The parts of a dump, written piece by piece.
 use Rattle.std.proofs.Common.{◌≡◌, ℕ, ◌+◌, ◌<◌, List, [], ◌∷◌, ◌++◌, length, take, map, Some, sym, ap, ◌∙◌, append_assoc}
-use Rattle.std.specs.Prelude.{codes}
 use Rattle.std.specs.List.{flat_map, join_with_byte, slice_get}
 use Rattle.std.proofs.lemmas.List.{append-nil, take_more, map-append}
 use Rattle.std.proofs.lemmas.List.Concat.{flat_map-append}
@@ -55,9 +54,3 @@ module _ {A : Type 0} where
       flat_map-append (λ (line : List ℕ). line ++ 10 ∷ []) (copy_line d ∷ map row_line rows) (end_of_rows ∷ rows_line (length rows) ∷ [])
       ∙ append_assoc (copy_line d ++ 10 ∷ []) (ended (map row_line rows)) (ended (end_of_rows ∷ rows_line (length rows) ∷ []))
       ∙ ap (λ (t : List ℕ). (copy_line d ++ 10 ∷ []) ++ (t ++ ended (end_of_rows ∷ rows_line (length rows) ∷ []))) (rows_ended rows)
-
-  -- with the two lines behind them spelled out
-  pub table_parts : (d : TableSchema) (rows : List (Row A)) → table_text d rows ≡ (copy_line d ++ 10 ∷ []) ++ (flat_map (λ row. row_text (row.0 ∷ row.1)) rows ++ (codes "\\.\n" ++ (rows_line (length rows) ++ 10 ∷ [])))
-  table_parts d rows =
-      table_split d rows
-      ∙ ap (λ (t : List ℕ). (copy_line d ++ 10 ∷ []) ++ (flat_map (λ row. row_text (row.0 ∷ row.1)) rows ++ (codes "\\.\n" ++ t))) (append-nil (rows_line (length rows) ++ 10 ∷ []))

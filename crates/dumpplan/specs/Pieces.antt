@@ -1,6 +1,7 @@
 -- How a dump is cut into pieces, and the text of each.
 -- Source: COPY's text format in the PostgreSQL manual; the cutting is this project's own.
-use Rattle.std.specs.Prelude.{ℕ, ◌+◌, ◌-◌, ◌==◌, ◌<◌, Bool, true, if◌then◌else◌, List, [], ◌∷◌, ◌++◌, length, map, filter, slice_get, Option, Some, None}
+use Rattle.std.specs.Prelude.{◌≡◌, ℕ, ◌+◌, ◌-◌, ◌==◌, ◌<◌, Bool, true, if◌then◌else◌, List, [], ◌∷◌, ◌++◌, length, map, filter, take, slice_get, Option, Some, None}
+use Rattle.std.specs.Borrow.{Bor}
 use Rattle.std.specs.List.{flat_map}
 use Rattle.std.specs.Ordering.{is_le, is_lt}
 use Rattle.value.specs.Order.{value_cmp}
@@ -9,6 +10,7 @@ use Rattle.schema.specs.Definition.{TableSchema, Catalog}
 use Rattle.schema.specs.declared.row.Row.{Row}
 use Rattle.schema.specs.declared.tables.Tables.{Tables}
 use Rattle.schema.specs.Plain.{rows_of}
+use Rattle.schema.specs.Walking.{lent, rows_behind}
 use Rattle.copytext.specs.Writing.{row_text}
 use Rattle.dumpplan.specs.declared.piece.Piece.{Piece}
 use Rattle.dumpplan.specs.declared.piece.Piece.TheVariants.{Head, Rows, End}
@@ -87,6 +89,19 @@ module _ {A : Type 0} where
   abbrev pub cuts : ℕ → ℕ → List (Row A) → List (Key A)
   cuts most room [] = []
   cuts most room (row ∷ rows) = if room == 0 then row.0 ∷ cuts most (most - 1) rows else cuts most (room - 1) rows
+
+  -- the key of the first of some rows, where there are any
+  abbrev pub first_key : List (Row A) → List (Key A)
+  first_key [] = []
+  first_key (row ∷ rows) = row.0 ∷ []
+
+  -- a batch of a table's rows, and the rows behind it
+  abbrev pub to_come : List (Row A) → List (Bor (Row A)) → List (Row A)
+  to_come rows batch = lent batch ++ rows_behind rows (lent batch)
+
+  -- a batch is the first of the rows that are left, so many at most, and those behind it are the others
+  abbrev pub IsBatch : ℕ → List (Row A) → List (Row A) → List (Bor (Row A)) → Type 0
+  IsBatch most rows left batch = (lent batch ≡ take most (to_come rows batch)) × (to_come rows batch ≡ left)
 
   -- the rows of a table from a key on, cut at these keys; the table has so many
   abbrev pub ranges : ℕ → ℕ → Option (Key A) → List (Key A) → List (RowRange A)

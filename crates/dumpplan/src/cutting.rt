@@ -1,22 +1,24 @@
 //! How a dump is cut into pieces.
 
-ghost use Rattle.std.specs.Prelude.{◌≡◌, ◌<◌, ◌∷◌, ◌++◌, [], length, map, OnOk, IfOk, IfErr, None};
+ghost use Rattle.std.specs.Prelude.{◌≡◌, ◌<◌, ◌∷◌, ◌++◌, ◌+◌, [], length, map, OnOk, IfOk, IfErr, IfSome, IfNone, None};
 ghost use Rattle.std.specs.List.{AllByRecursion};
 ghost use Rattle.value.specs.Refusals.{out_of_memory};
-ghost use Rattle.schema.specs.Rows.{HasTable, IsInKeyOrder};
+ghost use Rattle.schema.specs.Rows.{HasTable, IsInKeyOrder, rows_after};
 ghost use Rattle.schema.specs.Plain.{rows_of};
+ghost use Rattle.schema.specs.Walking.{lent, rows_behind};
 ghost use Rattle.dumpplan.specs.Lines.{dump_text};
-ghost use Rattle.dumpplan.specs.Pieces.{cuts, ranges, table_pieces, planned, piece_texts, joined, IsPieceOf};
+ghost use Rattle.dumpplan.specs.Pieces.{IsBatch, cuts, first_key, to_come, ranges, table_pieces, planned, piece_texts, joined, IsPieceOf};
 ghost use Rattle.dumpplan.specs.declared.piece.Piece.TheVariants.{Rows};
 
 use crate::jobs::PieceRows;
 use crate::piece::{Piece, Plan, RowRange, RowsEnd};
-use crate::text::one_more;
 use schema::catalog::{Catalog, TableNo};
-use schema::walk::{RowsReader, Walk};
+use schema::reader::Bound;
+use schema::row::Row;
+use schema::walk::RowsReader;
 use std::alloc::Allocator;
 use value::key::Key;
-use value::refusal::Refusal;
+use value::refusal::{Code, Refusal};
 
 // The keys at which a table is cut, and how many rows it has.
 struct TableCuts<A: Allocator> {
@@ -24,7 +26,108 @@ struct TableCuts<A: Allocator> {
     rows: u64,
 }
 
-// Where a table is cut: it is read once, and the keys that begin a further piece are copied.
+// How many rows a piece has at most.
+fn most_rows(piece_rows: PieceRows) -> usize
+    ensures most { result ≡ piece_rows }
+    ensures some { 0 < result }
+{
+    piece_rows.get() as usize
+}
+
+// So many rows more. No reader has as many rows as there are numbers of 64 bits.
+fn rows_with(rows: u64, more: usize) -> Result<u64, Refusal>
+    ensures ok { IfOk result (λ n. n ≡ rows + more) }
+    ensures memory { IfErr result (λ e. e ≡ out_of_memory) }
+{
+    match rows.checked_add(more as u64) {
+        Some(all) => Ok(all),
+        None => Err(Refusal::of_code(Code::OutOfMemory)),
+    }
+}
+
+// Appends the key of the first of some rows, where there are any.
+fn push_cut<A: Allocator + Copy>(
+    alloc: A,
+    rows: &[&Row<A>],
+    keys: &mut Vec<Key<A>, A>,
+) -> Result<(), Refusal>
+    ensures ok { OnOk result (keys.new.items ≡ keys.old.items ++ first_key (lent rows.now)) }
+    ensures memory { IfErr result (λ e. e ≡ out_of_memory) }
+{
+    match rows.first() {
+        Some(first) => {
+            keys.push(first.key().copy(alloc)?)?;
+            Ok(())
+        }
+        None => Ok(()),
+    }
+}
+
+// The first rows of a table, so many at most.
+fn first_rows<'r, A: Allocator + Copy, R: RowsReader<A>>(
+    alloc: A,
+    reader: &'r R,
+    table: TableNo,
+    most: usize,
+) -> Result<Vec<&'r Row<A>, A>, Refusal>
+    requires table { HasTable (R.tables reader.now) table }
+    requires some { 0 < most }
+    ensures rows { IfOk result (λ rows. IsBatch most (rows_of (R.tables reader.now) table)
+        (rows_of (R.tables reader.now) table) rows.items) }
+    ensures ordered { IsInKeyOrder (rows_of (R.tables reader.now) table) }
+    ensures memory { IfErr result (λ e. e ≡ out_of_memory) }
+{
+    let start: Bound<&'r Key<A>> = Bound::Start;
+    let batch = reader.next_rows(alloc, table, start, most)?;
+    Ok(batch)
+}
+
+// The rows behind one, so many at most.
+fn rows_after<'r, A: Allocator + Copy, R: RowsReader<A>>(
+    alloc: A,
+    reader: &'r R,
+    table: TableNo,
+    last: &Row<A>,
+    most: usize,
+) -> Result<Vec<&'r Row<A>, A>, Refusal>
+    requires table { HasTable (R.tables reader.now) table }
+    requires some { 0 < most }
+    ensures rows { IfOk result (λ rows. IsBatch most (rows_of (R.tables reader.now) table)
+        (rows_after (rows_of (R.tables reader.now) table) last.now.0) rows.items) }
+    ensures memory { IfErr result (λ e. e ≡ out_of_memory) }
+{
+    let batch = reader.next_rows(alloc, table, Bound::After(last.key()), most)?;
+    Ok(batch)
+}
+
+// The rows behind those of a batch, so many at most; None where it has none.
+fn rows_behind<'r, A: Allocator + Copy, R: RowsReader<A>>(
+    alloc: A,
+    reader: &'r R,
+    table: TableNo,
+    batch: &[&Row<A>],
+    most: usize,
+) -> Result<Option<Vec<&'r Row<A>, A>>, Refusal>
+    requires table { HasTable (R.tables reader.now) table }
+    requires some { 0 < most }
+    ensures rows { IfOk result (λ next. IfSome next (λ rows. IsBatch most (rows_of (R.tables reader.now) table)
+        (rows_behind (rows_of (R.tables reader.now) table) (lent batch.now)) rows.items)) }
+    ensures fewer { IfOk result (λ next. IfSome next (λ rows.
+        length (to_come (rows_of (R.tables reader.now) table) rows.items) <
+        length (to_come (rows_of (R.tables reader.now) table) batch.now))) }
+    ensures none { IfOk result (λ next. IfNone next (batch.now ≡ [])) }
+    ensures memory { IfErr result (λ e. e ≡ out_of_memory) }
+{
+    match batch.last() {
+        Some(last) => {
+            let next = rows_after(alloc, reader, table, last, most)?;
+            Ok(Some(next))
+        }
+        None => Ok(None),
+    }
+}
+
+// Where a table is cut: the rows of a piece are read at once, and the key that begins a further piece is copied.
 fn cut_table<A: Allocator + Copy, R: RowsReader<A>>(
     alloc: A,
     reader: &R,
@@ -37,18 +140,15 @@ fn cut_table<A: Allocator + Copy, R: RowsReader<A>>(
     ensures ordered { IsInKeyOrder (rows_of (R.tables reader.now) table) }
     ensures memory { IfErr result (λ e. e ≡ out_of_memory) }
 {
-    let most = piece_rows.get();
+    let most = most_rows(piece_rows);
     let mut keys = Vec::new(alloc);
     let mut rows = 0;
-    let mut room = most;
-    let mut walk = Walk::over(alloc, reader, table)?;
-    while let Some(row) = walk.next()? {
-        if room == 0 {
-            keys.push(row.key().copy(alloc)?)?;
-            room = most;
-        }
-        room -= 1;
-        rows = one_more(rows)?;
+    let mut batch = first_rows(alloc, reader, table, most)?;
+    while let Some(next) = rows_behind(alloc, reader, table, batch.as_slice(), most)? {
+        rows = rows_with(rows, batch.len())?;
+        let found = next.as_slice();
+        push_cut(alloc, found, &mut keys)?;
+        batch = next;
     }
     Ok(TableCuts { keys, rows })
 }

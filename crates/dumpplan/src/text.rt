@@ -1,19 +1,13 @@
 //! The parts of a dump, as they are written.
 
-ghost use Rattle.std.specs.Prelude.{◌≡◌, ◌+◌, ◌<◌, [], ◌∷◌, ◌++◌, length, take, map, codes, OnOk, IfOk, IfErr};
-ghost use Rattle.std.specs.List.{flat_map};
+ghost use Rattle.std.specs.Prelude.{◌≡◌, ◌+◌, [], ◌∷◌, ◌++◌, map, codes, OnOk, IfOk, IfErr};
 ghost use Rattle.value.specs.Refusals.{out_of_memory};
-ghost use Rattle.schema.specs.Rows.{HasTable};
-ghost use Rattle.schema.specs.Plain.{rows_of};
-ghost use Rattle.copytext.specs.Writing.{row_text};
 ghost use Rattle.dumpplan.specs.Lines.{written, create_line, copy_line, rows_line};
-ghost use Rattle.dumpplan.specs.Parts.{ended, head_text, table_text, end_text};
+ghost use Rattle.dumpplan.specs.Parts.{ended, head_text, end_text};
 
 use crate::create::append_create_line;
 use crate::lines::{copy_line, rows_line};
-use copytext::write_row;
 use schema::catalog::{Catalog, TableNo, TableSchema};
-use schema::reader::{SnapshotReader, first_row, row_after};
 use std::alloc::Allocator;
 use value::refusal::{Code, Refusal};
 
@@ -26,28 +20,6 @@ pub(crate) fn one_more(rows: u64) -> Result<u64, Refusal>
         Some(more) => Ok(more),
         None => Err(Refusal::of_code(Code::OutOfMemory)),
     }
-}
-
-// Appends the rows of a table, and counts them.
-fn append_rows<A: Allocator, R: SnapshotReader<A>>(
-    reader: &R,
-    table: TableNo,
-    text: &mut Vec<u8, A>,
-) -> Result<u64, Refusal>
-    requires { HasTable (R.tables reader.now) table }
-    ensures count { IfOk result (λ n. n ≡ length (rows_of (R.tables reader.now) table)) }
-    ensures ok { OnOk result (text.new.items ≡ text.old.items ++
-        flat_map (λ row. row_text (row.0 ∷ row.1)) (rows_of (R.tables reader.now) table)) }
-    ensures memory { IfErr result (λ e. e ≡ out_of_memory) }
-{
-    let mut rows = 0;
-    let mut next = first_row(reader, table);
-    while let Some(row) = next {
-        write_row(row, text)?;
-        rows = one_more(rows)?;
-        next = row_after(reader, table, row);
-    }
-    Ok(rows)
 }
 
 // Appends the CREATE TABLE lines of the tables.
@@ -106,24 +78,6 @@ pub(crate) fn append_end_of_rows<A: Allocator>(
     text.extend_from_slice(line.as_slice())?;
     text.push(b'\n')?;
     Ok(())
-}
-
-/// A table: its COPY line, its rows in the order of their keys, the line that ends them, and their number.
-pub fn table_text<A: Allocator + Copy, R: SnapshotReader<A>>(
-    alloc: A,
-    reader: &R,
-    number: TableNo,
-    table: &TableSchema<A>,
-) -> Result<Vec<u8, A>, Refusal>
-    requires { HasTable (R.tables reader.now) number }
-    ensures ok { IfOk result (λ text. text.items ≡ table_text table.now (rows_of (R.tables reader.now) number)) }
-    ensures memory { IfErr result (λ e. e ≡ out_of_memory) }
-{
-    let mut text = Vec::new(alloc);
-    append_copy_line(alloc, table, &mut text)?;
-    let rows = append_rows(reader, number, &mut text)?;
-    append_end_of_rows(alloc, rows, &mut text)?;
-    Ok(text)
 }
 
 /// What stands after the tables.

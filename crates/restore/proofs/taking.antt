@@ -1,4 +1,5 @@
 pub mod Behind
+pub mod Drawn
 pub mod Followed
 pub mod Keys
 pub mod Pieces

@@ -1,19 +1,22 @@
 -- Rows of lines that are read and wait to be taken into a table.
-use Rattle.std.specs.Prelude.{◌≡◌, ◌≢◌, ℕ, ◌+◌, Bool, true, List, [], ◌∷◌, ◌++◌, length, map, Result, Ok, Err}
+use Rattle.std.specs.Prelude.{◌≡◌, ◌≢◌, ℕ, ◌+◌, Bool, true, List, [], ◌∷◌, ◌++◌, length, map, None, Vec, Result, Ok, Err}
+use Rattle.std.specs.Borrow.{Bor}
 use Rattle.std.specs.List.{list_all}
 use Rattle.schema.specs.Definition.{Catalog, columns_of}
 use Rattle.schema.specs.declared.tables.Tables.{Tables}
 use Rattle.schema.specs.Plain.{is_sound}
+use Rattle.value.specs.declared.kind.Kind.{Kind}
+use Rattle.restore.specs.declared.draws.Drawn.{Drawn}
 use Rattle.restore.specs.declared.error.ReadError.{ReadError}
 use Rattle.restore.specs.declared.error.RestoreFault.{RestoreFault}
 use Rattle.restore.specs.declared.lines.Line.{Line}
 use Rattle.restore.specs.declared.lines.Lines.{Lines}
 use Rattle.restore.specs.declared.rounds.Round.{Round}
-use Rattle.restore.specs.declared.rounds.RoundLines.{RoundLines}
+use Rattle.restore.specs.declared.draws.RoundLines.{RoundLines}
 use Rattle.restore.specs.declared.rows.ReadPiece.{ReadPiece}
 use Rattle.restore.specs.Lines.{is_row_line}
 use Rattle.restore.specs.Reading.{Within, lines_of, kinds_of, read_lines}
-use Rattle.restore.specs.Rows.{ArePieces, MayRise}
+use Rattle.restore.specs.Rows.{AreDrawn, ArePieces, MayRise}
 use Rattle.restore.specs.Steps.{Stops}
 
 -- what a dump reads as, where its version counts the rows of a table and where it doesn't
@@ -56,10 +59,15 @@ AreTaken {A} c t round result =
 -- Or the first fault of the rows is told, or that memory ran out
 abbrev pub IsTurn : {A : Type 0} → Catalog → ℕ → Round A → RoundLines → Result (Round A) ReadError → Type 0
 IsTurn c t round lines (Ok next) =
-    AreTaken c t round (Ok next.tables) × (next.number ≡ lines.number) × ArePieces lines.piece_lines lines.kinds.now next.pieces.items (map (λ line. line.now) lines.lines.now) × IsReady c t next
+    AreTaken c t round (Ok next.tables) × (next.number ≡ lines.number) × ArePieces 1000 lines.kinds.now next.pieces.items (map (λ line. line.now) lines.lines.now) × IsReady c t next
 IsTurn c t round lines (Err e) = AreTaken c t round (Err e)
 
 -- a line and those behind it are read as the next round, once the rows of a round that waits before them are taken
 abbrev pub IsNextRound : {A : Type 0} → Catalog → ℕ → Round A → Line → Result (Lines × Round A) ReadError → Type 0
 IsNextRound {A} c t round line result =
     (X : Tables A) (told : Told A) → AreWaiting c t X told round.tables round.number round.pieces.items line.number (line.bytes.now ∷ lines_of line.rest.text.now) → IsBegun c t X told result
+
+-- the rows of a round are taken into its tables, up to the first that isn't, and pieces of the lines behind it are drawn
+abbrev pub AreTakenAndDrawn : {A : Type 0} → Catalog → ℕ → Round A → List Kind → List (Bor (List ℕ)) → Result (Tables A × Vec (Drawn A) A) ReadError → Type 0
+AreTakenAndDrawn {A} c t round kinds lines (Ok (X, drawn)) = AreTaken c t round (Ok X) × (length X ≡ length c) × AreDrawn None (columns_of c t) kinds lines drawn.items
+AreTakenAndDrawn {A} c t round kinds lines (Err e) = AreTaken c t round (Err e)

@@ -1,5 +1,6 @@
 -- What the lines of rows read as, one after another and by pieces, and which rows may be put behind those of a table.
-use Rattle.std.specs.Prelude.{◌≡◌, ℕ, Bool, true, false, not, ◌&&◌, Option, Some, None, is_some, List, [], ◌∷◌, find, take, drop, Result, Ok, Err, IfOk}
+use Rattle.std.specs.Prelude.{◌≡◌, ℕ, ◌*◌, ◌<◌, Bool, true, false, not, ◌&&◌, Option, Some, None, is_some, List, [], ◌∷◌, find, length, map, take, drop, slice_index_or, Result, Ok, Err, IfOk, IfSome, Vec}
+use Rattle.std.specs.Borrow.{Bor}
 use Rattle.std.specs.List.{AllByRecursion, list_any}
 use Rattle.std.specs.Ordering.{is_le, is_lt}
 use Rattle.value.specs.declared.kind.Kind.{Kind}
@@ -16,8 +17,13 @@ use Rattle.schema.specs.Plain.{cells, row_at}
 use Rattle.schema.specs.Rows.{Rows}
 use Rattle.copytext.specs.Reading.{line_values}
 use Rattle.restore.specs.declared.error.LineError.{LineError}
+use Rattle.restore.specs.declared.draws.Drawn.{Drawn}
 use Rattle.restore.specs.declared.rows.ReadPiece.{ReadPiece}
 use Rattle.restore.specs.Steps.{◌>>=◌, Gives}
+
+-- the lines of the piece at a place of a round
+abbrev pub lines_at : List (Bor (List ℕ)) → ℕ → List (List ℕ)
+lines_at lines place = map (λ line. line.now) (take 1000 (drop (place * 1000) lines))
 
 module _ {A : Type 0} where
   -- the row of some values, of which the first is the key
@@ -95,3 +101,17 @@ module _ {A : Type 0} where
   -- where a piece is held to rise, its rows do, and their references are found in some tables
   abbrev pub MayRise : {E : Type 0} → Tables A → List Column → List (Result (ReadPiece A) E) → Type 0
   MayRise X columns pieces = AllByRecursion (λ p. IfOk p (λ piece. piece.rise ≡ true → rise (Some X) columns piece.rows.items ≡ true)) pieces
+
+  -- ---- pieces that threads draw
+
+  -- each piece that a thread has drawn is that of its place
+  abbrev pub AreDrawn : Option (Tables A) → List Column → List Kind → List (Bor (List ℕ)) → List (Drawn A) → Type 0
+  AreDrawn known columns kinds lines drawn = AllByRecursion (λ d. IsPiece known columns kinds d.piece (lines_at lines d.place)) drawn
+
+  -- so it is for each thread
+  abbrev pub AreAllDrawn : {E : Type 0} → Option (Tables A) → List Column → List Kind → List (Bor (List ℕ)) → List (Result (Vec (Drawn A) A) E) → Type 0
+  AreAllDrawn known columns kinds lines all = AllByRecursion (λ r. IfOk r (λ drawn. AreDrawn known columns kinds lines drawn.items)) all
+
+  -- at each place stands the piece of its lines, or none yet
+  abbrev pub AreAt : Option (Tables A) → List Column → List Kind → List (Bor (List ℕ)) → List (Option (ReadPiece A)) → Type 0
+  AreAt known columns kinds lines places = (n : ℕ) (d : Option (ReadPiece A)) → n < length places → IfSome (slice_index_or places n d) (λ p. IsPiece known columns kinds p (lines_at lines n))

@@ -52,7 +52,7 @@ abbrev pub read_error : ℕ → LineError → ReadError
 read_error number line.Memory = read.Memory
 read_error number (line.Refused code) = read.Faulty (fault number code)
 
--- want of memory, which is of no line
+-- out of memory, which is of no line
 abbrev pub no_memory : RestoreFault
 no_memory = fault 0 OutOfMemory
 

@@ -3,6 +3,7 @@
 #![tactic(auto)]
 
 mod create;
+mod draws;
 mod error;
 mod law;
 mod lines;

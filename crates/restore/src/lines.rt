@@ -28,7 +28,7 @@ pub struct Line<'d> {
 }
 
 /// The next line, which must be ended by a newline, and the lines after it. A number past those of 64 bits is told as
-/// want of memory: no dump has so many lines.
+/// out of memory: no dump has so many lines.
 pub fn next_line(lines: Lines<'_>) -> Result<(&[u8], Lines<'_>), ReadError>
     ensures line { IsNextLine lines.entry.number lines.entry.text.now result }
 {

@@ -248,7 +248,7 @@ fn take_rows<A: Allocator + Copy>(
     }
 }
 
-// The number of the line so many lines on. One past those of 64 bits is told as want of memory: no dump has so many
+// The number of the line so many lines on. One past those of 64 bits is told as out of memory: no dump has so many
 // lines.
 fn number_after(number: u64, count: usize) -> Result<u64, ReadError>
     ensures ok { IfOk result (λ n. (n ≡ number + count) × (number + count < 2 ^ 64)) }

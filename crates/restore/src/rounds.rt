@@ -1,41 +1,21 @@
 //! Rounds of lines: they are read by several threads, and later their rows are taken into a table.
 
-ghost use Rattle.std.specs.Prelude.{◌≡◌, ◌<◌, ◌≤◌, ◌-◌, [], None, map, take, drop, length, IfOk};
+ghost use Rattle.std.specs.Prelude.{◌≡◌, ◌<◌, [], None, map, length, IfOk};
 ghost use Rattle.schema.specs.Definition.{columns_of};
 ghost use Rattle.std.specs.Option.{option_copied};
-ghost use Rattle.restore.specs.Rounds.{AreTaken, IsReady};
-ghost use Rattle.restore.specs.Rows.{AreRead, IsPiece, ArePieces, AreKnown};
+ghost use Rattle.restore.specs.Rounds.{AreTaken, AreTakenAndDrawn, IsReady};
+ghost use Rattle.restore.specs.Rows.{AreDrawn, AreAllDrawn, ArePieces, AreKnown};
 
+use crate::draws::{
+    AllDrawn, DrawnPieces, Draws, ReadPieces, RoundLines, draw_by_threads, draw_pieces, gather,
+};
 use crate::error::ReadError;
-use crate::pieces::{piece_of, take_pieces};
-use crate::rows::{ReadPiece, ReadRow, read_each};
+use crate::pieces::take_pieces;
 use dumpplan::Gate;
 use schema::catalog::{Catalog, Column, TableNo};
 use schema::tables::Tables;
 use std::alloc::{AllocError, Allocator};
-use std::thread;
 use std::thread::Threads;
-use value::kind::Kind;
-
-/// How many lines a thread reads before it asks the gate again.
-pub const STRETCH_LINES: usize = 1000;
-
-/// What each piece of a round reads as.
-pub type ReadPieces<A> = Vec<Result<ReadPiece<A>, AllocError>, A>;
-
-/// The lines of rows that are read as one round.
-#[derive(Clone, Copy)]
-pub struct RoundLines<'l, 'd> {
-    /// The number of the first.
-    pub number: u64,
-    /// How many stretches of the dump come before.
-    pub stretches: u64,
-    pub lines: &'l [&'d [u8]],
-    /// The kinds of their values.
-    pub kinds: &'l [Kind],
-    /// How many lines a piece has.
-    pub piece_lines: usize,
-}
 
 /// Pieces that are read, the number of their first line, and the tables that their rows are taken into next.
 #[derive(Drop)]
@@ -58,147 +38,6 @@ impl<A: Allocator> Round<A> {
             pieces: Vec::new(alloc),
         }
     }
-}
-
-// The rows of a stretch of lines, for which the gate is asked.
-fn read_stretch<A: Allocator + Copy, G: Gate>(
-    alloc: A,
-    kinds: &[Kind],
-    lines: &[&[u8]],
-    gate: &G,
-    number: u64,
-) -> Result<Vec<ReadRow<A>, A>, AllocError>
-    ensures { IfOk result (λ rows. AreRead kinds.now rows.items (map (λ line. line.now) lines.now)) }
-{
-    gate.before(number);
-    let rows = read_each(alloc, kinds, lines);
-    gate.after(number);
-    rows
-}
-
-// The place behind the stretch that begins at a place.
-fn end_of_stretch(start: usize, count: usize) -> usize
-    requires { start < count }
-    ensures after { start < result }
-    ensures within { result ≤ count }
-{
-    if count - start < STRETCH_LINES {
-        count
-    } else {
-        start + STRETCH_LINES
-    }
-}
-
-// The lines from one place up to another.
-fn lines_between<'l, 'd>(lines: &'l [&'d [u8]], start: usize, end: usize) -> &'l [&'d [u8]]
-    requires order { start ≤ end }
-    requires range { end ≤ length lines.now }
-    ensures { result.now ≡ take (end - start) (drop start lines.now) }
-{
-    &lines[start..end]
-}
-
-// How many stretches come before the line at a place of a round, where so many came before the round.
-fn stretches_before(before: u64, start: usize) -> u64 {
-    before.saturating_add(start as u64 / STRETCH_LINES as u64)
-}
-
-// The rows of a piece's lines, read stretch by stretch, where so many stretches come before.
-fn read_rows<A: Allocator + Copy, G: Gate>(
-    alloc: A,
-    kinds: &[Kind],
-    lines: &[&[u8]],
-    gate: &G,
-    before: u64,
-) -> Result<Vec<ReadRow<A>, A>, AllocError>
-    ensures { IfOk result (λ rows. AreRead kinds.now rows.items (map (λ line. line.now) lines.now)) }
-{
-    let mut rows = Vec::with_capacity(alloc, lines.len())?;
-    let mut start = 0;
-    while start < lines.len() {
-        let end = end_of_stretch(start, lines.len());
-        let number = stretches_before(before, start).saturating_add(1);
-        let stretch = lines_between(lines, start, end);
-        let mut read = read_stretch(alloc, kinds, stretch, gate, number)?;
-        rows.append(&mut read)?;
-        start = end;
-    }
-    Ok(rows)
-}
-
-// The piece of some lines, where so many stretches come before. References are looked up in the tables that are known.
-fn read_piece<A: Allocator + Copy, G: Gate>(
-    alloc: A,
-    known: Option<&Tables<A>>,
-    columns: &[Column<A>],
-    kinds: &[Kind],
-    lines: &[&[u8]],
-    gate: &G,
-    before: u64,
-) -> Result<ReadPiece<A>, AllocError>
-    ensures { IfOk result (λ piece. IsPiece (option_copied known.entry) columns.now kinds.now piece
-        (map (λ line. line.now) lines.now)) }
-{
-    let rows = read_rows(alloc, kinds, lines, gate, before)?;
-    Ok(piece_of(known, columns, rows))
-}
-
-/// The pieces of a round's lines, each read in a thread of its own. References are looked up in the tables that are
-/// known.
-pub fn read_round<R: Threads + Sync, G: Gate, A: Allocator + Copy + Send + Sync>(
-    rt: &R,
-    alloc: A,
-    known: Option<&Tables<A>>,
-    columns: &[Column<A>],
-    round: RoundLines<'_, '_>,
-    gate: &G,
-) -> Result<ReadPieces<A>, AllocError>
-    requires { 0 < round.piece_lines }
-    ensures read { IfOk result (λ pieces. ArePieces round.entry.piece_lines round.entry.kinds.now pieces.items
-        (map (λ line. line.now) round.entry.lines.now)) }
-    ensures known { IfOk result (λ pieces. AreKnown (option_copied known.entry) columns.now pieces.items) }
-{
-    let (lines, kinds, before) = (round.lines, round.kinds, round.stretches);
-    let pieces = thread::map_chunks(
-        rt,
-        alloc,
-        lines,
-        round.piece_lines,
-        &|start, lines| -> Result<ReadPiece<A>, AllocError>
-            ensures { IfOk result (λ piece. IsPiece (option_copied known.entry) columns.entry.now kinds.entry.now piece
-                (map (λ line. line.now) lines.entry.now)) }
-        {
-            read_piece(
-                alloc,
-                known,
-                columns,
-                kinds,
-                lines,
-                gate,
-                stretches_before(before, start),
-            )
-        },
-    )?;
-    Ok(pieces)
-}
-
-/// The pieces of a round's lines, as `read_round` reads them where no tables are known. A call of that one needs a
-/// lifetime for the tables that it is lent, and of this the check wants it shown that it lasts. A bare `None` shows
-/// none; the `None` here has that of the columns, `'c`.
-pub fn read_round_alone<'c, R: Threads + Sync, G: Gate, A: Allocator + Copy + Send + Sync>(
-    rt: &R,
-    alloc: A,
-    columns: &'c [Column<A>],
-    round: RoundLines<'_, '_>,
-    gate: &G,
-) -> Result<ReadPieces<A>, AllocError>
-    requires { 0 < round.piece_lines }
-    ensures read { IfOk result (λ pieces. ArePieces round.entry.piece_lines round.entry.kinds.now pieces.items
-        (map (λ line. line.now) round.entry.lines.now)) }
-    ensures known { IfOk result (λ pieces. AreKnown None columns.now pieces.items) }
-{
-    let nowhere: Option<&'c Tables<A>> = None;
-    read_round(rt, alloc, nowhere, columns, round, gate)
 }
 
 /// The tables with the rows of a round, up to the first that isn't taken.
@@ -230,4 +69,95 @@ pub fn columns_of<A: Allocator>(catalog: &Catalog<A>, table: TableNo) -> &[Colum
     ensures { result.now ≡ columns_of catalog.now table }
 {
     catalog.table(table).columns()
+}
+
+/// The pieces of a round's lines, read by so many threads. References are looked up in the tables that are known.
+pub fn read_round<R: Threads + Sync, G: Gate, A: Allocator + Copy + Send + Sync>(
+    rt: &R,
+    alloc: A,
+    threads: usize,
+    known: Option<&Tables<A>>,
+    columns: &[Column<A>],
+    round: RoundLines<'_, '_>,
+    gate: &G,
+) -> Result<ReadPieces<A>, AllocError>
+    ensures read { IfOk result (λ pieces. ArePieces 1000 round.entry.kinds.now pieces.items
+        (map (λ line. line.now) round.entry.lines.now)) }
+    ensures known { IfOk result (λ pieces. AreKnown (option_copied known.entry) columns.now pieces.items) }
+{
+    let draws = Draws::new();
+    let all = draw_by_threads(rt, alloc, threads, known, columns, round, gate, &draws)?;
+    gather(alloc, known, columns, round, gate, all)
+}
+
+/// Draws pieces by so many threads, where no tables are known. A call of `draw_by_threads` needs a lifetime for the
+/// tables that it is lent, and of this the check wants it shown that it lasts. A bare `None` shows none; the `None` here
+/// has that of the columns, `'c`.
+pub fn draw_alone<'c, R: Threads + Sync, G: Gate, A: Allocator + Copy + Send + Sync>(
+    rt: &R,
+    alloc: A,
+    threads: usize,
+    columns: &'c [Column<A>],
+    round: RoundLines<'_, '_>,
+    gate: &G,
+    draws: &Draws,
+) -> Result<AllDrawn<A>, AllocError>
+    ensures { IfOk result (λ all. AreAllDrawn None columns.now round.entry.kinds.now round.entry.lines.now all.items) }
+{
+    let nowhere: Option<&'c Tables<A>> = None;
+    draw_by_threads(rt, alloc, threads, nowhere, columns, round, gate, draws)
+}
+
+// Draws pieces, where no tables are known.
+fn draw_here<'c, G: Gate, A: Allocator + Copy>(
+    alloc: A,
+    columns: &'c [Column<A>],
+    round: RoundLines<'_, '_>,
+    gate: &G,
+    draws: &Draws,
+) -> Result<DrawnPieces<A>, AllocError>
+    ensures { IfOk result (λ drawn. AreDrawn None columns.now round.entry.kinds.now round.entry.lines.now drawn.items) }
+{
+    let nowhere: Option<&'c Tables<A>> = None;
+    draw_pieces(alloc, nowhere, columns, round, gate, draws)
+}
+
+/// The pieces of a round that other threads and this one have drawn, where no tables are known.
+pub fn gather_both<'c, A: Allocator + Copy, G: Gate>(
+    alloc: A,
+    columns: &'c [Column<A>],
+    round: RoundLines<'_, '_>,
+    gate: &G,
+    theirs: AllDrawn<A>,
+    mine: DrawnPieces<A>,
+) -> Result<ReadPieces<A>, AllocError>
+    requires theirs { AreAllDrawn None columns.now round.kinds.now round.lines.now theirs.items }
+    requires mine { AreDrawn None columns.now round.kinds.now round.lines.now mine.items }
+    ensures read { IfOk result (λ pieces. ArePieces 1000 round.entry.kinds.now pieces.items
+        (map (λ line. line.now) round.entry.lines.now)) }
+    ensures known { IfOk result (λ pieces. AreKnown None columns.now pieces.items) }
+{
+    let nowhere: Option<&'c Tables<A>> = None;
+    let mut all = theirs;
+    all.push(Ok(mine))?;
+    gather(alloc, nowhere, columns, round, gate, all)
+}
+
+/// Takes the rows of a round, and then draws pieces of the next.
+pub fn take_and_draw<G: Gate, A: Allocator + Copy>(
+    alloc: A,
+    catalog: &Catalog<A>,
+    table: TableNo,
+    round: Round<A>,
+    next: RoundLines<'_, '_>,
+    gate: &G,
+    draws: &Draws,
+) -> Result<(Tables<A>, DrawnPieces<A>), ReadError>
+    requires has { table < length catalog.now }
+    requires ready { IsReady catalog.now table round }
+    ensures { AreTakenAndDrawn catalog.now table round next.entry.kinds.now next.entry.lines.now result }
+{
+    let tables = take_round(alloc, catalog, table, round)?;
+    let drawn = draw_here(alloc, columns_of(catalog, table), next, gate, draws)?;
+    Ok((tables, drawn))
 }

@@ -1,6 +1,6 @@
 //! Lines of rows read by several threads.
 
-ghost use Rattle.std.specs.Prelude.{◌≡◌, ◌⊎◌, ◌+◌, ◌<◌, ◌≤◌, Bool, true, false, None, Ok, Err, map, length, IfOk};
+ghost use Rattle.std.specs.Prelude.{◌≡◌, ◌⊎◌, ◌+◌, ◌<◌, ◌≤◌, Bool, true, false, None, Err, length, IfOk};
 ghost use denote.Param.Send.{IsSend, IsSync, Frees};
 ghost use Rattle.std.specs.Str.{bytes_eq};
 ghost use Rattle.schema.specs.Definition.{columns_of};
@@ -8,10 +8,11 @@ ghost use Rattle.schema.specs.Plain.{is_sound};
 ghost use Rattle.dumpplan.specs.Lines.{end_of_rows};
 ghost use Rattle.restore.specs.Progress.{read_in_steps};
 ghost use Rattle.restore.specs.Reading.{Before, Within, ended, kinds_of, lines_of, read_lines, read_dump};
-ghost use Rattle.restore.specs.Rounds.{AreTaken, IsReady, IsTurn, IsNextRound};
-ghost use Rattle.restore.specs.Rows.{ArePieces, AreKnown};
+ghost use Rattle.restore.specs.Rounds.{AreTakenAndDrawn, IsReady, IsTurn, IsNextRound};
+ghost use Rattle.restore.specs.Rows.{AreAllDrawn};
 ghost use Rattle.restore.specs.Steps.{Reads, no_memory};
 
+use crate::draws::{AllDrawn, DrawnPieces, Draws, PIECE_LINES, RoundLines};
 use crate::error::{ReadError, RestoreFault};
 use crate::lines::{Line, Lines, next_row_line, row_lines};
 use crate::pieces::have_references;
@@ -19,8 +20,7 @@ use crate::reading::{
     empty_tables, read_copy_line, read_count, read_end, read_end_of_rows, read_head,
 };
 use crate::rounds::{
-    ReadPieces, Round, RoundLines, STRETCH_LINES, columns_of, read_round, read_round_alone,
-    take_round,
+    Round, columns_of, draw_alone, gather_both, read_round, take_and_draw, take_round,
 };
 use crate::rows::kinds_of;
 use dumpplan::{Gate, Jobs};
@@ -31,34 +31,38 @@ use std::thread;
 use std::thread::Threads;
 use value::kind::Kind;
 
-/// How many stretches of lines a piece has at most.
-const PIECE_STRETCHES: usize = 16;
+/// How many pieces of a round there are for each thread at most.
+const SHARE: usize = 16;
 
-/// How many stretches of lines a round has at most.
-const ROUND_STRETCHES: usize = 128;
+/// How many pieces a round has at most.
+const ROUND_PIECES: usize = 128;
 
-/// Threads that read a table's lines in rounds, a piece each. The rows of the round before are taken meanwhile, where
-/// the table has no references. Where it has some, those rows are taken between the two rounds: what a row references
-/// is looked up in the tables as they are once all rows before its round are in. With one job they are taken between
-/// the rounds too. The gate is asked about each stretch of a piece.
+/// Threads that read a table's lines in rounds, as many as there are jobs; the calling thread is one of them. Each draws
+/// a piece of the round after another. Of a table without references the calling thread first takes the rows of the
+/// round before, while the others read. Where the table has some, those rows are taken between the two rounds: what a
+/// row references is looked up in the tables as they are once all rows before its round are in. The gate is asked about
+/// each piece.
 #[derive(Drop)]
 pub struct Workers<'w, R, G, A: Allocator> {
     rt: &'w R,
     alloc: A,
     jobs: Jobs,
     gate: &'w G,
-    /// How many stretches were read before.
-    stretches: u64,
-    /// How many stretches a piece of the next round has at most. The first round has one for each thread.
+    /// How many pieces were read before.
+    before: u64,
+    /// How many pieces the next round has for each thread at most. The first round has one.
     share: usize,
+    /// About how many bytes stand behind the rows of the table at hand.
+    behind: usize,
 }
 
-// How many lines a piece has where a round has so many.
-fn piece_lines(lines: usize, jobs: Jobs) -> usize
-    ensures { 0 < result }
-{
-    let stretches = lines.div_ceil(STRETCH_LINES).div_ceil(jobs.get() as usize);
-    stretches.saturating_mul(STRETCH_LINES).max(STRETCH_LINES)
+// About how many pieces have half of the bytes that are left of a table, where a line has so many. Of a table that is
+// longer than was expected nothing is known.
+fn half_of(left: usize, line: usize) -> usize {
+    if left == 0 {
+        return ROUND_PIECES;
+    }
+    left / 2 / PIECE_LINES / line.max(1)
 }
 
 impl<'w, R: Threads + Sync, G: Gate, A: Allocator + Copy + Send + Sync> Workers<'w, R, G, A> {
@@ -69,28 +73,38 @@ impl<'w, R: Threads + Sync, G: Gate, A: Allocator + Copy + Send + Sync> Workers<
             alloc,
             jobs,
             gate,
-            stretches: 0,
+            before: 0,
             share: 1,
+            behind: 0,
         }
     }
 
-    // How many lines the next round has at most.
-    fn most_lines(&self) -> usize {
-        (self.jobs.get() as usize)
-            .saturating_mul(self.share)
-            .min(ROUND_STRETCHES)
-            .saturating_mul(STRETCH_LINES)
+    // A table begins, and so many bytes are left for so many tables: each is expected to have as many.
+    fn begin_table(&mut self, left: usize, tables: usize) {
+        self.behind = left.saturating_sub(left / tables.max(1));
     }
 
-    // Counts a round of so many lines. The next has pieces of twice as many.
+    // How many lines the next round has at most. The rows of a table's last are taken when nothing of it is left to read,
+    // so rounds are shorter towards its end.
+    fn most_lines(&self, line: Line<'_>) -> usize {
+        let jobs = self.jobs.get() as usize;
+        let left = line.rest.text.len().saturating_sub(self.behind);
+        let half = half_of(left, line.bytes.len());
+        jobs.saturating_mul(self.share)
+            .min(ROUND_PIECES)
+            .min(half.max(jobs))
+            .saturating_mul(PIECE_LINES)
+    }
+
+    // Counts a round of so many lines. The next has twice as many pieces.
     fn count_round(&mut self, lines: usize) {
-        let stretches = lines.div_ceil(STRETCH_LINES) as u64;
-        self.stretches = self.stretches.saturating_add(stretches);
-        self.share = self.share.saturating_mul(2).min(PIECE_STRETCHES);
+        let pieces = lines.div_ceil(PIECE_LINES) as u64;
+        self.before = self.before.saturating_add(pieces);
+        self.share = self.share.saturating_mul(2).min(SHARE);
     }
 
-    // The next round, whose lines other threads read while this one takes the rows of the round before. None of the
-    // rows has references: the tables where these would be looked up change meanwhile.
+    // The next round, whose pieces other threads draw while this one takes the rows of the round before, and then draws
+    // some too. None of the rows has references: the tables where these would be looked up change meanwhile.
     fn read_beside(
         &self,
         catalog: &Catalog<A>,
@@ -98,7 +112,6 @@ impl<'w, R: Threads + Sync, G: Gate, A: Allocator + Copy + Send + Sync> Workers<
         next: RoundLines<'_, '_>,
         round: Round<A>,
     ) -> Result<Round<A>, ReadError>
-        requires size { 0 < next.piece_lines }
         requires has { table < length catalog.now }
         requires ready { IsReady catalog.now table round }
         ensures { IsTurn catalog.now table round next.entry result }
@@ -107,38 +120,45 @@ impl<'w, R: Threads + Sync, G: Gate, A: Allocator + Copy + Send + Sync> Workers<
         // Each part is lent by itself: nothing would be known of what a closure returned that borrowed the whole.
         let RoundLines {
             number,
-            stretches,
+            before,
             lines,
             kinds,
-            piece_lines,
         } = next;
         let columns = columns_of(catalog, table);
-        let (read, taken) = thread::join(
+        let drawn = Draws::new();
+        let (draws, others) = (&drawn, self.jobs.get() as usize - 1);
+        let (theirs, mine) = thread::join(
             rt,
-            || -> Result<ReadPieces<A>, AllocError>
+            || -> Result<AllDrawn<A>, AllocError>
                 requires bounds { IsSend A.row × IsSync A.row × Frees A.Allocator A.dealloc_token × IsSync R.row ×
                     IsSync G.row }
-                requires size { 0 < piece_lines }
-                ensures { IfOk result (λ pieces. ArePieces piece_lines kinds.entry.now pieces.items
-                    (map (λ line. line.now) lines.entry.now) × AreKnown None columns.entry.now pieces.items) }
+                ensures { IfOk result (λ all. AreAllDrawn None columns.entry.now kinds.entry.now lines.entry.now
+                    all.items) }
             {
                 let next = RoundLines {
                     number,
-                    stretches,
+                    before,
                     lines,
                     kinds,
-                    piece_lines,
                 };
-                read_round_alone(rt, alloc, columns, next, gate)
+                draw_alone(rt, alloc, others, columns, next, gate, draws)
             },
-            move || -> Result<Tables<A>, ReadError>
+            move || -> Result<(Tables<A>, DrawnPieces<A>), ReadError>
                 requires { (table < length catalog.now) × IsReady catalog.now table round }
-                ensures { AreTaken catalog.entry.now table round result ×
-                    IfOk result (λ X. length X ≡ length catalog.entry.now) }
-            { take_round(alloc, catalog, table, round) },
+                ensures { AreTakenAndDrawn catalog.entry.now table round kinds.entry.now lines.entry.now result }
+            {
+                let next = RoundLines {
+                    number,
+                    before,
+                    lines,
+                    kinds,
+                };
+                take_and_draw(alloc, catalog, table, round, next, gate, draws)
+            },
         );
-        let tables = taken?;
-        let pieces = read?;
+        let (tables, mine) = mine?;
+        let theirs = theirs?;
+        let pieces = gather_both(alloc, columns, next, gate, theirs, mine)?;
         Ok(Round {
             tables,
             number,
@@ -155,15 +175,15 @@ impl<'w, R: Threads + Sync, G: Gate, A: Allocator + Copy + Send + Sync> Workers<
         next: RoundLines<'_, '_>,
         round: Round<A>,
     ) -> Result<Round<A>, ReadError>
-        requires size { 0 < next.piece_lines }
         requires has { table < length catalog.now }
         requires ready { IsReady catalog.now table round }
         ensures { IsTurn catalog.now table round next.entry result }
     {
         let (rt, alloc, gate, number) = (self.rt, self.alloc, self.gate, next.number);
+        let threads = self.jobs.get() as usize;
         let columns = columns_of(catalog, table);
         let tables = take_round(alloc, catalog, table, round)?;
-        let pieces = read_round(rt, alloc, Some(&tables), columns, next, gate)?;
+        let pieces = read_round(rt, alloc, threads, Some(&tables), columns, next, gate)?;
         Ok(Round {
             tables,
             number,
@@ -179,7 +199,6 @@ impl<'w, R: Threads + Sync, G: Gate, A: Allocator + Copy + Send + Sync> Workers<
         next: RoundLines<'_, '_>,
         round: Round<A>,
     ) -> Result<Round<A>, ReadError>
-        requires size { 0 < next.piece_lines }
         requires has { table < length catalog.now }
         requires ready { IsReady catalog.now table round }
         ensures { IsTurn catalog.now table round next.entry result }
@@ -210,15 +229,13 @@ impl<'w, R: Threads + Sync, G: Gate, A: Allocator + Copy + Send + Sync> Workers<
         ensures ready { IfOk result (λ x. IsReady catalog.now table x.1) }
         ensures shorter { IfOk result (λ x. length x.0.text.now ≤ length line.entry.rest.text.now) }
     {
-        let (lines, left) = row_lines(self.alloc, line, self.most_lines())?;
-        let size = piece_lines(lines.len(), self.jobs);
+        let (lines, left) = row_lines(self.alloc, line, self.most_lines(line))?;
         let rows = lines.as_slice();
         let next = RoundLines {
             number: line.number,
-            stretches: self.stretches,
+            before: self.before,
             lines: rows,
             kinds,
-            piece_lines: size,
         };
         let round = self.turn(catalog, table, next, round)?;
         self.count_round(lines.len());
@@ -242,6 +259,8 @@ impl<'w, R: Threads + Sync, G: Gate, A: Allocator + Copy + Send + Sync> Workers<
         ensures same_tables { IfOk result (λ x. length x.1 ≡ length catalog.now) }
         ensures sound { IfOk result (λ x. is_sound catalog.now tables ≡ true → is_sound catalog.now x.1 ≡ true) }
     {
+        let tables_left = catalog.len().saturating_sub(table.place() as usize);
+        self.begin_table(lines.text.len(), tables_left);
         let kinds = kinds_of(self.alloc, catalog.table(table).columns())?;
         let mut round = Round::new(self.alloc, tables, lines.number);
         loop {
@@ -332,10 +351,10 @@ impl<'w, R: Threads + Sync, G: Gate, A: Allocator + Copy + Send + Sync> Workers<
 }
 
 /// Reads a dump as `restore_one` does. The lines of a table's rows are read in rounds, by up to `jobs` threads side by
-/// side. Meanwhile the calling thread takes the rows of the round before, where the table has no references and `jobs`
-/// is more than one. Otherwise it takes them between the two rounds: what a row references is looked up in the tables
-/// as they are once all rows before its round are in. The gate is asked round each 1000 lines; these stretches are
-/// numbered from 1 in the order of the dump.
+/// side, of which the calling thread is one. Where the table has no references and `jobs` is more than one, that takes
+/// the rows of the round before while the others read. Otherwise it takes them between the two rounds: what a row
+/// references is looked up in the tables as they are once all rows before its round are in. The gate is asked round
+/// each piece of up to 1000 lines; these are numbered from 1 in the order of the dump.
 pub fn restore<R: Threads + Sync, G: Gate, A: Allocator + Copy + Send + Sync>(
     rt: &R,
     alloc: A,

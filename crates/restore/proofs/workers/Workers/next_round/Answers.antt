@@ -9,12 +9,11 @@ pub returns-clause-begun : goal.returns-clause-begun
 returns-clause-begun g c = λ X told waits.
     let line = c.args.line in
     let rows = c.in_ok-lines.lines.items in
-    let size = c.piece_lines-size.result in
     let round = c.in_ok-round.round in
     let turn = c.in_ok-round.ensures in
     let taken = turn.0 X told line.number (line.bytes.now ∷ lines_of line.rest.text.now) (some_lines line.bytes.now (lines_of line.rest.text.now)) waits in
-    let are = pieces_same size c.args.kinds.now (kinds_of c.args.catalog.now c.args.table) round.pieces.items c.as_slice-rows.result.now rows c.requires.kinds c.as_slice-rows.ensures.value turn.2 in
-    waiting-next c.args.catalog.now c.args.table X told round.tables round.number line rows c.in_ok-lines.left size round.pieces.items turn.1 c.requires.number c.in_ok-lines.ensures.rows are taken
+    let are = pieces_same 1000 c.args.kinds.now (kinds_of c.args.catalog.now c.args.table) round.pieces.items c.as_slice-rows.result.now rows c.requires.kinds c.as_slice-rows.ensures.value turn.2 in
+    waiting-next c.args.catalog.now c.args.table X told round.tables round.number line rows c.in_ok-lines.left 1000 round.pieces.items turn.1 c.requires.number c.in_ok-lines.ensures.rows are taken
 
 pub returns-in_err-round-clause-begun : goal.returns-in_err-round-clause-begun
 returns-in_err-round-clause-begun g c = λ X told waits.
