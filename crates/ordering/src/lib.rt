@@ -54,9 +54,9 @@ fn append_answer<A: Allocator>(is_one: bool, text: &mut Vec<u8, A>) -> Result<()
     Ok(())
 }
 
-// Appends whether the serial order of a core's history is one. It always is: that is told by a check
-// which knows nothing of how the order was made.
-fn append_check<A: Allocator + Copy>(
+/// Appends whether the serial order of a core's history is one. It always is: that is told by a check which knows nothing
+/// of how the order was made. Out of memory is the only failure.
+pub fn append_check<A: Allocator + Copy>(
     alloc: A,
     core: &Core<A>,
     text: &mut Vec<u8, A>,

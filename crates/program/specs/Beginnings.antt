@@ -20,16 +20,16 @@ module _ {A : Type 0} where
 abbrev pub IsFaulty : (A : Type 0) → Option (List ℕ) → Fault → Type 0
 IsFaulty A known f = (bytes : List ℕ) × IsAllOf known bytes × (e : RestoreFault) × (read_dump {A = A} bytes ≡ Err e) × (f ≡ dump_fault e)
 
--- Why the dump of a path wasn't read, of which this is known: its file couldn't be read, or it is faulty, or memory was wanting.
+-- Why the dump of a path wasn't read, of which this is known: its file couldn't be read, or it is faulty, or it was out of memory.
 abbrev pub IsUnread : (A : Type 0) → Option (List ℕ) → List ℕ → Fault → Type 0
 IsUnread A known path f = IsFileFault path f ⊎ IsFaulty A known f ⊎ (f ≡ fault.DumpOutOfMemory)
 
--- Why a script's tables weren't opened: the dump that it opens wasn't read; or memory was wanting for those that it creates.
+-- Why a script's tables weren't opened: the dump that it opens wasn't read; or there was no memory for those that it creates.
 abbrev pub IsUnopened : (A : Type 0) → (List ℕ → Option (List ℕ)) → Option (List ℕ) → Fault → Type 0
 IsUnopened A held None f = f ≡ fault.ScriptOutOfMemory
 IsUnopened A held (Some path) f = IsUnread A (held path) path f
 
--- The tables are there, and no core was opened on them: memory was wanting, or there is to be room for no event.
+-- The tables are there, and no core was opened on them: it was out of memory, or there is to be room for no event.
 abbrev pub IsWithoutCore : (A : Type 0) → (List ℕ → Option (List ℕ)) → Option (List ℕ) → Catalog → Fault → Type 0
 IsWithoutCore A held opens created f = (c : Catalog) × (X : Tables A) × BeginsWith held opens created c X × (f ≡ fault.ScriptOutOfMemory)
 

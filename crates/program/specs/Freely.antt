@@ -1,5 +1,5 @@
 -- What the lines of sessions do that run freely, each on its thread, and what is printed of them (this project's own choice).
-use Rattle.std.specs.Prelude.{◌≡◌, ◌≢◌, ◌≤◌, ◌⊎◌, ◌++◌, [], ◌∷◌, ℕ, suc, Bool, List, length, slice_get, All, Option, Some, Result, Ok, Err}
+use Rattle.std.specs.Prelude.{◌≡◌, ◌≢◌, ◌≤◌, ◌⊎◌, ◌++◌, [], ◌∷◌, ℕ, suc, Bool, true, false, List, length, slice_get, All, Option, Some, Result, Ok, Err}
 use Rattle.schema.specs.Definition.{Catalog}
 use Rattle.schema.specs.declared.tables.Tables.{Tables}
 use Rattle.statement.specs.declared.reply.Reply.{Reply}
@@ -18,10 +18,10 @@ use Rattle.script.specs.declared.script.Step.TheVariants as step
 use Rattle.script.specs.declared.schedule.Schedule.TheVariants.{Free}
 use Rattle.script.specs.Printing.{reply_text}
 use Rattle.script.specs.Scripts.{Said, said}
+use Rattle.ordering.specs.Orders.{check_line}
 use Rattle.program.specs.Beginnings.{BeginsWith}
 use Rattle.program.specs.Dumps.{TellsDumpAt}
 use Rattle.program.specs.Files.{IsAllOf, Writing, read_of}
-use Rattle.program.specs.Orders.{check_text}
 use Rattle.program.specs.Printed.{Adds, IsFlushed, Printed}
 use Rattle.program.specs.Runs.{Stops}
 use Rattle.program.specs.declared.fault.Fault.{Fault}
@@ -38,6 +38,11 @@ abbrev pub AreJoined : {V F : Type 0} → (V → List ℕ) → List (Result V F)
 AreJoined items [] text = text ≡ []
 AreJoined items (Ok v ∷ rs) text = (rest : List ℕ) × AreJoined items rs rest × (text ≡ items v ++ rest)
 AreJoined items (Err e ∷ rs) text = ⊥
+
+-- the check of an order that is one, where it is asked for
+abbrev pub check_text : Bool → List ℕ
+check_text true = check_line true
+check_text false = []
 
 module _ {A : Type 0} where
   -- A step is of one of sessions 1 to n, or of none.

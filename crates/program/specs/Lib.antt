@@ -6,7 +6,6 @@ pub mod Ends
 pub mod Files
 pub mod Freely
 pub mod Lines
-pub mod Orders
 pub mod Outcomes
 pub mod Printed
 pub mod Restored

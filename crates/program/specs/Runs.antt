@@ -21,7 +21,7 @@ use Rattle.program.specs.Beginnings.{BeginsWith, IsUnbegun}
 use Rattle.program.specs.Dumps.{IsDumped, TellsDump, TellsDumpAt}
 use Rattle.program.specs.Files.{IsAllOf, IsFileFault, Writing, read_of}
 use Rattle.program.specs.Lines.{Tells}
-use Rattle.program.specs.Orders.{check_line, order_lines}
+use Rattle.ordering.specs.Orders.{check_line, order_lines}
 use Rattle.program.specs.Printed.{Adds, IsFlushed, Printed, Prints}
 use Rattle.program.specs.Steps.{AreDone}
 use Rattle.program.specs.declared.fault.Fault.{Fault}

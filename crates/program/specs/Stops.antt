@@ -19,7 +19,7 @@ use Rattle.program.specs.declared.run.Way.{Way}
 use Rattle.program.specs.declared.task.Task.{Task}
 use Rattle.program.specs.declared.task.Task.TheVariants as task
 
--- No script was read of a path, of which this is known: its file has failed, or memory was wanting, or what it has is none, told by its first faulty line.
+-- No script was read of a path, of which this is known: its file has failed, or it was out of memory, or what it has is none, told by its first faulty line.
 abbrev pub IsNoScript : (A : Type 0) → Schedule → Option (List ℕ) → List ℕ → Fault → Type 0
 IsNoScript A way known path f = IsFileFault path f ⊎ (f ≡ fault.ScriptOutOfMemory) ⊎ ((bytes : List ℕ) × (n : ℕ) × IsAllOf known bytes × (said {A = A} way bytes ≡ Err n) × (f ≡ script_fault n))
 
@@ -44,7 +44,7 @@ abbrev pub PathEndsFreely : (A : Type 0) → (List ℕ → Option (List ℕ)) �
 PathEndsFreely A held input way path f q = IsNoScript A Free (read_of held input path) path f
     ⊎ ((bytes : List ℕ) × (s : Said A) × IsAllOf (read_of held input path) bytes × (said Free bytes ≡ Ok s) × ScriptEndsFreely held way s f q)
 
--- The dump of a path, of which this is known, wasn't read, or memory was wanting; or the file of the other path has failed, or standard output.
+-- The dump of a path, of which this is known, wasn't read, or it was out of memory; or the file of the other path has failed, or standard output.
 abbrev pub IsUnrestored : (A : Type 0) → Option (List ℕ) → List ℕ → List ℕ → Fault → Printed → Type 0
 IsUnrestored A known path out f q = IsUnread A known path f ⊎ IsFileFault out f ⊎ IsUnprinted f q
 

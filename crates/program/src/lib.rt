@@ -14,7 +14,6 @@ mod keeping;
 pub mod late;
 pub mod machine;
 pub mod naming;
-mod ordering;
 mod output;
 pub mod progress;
 pub mod reasons;

@@ -1,6 +1,7 @@
 //! A dump read, and written again.
 
-ghost use Rattle.std.specs.Prelude.{◌≡◌, ◌⊎◌, [], Err, IfErr, IfOk, OnErr, OnOk, length, true};
+ghost use Rattle.std.specs.Prelude.{◌≡◌, ◌⊎◌, ◌++◌, [], Err, IfErr, IfOk, OnErr, OnOk, length, true};
+ghost use Rattle.std.specs.Fmt.{decimal};
 ghost use Rattle.dumpplan.specs.Lines.{dump_text};
 ghost use Rattle.program.specs.Files.{IsFileFault, IsWritten, read_of};
 ghost use Rattle.program.specs.Printed.{Adds, IsFlushed, Prints};
@@ -15,11 +16,11 @@ use crate::fault::Fault;
 use crate::files::Files;
 use crate::keeping::keep_file;
 use crate::machine::Machine;
-use crate::ordering::append;
 use crate::output::{Printer, print_whole};
 use crate::progress::Stage;
 use dumpplan::{Gate, Jobs, PieceRows};
 use dumpworker::{DumpFault, dump};
+use itoa::Buffer;
 use restore::restore;
 use schema::catalog::{Catalog, TableNo};
 use schema::tables::Tables;
@@ -32,6 +33,16 @@ use value::refusal::Refusal;
 
 // How many rows a piece has.
 const ROWS: u32 = 1000;
+
+// Appends a word and a number.
+fn append<A: Allocator>(word: &str, number: u64, text: &mut Vec<u8, A>) -> Result<(), Refusal>
+    ensures { OnOk result (text.new.items ≡ text.old.items ++ (word.now ++ decimal number)) }
+{
+    let mut digits = Buffer::new();
+    text.extend_from_slice(word.as_bytes())?;
+    text.extend_from_slice(digits.format(number).as_bytes())?;
+    Ok(())
+}
 
 // So many, as a dump is asked for it.
 fn piece_rows() -> PieceRows

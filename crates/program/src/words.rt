@@ -70,7 +70,7 @@ fn show_help<W: Write, E: Write>(help: &Error, out: &mut W, err: &mut E) -> Stat
     }
 }
 
-// Tells a mistake in the words, or that memory was wanting for them; or shows the help that they ask for.
+// Tells a mistake in the words, or that there was no memory for them; or shows the help that they ask for.
 fn tell_words<W: Write, E: Write>(error: &Error, out: &mut W, err: &mut E) -> Status
     ensures mistake { IsMistake (kind_of error.now) → result ≡ Status.Usage }
     ensures usage { result ≡ Status.Usage → IsMistake (kind_of error.now) }
@@ -129,7 +129,7 @@ fn tell_reason<E: Write>(status: Status, reason: Option<&str>, err: &mut E) {
 
 /// Does what the words behind the program's name ask for, over the machine's files, and gives the exit
 /// status: 0 where it was done, refused statements included; 1 where a script or a dump is refused, or
-/// memory was wanting; 2 for mistaken words; 3 where a file or standard output failed. Why it wasn't 0 is told
+/// it was out of memory; 2 for mistaken words; 3 where a file or standard output failed. Why it wasn't 0 is told
 /// in a line on `err`, and behind it for a person what is wrong and what would be right.
 pub fn run_words<A, F, W, E, T>(
     machine: &Machine<'_, F, T, A>,

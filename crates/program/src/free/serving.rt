@@ -7,14 +7,13 @@ ghost use Rattle.schema.specs.Plain.{is_sound};
 ghost use Rattle.history.specs.Opening.{zero_base};
 ghost use Rattle.server.specs.Calls.{AreFresh};
 ghost use Rattle.program.specs.Files.{IsWritten};
-ghost use Rattle.program.specs.Freely.{AreJoined, ArePrinted, AreServed, HasPlayed, IsAmong, IsFaultOf, SessionsEnd};
-ghost use Rattle.program.specs.Orders.{check_text};
+ghost use Rattle.program.specs.Freely.{AreJoined, ArePrinted, AreServed, HasPlayed, IsAmong, IsFaultOf, SessionsEnd, check_text};
 
 use crate::fault::Fault;
 use crate::free::seat::Seat;
 use crate::free::sinks::Sinks;
-use crate::ordering::append_check;
 use history::base::Base;
+use ordering::append_check;
 use pass::token::Pass;
 use pass::word::{FirstSeat, HistoryWord, Naming};
 use schema::catalog::Catalog;
