@@ -7,6 +7,7 @@
 use command_check::words::check_words;
 use command_draw::words::draw_words;
 use command_explore::words::explore_words;
+use command_prompt::words::prompt_words;
 use command_shell::words::shell_words;
 use command_transcript::words::transcript_words;
 use command_why::words::why_words;
@@ -25,7 +26,7 @@ use std::{env, io};
 
 // What the help tells of the commands that have their words to themselves.
 const OTHER_COMMANDS: &str = "Commands with a help of their own (pgserial COMMAND --help):
-  shell    Answer lines at once, for a program that sends them through pipes
+  shell    Answer lines at once: of a person at a terminal, or of a program through pipes
   explore  Do a script in every interleaving of its sessions, and count what comes of it
   check    Tell whether some serial order explains a recorded transcript
   draw     Draw a script's run as a picture
@@ -50,7 +51,7 @@ fn lend<'w>(rt: &HostRuntime, words: &'w [String]) -> io::Result<Vec<&'w str>> {
     Ok(lent)
 }
 
-// How the program ends where its words can't be had: memory was wanting for them, or one isn't text.
+// How the program ends where its words can't be had: there was no memory for them, or one isn't text.
 fn end_without_words(rt: &HostRuntime, error: &io::Error) -> ExitCode {
     if error.kind() == ErrorKind::OutOfMemory {
         let _ = eprintln!(rt; "script line 0");
@@ -69,7 +70,24 @@ fn greet(rt: &HostRuntime, words: &[&str]) {
     }
 }
 
-// Answers the lines of standard input.
+// Standard output at a terminal, on which each answer is looked at by itself: a prompt stands before it.
+#[derive(Drop)]
+struct Answers<'r> {
+    rt: &'r HostRuntime,
+}
+
+impl<'r> Write for Answers<'r> {
+    fn write(&mut self, buf: &[u8]) -> io::Result<usize> {
+        NamingOutput::new(self.rt).write_all(buf)?;
+        Ok(buf.len())
+    }
+
+    fn flush(&mut self) -> io::Result<()> {
+        self.rt.stdout().flush()
+    }
+}
+
+// Answers the lines of standard input: at a terminal, or through pipes.
 fn shell<R: Threads + Wait + Sync, W: Write, E: Write>(
     machine: &Machine<'_, HostFiles<'_>, R, Global>,
     words: &[&str],
@@ -81,6 +99,10 @@ fn shell<R: Threads + Wait + Sync, W: Write, E: Write>(
         let _ = writeln!(err, "script line 0");
         return 1;
     };
+    if rt.stdin().is_terminal() && rt.stdout().is_terminal() {
+        let mut streams = Streams::new(reader, Answers { rt });
+        return prompt_words(machine, words, rt, &mut streams, out, err);
+    }
     let mut streams = Streams::new(reader, rt.stdout());
     shell_words(machine, words, &mut streams, out, err)
 }

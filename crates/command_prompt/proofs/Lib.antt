@@ -1,0 +1,2 @@
+mod DrawnLemmas
+mod WordsLemmas
