@@ -80,7 +80,7 @@ fn show_help<W: Write, E: Write>(help: &Error, out: &mut W, err: &mut E) -> u8
     }
 }
 
-// Tells a mistake in the words, or that memory was wanting for them; or shows the help that they ask for.
+// Tells a mistake in the words, or that there was no memory for them; or shows the help that they ask for.
 fn tell_words<W: Write, E: Write>(error: &Error, out: &mut W, err: &mut E) -> u8
     ensures { result ≤ 5 }
 {
@@ -96,7 +96,7 @@ fn tell_words<W: Write, E: Write>(error: &Error, out: &mut W, err: &mut E) -> u8
 
 /// Does what the words behind `pgserial check` ask for, over these files, and gives the exit status: 0 where some order
 /// explains what the transcript tells, 5 where none does, 4 where the steps ran out; 1 where the transcript or its dump
-/// is refused, or memory was wanting; 2 for mistaken words; 3 where a file or standard output failed. The order and
+/// is refused, or it was out of memory; 2 for mistaken words; 3 where a file or standard output failed. The order and
 /// the answer are written to `out`, why there is none to `err`.
 pub fn check_words<A, F, W, E, T>(
     rt: &T,

@@ -167,7 +167,7 @@ fn draw_file<A: Allocator + Copy, F: Files<A>, E: Write>(
 }
 
 /// Does what the words behind `pgserial draw` ask for, and gives the exit status: 0 where the picture
-/// was written; 1 where the script or its dump is refused, or memory was wanting; 2 for mistaken words; 3 where a file or
+/// was written; 1 where the script or its dump is refused, or it was out of memory; 2 for mistaken words; 3 where a file or
 /// standard output failed. The file of the picture is written whole, or stays as it was.
 pub fn draw_words<A, F, W, E, T>(
     machine: &Machine<'_, F, T, A>,

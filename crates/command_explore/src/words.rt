@@ -106,7 +106,7 @@ where
 
 /// Does what the words behind `pgserial explore` ask for, over these files, and gives the exit status: 0 where every
 /// schedule that was asked for was run; 1 where the script or its dump is refused, there are more schedules than may be
-/// run, or memory was wanting; 2 for mistaken words; 3 where a file or standard output failed.
+/// run, or it was out of memory; 2 for mistaken words; 3 where a file or standard output failed.
 pub fn explore_words<A, F, W, E, T>(
     machine: &Machine<'_, F, T, A>,
     words: &[&str],

@@ -112,7 +112,7 @@ where
 }
 
 /// Does what the words behind `pgserial run` ask for, `--why` among them, and gives the exit status, as `run` does: 0
-/// where it was done, refused statements included; 1 where the script or its dump is refused, or memory was wanting; 2
+/// where it was done, refused statements included; 1 where the script or its dump is refused, or it was out of memory; 2
 /// for mistaken words; 3 where a file or standard output failed.
 pub fn why_words<A, F, W, E, T>(
     machine: &Machine<'_, F, T, A>,

@@ -43,7 +43,7 @@ turns_of (x ∷ xs) = Hears x.heard x.line ∷ Told x.text ∷ turns_of xs
 abbrev pub IsUnanswered : List Turn → Type 0
 IsUnanswered last = (h : Heard) × (line : List ℕ) × (last ≡ Hears h line ∷ [])
 
--- What stands behind the last answer where a conversation has ended so: nothing, or a line that has none, since memory was wanting for it, or since it couldn't be written.
+-- What stands behind the last answer where a conversation has ended so: nothing, or a line that has none, since there was no memory for it, or since it couldn't be written.
 abbrev pub IsEnded : End → List Turn → Type 0
 IsEnded Input last = last ≡ []
 IsEnded Quit last = last ≡ []

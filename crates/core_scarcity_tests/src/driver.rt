@@ -238,7 +238,7 @@ fn refused<A: Allocator + Copy>(
     (core, answer, made >= number)
 }
 
-// Whether the answer is want of memory.
+// Whether the answer is out of memory.
 fn is_out_of_memory(answer: &Result<String, Refusal>) -> bool {
     match answer {
         Ok(_) => false,
@@ -253,7 +253,7 @@ enum Found {
     Done,
     /// The call made as many, and did the same as ever: it can do without.
     Spared,
-    /// The call answered want of memory, and the core answers what comes later as if it had not been made.
+    /// The call answered out of memory, and the core answers what comes later as if it had not been made.
     Refused,
     /// None of these.
     Wrong,

@@ -1,5 +1,5 @@
 //! Tests alone: each request for memory of the core's calls, of a server's, of the audit's and of whole scripts is
-//! refused in turn. After a refusal the call has answered want of memory, the core is as it was, and the call repeated
+//! refused in turn. After a refusal the call has answered out of memory, the core is as it was, and the call repeated
 //! answers as it would have; a script goes on behind it, or ends.
 
 #![tactic(auto)]

@@ -157,7 +157,7 @@ fn part(
     Ok(text)
 }
 
-// What is printed of a line that was refused for want of memory.
+// What is printed of a line that was refused, out of memory.
 fn refused_line(ample: Global, script: Script<'_>, line: &str) -> Result<String, Refusal> {
     if script.command == "audit" {
         return Ok(String::new(ample));
@@ -168,7 +168,7 @@ fn refused_line(ample: Global, script: Script<'_>, line: &str) -> Result<String,
     }
 }
 
-// What is printed and dumped where a line was refused for want of memory: what is without it, and its refusal in its
+// What is printed and dumped where a line was refused, out of memory: what is without it, and its refusal in its
 // place. A DUMP that was refused may have written a beginning.
 fn without<R: Threads + Wait + Sync>(
     rt: &R,
@@ -200,7 +200,7 @@ fn without<R: Threads + Wait + Sync>(
     Ok(Likely { out, dumped })
 }
 
-// What may be printed and dumped where one line was refused for want of memory, for each line that may be.
+// What may be printed and dumped where one line was refused, out of memory, for each line that may be.
 fn all_without<R: Threads + Wait + Sync>(
     rt: &R,
     ample: Global,

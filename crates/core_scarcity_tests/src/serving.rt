@@ -166,7 +166,7 @@ where
     Ok(())
 }
 
-// A session's line is answered; one that is refused for want of memory is repeated.
+// A session's line is answered; one that is refused, out of memory, is repeated.
 fn answer_at_last<'w, J, A, R>(
     rt: &R,
     (memory, alloc): (&Memory, A),
@@ -239,7 +239,7 @@ where
 }
 
 // What is asked and answered where the script at a place is played on a server of this word; none where the opening is
-// refused for want of memory. The opening's tables are those of the word.
+// refused when out of memory. The opening's tables are those of the word.
 fn serve<J, A, R>(
     rt: &R,
     given: (&Memory, A),

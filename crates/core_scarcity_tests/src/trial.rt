@@ -43,7 +43,7 @@ impl<'r, R: Abort> Device for Keeping<'r, R> {
     }
 }
 
-/// Why there is no dump: the view's refusal, or want of memory.
+/// Why there is no dump: the view's refusal, or out of memory.
 pub fn refusal_of(fault: BackupFault) -> Refusal {
     match fault {
         BackupFault::View(refusal) => refusal,
@@ -84,7 +84,7 @@ impl Trial {
         made > 0
     }
 
-    /// What is refused for want of memory is to be repeated. A POLL and a ROLLBACK never are so refused.
+    /// What is refused, out of memory, is to be repeated. A POLL and a ROLLBACK never are so refused.
     pub fn repeat(&mut self, asked: &str, refusal: Refusal) -> Result<(), Refusal> {
         if refusal != Refusal::of_code(Code::OutOfMemory) {
             return Err(refusal);

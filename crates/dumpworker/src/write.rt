@@ -26,7 +26,7 @@ struct Lent<'a, W: Device> {
     device: &'a mut W,
 }
 
-// Writes the pieces of a plan. How it ended goes into the answer, which is want of memory at first.
+// Writes the pieces of a plan. How it ended goes into the answer, which is out of memory at first.
 fn write_pieces<'a, A, R, W, G, T, D>(
     rt: &T,
     alloc: A,

@@ -59,7 +59,7 @@ fn own_line<A: Allocator>(lines: &[Line<A>], place: usize, others: usize) -> Opt
     None
 }
 
-// Why memory was wanting for a step, where it was.
+// Why there was no memory for a step, where it was.
 fn want_of_memory<A: Allocator>(reply: &Reply<A>) -> Result<(), Refusal>
     ensures { OnOk result (reply.now ≢ AnyReply.Refused out_of_memory) }
 {

@@ -169,7 +169,7 @@ module _ {A : Type 0} where
 
   -- ---- legal histories
 
-  -- What may be asked of the core: a statement that is run fits the catalog, and no text was refused for want of memory.
+  -- What may be asked of the core: a statement that is run fits the catalog, and no text was refused when out of memory.
   abbrev pub Allowed : Catalog → Action A → Type 0
   Allowed c (Run q) = Fits c q
   Allowed c (Broken r) = r.code ≢ code.OutOfMemory

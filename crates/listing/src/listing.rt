@@ -114,7 +114,7 @@ fn append_outcomes<A: Allocator + Copy, S: Schedules<A>>(
 }
 
 /// What is printed of the outcomes of schedules; with the order of each one's first schedule, where orders are to be
-/// shown. Its only refusal is for want of memory.
+/// shown. Its only refusal is out of memory.
 pub fn listing_text<A: Allocator + Copy, S: Schedules<A>>(
     alloc: A,
     heading: Heading,

@@ -11,7 +11,7 @@ use Rattle.script.specs.Printing.{reply_text}
 use Rattle.explain.specs.Remarks.{AreRemarks}
 
 module _ {A : Type 0} where
-  -- memory was wanting to parse a text, before there was an event: the history is as it was
+  -- there was no memory to parse a text, before there was an event: the history is as it was
   abbrev pub IsUnread : Recorded A → Recorded A → Request A → Reply A → Type 0
   IsUnread h k q r = (is_text q ≡ true) × (r ≡ Refused out_of_memory) × (k ≡ h)
 

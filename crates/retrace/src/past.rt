@@ -283,8 +283,8 @@ fn runs_of<A: Allocator>(past: Past<A>) -> Vec<Run<A>, A>
     past.runs
 }
 
-/// What the records of a history tell of its transactions, by their numbers. It is refused only for
-/// want of memory. A transaction that may write has a copy of the tables until it ends.
+/// What the records of a history tell of its transactions, by their numbers. It is refused only when
+/// out of memory. A transaction that may write has a copy of the tables until it ends.
 pub fn retrace<A: Allocator + Copy>(
     alloc: A,
     history: &History<A>,

@@ -88,7 +88,7 @@ impl<A: Allocator> Sample<A> {
         Sample { lines, seed, count }
     }
 
-    /// The interleaving that is drawn with a number. Its only refusal is for want of memory.
+    /// The interleaving that is drawn with a number. Its only refusal is out of memory.
     pub fn order(&self, alloc: A, number: u64) -> Result<Vec<usize, A>, AllocError>
         ensures drawn { IfOk result (λ order. order.items ≡ drawn self.now number) }
         ensures interleaving { IfOk result (λ order. IsInterleaving self.now.lines order.items) }

@@ -64,7 +64,7 @@ fn is_dumped_as<A: Allocator + Copy + Send + Sync, R: Abort + Threads + Wait + S
     Ok(text.as_slice() == dump.as_bytes())
 }
 
-// Refuses one request of workers that read a dump. Whether they made as many; and whether they answered want of memory:
+// Refuses one request of workers that read a dump. Whether they made as many; and whether they answered out of memory:
 // where only a worker wasn't started, the others do its work.
 fn refuse_workers<A: Allocator + Copy + Send + Sync, R: Abort + Threads + Wait + Sync>(
     rt: &R,

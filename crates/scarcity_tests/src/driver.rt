@@ -65,7 +65,7 @@ fn refused<C: Call>(
     (answer, memory.requests().wrapping_sub(start))
 }
 
-/// Whether it is want of memory.
+/// Whether it is out of memory.
 pub fn is_out_of_memory<T>(answer: &Result<T, Refusal>) -> bool {
     match answer {
         Ok(_) => false,
@@ -78,7 +78,7 @@ pub fn is_out_of_memory<T>(answer: &Result<T, Refusal>) -> bool {
 enum Found {
     /// It made fewer requests, and did the same as ever.
     Done,
-    /// It answered want of memory and left all as it was, and did the same as ever when it was repeated.
+    /// It answered out of memory and left all as it was, and did the same as ever when it was repeated.
     Refused,
     /// It did the same as ever without what was refused.
     Spared,
@@ -86,7 +86,7 @@ enum Found {
     Wrong,
 }
 
-// Refuses one request of the call, which does the same as ever or answers want of memory.
+// Refuses one request of the call, which does the same as ever or answers out of memory.
 fn refuse<C: Call>(memory: &Memory, call: &C, number: u64, wanted: &str) -> Result<Found, Refusal> {
     let alloc = memory.inner;
     let mut lent = call.lend()?;
@@ -113,7 +113,7 @@ fn refuse<C: Call>(memory: &Memory, call: &C, number: u64, wanted: &str) -> Resu
     })
 }
 
-/// How many requests of a call were refused one by one: those without which it answers want of memory, and those
+/// How many requests of a call were refused one by one: those without which it answers out of memory, and those
 /// without which it does the same.
 #[derive(Clone, Copy, Debug, PartialEq, Eq)]
 pub struct Requests {
@@ -122,7 +122,7 @@ pub struct Requests {
 }
 
 /// Refuses each request of a call in turn, from the first until none is left, on what it is lent anew each time.
-/// After want of memory what it was lent is as it was, and the call repeated does what it does without the refusal.
+/// After out of memory what it was lent is as it was, and the call repeated does what it does without the refusal.
 pub fn refuse_each<C: Call>(
     rt: &impl Abort,
     memory: &Memory,

@@ -144,7 +144,7 @@ pub fn dumped<A: Allocator + Copy + Send + Sync, R: Abort + Threads + Wait + Syn
     }
 }
 
-// Refuses one request of a dump. Whether it made as many; if so it has answered want of memory, and else the text.
+// Refuses one request of a dump. Whether it made as many; if so it has answered out of memory, and else the text.
 fn refuse_dump<A: Allocator + Copy + Send + Sync, R: Abort + Threads + Wait + Sync>(
     rt: &R,
     (memory, alloc): (&Memory, A),

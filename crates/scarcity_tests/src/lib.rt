@@ -1,5 +1,5 @@
 //! Tests alone: each request for memory of a call is refused in turn. After a refusal the call has answered
-//! want of memory, what it was lent is as it was, and the call repeated answers as it would have.
+//! out of memory, what it was lent is as it was, and the call repeated answers as it would have.
 
 #![tactic(auto)]
 

@@ -32,6 +32,6 @@ module _ {A : Type 0} where
 abbrev pub IsToldBy : ℕ → Result (Unit {0}) Fault → Option (List ℕ) → Option (List ℕ) → Type 0
 IsToldBy n done before after = (f : Fault) × (n ≡ status f) × (IsFileFault (codes "-") f ⊎ ((done ≡ Err f) × Keeps before after))
 
--- No script was read of a path, of which this is known: its file has failed, or memory was wanting, or what it has is none, told by its first faulty line.
+-- No script was read of a path, of which this is known: its file has failed, or it was out of memory, or what it has is none, told by its first faulty line.
 abbrev pub IsNoScript : (A : Type 0) → Option (List ℕ) → List ℕ → Fault → Type 0
 IsNoScript A known path f = (f ≡ out_of_memory) ⊎ IsFileFault path f ⊎ ((bytes : List ℕ) × (n : ℕ) × IsAllOf known bytes × (said {A = A} InOrder bytes ≡ Err n) × (f ≡ fault.Script n))

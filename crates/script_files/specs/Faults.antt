@@ -26,15 +26,15 @@ abbrev pub IsFileFault : List ℕ → Fault → Type 0
 IsFileFault path (fault.Device failed) = failed.now ≡ path
 IsFileFault path _ = ⊥
 
--- these bytes are no dump: its first faulty line, with its code; or memory was wanting
+-- these bytes are no dump: its first faulty line, with its code; or it was out of memory
 abbrev pub IsUnread : (A : Type 0) → List ℕ → Fault → Type 0
 IsUnread A bytes f = (f ≡ dump_out_of_memory) ⊎ ((e : RestoreFault) × (read_dump {A = A} bytes ≡ Err e) × (f ≡ fault.Dump e.line e.code))
 
--- The dump of a path, of which this is known, wasn't read: its file has failed, or it is faulty, or memory was wanting.
+-- The dump of a path, of which this is known, wasn't read: its file has failed, or it is faulty, or it was out of memory.
 abbrev pub IsUnopened : (A : Type 0) → Option (List ℕ) → List ℕ → Fault → Type 0
 IsUnopened A known path f = (f ≡ dump_out_of_memory) ⊎ IsFileFault path f ⊎ ((bytes : List ℕ) × IsAllOf known bytes × IsUnread A bytes f)
 
--- Why a script hasn't begun: its dump wasn't read, or memory was wanting, or there is to be room for no event.
+-- Why a script hasn't begun: its dump wasn't read, or it was out of memory, or there is to be room for no event.
 abbrev pub IsUnbegun : (A : Type 0) → (List ℕ → Option (List ℕ)) → Option (List ℕ) → Fault → Type 0
 IsUnbegun A held None f = f ≡ out_of_memory
 IsUnbegun A held (Some path) f = (f ≡ out_of_memory) ⊎ IsUnopened A (held path) path f

@@ -21,7 +21,7 @@ pub enum Fault<'p> {
     Device(&'p str),
 }
 
-/// Tells a fault in a line, and behind it for a person that memory was wanting, or why a file has failed, where that is
+/// Tells a fault in a line, and behind it for a person that it was out of memory, or why a file has failed, where that is
 /// known; and gives the exit status.
 pub fn tell<E: Write>(fault: &Fault<'_>, reason: Option<&str>, err: &mut E) -> u8
     ensures { result ≡ spec.status fault.now }

@@ -19,7 +19,7 @@ fn show_help<W: Write, E: Write>(help: &Error, out: &mut W, err: &mut E) -> u8
     }
 }
 
-/// Tells a mistake in the words of a command line, or that memory was wanting for them; or shows the help that they ask
+/// Tells a mistake in the words of a command line, or that there was no memory for them; or shows the help that they ask
 /// for. The exit status.
 pub fn tell_words<W: Write, E: Write>(error: &Error, out: &mut W, err: &mut E) -> u8
     ensures mistake { IsMistake (kind_of error.now) → result ≡ 2 }

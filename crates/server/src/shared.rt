@@ -141,7 +141,7 @@ impl<'w, J: Naming<A>, A: Allocator> Server<'w, J, A> {
         Server::on(alloc, word, first, core, sessions)
     }
 
-    // A server on a core of no events since its opening; or want of memory, and the core back.
+    // A server on a core of no events since its opening; or out of memory, and the core back.
     fn on(
         alloc: A,
         word: &'w HistoryWord<A>,
@@ -175,7 +175,7 @@ impl<'w, J: Naming<A>, A: Allocator> Server<'w, J, A> {
     }
 
     /// Does one event of the pass's session. A text is parsed before the lock is taken, and a SELECT
-    /// evaluated while it is free. The reply is recorded, but for want of memory (53200) and a full
+    /// evaluated while it is free. The reply is recorded, but when out of memory (53200) or on a full
     /// history (54000).
     pub fn call<R: Wait>(
         &self,

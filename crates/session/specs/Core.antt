@@ -57,7 +57,7 @@ module _ {A : Type 0} where
   HasRoom h = length h.records < h.most
 
   -- The action of session s was answered with r, and the history h has become k: the answer of the definitions, recorded;
-  -- or a full history or, where the action takes memory, want of memory, and nothing has changed.
+  -- or the history is full or, where the action takes memory, there is none, and nothing has changed.
   abbrev pub IsStep : Recorded A → Recorded A → ℕ → Action A → Reply A → Type 0
   IsStep h k s a r =
       HasRoom h × (r ≡ answer h.opening h.records s a) × (k ≡ recorded h s a r)

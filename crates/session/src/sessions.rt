@@ -378,7 +378,7 @@ impl<A: Allocator> Core<A> {
 
     /// A core that goes on, for `max_events` events, from the tables and the numbers that this one
     /// has come to: the history before is given up. Refused while a session has a transaction
-    /// (55000), for no events or more than can be counted (54000), or for want of memory; then the
+    /// (55000), for no events or more than can be counted (54000), or out of memory; then the
     /// core comes back as it was.
     pub fn checkpoint(self, alloc: A, max_events: u32) -> Result<Core<A>, (Core<A>, Refusal)>
     where

@@ -81,7 +81,7 @@ pub struct TranscriptFault {
     pub reason: Reason,
 }
 
-/// Why something is refused: for want of memory, or for this reason.
+/// Why something is refused: when out of memory, or for this reason.
 pub(crate) fn reason_of(refusal: Refusal, otherwise: Reason) -> Reason {
     match refusal.code {
         Code::OutOfMemory => Reason::Memory,
