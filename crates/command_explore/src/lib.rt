@@ -5,7 +5,7 @@
 
 mod exploring;
 mod fault;
-mod ordering;
+mod one_schedule;
 mod setup;
 mod task;
 pub mod words;

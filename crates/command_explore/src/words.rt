@@ -4,7 +4,7 @@ ghost use Rattle.std.specs.Prelude.{◌≡◌, ◌≤◌};
 
 use crate::exploring::explored_text;
 use crate::fault::{Fault, tell};
-use crate::ordering::ordered_text;
+use crate::one_schedule::ordered_text;
 use crate::setup::set_up;
 use crate::task::{Task, read_words};
 use program::files::Files;
