@@ -34,6 +34,7 @@ undrawn_text = codes "there is nothing to draw: no session has begun\n"
 abbrev pub TellsDrawing : {Out : Type 0} → (Out → List ℕ) → (Out → List ℕ) → List ℕ → List ℕ → Type 0
 TellsDrawing path_of kept path text = ((bytes : List ℕ) × IsWritten path_of kept path bytes × (text ≡ drawn_text path)) ⊎ (text ≡ unwritten_text path)
 
+-- the same of a history; where no session has begun there is nothing to draw
 abbrev pub TellsOn : {A Out : Type 0} → (Out → List ℕ) → (Out → List ℕ) → Option (Recorded A) → List ℕ → List ℕ → Type 0
 TellsOn path_of kept None path text = text ≡ undrawn_text
 TellsOn path_of kept (Some h) path text = TellsDrawing path_of kept path text
