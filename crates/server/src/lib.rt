@@ -3,6 +3,7 @@
 #![tactic(auto)]
 
 mod doing;
+mod entrance;
 mod hold;
 mod locked;
 mod reading;

@@ -1,4 +1,4 @@
-//! SELECTs, which are evaluated while the lock is free.
+//! SELECTs, which are evaluated while the lock is free where they may read many rows.
 
 ghost use Rattle.std.specs.Prelude.{◌≡◌, true, false, Ok, IfOk, IfErr};
 ghost use Rattle.value.specs.Refusals.{out_of_memory};
@@ -10,6 +10,7 @@ ghost use Rattle.pass.specs.Knowing.{HasSeen};
 ghost use Rattle.request.specs.Requests.{asked};
 ghost use Rattle.server.specs.Calls.{IsCall};
 
+use crate::entrance::go_on;
 use crate::hold::FirstHold;
 use crate::shared::Server;
 use dumpplan::Gate;
@@ -20,6 +21,7 @@ use request::request::Request;
 use schema::catalog::Catalog;
 use serial::laws::{readers_are_sound, readers_stay};
 use session::reader::SessionReader;
+use statement::condition::{Comparison, Condition};
 use statement::evaluate::{evaluate, sound_tables_are_held};
 use statement::reply::Reply;
 use statement::statement::Statement;
@@ -27,7 +29,21 @@ use std::alloc::Allocator;
 use std::sync::Wait;
 use value::refusal::Refusal;
 
-// The statement that an action runs, where it only reads; else the action.
+// Whether a condition names the key of a row.
+fn names_a_row<A: Allocator>(condition: &Condition<A>) -> bool {
+    matches!(condition, Condition::Compare(0, Comparison::Equal, _))
+}
+
+// Whether a statement is a SELECT that names the one row it reads. Its evaluation takes less than a second hold of the
+// lock.
+fn selects_one_row<A: Allocator>(statement: &Statement<A>) -> bool {
+    match statement {
+        Statement::Select(_, _, conditions) => conditions.as_slice().iter().any(names_a_row),
+        _ => false,
+    }
+}
+
+// The statement that an action runs, where it only reads, and maybe many rows; else the action.
 fn reading_of<A: Allocator>(action: Action<A>) -> Result<Statement<A>, Action<A>>
     ensures ok { IfOk result (λ statement. action ≡ Action.Run statement) }
     ensures reads { IfOk result (λ statement. writes statement ≡ false) }
@@ -35,7 +51,7 @@ fn reading_of<A: Allocator>(action: Action<A>) -> Result<Statement<A>, Action<A>
 {
     match action {
         Action::Run(statement) => {
-            if statement.writes() {
+            if statement.writes() || selects_one_row(&statement) {
                 Err(Action::Run(statement))
             } else {
                 Ok(statement)
@@ -65,7 +81,7 @@ fn found_on<A: Allocator + Copy>(
 }
 
 impl<'w, J: Naming<A>, A: Allocator> Server<'w, J, A> {
-    /// `call`, with a gate that is asked before a SELECT is evaluated, as piece 1, and after it.
+    /// `call`, with a gate that is asked before a SELECT is evaluated while the lock is free, as piece 1, and after it.
     pub fn call_gated<R: Wait, G: Gate>(
         &self,
         rt: &R,
@@ -129,11 +145,11 @@ impl<'w, J: Naming<A>, A: Allocator> Server<'w, J, A> {
     {
         // The first hold ends with this line. A `match` on the call itself would hold the lock to the
         // end of its arms, and `read_on` would wait for it for ever.
-        let held = self.locked.lock(rt).begin_read(alloc, pass, statement);
+        let held = go_on(rt, &self.locked).begin_read(alloc, pass, statement);
         match held {
             FirstHold::Replied(reply) => reply,
             FirstHold::Reads(statement, reader) => {
-                self.read_on(rt, alloc, pass, statement, &reader, gate)
+                self.read_on(rt, alloc, pass, statement, reader, gate)
             }
         }
     }
@@ -145,14 +161,14 @@ impl<'w, J: Naming<A>, A: Allocator> Server<'w, J, A> {
         alloc: A,
         pass: &mut Pass<'w, J, A>,
         statement: Statement<A>,
-        reader: &SessionReader<A>,
+        reader: SessionReader<A>,
         gate: &G,
     ) -> Reply<A>
     where
         A: Copy,
         requires fits { Fits J.opening.catalog statement }
         requires reads { writes statement ≡ false }
-        requires read { reader_answer J.opening pass.old.seen pass.old.session ≡ Ok reader.now }
+        requires read { reader_answer J.opening pass.old.seen pass.old.session ≡ Ok reader }
         ensures seen { HasSeen J.opening pass.old pass.new }
         ensures call { IsCall J.most pass.old (Action.Run statement) result pass.new }
     {
@@ -161,15 +177,14 @@ impl<'w, J: Naming<A>, A: Allocator> Server<'w, J, A> {
         readers_are_sound::<A>();
         readers_stay::<A>();
         gate.before(1);
-        let found = found_on(alloc, &self.catalog, &statement, reader);
+        let found = found_on(alloc, &self.catalog, &statement, &reader);
+        // While it is kept, a COMMIT copies the pages that it changes.
+        drop(reader);
         gate.after(1);
         // The second hold. The gate was asked and the statement evaluated before it: what they wait
         // for may need the lock.
         match found {
-            Ok(reply) => self
-                .locked
-                .lock(rt)
-                .finish_read(alloc, pass, statement, reply),
+            Ok(reply) => go_on(rt, &self.locked).finish_read(alloc, pass, statement, reply),
             Err(refusal) => Reply::Refused(refusal),
         }
     }

@@ -9,6 +9,7 @@ ghost use Rattle.pass.specs.Knowing.{HasLooked, HasSeen};
 ghost use Rattle.request.specs.Requests.{asked};
 ghost use Rattle.server.specs.Calls.{AreOpened, HasLeft, HasPolled, IsCall, IsClosed, is_no_count, may_end};
 
+use crate::entrance::{Entrance, go_on};
 use crate::locked::Locked;
 use dumpplan::NoGate;
 use history::event::Action;
@@ -22,7 +23,7 @@ use schema::tables::Tables;
 use session::sessions::Core;
 use statement::reply::Reply;
 use std::alloc::{AllocError, Allocator, Global};
-use std::sync::{Condvar, Mutex, Wait};
+use std::sync::{Condvar, Mutex, MutexGuard, Wait};
 use value::refusal::{Code, Refusal};
 
 /// The greatest number of sessions.
@@ -33,6 +34,7 @@ pub const MOST_SESSIONS: u32 = 64;
 #[derive(Drop)]
 pub struct Server<'w, J: Naming<A>, A: Allocator = Global> {
     pub(crate) locked: Mutex<Locked<'w, J, A>>,
+    entrance: Entrance,
     ended: Condvar,
     pub(crate) catalog: Catalog<A>,
     ghost catalog_is: { catalog ≡ J.opening.catalog },
@@ -168,6 +170,7 @@ impl<'w, J: Naming<A>, A: Allocator> Server<'w, J, A> {
         };
         let server = Server {
             locked: Mutex::new(Locked::new(core, keeper)),
+            entrance: Entrance::new(sessions),
             ended: Condvar::new(),
             catalog,
         };
@@ -175,8 +178,8 @@ impl<'w, J: Naming<A>, A: Allocator> Server<'w, J, A> {
     }
 
     /// Does one event of the pass's session. A text is parsed before the lock is taken, and a SELECT
-    /// evaluated while it is free. The reply is recorded, but when out of memory (53200) or on a full
-    /// history (54000).
+    /// evaluated while it is free, but where it reads one row. The reply is recorded, but when out of
+    /// memory (53200) or on a full history (54000).
     pub fn call<R: Wait>(
         &self,
         rt: &R,
@@ -190,6 +193,15 @@ impl<'w, J: Naming<A>, A: Allocator> Server<'w, J, A> {
         ensures call { IsCall J.most pass.old (asked J.opening.catalog request.now) result pass.new }
     {
         self.call_gated(rt, alloc, pass, request, &NoGate)
+    }
+
+    // The lock, for one event.
+    fn hold<R: Wait>(&self, rt: &R, begins: bool) -> MutexGuard<'_, Locked<'w, J, A>> {
+        if begins {
+            self.entrance.enter(rt, &self.locked)
+        } else {
+            go_on(rt, &self.locked)
+        }
     }
 
     // Does one event under one hold of the lock, and wakes the sessions that wait for it.
@@ -208,7 +220,8 @@ impl<'w, J: Naming<A>, A: Allocator> Server<'w, J, A> {
     {
         // The hold ends with this line: a session that is woken finds the lock free. A `match` on the
         // call itself would hold it through the arms, in which no call of the server would return.
-        let reply = self.locked.lock(rt).call(alloc, pass, action);
+        let begins = matches!(action, Action::Begin(_));
+        let reply = self.hold(rt, begins).call(alloc, pass, action);
         if may_end(&reply) {
             self.ended.notify_all();
         }
@@ -283,6 +296,7 @@ impl<'w, J: Naming<A>, A: Allocator> Server<'w, J, A> {
     {
         let Server {
             locked,
+            entrance: _,
             ended: _,
             catalog: _,
         } = self;

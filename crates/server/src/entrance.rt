@@ -1,0 +1,82 @@
+//! How a session comes by the lock where another has it.
+
+use std::hint::spin_loop;
+use std::sync::atomic::{AtomicU64, Ordering};
+use std::sync::{Mutex, MutexGuard, Wait};
+use std::time::Duration;
+
+// How often a session looks whether the lock is free before it sleeps until that is told. So many looks take longer
+// than most holds, and a sleep that is told of its end costs whoever has the lock as much as some events.
+const LOOKS: u32 = 2_048;
+
+// How often a session finds the lock taken as it begins a transaction before sessions give way there.
+const MOST_CROWDED: u64 = 256;
+
+// How often a session gives way before it waits as any other.
+const MOST_NAPS: u32 = 100;
+
+// By how many microseconds a nap is longer than the one before it.
+const LONGER: u64 = 8;
+
+// How many microseconds a nap takes at most for each session, so that all of them together look as often, however many
+// there are.
+const LONGEST: u64 = 150;
+
+/// Where sessions begin transactions. Whoever finds the lock taken there gives way: it naps, and looks again. So a
+/// few sessions at a time are within a transaction, and each goes on for some events before another processor has
+/// what lies under the lock.
+#[derive(Drop)]
+pub(crate) struct Entrance {
+    sessions: u32,
+    // How often the lock was found taken.
+    crowded: AtomicU64,
+    // It stays 0: a sleep on it ends by its time.
+    still: AtomicU64,
+}
+
+impl Entrance {
+    /// The entrance of so many sessions.
+    pub(crate) fn new(sessions: u32) -> Entrance {
+        Entrance {
+            sessions,
+            crowded: AtomicU64::new(0),
+            still: AtomicU64::new(0),
+        }
+    }
+
+    // How long the next nap is; none at first, so that the sessions of a short script meet.
+    fn nap(&self) -> Option<Duration> {
+        let crowded = self.crowded.fetch_add(1, Ordering::Relaxed);
+        if crowded < MOST_CROWDED {
+            return None;
+        }
+        let longest = LONGEST * u64::from(self.sessions);
+        let nap = (crowded - MOST_CROWDED).saturating_mul(LONGER);
+        Some(Duration::from_micros(nap.min(longest)))
+    }
+
+    /// The lock, for a session that begins a transaction.
+    pub(crate) fn enter<'b, R: Wait, T>(&self, rt: &R, lock: &'b Mutex<T>) -> MutexGuard<'b, T> {
+        for _ in 0..MOST_NAPS {
+            if let Some(guard) = lock.try_lock() {
+                return guard;
+            }
+            let Some(nap) = self.nap() else {
+                return go_on(rt, lock);
+            };
+            self.still.park_timeout(rt, 0, nap);
+        }
+        go_on(rt, lock)
+    }
+}
+
+/// The lock, for a session in a transaction.
+pub(crate) fn go_on<'b, R: Wait, T>(rt: &R, lock: &'b Mutex<T>) -> MutexGuard<'b, T> {
+    for _ in 0..LOOKS {
+        if let Some(guard) = lock.try_lock() {
+            return guard;
+        }
+        spin_loop();
+    }
+    lock.lock(rt)
+}
