@@ -144,8 +144,25 @@ fn more_than(read: usize) -> usize
     if read < BATCH / 2 { read * 2 } else { BATCH }
 }
 
-// The next rows behind those of a batch.
-fn rows_behind<'r, R: RowsReader<A>, A: Allocator + Copy>(
+/// The first rows within a bound, as many as a walk reads at first.
+pub fn first_rows<'r, R: RowsReader<A>, A: Allocator>(
+    alloc: A,
+    reader: &'r R,
+    table: TableNo,
+    bound: Bound<&Key<A>>,
+) -> Result<Vec<&'r Row<A>, A>, Refusal>
+    requires { HasTable (R.tables reader.now) table }
+    ensures rows { IfOk result (λ rows. rows_to_come (rows_of (R.tables reader.now) table) (lent rows.items) 0 ≡
+        rows_within (rows_of (R.tables reader.now) table) bound.entry) }
+    ensures ordered { IsInKeyOrder (rows_of (R.tables reader.now) table) }
+    ensures err { IfErr result (λ e. e ≡ out_of_memory) }
+{
+    let rows = reader.next_rows(alloc, table, bound, FIRST)?;
+    Ok(rows)
+}
+
+/// The next rows behind those of a batch, up to twice as many; behind none, none.
+pub fn rows_behind<'r, R: RowsReader<A>, A: Allocator + Copy>(
     alloc: A,
     reader: &'r R,
     table: TableNo,
@@ -178,7 +195,7 @@ impl<'r, R: RowsReader<A>, A: Allocator + Copy> Walk<'r, R, A> {
         ensures ordered { IsInKeyOrder (rows_of (R.tables reader.now) table) }
         ensures err { IfErr result (λ e. e ≡ out_of_memory) }
     {
-        let batch = reader.next_rows(alloc, table, bound, FIRST)?;
+        let batch = first_rows(alloc, reader, table, bound)?;
         Ok(Walk {
             alloc,
             reader,

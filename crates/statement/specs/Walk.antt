@@ -1,7 +1,7 @@
 -- What evaluating a statement asks of the tables that it reads, and words for what it reads there.
-use Rattle.std.specs.Prelude.{◌≡◌, ◌<◌, length, Bool, true, false, not, ◌&&◌, Option, Some, None, List, [], ◌∷◌}
+use Rattle.std.specs.Prelude.{◌≡◌, ◌==◌, ◌<◌, length, Bool, true, false, not, ◌&&◌, Option, Some, None, List, [], ◌∷◌, ◌++◌}
 use Rattle.std.specs.Borrow.{Bor}
-use Rattle.std.specs.List.{list_all, All, AllByRecursion}
+use Rattle.std.specs.List.{list_all, filter, All, AllByRecursion}
 use Rattle.std.specs.declared.cmp.Ordering.TheVariants.{Equal}
 use Rattle.std.specs.FinMap.{is_sorted}
 use Rattle.value.specs.declared.value.Value.{Value}
@@ -10,9 +10,13 @@ use Rattle.schema.specs.Definition.{Column, Catalog}
 use Rattle.schema.specs.declared.row.Row.{Row}
 use Rattle.schema.specs.declared.tables.Tables.{Tables}
 use Rattle.schema.specs.Plain.{is_null, cells}
+use Rattle.schema.specs.Rows.{IsInKeyOrder}
+use Rattle.statement.specs.declared.condition.Comparison.{Comparison}
+use Rattle.statement.specs.declared.condition.Comparison.TheVariants as is
 use Rattle.statement.specs.declared.condition.Condition.{Condition}
+use Rattle.statement.specs.declared.condition.Condition.TheVariants.{Compare, Between}
 use Rattle.statement.specs.declared.reading.End.{End}
-use Rattle.statement.specs.declared.reading.End.TheVariants.{Closed}
+use Rattle.statement.specs.declared.reading.End.TheVariants.{Closed, Open}
 use Rattle.statement.specs.declared.statement.Projection.{Projection}
 use Rattle.statement.specs.declared.statement.Projection.TheVariants as shown
 use Rattle.statement.specs.Conditions.{satisfies}
@@ -26,7 +30,21 @@ abbrev pub listed : {T : Type 0} → Option T → List T
 listed None = []
 listed (Some x) = x ∷ []
 
+-- a key between two that compare so with a value compares so with it, too
+abbrev pub is_bound : Comparison → Bool
+is_bound is.Less = true
+is_bound is.LessOrEqual = true
+is_bound is.Greater = true
+is_bound is.GreaterOrEqual = true
+is_bound _ = false
+
 module _ {A : Type 0} where
+  -- a condition on the key that is met between two keys that meet it
+  abbrev pub bounds_key : Condition A → Bool
+  bounds_key (Compare n how v) = n == 0 && is_bound how
+  bounds_key (Between n low high) = n == 0
+  bounds_key _ = false
+
   -- ---- keys
 
   -- the keys from one value to another, both included; none where one is null
@@ -52,6 +70,10 @@ module _ {A : Type 0} where
     pub columns : HasColumns conditions row
     pub above : satisfies conditions row ≡ true → is_from low row.0 ≡ true
     pub below : satisfies conditions row ≡ true → is_to high row.0 ≡ true
+
+  -- no row behind these satisfies the conditions, where all that do are up to an upper end
+  abbrev pub NoneBehind : List (Condition A) → End A → List (Row A) → Type 0
+  NoneBehind conditions high rows = (more : List (Row A)) → IsInKeyOrder (rows ++ more) → AllByRecursion (λ row. IsWithin conditions Open high row) more → filter (satisfies conditions) more ≡ []
 
   -- A row has the columns of the conditions; and where it satisfies them, it has this key.
   pub record IsAt (conditions : List (Condition A)) (key : Value A) (row : Row A) : Type 0 where

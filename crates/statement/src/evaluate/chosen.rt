@@ -2,7 +2,7 @@
 
 ghost use Rattle.std.specs.Prelude.{◌≡◌, ◌++◌, [], ◌∷◌, true, false, IsTrue, map, filter, OnOk, IfOk, IfErr, IfSome};
 ghost use Rattle.std.specs.FinMap.{is_sorted};
-ghost use Rattle.std.specs.List.{AllByRecursion};
+ghost use Rattle.std.specs.List.{AllByRecursion, list_all};
 ghost use Rattle.std.specs.Option.{option_copied};
 ghost use Rattle.std.specs.declared.cmp.Ordering.TheVariants.{Equal};
 ghost use Rattle.value.specs.Order.{value_cmp};
@@ -10,19 +10,21 @@ ghost use Rattle.value.specs.Refusals.{out_of_memory};
 ghost use Rattle.value.specs.declared.value.Value.{Value as Datum};
 ghost use Rattle.schema.specs.Plain.{rows_of};
 ghost use Rattle.schema.specs.Rows.{HasTable, IsInKeyOrder, is_within};
+ghost use Rattle.schema.specs.Walking.{lent, rows_to_come};
 ghost use Rattle.statement.specs.Conditions.{satisfies, chosen};
 ghost use Rattle.statement.specs.Cover.{is_from, is_to};
 ghost use Rattle.statement.specs.Select.{HasColumns};
-ghost use Rattle.statement.specs.Walk.{AreReadable, IsWithin, IsAt, listed};
+ghost use Rattle.statement.specs.Walk.{AreReadable, IsWithin, IsAt, NoneBehind, bounds_key, is_bound, listed};
+ghost use Rattle.statement.specs.declared.reading.End.TheVariants.{Open};
 
-use crate::condition::Condition;
+use crate::condition::{Comparison, Condition};
 use crate::evaluate::rows::satisfies;
 use crate::interval::{Interval, intersection};
 use crate::reading::End;
 use schema::catalog::TableNo;
 use schema::reader::{Bound, SnapshotReader};
 use schema::row::Row;
-use schema::walk::{RowsReader, Walk};
+use schema::walk::{RowsReader, first_rows, rows_behind};
 use std::alloc::Allocator;
 use value::key::Key;
 use value::refusal::Refusal;
@@ -93,21 +95,107 @@ fn lower_bound<A: Allocator>(end: &End<A>) -> Bound<&Key<A>>
     }
 }
 
-// A walk over the rows that aren't below a lower end.
-fn walk_from<'r, A: Allocator + Copy, R: RowsReader<A>>(
+// The first rows that aren't below a lower end.
+fn rows_from<'r, A: Allocator + Copy, R: RowsReader<A>>(
     alloc: A,
     reader: &'r R,
     table: TableNo,
     end: &End<A>,
-) -> Result<Walk<'r, R, A>, Refusal>
+) -> Result<Vec<&'r Row<A>, A>, Refusal>
     requires { HasTable (R.tables reader.now) table }
-    ensures rows { IfOk result (λ walk. walk ≡
+    ensures rows { IfOk result (λ batch. rows_to_come (rows_of (R.tables reader.now) table) (lent batch.items) 0 ≡
         filter (λ row. is_from end.now row.0) (rows_of (R.tables reader.now) table)) }
     ensures ordered { IsInKeyOrder (rows_of (R.tables reader.now) table) }
     ensures err { IfErr result (λ e. e ≡ out_of_memory) }
 {
     let bound = lower_bound(end);
-    Walk::within(alloc, reader, table, bound)
+    first_rows(alloc, reader, table, bound)
+}
+
+// Whether a comparison is met between two that meet it.
+fn is_bound(comparison: Comparison) -> bool
+    ensures { result ≡ is_bound comparison }
+{
+    match comparison {
+        Comparison::Equal | Comparison::NotEqual => false,
+        Comparison::Less
+        | Comparison::LessOrEqual
+        | Comparison::Greater
+        | Comparison::GreaterOrEqual => true,
+    }
+}
+
+// Whether a condition on the key is met between two keys that meet it.
+fn bounds_key<A: Allocator>(condition: &Condition<A>) -> bool
+    ensures { result ≡ bounds_key condition.now }
+{
+    match condition {
+        Condition::Compare(column, comparison, _) => *column == 0 && is_bound(*comparison),
+        Condition::Between(column, _, _) => *column == 0,
+        Condition::IsNull(_) | Condition::IsNotNull(_) => false,
+    }
+}
+
+// Whether all conditions are such ones.
+fn bound_key<A: Allocator>(conditions: &[Condition<A>]) -> bool
+    ensures { result ≡ list_all bounds_key conditions.now }
+{
+    for condition in conditions {
+        if !bounds_key(condition) {
+            return false;
+        }
+    }
+    true
+}
+
+// Whether all rows of a batch are known to meet all conditions: these bound the key, and the first row and the last meet
+// them.
+fn all_meet<A: Allocator>(conditions: &[Condition<A>], batch: &[&Row<A>]) -> bool
+    requires columns { AllByRecursion (λ row. HasColumns conditions.now row) (lent batch.now) }
+    requires ordered { IsInKeyOrder (lent batch.now) }
+    ensures { IsTrue result → filter (satisfies conditions.now) (lent batch.now) ≡ lent batch.now }
+{
+    if !bound_key(conditions) {
+        return false;
+    }
+    let Some(first) = batch.first() else {
+        return false;
+    };
+    if !satisfies(conditions, first) {
+        return false;
+    }
+    match batch.last() {
+        Some(last) => satisfies(conditions, last),
+        None => false,
+    }
+}
+
+// Adds the rows of a batch that meet all conditions, and says whether one is known to be above an upper end: then no row
+// behind the batch meets them.
+fn push_batch<'r, A: Allocator>(
+    conditions: &[Condition<A>],
+    batch: &[&'r Row<A>],
+    high: &End<A>,
+    chosen: &mut Vec<&'r Row<A>, A>,
+) -> Result<bool, Refusal>
+    requires within { AllByRecursion (λ row. IsWithin conditions.now Open high.now row) (lent batch.now) }
+    requires ordered { IsInKeyOrder (lent batch.now) }
+    ensures ok { OnOk result (map (λ row. row.now) chosen.new.items ≡ map (λ row. row.now) chosen.old.items ++
+        filter (satisfies conditions.now) (lent batch.now)) }
+    ensures above { IfOk result (λ above. IsTrue above → NoneBehind conditions.now high.now (lent batch.now)) }
+    ensures err { IfErr result (λ e. e ≡ out_of_memory) }
+{
+    if all_meet(conditions, batch) {
+        chosen.extend_from_slice(batch)?;
+        return Ok(false);
+    }
+    for row in batch {
+        let is_chosen = push_chosen(conditions, row, chosen)?;
+        if is_above(is_chosen, high, row) {
+            return Ok(true);
+        }
+    }
+    Ok(false)
 }
 
 // The rows that satisfy the conditions, where all that do are between two ends.
@@ -127,12 +215,12 @@ fn chosen_between<'r, A: Allocator + Copy, R: RowsReader<A>>(
     ensures err { IfErr result (λ e. e ≡ out_of_memory) }
 {
     let mut chosen = Vec::new(alloc);
-    let mut walk = walk_from(alloc, reader, table, low)?;
-    while let Some(row) = walk.next()? {
-        let is_chosen = push_chosen(conditions, row, &mut chosen)?;
-        if is_above(is_chosen, high, row) {
+    let mut batch = rows_from(alloc, reader, table, low)?;
+    while !batch.is_empty() {
+        if push_batch(conditions, batch.as_slice(), high, &mut chosen)? {
             return Ok(chosen);
         }
+        batch = rows_behind(alloc, reader, table, batch.as_slice())?;
     }
     Ok(chosen)
 }
