@@ -126,11 +126,10 @@ fn answer<A: Allocator + Copy>(
     }
 }
 
-/// The opening of a core, as a text.
+/// The numbers that a core goes on from, as a text. Its tables are told by later events.
 pub fn opening_text<A: Allocator>(ample: Global, core: &Core<A>) -> Result<String, Refusal> {
-    let history = core.history();
-    let (base, tables) = (history.base(), history.tables());
-    Ok(format!(in ample; "{base:?} {tables:?}")?)
+    let base = core.history().base();
+    Ok(format!(in ample; "{base:?}")?)
 }
 
 fn checkpoint<A: Allocator + Copy>(

@@ -1,11 +1,13 @@
 //! A history: what a server opened with, and each event since with its reply.
 
 ghost use Rattle.std.specs.Prelude.{◌≡◌, ◌≢◌, ◌<◌, ◌≤◌, [], ◌∷◌, ◌++◌, List, length, IfOk, IfErr, IfSome, IfNone, OnOk, ◌==◌};
+ghost use Rattle.value.specs.Refusals.{out_of_memory};
 ghost use Rattle.history.specs.declared.event.Record.{Record as AnyRecord};
 ghost use Rattle.history.specs.Opening.{opening_refusal};
 
 use crate::base::Base;
 use crate::event::Record;
+use mvrows::view::View;
 use schema::catalog::Catalog;
 use schema::tables::Tables;
 use std::alloc::{Allocator, Global};
@@ -17,14 +19,14 @@ use value::refusal::{Code, Refusal};
 #[derive(Drop)]
 pub struct History<A: Allocator = Global> {
     catalog: Catalog<A>,
-    tables: Tables<A>,
+    tables: View<A>,
     base: Base,
     records: Vec<Record<A>, A>,
     most: u32,
 }
 
 impl<A: Allocator> Model for History<A> {
-    ghost use Rattle.std.specs.Prelude.{◌≤◌, length, vec_capacity};
+    ghost use Rattle.std.specs.Prelude.{◌≡◌, ◌≤◌, length, vec_capacity};
     ghost use Rattle.history.specs.Opening.{Recorded};
 
     ghost Value = { Recorded A };
@@ -36,19 +38,21 @@ impl<A: Allocator> Model for History<A> {
       most = h.most;
     } };
 
-    ghost invariant = { λ h. (length h.records.items ≤ h.most) × (h.most ≤ vec_capacity h.records) };
+    ghost invariant = { λ h. (length h.catalog ≡ length h.tables) × (length h.records.items ≤ h.most) × (h.most ≤ vec_capacity h.records) };
 }
 
 impl<A: Allocator> History<A> {
     /// The history of nothing yet, with room for `max_events` events; refused with 54000 where that
-    /// is none, and only then.
+    /// is none, and only then. It keeps the opening tables as a view, so that what they share with
+    /// the versions of their rows takes memory once.
     pub fn open(
         alloc: A,
         catalog: Catalog<A>,
-        tables: Tables<A>,
+        tables: View<A>,
         base: Base,
         max_events: u32,
     ) -> Result<History<A>, Refusal>
+        requires { length catalog ≡ length tables }
         ensures ok { IfOk result (λ made. made ≡ record {
           opening = record { catalog = catalog; tables = tables; base = base };
           records = [];
@@ -99,11 +103,14 @@ impl<A: Allocator> History<A> {
         &self.catalog
     }
 
-    /// The opening tables.
-    pub fn tables(&self) -> &Tables<A>
-        ensures { result.now ≡ self.now.opening.tables }
+    /// The opening tables, copied.
+    pub fn tables(&self, alloc: A) -> Result<Tables<A>, Refusal>
+    where
+        A: Copy,
+        ensures ok { IfOk result (λ tables. tables ≡ self.now.opening.tables) }
+        ensures err { IfErr result (λ e. e ≡ out_of_memory) }
     {
-        &self.tables
+        self.tables.tables(alloc, &self.catalog)
     }
 
     /// What was counted before this history.

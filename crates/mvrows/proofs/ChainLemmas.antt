@@ -1,5 +1,5 @@
 -- A key's versions as they are stored.
-use Rattle.std.proofs.Common.{suc, zero, ◌||◌, ◌≡◌, refl, sym, ap, subst, ◌∙◌, ℕ, ◌+◌, ◌<◌, ◌≤◌, Bool, true, false, cond, List, [], ◌∷◌, ◌++◌, take, drop, map, length, Option, Some, None, is_some, get_or, arith, append_assoc, ◌⊎◌, inl, inr}
+use Rattle.std.proofs.Common.{suc, zero, ◌||◌, ◌≡◌, refl, sym, ap, ◌∙◌, ℕ, ◌+◌, ◌<◌, ◌≤◌, Bool, true, false, cond, List, [], ◌∷◌, ◌++◌, take, drop, map, length, Option, Some, None, is_some, get_or, arith, append_assoc, ◌⊎◌, inl, inr}
 use Rattle.std.specs.Prelude.{nat_le, nat_lt, filter, find, slice_get}
 use Rattle.std.specs.List.{insert, remove, list_any}
 use Rattle.std.specs.Option.{option_map, option_map_or, option_and_then}

@@ -1,5 +1,5 @@
 -- A row that was kept without a list, in a list behind a newer version.
-use Rattle.std.proofs.Common.{◌≡◌, refl, sym, ap, ◌∙◌, true, true≢false, List, [], ◌∷◌, ◌++◌, map, Some}
+use Rattle.std.proofs.Common.{◌≡◌, sym, ap, ◌∙◌, true, true≢false, List, [], ◌∷◌, ◌++◌, map, Some}
 use Rattle.value.specs.declared.value.Value.{Value}
 use Rattle.mvrows.specs.declared.chain.Kept.{Kept}
 use Rattle.mvrows.specs.declared.chain.Kept.TheVariants.{One, Listed}

@@ -11,6 +11,7 @@ use Rattle.value.specs.declared.value.Value.{Value}
 use Rattle.value.specs.declared.key.Key.{Key}
 use Rattle.schema.specs.declared.row.Row.{Row}
 use Rattle.schema.specs.declared.reader.Bound.{Bound}
+use Rattle.schema.specs.Paged.{joined as all_of}
 use Rattle.schema.specs.Rows.{next_row}
 use Rattle.mvrows.specs.Versions.{Version, VersionedRows, IsInOrder, shown_rows}
 use Rattle.mvrows.specs.Installing.{opened_row, first_version, put_version}
@@ -282,6 +283,29 @@ module _ {A : Type 0} where
   pub open-end : (old page new : VersionedRows A) (rest : List (Row A)) (whole : VersionedRows A) → new ≡ old ++ page → rest ≡ [] → old ++ (page ++ map opened_row rest) ≡ whole → new ≡ whole
   open-end old page new rest whole put none so_far =
       put ∙ ap (λ rows. old ++ rows) (sym (append-nil page)) ∙ ap (λ rows. old ++ (page ++ map opened_row rows)) (sym none) ∙ so_far
+
+  -- ---- the opening, page by page
+
+  opened-parts : (old page : VersionedRows A) (moved more : List (Row A)) → old ++ (page ++ map opened_row (moved ++ more)) ≡ (old ++ (page ++ map opened_row moved)) ++ map opened_row more
+  opened-parts old page moved more =
+      ap (λ rows. old ++ (page ++ rows)) (map-append opened_row moved more)
+      ∙ ap (λ rows. old ++ rows) (sym (append-assoc page (map opened_row moved) (map opened_row more)))
+      ∙ sym (append-assoc old (page ++ map opened_row moved) (map opened_row more))
+
+  pub pages-order : (old page : VersionedRows A) (moved : List (Row A)) (rest left : List (List (Row A))) (whole : VersionedRows A)
+      → rest ≡ moved ∷ left → old ++ (page ++ map opened_row (all_of rest)) ≡ whole → IsInOrder whole → IsInOrder (old ++ (page ++ map opened_row moved))
+  pages-order old page moved rest left whole step so_far sorted =
+      (in_order-cut (old ++ (page ++ map opened_row moved)) (map opened_row (all_of left))
+      (subst IsInOrder (sym so_far ∙ ap (λ pages. old ++ (page ++ map opened_row (all_of pages))) step ∙ opened-parts old page moved (all_of left)) sorted)).first
+
+  pub pages-step : (old page new next : VersionedRows A) (moved : List (Row A)) (rest left : List (List (Row A))) (whole : VersionedRows A)
+      → new ++ next ≡ old ++ (page ++ map opened_row moved) → rest ≡ moved ∷ left → old ++ (page ++ map opened_row (all_of rest)) ≡ whole → new ++ (next ++ map opened_row (all_of left)) ≡ whole
+  pages-step old page new next moved rest left whole turned step so_far =
+      sym (append-assoc new next (map opened_row (all_of left)))
+      ∙ ap (λ rows. rows ++ map opened_row (all_of left)) turned
+      ∙ sym (opened-parts old page moved (all_of left))
+      ∙ ap (λ pages. old ++ (page ++ map opened_row (all_of pages))) (sym step)
+      ∙ so_far
 
   -- ---- the first page of a table
 

@@ -4,7 +4,7 @@ ghost use Rattle.std.specs.Prelude.{List, [], ◌∷◌, ◌≡◌, ◌≤◌, �
 ghost use Rattle.std.specs.List.{AllByRecursion};
 ghost use Rattle.value.specs.Refusals.{out_of_memory};
 ghost use Rattle.mvrows.specs.Versions.{TablesAreBelow, newest as last_commit, newest_in, shown, versions_of};
-ghost use Rattle.mvrows.specs.Installing.{opened, install_change, installed};
+ghost use Rattle.mvrows.specs.Installing.{opened, opened_row, install_change, installed};
 ghost use Rattle.mvrows.specs.Pruning.{pruned, pruned_rows};
 ghost use Rattle.mvrows.specs.Settling.{settle_change, settled};
 ghost use Rattle.mvrows.specs.Fresh.{AreFresh};
@@ -16,11 +16,15 @@ use crate::table::Table;
 use crate::view::View;
 use schema::catalog::{Catalog, TableNo};
 use schema::changes::Change;
+use schema::table::Table as Plain;
 use schema::tables::Tables;
 use std::alloc::{Allocator, Global};
 use std::marker::Model;
 use value::key::Key;
 use value::refusal::Refusal;
+
+/// Changes of which a look-up of each takes longer than a look at all pages.
+const MANY_CHANGES: usize = 1024;
 
 /// Tables with the versions of their keys: what each commit left of them. Contracts see for each
 /// table the list, in key order, of its keys with their versions.
@@ -43,20 +47,27 @@ impl<A: Allocator> Model for Rows<A> {
     ghost invariant = { λ r. AreVersioned (rows_held r.tables.items) };
 }
 
+// The opening of a table, which views can share.
+fn open_table<A: Allocator + Copy>(alloc: A, rows: Plain<A>) -> Result<SharedTable<A>, Refusal>
+    ensures ok { IfOk result (λ opening. rows_in opening ≡ map opened_row rows) }
+    ensures err { IfErr result (λ e. e ≡ out_of_memory) }
+{
+    let mut opening = SharedTable::of(Table::open(alloc, rows)?);
+    opening.share(alloc);
+    Ok(opening)
+}
+
 // The opening of each table.
 fn open_tables<A: Allocator + Copy>(
     alloc: A,
-    tables: &Tables<A>,
+    tables: Tables<A>,
 ) -> Result<Vec<SharedTable<A>, A>, Refusal>
-    requires { length tables.now ≤ 2 ^ 32 }
-    ensures ok { IfOk result (λ opening. rows_held opening.items ≡ opened tables.now) }
+    ensures ok { IfOk result (λ opening. rows_held opening.items ≡ opened tables) }
     ensures err { IfErr result (λ e. e ≡ out_of_memory) }
 {
     let mut opening = Vec::with_capacity(alloc, tables.count())?;
-    for place in 0..tables.count() {
-        let mut table = SharedTable::of(Table::open(alloc, tables, TableNo::at(place as u32))?);
-        table.share(alloc);
-        opening.push(table)?;
+    for rows in tables.into_tables() {
+        opening.push(open_table(alloc, rows)?)?;
     }
     Ok(opening)
 }
@@ -151,7 +162,7 @@ fn settle_all<A: Allocator>(
 }
 
 // Puts a copy of each row that a snapshot shows into as many tables without rows.
-fn copy_all_shown<A: Allocator + Copy>(
+pub(crate) fn copy_all_shown<A: Allocator + Copy>(
     alloc: A,
     tables: &[SharedTable<A>],
     snapshot: u64,
@@ -237,6 +248,23 @@ fn share_all_tables<A: Allocator + Copy>(
     }
 }
 
+// Lets views share what changes have made the tables' own. Where there are many it looks at all pages, and not at those of
+// each change.
+fn share_written<A: Allocator + Copy>(
+    alloc: A,
+    tables: &mut Vec<SharedTable<A>, A>,
+    changes: &[Change<A>],
+)
+    ensures { rows_held tables.new.items ≡ rows_held tables.old.items }
+{
+    if changes.len() < MANY_CHANGES {
+        share_all_changed(alloc, tables, changes);
+        share_all_tables(alloc, tables, changes);
+    } else {
+        share_all(alloc, tables);
+    }
+}
+
 // Makes pages its own, where a pruning has something to do.
 fn make_all_prunable<A: Allocator + Copy>(
     alloc: A,
@@ -274,23 +302,11 @@ fn newest_in<A: Allocator>(table: &Table<A>, key: &Key<A>) -> Option<u64>
 }
 
 impl<A: Allocator> Rows<A> {
-    /// The opening: a version of each row, numbered 0.
+    /// The opening: a version of each row, numbered 0. The rows are moved, and none is copied.
     pub fn of(alloc: A, tables: Tables<A>) -> Result<Rows<A>, Refusal>
     where
         A: Copy,
-        requires { length tables ≤ 2 ^ 32 }
         ensures ok { IfOk result (λ r. r ≡ opened tables) }
-        ensures err { IfErr result (λ e. e ≡ out_of_memory) }
-    {
-        Rows::of_lent(alloc, &tables)
-    }
-
-    /// The opening of tables that stay as they are: a version of a copy of each row.
-    pub fn of_lent(alloc: A, tables: &Tables<A>) -> Result<Rows<A>, Refusal>
-    where
-        A: Copy,
-        requires { length tables.now ≤ 2 ^ 32 }
-        ensures ok { IfOk result (λ r. r ≡ opened tables.now) }
         ensures err { IfErr result (λ e. e ≡ out_of_memory) }
     {
         let opening = open_tables(alloc, tables)?;
@@ -319,8 +335,7 @@ impl<A: Allocator> Rows<A> {
         match put_all(alloc, &mut self.tables, commit, changes) {
             Ok(()) => {
                 settle_all(&mut self.tables, oldest, snapshots, changes);
-                share_all_changed(alloc, &mut self.tables, changes);
-                share_all_tables(alloc, &mut self.tables, changes);
+                share_written(alloc, &mut self.tables, changes);
                 Ok(())
             }
             Err(refusal) => {

@@ -26,8 +26,8 @@ use schema::catalog::TableNo;
 use schema::changes::Change;
 use schema::reader::Bound;
 use schema::row::Row;
+use schema::table::Table as Plain;
 use schema::tables::Tables;
-use schema::walk::Walk;
 use std::alloc::{Allocator, Global};
 use std::marker::Model;
 use value::key::Key;
@@ -171,23 +171,38 @@ fn with_room<A: Allocator + Copy>(
     }
 }
 
-// The pages of the opening: of a copy of each row of a table.
-fn open_pages<A: Allocator + Copy>(
+// Puts rows of the opening behind the pages and a page to come, and gives the page that is then to come.
+fn push_opened<A: Allocator + Copy>(
     alloc: A,
-    tables: &Tables<A>,
-    table: TableNo,
-) -> Result<Vec<Leaf<A>, A>, Refusal>
-    requires { HasTable tables.now table }
-    ensures ok { IfOk result (λ leaves. rows_in leaves.items ≡ map opened_row (rows_of tables.now table)) }
+    leaves: &mut Vec<Leaf<A>, A>,
+    page: Page<A>,
+    rows: Vec<Row<A>, A>,
+) -> Result<Page<A>, Refusal>
+    requires keys { AllByRecursion (λ page. has_keys page ≡ true) (pages_of leaves.old.items) }
+    requires ordered { IsInOrder (rows_in leaves.old.items ++ (page ++ map opened_row rows.items)) }
+    ensures ok { IfOk result (λ next. rows_in leaves.new.items ++ next ≡
+        rows_in leaves.old.items ++ (page ++ map opened_row rows.items)) }
+    ensures keys { AllByRecursion (λ page. has_keys page ≡ true) (pages_of leaves.new.items) }
+    ensures memory { IfErr result (λ e. e ≡ out_of_memory) }
+{
+    let mut page = page;
+    for row in rows {
+        page = with_room(alloc, leaves, page)?;
+        page.push_opened(row)?;
+    }
+    Ok(page)
+}
+
+// The pages of the opening: of each row of a table, moved.
+fn open_pages<A: Allocator + Copy>(alloc: A, rows: Plain<A>) -> Result<Vec<Leaf<A>, A>, Refusal>
+    ensures ok { IfOk result (λ leaves. rows_in leaves.items ≡ map opened_row rows) }
     ensures laid_out { IfOk result (λ leaves. AreLaidOut (pages_of leaves.items)) }
     ensures memory { IfErr result (λ e. e ≡ out_of_memory) }
 {
     let mut leaves = Vec::new(alloc);
     let mut page = Page::new(alloc);
-    let mut walk = Walk::over(alloc, tables, table)?;
-    while let Some(row) = walk.next()? {
-        page = with_room(alloc, &mut leaves, page)?;
-        page.push_opened(row.copy(alloc)?)?;
+    for moved in rows.into_pages() {
+        page = push_opened(alloc, &mut leaves, page, moved.into_rows())?;
     }
     push_page(&mut leaves, page)?;
     Ok(leaves)
@@ -448,15 +463,14 @@ impl<A: Allocator> Table<A> {
         }
     }
 
-    /// The opening of a table, of a copy of each of its rows.
-    pub fn open(alloc: A, tables: &Tables<A>, table: TableNo) -> Result<Table<A>, Refusal>
+    /// The opening of a table. Its rows are moved, page by page, and no page of theirs stays longer than that.
+    pub fn open(alloc: A, rows: Plain<A>) -> Result<Table<A>, Refusal>
     where
         A: Copy,
-        requires { HasTable tables.now table }
-        ensures ok { IfOk result (λ opened. rows_in opened ≡ map opened_row (rows_of tables.now table)) }
+        ensures ok { IfOk result (λ opened. rows_in opened ≡ map opened_row rows) }
         ensures err { IfErr result (λ e. e ≡ out_of_memory) }
     {
-        let mut leaves = open_pages(alloc, tables, table)?;
+        let mut leaves = open_pages(alloc, rows)?;
         share_all(alloc, &mut leaves);
         Ok(Table { leaves })
     }

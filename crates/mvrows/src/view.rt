@@ -1,6 +1,6 @@
 //! The tables at a snapshot.
 
-ghost use Rattle.std.specs.Prelude.{◌≡◌, take, IfOk, IfErr};
+ghost use Rattle.std.specs.Prelude.{◌≡◌, length, take, IfOk, IfErr};
 ghost use Rattle.std.specs.Option.{option_copied};
 ghost use Rattle.schema.specs.Rows.{HasTable, IsInKeyOrder, next_row, rows_within};
 ghost use Rattle.schema.specs.Walking.{lent};
@@ -9,11 +9,13 @@ ghost use Rattle.schema.specs.Plain.{rows_of};
 ghost use Rattle.mvrows.specs.Versions.{shown, shown_rows};
 ghost use Rattle.mvrows.specs.HeldRows.{rows_in, rows_held};
 
+use crate::rows::copy_all_shown;
 use crate::shared::SharedTable;
 use crate::table::Table;
-use schema::catalog::TableNo;
+use schema::catalog::{Catalog, TableNo};
 use schema::reader::{Bound, SnapshotReader};
 use schema::row::Row;
+use schema::tables::Tables;
 use schema::walk::RowsReader;
 use std::alloc::{Allocator, Global};
 use std::marker::Model;
@@ -96,6 +98,28 @@ impl<A: Allocator> View<A> {
         View {
             versions: Versions { tables, snapshot },
         }
+    }
+}
+
+impl<A: Allocator> View<A> {
+    /// The tables, copied.
+    pub fn tables(&self, alloc: A, catalog: &Catalog<A>) -> Result<Tables<A>, Refusal>
+    where
+        A: Copy,
+        requires { length catalog.now ≡ length self.now }
+        ensures ok { IfOk result (λ tables. tables ≡ self.now) }
+        ensures err { IfErr result (λ e. e ≡ out_of_memory) }
+    {
+        let _count = catalog.len();
+        let mut copies = Tables::new(alloc, catalog)?;
+        let versions = &self.versions;
+        copy_all_shown(
+            alloc,
+            versions.tables.as_slice(),
+            versions.snapshot,
+            &mut copies,
+        )?;
+        Ok(copies)
     }
 }
 

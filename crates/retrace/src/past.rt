@@ -263,17 +263,15 @@ fn follow_all<A: Allocator + Copy>(
 }
 
 // Nothing has happened since an opening.
-fn unbegun<A: Allocator + Copy>(alloc: A, tables: &Tables<A>) -> Result<Past<A>, Refusal>
-    ensures ok { IfOk result (λ past. past ≡
-        record { tables = tables.now; commits = 0; lent = []; runs = [] }) }
-    ensures memory { IfErr result (λ e. e ≡ out_of_memory) }
+fn unbegun<A: Allocator + Copy>(alloc: A, tables: Tables<A>) -> Past<A>
+    ensures { result ≡ record { tables = tables; commits = 0; lent = []; runs = [] } }
 {
-    Ok(Past {
-        tables: tables.copy(alloc)?,
+    Past {
+        tables,
         commits: 0,
         lent: Vec::new(alloc),
         runs: Vec::new(alloc),
-    })
+    }
 }
 
 // The transactions that have come of records.
@@ -292,7 +290,7 @@ pub fn retrace<A: Allocator + Copy>(
     ensures ok { IfOk result (λ runs. runs.items ≡ retraced history.now.opening history.now.records) }
     ensures memory { IfErr result (λ e. e ≡ out_of_memory) }
 {
-    let start = unbegun(alloc, history.tables())?;
+    let start = unbegun(alloc, history.tables(alloc)?);
     let base = history.base().commits;
     let past = follow_all(alloc, history.catalog(), base, history.records(), start)?;
     Ok(runs_of(past))

@@ -39,17 +39,7 @@ impl<A: Allocator> Model for Versions<A> {
 
 impl<A: Allocator + Copy> Versions<A> {
     /// The opening of three tables.
-    pub fn of(alloc: A, tables: &Tables<A>) -> Result<Versions<A>, Refusal> {
-        if tables.count() != 3 {
-            return Err(not_asked());
-        }
-        let rows = Rows::of_lent(alloc, tables)?;
-        let versions = Versions { rows, next: 1 };
-        Ok(versions)
-    }
-
-    /// The opening of three tables that are given away.
-    pub fn of_given(alloc: A, tables: Tables<A>) -> Result<Versions<A>, Refusal> {
+    pub fn of(alloc: A, tables: Tables<A>) -> Result<Versions<A>, Refusal> {
         if tables.count() != 3 {
             return Err(not_asked());
         }
@@ -178,17 +168,15 @@ const SECOND: [&str; 4] = [
 // What is asked of versions.
 #[derive(Clone, Copy)]
 enum Asked {
-    Open,
     View,
     Commit,
     Prune,
 }
 
-// Tables, what a second commit changes, the versions after a first one, and a view that shares their pages.
+// What a second commit changes, the versions after a first one, and a view that shares their pages.
 #[derive(Drop)]
 #[derive_where(Debug)]
 struct Lent<A: Allocator> {
-    tables: Tables<A>,
     changes: Vec<Change<A>, A>,
     versions: Versions<A>,
     view: Shown<A>,
@@ -199,7 +187,6 @@ struct Lent<A: Allocator> {
 #[derive_where(Debug)]
 enum Answer<A: Allocator> {
     Done,
-    Opened(Versions<A>),
     Viewed(Shown<A>),
 }
 
@@ -215,13 +202,11 @@ impl<A: Allocator + Copy> Call for Ask<A> {
     type Answer = Answer<A>;
 
     fn lend(&self) -> Result<Lent<A>, Refusal> {
-        let tables = some_tables(self.alloc)?.tables;
-        let mut versions = Versions::of(self.alloc, &tables)?;
+        let mut versions = Versions::of(self.alloc, some_tables(self.alloc)?.tables)?;
         versions.commit(self.alloc, changes(self.alloc, FIRST)?.as_slice())?;
         let view = view_of(self.alloc, &versions, 0)?;
         let changes = changes(self.alloc, SECOND)?;
         Ok(Lent {
-            tables,
             changes,
             versions,
             view,
@@ -230,7 +215,6 @@ impl<A: Allocator + Copy> Call for Ask<A> {
 
     fn call(&self, lent: &mut Lent<A>) -> Result<Answer<A>, Refusal> {
         match self.asked {
-            Asked::Open => Ok(Answer::Opened(Versions::of(self.alloc, &lent.tables)?)),
             Asked::View => Ok(Answer::Viewed(view_of(self.alloc, &lent.versions, 1)?)),
             Asked::Commit => {
                 lent.versions.commit(self.alloc, lent.changes.as_slice())?;
@@ -270,8 +254,8 @@ impl<A: Allocator + Copy> Call for Give<A> {
     // Where they have been given away, such tables are made anew.
     fn call(&self, lent: &mut Given<A>) -> Result<Versions<A>, Refusal> {
         match lent.0.take() {
-            Some(tables) => Versions::of_given(self.0, tables),
-            None => Versions::of_given(self.0, some_tables(self.0)?.tables),
+            Some(tables) => Versions::of(self.0, tables),
+            None => Versions::of(self.0, some_tables(self.0)?.tables),
         }
     }
 }
@@ -280,14 +264,9 @@ impl<A: Allocator + Copy> Call for Give<A> {
 fn openings_commits_and_prunings(rt: HostRuntime) -> Result<(), Refusal> {
     let memory = Scarce::new(rt.alloc());
     let alloc = &memory;
-    // An opening takes a list of tables, and of each of five rows its fields. A commit and a pruning copy the pages that
-    // the view shares. All go on without what they would take to share pages again.
-    for (asked, least) in [
-        (Asked::Open, 6),
-        (Asked::View, 1),
-        (Asked::Commit, 8),
-        (Asked::Prune, 2),
-    ] {
+    // A commit and a pruning copy the pages that the view shares. An opening takes a list of tables, and of each of three
+    // a list of pages and a page. All go on without what they would take to share pages again.
+    for (asked, least) in [(Asked::View, 1), (Asked::Commit, 8), (Asked::Prune, 2)] {
         assert_needs(&rt, &memory, &Ask { alloc, asked }, least)?;
     }
     assert_needs(&rt, &memory, &Give(alloc), 6)

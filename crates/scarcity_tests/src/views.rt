@@ -39,7 +39,7 @@ fn many_rows<A: Allocator + Copy>(alloc: A) -> Result<Versions<A>, Refusal> {
         }
         tables.put(alloc, TableNo::at(0), named(alloc, number, NAME)?)?;
     }
-    Versions::of(alloc, &tables)
+    Versions::of(alloc, tables)
 }
 
 // Takes a view while the request of a number is refused: whether it was made, and by how many requests.

@@ -18,7 +18,7 @@ mod page;
 
 use crate::reader::Bound;
 use crate::row::{Row, copy_all};
-pub(crate) use page::Page;
+pub use page::Page;
 use page::{full_room, is_of};
 use std::alloc::{AllocError, Allocator, Global};
 use std::marker::Model;
@@ -434,6 +434,14 @@ impl<A: Allocator> Table<A> {
                 Ok(())
             }
         }
+    }
+
+    /// The pages, one behind the other, without memory.
+    pub fn into_pages(self) -> Vec<Page<A>, A>
+        ensures pages { joined result.items ≡ self }
+        ensures ordered { IsInKeyOrder self }
+    {
+        self.pages
     }
 
     /// Equal rows.

@@ -128,6 +128,13 @@ impl<A: Allocator> Tables<A> {
         Ok(())
     }
 
+    /// The tables one by one, without memory.
+    pub fn into_tables(self) -> Vec<Table<A>, A>
+        ensures { result.items ≡ self }
+    {
+        self.tables
+    }
+
     /// Equal tables, with memory of their own. Refused only for want of it (53200).
     pub fn copy(&self, alloc: A) -> Result<Tables<A>, Refusal>
     where

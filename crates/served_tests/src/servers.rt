@@ -360,7 +360,8 @@ fn a_checkpoint_is_gone_on_from(rt: HostRuntime) -> Result<(), Refusal> {
     if !opened.records().is_empty() {
         return Err(not_asked());
     }
-    let (word, first) = HistoryWord::new(alloc, opened.catalog(), opened.tables(), opened.base())?;
+    let tables = opened.tables(alloc)?;
+    let (word, first) = HistoryWord::new(alloc, opened.catalog(), &tables, opened.base())?;
     go_on::<Brand, _>(&rt, alloc, &word, first, core)
 }
 

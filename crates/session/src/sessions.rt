@@ -64,19 +64,18 @@ impl<A: Allocator> Model for Core<A> {
         HoldsRows c.history c.world c.rows × AreUnspoilt (map keyed c.keys.items) c.unspoilt };
 }
 
-// The versions of the tables that a history opens with.
+// The versions of the tables that a core opens with, and these tables as a view of them.
 fn open_rows<A: Allocator + Copy>(
     alloc: A,
-    catalog: &Catalog<A>,
-    tables: &Tables<A>,
-) -> Result<Rows<A>, Refusal>
-    requires { IsTrue (is_sound catalog.now tables.now) }
-    ensures ok { IfOk result (λ rows. rows ≡ opened tables.now) }
+    tables: Tables<A>,
+) -> Result<(Rows<A>, View<A>), Refusal>
+    ensures rows { IfOk result (λ made. made.0 ≡ opened tables) }
+    ensures view { IfOk result (λ made. made.1 ≡ tables) }
     ensures memory { IfErr result (λ e. e ≡ out_of_memory) }
 {
-    // The catalog's tables are few.
-    let _count = catalog.len();
-    Rows::of_lent(alloc, tables)
+    let rows = Rows::of(alloc, tables)?;
+    let view = rows.view(alloc, 0)?;
+    Ok((rows, view))
 }
 
 // A core of nothing yet on a history of nothing yet.
@@ -84,8 +83,10 @@ fn open_history<A: Allocator + Copy>(
     alloc: A,
     history: History<A>,
     keys: Vec<(TxnNo, SerialKey), A>,
+    rows: Rows<A>,
 ) -> Result<Core<A>, Refusal>
     requires none { history.records ≡ [] }
+    requires rows { rows ≡ opened history.opening.tables }
     requires no_keys { keys.items ≡ [] }
     requires capacity { history.most ≤ vec_capacity keys }
     requires sound { IsTrue (is_sound history.opening.catalog history.opening.tables) }
@@ -96,7 +97,6 @@ fn open_history<A: Allocator + Copy>(
     ensures ok { IfOk result (λ made. made ≡ history) }
     ensures memory { IfErr result (λ e. e ≡ out_of_memory) }
 {
-    let rows = open_rows(alloc, history.catalog(), history.tables())?;
     let base = history.base();
     let world = World::open(alloc, base);
     Ok(Core {
@@ -125,9 +125,13 @@ fn open_on<A: Allocator + Copy>(
     ensures within { OnOk result (max_events ≢ 0) }
     ensures refused { IfErr result (λ e. e ≡ opening_refusal (max_events == 0)) }
 {
-    let history = History::open(alloc, catalog, tables, base, max_events)?;
+    if max_events == 0 {
+        return Err(Refusal::of_code(Code::ProgramLimitExceeded));
+    }
+    let (rows, view) = open_rows(alloc, tables)?;
+    let history = History::open(alloc, catalog, view, base, max_events)?;
     let keys = Vec::with_capacity(alloc, max_events as usize)?;
-    open_history(alloc, history, keys)
+    open_history(alloc, history, keys, rows)
 }
 
 // Whether it is the action by which transactions commit.

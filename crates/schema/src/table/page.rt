@@ -24,7 +24,7 @@ const MOST_ROWS: usize = 128;
 /// Some rows of a table, in key order.
 #[derive(Drop)]
 #[derive_where(Debug)]
-pub(crate) struct Page<A: Allocator = Global> {
+pub struct Page<A: Allocator = Global> {
     rows: Vec<Row<A>, A>,
 }
 
@@ -246,6 +246,13 @@ impl<A: Allocator> Page<A> {
         let half = self.rows.len() / 2;
         let rows = self.rows.split_off(half)?;
         Ok(Page { rows })
+    }
+
+    /// Its rows, without memory.
+    pub fn into_rows(self) -> Vec<Row<A>, A>
+        ensures { result.items ≡ self }
+    {
+        self.rows
     }
 
     /// Equal rows.

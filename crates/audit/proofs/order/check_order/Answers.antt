@@ -24,7 +24,7 @@ replays-requires-clause-fit g c =
 pub replays-requires-clause-sound : goal.replays-requires-clause-sound
 replays-requires-clause-sound g c =
     let h = c.args.history.now in
-    ap (λ k. is_sound k c.in_ok-tables.tables) c.catalog.ensures ∙ ap (is_sound h.opening.catalog) (c.in_ok-tables.ensures.ok ∙ c.tables.ensures) ∙ opening_sound h.opening h.records c.requires
+    ap (λ k. is_sound k c.in_ok-tables.tables) c.catalog.ensures ∙ ap (is_sound h.opening.catalog) c.in_ok-tables.ensures.ok ∙ opening_sound h.opening h.records c.requires
 
 pub returns-clause-answer : goal.returns-clause-answer
 returns-clause-answer g c =
@@ -35,4 +35,4 @@ returns-clause-answer g c =
     ∙ ap (λ (x : Base). replays h.opening.catalog x.transactions 0 (present c.in_ok-left.left.items) ns c.in_ok-tables.tables) c.base-base.ensures
     ∙ ap (λ xs. replays h.opening.catalog h.opening.base.transactions 0 xs ns c.in_ok-tables.tables)
     (ap present (c.in_ok-left.ensures.ok ∙ ap (map if_committed) (c.in_ok-courses.ensures.ok ∙ ap (λ rs. courses_after 0 rs []) c.records.ensures)) ∙ present-committed (courses_after 0 h.records []))
-    ∙ ap (replays h.opening.catalog h.opening.base.transactions 0 (filter (λ x. x.committed) (courses_after 0 h.records [])) ns) (c.in_ok-tables.ensures.ok ∙ c.tables.ensures)))
+    ∙ ap (replays h.opening.catalog h.opening.base.transactions 0 (filter (λ x. x.committed) (courses_after 0 h.records [])) ns) c.in_ok-tables.ensures.ok))

@@ -1,34 +1,40 @@
-use Rattle.std.proofs.Common.{sym, subst, ap, map, ◌≡◌, [], ◌∷◌, ◌∙◌}
-use Rattle.schema.specs.Plain.{rows_of}
+use Rattle.std.proofs.Common.{ap, arith, map, subst, sym, ◌++◌, ◌∙◌}
+use Rattle.std.proofs.lemmas.List.{nil_from_length}
+use Rattle.schema.specs.Paged.{joined}
 use Rattle.mvrows.specs.Versions.{IsInOrder}
 use Rattle.mvrows.specs.Installing.{opened_row}
 use Rattle.mvrows.specs.HeldRows.{rows_in}
 use Rattle.mvrows.proofs.HeldLemmas.{opened-in_order}
-use Rattle.mvrows.proofs.LeavesLemmas.{open-order, open-step, open-end}
+use Rattle.mvrows.proofs.LeavesLemmas.{pages-order, pages-step, open-end}
 use Rattle.mvrows.proofs.table.open_pages.Goals as goal
 
-pub push_opened-requires : goal.push_opened-requires
-push_opened-requires g c =
-    let rows = rows_of c.args.tables.now c.args.table in
-    let step : c.loop-walk.walk ≡ c.in-Some.row.now ∷ c.next.new.self = rw c.in-Some.is at c.in_ok-row.ensures.step in
-    open-order (rows_in c.loop-walk.leaves.items) c.loop-walk.page (rows_in c.with_room.new.leaves.items) c.in_ok-page.page c.in_ok-copy.field-0 c.loop-walk.walk c.next.new.self (map opened_row rows) c.in_ok-page.ensures.ok
-    (step ∙ ap (λ r. r ∷ c.next.new.self) (sym c.in_ok-copy.ensures.ok))
-    c.loop-walk.invariant.rows (opened-in_order rows c.over.ensures.ordered)
+pub push_opened-requires-clause-ordered : goal.push_opened-requires-clause-ordered
+push_opened-requires-clause-ordered g c =
+    let rest = c.loop-moved.moved-iterator.rest.items in
+    let left = c.next.new.self.rest.items in
+    subst (λ moved. IsInOrder (rows_in c.loop-moved.leaves.items ++ (c.loop-moved.page ++ map opened_row moved))) (sym c.into_rows.ensures)
+    (pages-order (rows_in c.loop-moved.leaves.items) c.loop-moved.page c.in-Some.moved rest left (map opened_row c.args.rows) c.in-Some.ensures.steps.0 c.loop-moved.invariant.rows (opened-in_order c.args.rows c.into_pages-moved-items.ensures.ordered))
 
-pub loop-walk-preserved : goal.loop-walk-preserved
-loop-walk-preserved g c =
-    let rows = rows_of c.args.tables.now c.args.table in
-    let step : c.loop-walk.walk ≡ c.in-Some.row.now ∷ c.next.new.self = rw c.in-Some.is at c.in_ok-row.ensures.step in
+pub loop-moved-preserved : goal.loop-moved-preserved
+loop-moved-preserved g c =
+    let rest = c.loop-moved.moved-iterator.rest.items in
+    let left = c.next.new.self.rest.items in
     record {
-      rows = open-step (rows_in c.loop-walk.leaves.items) c.loop-walk.page (rows_in c.with_room.new.leaves.items) c.in_ok-page.page c.push_opened.new.self c.in_ok-copy.field-0 c.loop-walk.walk c.next.new.self (map opened_row rows) c.in_ok-page.ensures.ok c.in_ok-push_opened.ensures.ok
-          (step ∙ ap (λ r. r ∷ c.next.new.self) (sym c.in_ok-copy.ensures.ok))
-          c.loop-walk.invariant.rows;
-      keys = c.with_room.ensures.keys;
+      rows = pages-step (rows_in c.loop-moved.leaves.items) c.loop-moved.page (rows_in c.push_opened.new.leaves.items) c.in_ok-page.page c.in-Some.moved rest left (map opened_row c.args.rows)
+          (c.in_ok-page.ensures.ok ∙ ap (λ moved. rows_in c.loop-moved.leaves.items ++ (c.loop-moved.page ++ map opened_row moved)) c.into_rows.ensures)
+          c.in-Some.ensures.steps.0 c.loop-moved.invariant.rows;
+      keys = c.push_opened.ensures.keys;
     }
 
 pub returns-clause-laid_out : goal.returns-clause-laid_out
 returns-clause-laid_out g c =
-    let rows = rows_of c.args.tables.now c.args.table in
-    let none : c.loop-walk.walk ≡ [] = (rw c.in_default.is at c.in_ok-row.ensures.step).0 in
-    let whole = open-end (rows_in c.loop-walk.leaves.items) c.loop-walk.page (rows_in c.push_page.new.leaves.items) c.loop-walk.walk (map opened_row rows) c.in_ok-push_page.ensures.ok none c.loop-walk.invariant.rows in
-    (subst IsInOrder (sym whole) (opened-in_order rows c.over.ensures.ordered), c.push_page.ensures.keys)
+    let rest = c.loop-moved.moved-iterator.rest in
+    let none = nil_from_length rest.items (omega (arith, rest.ok.0, c.in-None.ensures.steps.0)) in
+    let whole = open-end (rows_in c.loop-moved.leaves.items) c.loop-moved.page (rows_in c.push_page.new.leaves.items) (joined rest.items) (map opened_row c.args.rows) c.in_ok-push_page.ensures.ok (ap joined none) c.loop-moved.invariant.rows in
+    (subst IsInOrder (sym whole) (opened-in_order c.args.rows c.into_pages-moved-items.ensures.ordered), c.push_page.ensures.keys)
+
+pub returns-clause-ok : goal.returns-clause-ok
+returns-clause-ok g c =
+    let rest = c.loop-moved.moved-iterator.rest in
+    let none = nil_from_length rest.items (omega (arith, rest.ok.0, c.in-None.ensures.steps.0)) in
+    open-end (rows_in c.loop-moved.leaves.items) c.loop-moved.page (rows_in c.push_page.new.leaves.items) (joined rest.items) (map opened_row c.args.rows) c.in_ok-push_page.ensures.ok (ap joined none) c.loop-moved.invariant.rows

@@ -1,10 +1,7 @@
-use Rattle.std.proofs.Common.{arith}
-use Rattle.schema.proofs.SoundLemmas.{sound_count}
+use Rattle.std.proofs.Common.{ap, ◌∙◌}
+use Rattle.mvrows.specs.Versions.{shown}
+use Rattle.mvrows.proofs.VersionLemmas.{shown-opened}
 use Rattle.session.proofs.sessions.open_rows.Goals as goal
 
-pub of_lent-requires : goal.of_lent-requires
-of_lent-requires g c =
-    let few = sound_count c.args.tables.now c.args.catalog.now c.args.tables.now c.requires in
-    let count = c.len-count.ensures.len in
-    let most = c.len-count.ensures.few in
-    omega arith
+pub returns-clause-view : goal.returns-clause-view
+returns-clause-view g c = c.in_ok-view.ensures.ok ∙ ap (shown 0) c.in_ok-rows.ensures.ok ∙ shown-opened 0 c.args.tables

@@ -16,7 +16,7 @@ settle_all-requires g c = fresh-installed c.args.commit c.args.changes.now (rows
 
 pub invariant_of-self : goal.invariant_of-self
 invariant_of-self g c =
-    subst AreVersioned (sym (c.share_all_tables.ensures ∙ c.share_all_changed.ensures ∙ c.settle_all.ensures ∙ ap (settled (record { oldest = c.args.oldest; snapshots = c.args.snapshots.now }) c.args.changes.now) c.in-Ok.ensures.ok))
+    subst AreVersioned (sym (c.share_written.ensures ∙ c.settle_all.ensures ∙ ap (settled (record { oldest = c.args.oldest; snapshots = c.args.snapshots.now }) c.args.changes.now) c.in-Ok.ensures.ok))
     (settled-versioned (record { oldest = c.args.oldest; snapshots = c.args.snapshots.now }) c.args.changes.now (installed c.args.commit c.args.changes.now (rows_held c.self.inside.tables.items)) (installed-versioned c.args.commit c.args.changes.now (rows_held c.self.inside.tables.items) c.self.invariant))
 
 pub invariant_of-self-in-Err : goal.invariant_of-self-in-Err

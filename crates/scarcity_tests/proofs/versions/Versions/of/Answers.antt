@@ -6,5 +6,5 @@ use Rattle.scarcity_tests.proofs.versions.Versions.of.Goals as goal
 
 pub invariant_of-versions : goal.invariant_of-versions
 invariant_of-versions g c =
-    let three : length c.args.tables.now ≡ 3 = first_of (search rules, grind (arith, nat_tests, common_steps)) in
-    opened_so c.args.tables.now c.in_ok-rows.rows c.in_ok-rows.ensures.ok three
+    let three : length c.args.tables ≡ 3 = first_of (search rules, grind (arith, nat_tests, common_steps)) in
+    opened_so c.args.tables c.in_ok-rows.rows c.in_ok-rows.ensures.ok three
