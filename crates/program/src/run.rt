@@ -30,6 +30,7 @@ use script::script::{Line, Script, read_script};
 use session::sessions::Core;
 use std::alloc::Allocator;
 use std::io::Write;
+use std::mem::forget;
 use std::sync::Wait;
 use std::thread::Threads;
 use value::text::Text;
@@ -201,7 +202,10 @@ where
             show(text.as_slice(), printer)?;
         }
         let order = order_of(self.alloc, way.shown, &core)?;
-        show(order.as_slice(), printer)
+        let told = show(order.as_slice(), printer);
+        // The program ends next, and its memory with it. A drop would give the history and the rows back one by one.
+        forget(core);
+        told
     }
 
     // The same, and writes all that was printed, whether or not the lines were done.
@@ -264,7 +268,10 @@ where
     {
         let (catalog, opens, lines) = script.into_parts();
         let done = self.do_script(catalog, opens.as_ref(), lines.as_slice(), way, printer);
-        end_script(self.alloc, way.most_events, done, err)
+        let status = end_script(self.alloc, way.most_events, done, err);
+        // The program ends next, and its memory with it.
+        forget(lines);
+        status
     }
 
     /// Does the script of a path, or of standard input, prints what is shown of it, and tells on `err`

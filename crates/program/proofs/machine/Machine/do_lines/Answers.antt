@@ -33,13 +33,13 @@ returns-in_err-show-clause-stopped g c =
 
 pub returns-clause-done : goal.returns-clause-done
 returns-clause-done g c =
-    on_ok c.show-2.result _ _
-    (λ printed. run (IsWritten g.F.Out.OutFile.path g.F.Out.Placed.kept) c.args.way c.args.core c.loop-line.core c.args.lines.now c.loop-line.line-index c.args.printer.now c.loop-line.printer c.show-2.new.printer c.as_slice-2.result.now (omega arith) c.loop-line.invariant (c.as_slice-2.ensures.value ∙ c.in_ok-order.ensures.order) printed)
-    c.show-2.ensures.printed
+    on_ok c.show-told.result _ _
+    (λ printed. run (IsWritten g.F.Out.OutFile.path g.F.Out.Placed.kept) c.args.way c.args.core c.loop-line.core c.args.lines.now c.loop-line.line-index c.args.printer.now c.loop-line.printer c.show-told.new.printer c.as_slice-2.result.now (omega arith) c.loop-line.invariant (c.as_slice-2.ensures.value ∙ c.in_ok-order.ensures.order) printed)
+    c.show-told.ensures.printed
 
 pub returns-clause-stopped : goal.returns-clause-stopped
 returns-clause-stopped g c =
-    if_err_of c.show-2.result _ _ _
-    (λ f none why. stopped (IsWritten g.F.Out.OutFile.path g.F.Out.Placed.kept) c.args.way c.args.core c.loop-line.core c.args.lines.now c.loop-line.line-index f c.args.printer.now c.loop-line.printer c.show-2.new.printer c.loop-line.invariant none (ends_by_print c.loop-line.core c.args.lines.now c.loop-line.line-index f c.show-2.new.printer why))
-    c.show-2.ensures.stopped
-    c.show-2.ensures.fault
+    if_err_of c.show-told.result _ _ _
+    (λ f none why. stopped (IsWritten g.F.Out.OutFile.path g.F.Out.Placed.kept) c.args.way c.args.core c.loop-line.core c.args.lines.now c.loop-line.line-index f c.args.printer.now c.loop-line.printer c.show-told.new.printer c.loop-line.invariant none (ends_by_print c.loop-line.core c.args.lines.now c.loop-line.line-index f c.show-told.new.printer why))
+    c.show-told.ensures.stopped
+    c.show-told.ensures.fault
