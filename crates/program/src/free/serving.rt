@@ -23,6 +23,7 @@ use server::shared::Server;
 use session::sessions::Core;
 use std::alloc::{AllocError, Global};
 use std::marker::Brand;
+use std::mem::forget;
 use std::sync::Wait;
 use std::thread;
 use std::thread::Threads;
@@ -233,6 +234,8 @@ where
     let (passes, mut text) = play_all(rt, alloc, &server, sinks, lines, passes)?;
     let core = server.close(passes);
     append_checked(alloc, &core, is_checked, &mut text)?;
+    // The program ends next, and its memory with it. A drop would give the history and the rows back one by one.
+    forget(core);
     Ok(text)
 }
 
