@@ -1,10 +1,8 @@
 -- Changes that take others back.
-use Rattle.std.proofs.Common.{◌≡◌, ◌⊎◌, refl, sym, ap, ◌∙◌, subst, ℕ, zero, suc, ◌<◌, ◌≤◌, Bool, true, false, true≢false, T, not, cond, inl, inr, List, [], ◌∷◌, ◌++◌, length, get_or, set, slice_get, slice_set, Option, Some, None, arith}
-use Rattle.std.specs.List.{find as first_of}
+use Rattle.std.proofs.Common.{◌≡◌, ◌⊎◌, refl, sym, ap, ◌∙◌, subst, ℕ, zero, suc, ◌<◌, ◌≤◌, Bool, true, false, T, not, cond, inl, inr, List, [], ◌∷◌, ◌++◌, length, get_or, slice_get, slice_set, Option, Some, None, arith}
 use Rattle.std.specs.Cmp.{alike_right, eq_by_cmp_equiv}
 use Rattle.std.specs.FinMap.{find, is_sorted}
 use Rattle.std.specs.FinMap.Entries.{find-put, find-where_key, same_entries}
-use Rattle.std.specs.Option.{option_map}
 use Rattle.std.specs.Ordering.{is_eq}
 use Rattle.std.proofs.lemmas.List.{get_or-set_same}
 use Rattle.value.specs.declared.value.Value.{Value}
@@ -18,7 +16,7 @@ use Rattle.schema.specs.Rows.{row_of}
 use Rattle.schema.proofs.PlainLemmas.{IsOrdered, changed_sorted, put_in-ordered, same_value}
 use Rattle.statement.proofs.HeldLemmas.{held_sound, held_table}
 use Rattle.orders.specs.Undone.{AreOrdered, before_of, put_back}
-use Rattle.orders.proofs.PlaceLemmas.{below_or, set-back, some-injective}
+use Rattle.orders.proofs.PlaceLemmas.{below_or, some-injective}
 
 turned : {T : Type 0} (b : Bool) (x y : T) → cond (not b) x y ≡ cond b y x
 turned true x y = refl
@@ -47,11 +45,6 @@ set-same (z ∷ zs) (suc i) x e = ap (λ ws. z ∷ ws) (set-same zs i x e)
 true-of : (b : Bool) → T b → b ≡ true
 true-of true h = refl
 true-of false h = absurd h
-
-last-one : {T : Type 0} (rest : List T) (x y : T) → y ∷ [] ≡ rest ++ x ∷ [] → x ≡ y
-last-one [] x y e = cc
-last-one (z ∷ []) x y e = cc
-last-one (z ∷ w ∷ ws) x y e = cc
 
 module _ {A : Type 0} where
   -- ---- rows by key
@@ -135,9 +128,8 @@ module _ {A : Type 0} where
       let fields : None ≡ row_at X x.table x.key = sym (row-missing k (rows_of X t) h) ∙ ap (λ n. find value_cmp k (rows_of X n)) e ∙ ap (λ q. row_at X x.table q) f in
       λ i. record { table = e i; key = g i; fields = fields i }
 
-  pub put-kept : (x b : Change A) (X Y : Tables A) (list rest old new : List (Change A)) → is_sorted value_cmp (rows_of X x.table) ≡ true → list ≡ before_of x X ∷ [] → list ≡ rest ++ b ∷ [] → Y ≡ put_in x X → new ≡ old ++ b ∷ [] → put_back new Y ≡ put_back old X
-  put-kept x b X Y list rest old new sorted l p y n =
-      let is : b ≡ before_of x X = last-one rest b (before_of x X) (sym l ∙ p) in
+  pub put-kept : (x b : Change A) (X Y : Tables A) (old new : List (Change A)) → is_sorted value_cmp (rows_of X x.table) ≡ true → b ≡ before_of x X → Y ≡ put_in x X → new ≡ old ++ b ∷ [] → put_back new Y ≡ put_back old X
+  put-kept x b X Y old new sorted is y n =
       ap (λ xs. put_back xs Y) n ∙ put_back-append old b Y ∙ ap (λ z. put_back old (put_in z Y)) is ∙ ap (λ Z. put_back old (put_in (before_of x X) Z)) y ∙ ap (put_back old) (taken-back x X sorted)
 
   pub put-front : (xs : List (Change A)) (x : Change A) (rest : List (Change A)) (X Y : Tables A) → xs ≡ x ∷ rest → Y ≡ put_in x X → put_all rest Y ≡ put_all xs X

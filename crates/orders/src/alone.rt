@@ -38,8 +38,7 @@ fn answer<A: Allocator + Copy>(
     if !agree(&outcome.reply, &answered.reply) {
         return Ok(None);
     }
-    let changes = outcome.changes.into_list(alloc)?;
-    Ok(Some(changes))
+    Ok(Some(outcome.changes.into_list()))
 }
 
 /// Runs a transaction's statements alone, one after the other: what takes back what they change, where their answers

@@ -8,7 +8,7 @@ ghost use Rattle.schema.specs.Plain.{put_all, put_in, rows_of};
 ghost use Rattle.schema.specs.Rows.{HasTable};
 ghost use Rattle.orders.specs.Undone.{AreOrdered, before_of, put_back};
 
-use schema::changes::{Change, Changes};
+use schema::changes::Change;
 use schema::reader::SnapshotReader;
 use schema::tables::Tables;
 use std::alloc::Allocator;
@@ -19,24 +19,15 @@ fn before<A: Allocator + Copy>(
     alloc: A,
     tables: &Tables<A>,
     change: &Change<A>,
-) -> Result<Changes<A>, Refusal>
+) -> Result<Change<A>, Refusal>
     requires { HasTable tables.now change.now.table }
-    ensures ok { IfOk result (λ changes. changes ≡ before_of change.now tables.now ∷ []) }
+    ensures ok { IfOk result (λ earlier. earlier ≡ before_of change.now tables.now) }
     ensures memory { IfErr result (λ e. e ≡ out_of_memory) }
 {
     let table = change.table();
-    let mut changes = Changes::new(alloc);
     match tables.get(table, change.key()) {
-        Some(found) => {
-            let row = found.copy(alloc)?;
-            changes.put_row(alloc, table, row)?;
-            Ok(changes)
-        }
-        None => {
-            let key = change.key().copy(alloc)?;
-            changes.put_absence(alloc, table, key)?;
-            Ok(changes)
-        }
+        Some(found) => Ok(Change::of_row(table, found.copy(alloc)?)),
+        None => Ok(Change::of_absence(table, change.key().copy(alloc)?)),
     }
 }
 
@@ -53,11 +44,7 @@ fn put_there<A: Allocator + Copy>(
     ensures back { OnOk result (put_back back.new.items tables.new ≡ put_back back.old.items tables.old) }
     ensures memory { IfErr result (λ e. e ≡ out_of_memory) }
 {
-    let changes = before(alloc, tables, change)?;
-    let mut list = changes.into_list(alloc)?;
-    let Some(earlier) = list.pop() else {
-        unreachable!()
-    };
+    let earlier = before(alloc, tables, change)?;
     tables.apply(alloc, change)?;
     back.push(earlier)?;
     Ok(())

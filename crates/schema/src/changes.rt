@@ -36,6 +36,29 @@ impl<A: Allocator> Model for Change<A> {
 }
 
 impl<A: Allocator> Change<A> {
+    /// That a table has a row from now on.
+    pub fn of_row(table: TableNo, row: Row<A>) -> Change<A>
+        ensures { result ≡ record { table = table; key = row.0; fields = Some row.1 } }
+    {
+        let (key, fields) = row.into_parts();
+        Change {
+            table,
+            key,
+            fields: Some(fields),
+        }
+    }
+
+    /// That a key has no row from now on.
+    pub fn of_absence(table: TableNo, key: Key<A>) -> Change<A>
+        ensures { result ≡ record { table = table; key = key; fields = None } }
+    {
+        Change {
+            table,
+            key,
+            fields: None,
+        }
+    }
+
     /// The table of the key.
     pub fn table(&self) -> TableNo
         ensures { result ≡ self.now.table }

@@ -1,23 +1,16 @@
--- How the rows that a statement writes follow one another.
+-- The rows that a statement writes, and their references.
 use Rattle.std.specs.Prelude.{◌≡◌, ℕ, true, Some, List}
 use Rattle.std.specs.List.{AllByRecursion, flat_map}
 use Rattle.std.specs.FinMap.{is_sorted}
-use Rattle.std.specs.declared.cmp.Ordering.TheVariants.{Greater}
 use Rattle.value.specs.Order.{value_cmp}
 use Rattle.schema.specs.Definition.{Column}
 use Rattle.schema.specs.declared.row.Row.{Row}
-use Rattle.schema.specs.declared.changes.Change.{Change}
 use Rattle.schema.specs.declared.tables.Tables.{Tables}
 use Rattle.schema.specs.Plain.{row_at}
-use Rattle.schema.specs.Changing.{change_cmp}
 use Rattle.statement.specs.declared.outcome.Mark.{Mark}
 use Rattle.statement.specs.Marks.{references_of}
 
 module _ {A : Type 0} where
-  -- A change comes after all of these, by table and then by key.
-  abbrev pub ComesAfter : List (Change A) → Change A → Type 0
-  ComesAfter changes x = AllByRecursion (λ y. change_cmp x y ≡ Greater) changes
-
   -- These are rows of a table, in key order.
   pub record AreRowsOf (X : Tables A) (t : ℕ) (rows : List (Row A)) : Type 0 where
     pub sorted : is_sorted value_cmp rows ≡ true

@@ -15,11 +15,10 @@ use crate::evaluate::delete::delete;
 use crate::evaluate::insert::insert;
 use crate::evaluate::select::select;
 use crate::evaluate::update::update;
-use crate::outcome::{Marks, Outcome};
+use crate::outcome::{Marks, Outcome, Writes};
 use crate::reply::Reply;
 use crate::statement::{Projection, Statement};
 use schema::catalog::{Catalog, TableNo};
-use schema::changes::Changes;
 use schema::walk::RowsReader;
 use std::alloc::Allocator;
 use value::refusal::Refusal;
@@ -48,7 +47,7 @@ where
 {
     Outcome {
         reply,
-        changes: Changes::new(alloc),
+        changes: Writes::of(Vec::new(alloc)),
         marks: Marks::of(Vec::new(alloc)),
     }
 }

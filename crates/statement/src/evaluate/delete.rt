@@ -167,16 +167,15 @@ fn referenced(place: u32) -> Refusal
     }
 }
 
-// Takes rows of a table away, which are in key order.
+// Takes rows of a table away.
 fn delete_rows<A: Allocator + Copy>(
     alloc: A,
     catalog: &Catalog<A>,
     table: TableNo,
     rows: &[&Row<A>],
 ) -> Result<Written<A>, Refusal>
-    requires has { table < length catalog.now }
-    requires sorted { is_sorted value_cmp (map (λ row. row.now) rows.now) ≡ true }
-    ensures changes { IfOk result (λ written. written.changes ≡ map (removes table) (map (λ row. row.now) rows.now)) }
+    requires { table < length catalog.now }
+    ensures changes { IfOk result (λ written. written.changes.items ≡ map (removes table) (map (λ row. row.now) rows.now)) }
     ensures marks { IfOk result (λ written. written.marks.items ≡
         references_of_rows table (columns_of catalog.now table) (map (λ row. row.now) rows.now)) }
     ensures memory { IfErr result (λ e. e ≡ out_of_memory) }

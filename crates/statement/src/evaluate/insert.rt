@@ -134,7 +134,7 @@ fn insert_row<A: Allocator + Copy>(
     row: Row<A>,
 ) -> Result<Written<A>, Refusal>
     requires { table < length catalog.now }
-    ensures changes { IfOk result (λ written. written.changes ≡ puts table row ∷ []) }
+    ensures changes { IfOk result (λ written. written.changes.items ≡ puts table row ∷ []) }
     ensures marks { IfOk result (λ written. written.marks.items ≡
         references_of table (columns_of catalog.now table) row.0 (Some row.1)) }
     ensures memory { IfErr result (λ e. e ≡ out_of_memory) }

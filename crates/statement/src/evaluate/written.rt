@@ -5,13 +5,12 @@ ghost use Rattle.value.specs.Refusals.{out_of_memory};
 ghost use Rattle.schema.specs.Plain.{cells};
 ghost use Rattle.statement.specs.Evaluation.{puts, removes};
 ghost use Rattle.statement.specs.Marks.{references_among, references_of};
-ghost use Rattle.statement.specs.Writing.{ComesAfter};
 
 use crate::interval::key_of;
-use crate::outcome::{Mark, Marks, Outcome};
+use crate::outcome::{Mark, Marks, Outcome, Writes};
 use crate::reply::Reply;
 use schema::catalog::{Column, TableNo};
-use schema::changes::Changes;
+use schema::changes::Change;
 use schema::row::Row;
 use std::alloc::Allocator;
 use value::refusal::Refusal;
@@ -94,18 +93,18 @@ fn push_references<A: Allocator + Copy>(
 /// The rows that a statement writes, and the references that they had and have.
 #[derive(Drop)]
 pub(super) struct Written<A: Allocator> {
-    changes: Changes<A>,
+    changes: Vec<Change<A>, A>,
     marks: Vec<Mark<A>, A>,
 }
 
 impl<A: Allocator + Copy> Written<A> {
     /// Nothing yet.
     pub(super) fn new(alloc: A) -> Written<A>
-        ensures changes { result.changes ≡ [] }
+        ensures changes { result.changes.items ≡ [] }
         ensures marks { result.marks.items ≡ [] }
     {
         Written {
-            changes: Changes::new(alloc),
+            changes: Vec::new(alloc),
             marks: Vec::new(alloc),
         }
     }
@@ -118,15 +117,15 @@ impl<A: Allocator + Copy> Written<A> {
         columns: &[Column<A>],
         row: Row<A>,
     ) -> Result<(), Refusal>
-        requires few { length columns.now ≤ 32 }
-        requires last { ComesAfter self.old.changes (puts table row) }
-        ensures changes { OnOk result (self.new.changes ≡ self.old.changes ++ puts table row ∷ []) }
+        requires { length columns.now ≤ 32 }
+        ensures changes { OnOk result (self.new.changes.items ≡ self.old.changes.items ++ puts table row ∷ []) }
         ensures marks { OnOk result (self.new.marks.items ≡ self.old.marks.items ++
             references_of table columns.now row.0 (Some row.1)) }
         ensures memory { IfErr result (λ e. e ≡ out_of_memory) }
     {
         push_references(alloc, table, columns, &row, &mut self.marks)?;
-        self.changes.put_row(alloc, table, row)
+        self.changes.push(Change::of_row(table, row))?;
+        Ok(())
     }
 
     /// Writes a row over the one of its key.
@@ -138,9 +137,8 @@ impl<A: Allocator + Copy> Written<A> {
         before: &Row<A>,
         after: Row<A>,
     ) -> Result<(), Refusal>
-        requires few { length columns.now ≤ 32 }
-        requires last { ComesAfter self.old.changes (puts table after) }
-        ensures changes { OnOk result (self.new.changes ≡ self.old.changes ++ puts table after ∷ []) }
+        requires { length columns.now ≤ 32 }
+        ensures changes { OnOk result (self.new.changes.items ≡ self.old.changes.items ++ puts table after ∷ []) }
         ensures marks { OnOk result (self.new.marks.items ≡ self.old.marks.items ++
             references_of table columns.now before.now.0 (Some before.now.1) ++
             references_of table columns.now after.0 (Some after.1)) }
@@ -158,25 +156,25 @@ impl<A: Allocator + Copy> Written<A> {
         columns: &[Column<A>],
         row: &Row<A>,
     ) -> Result<(), Refusal>
-        requires few { length columns.now ≤ 32 }
-        requires last { ComesAfter self.old.changes (removes table row.now) }
-        ensures changes { OnOk result (self.new.changes ≡ self.old.changes ++ removes table row.now ∷ []) }
+        requires { length columns.now ≤ 32 }
+        ensures changes { OnOk result (self.new.changes.items ≡ self.old.changes.items ++ removes table row.now ∷ []) }
         ensures marks { OnOk result (self.new.marks.items ≡ self.old.marks.items ++
             references_of table columns.now row.now.0 (Some row.now.1)) }
         ensures memory { IfErr result (λ e. e ≡ out_of_memory) }
     {
         push_references(alloc, table, columns, row, &mut self.marks)?;
         let key = row.key().copy(alloc)?;
-        self.changes.put_absence(alloc, table, key)
+        self.changes.push(Change::of_absence(table, key))?;
+        Ok(())
     }
 
     /// The outcome of the statement, with its reply.
     pub(super) fn outcome(self, reply: Reply<A>) -> Outcome<A>
-        ensures { result ≡ record { reply = reply; changes = self.changes; marks = self.marks.items } }
+        ensures { result ≡ record { reply = reply; changes = self.changes.items; marks = self.marks.items } }
     {
         Outcome {
             reply,
-            changes: self.changes,
+            changes: Writes::of(self.changes),
             marks: Marks::of(self.marks),
         }
     }

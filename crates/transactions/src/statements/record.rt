@@ -22,8 +22,7 @@ use history::event::Action;
 use history::session_id::SessionId;
 use mvrows::rows::Rows;
 use schema::catalog::Catalog;
-use schema::changes::Changes;
-use statement::outcome::{Marks, Outcome};
+use statement::outcome::{Marks, Outcome, Writes};
 use statement::reply::Reply;
 use statement::statement::Statement;
 use std::alloc::Allocator;
@@ -35,7 +34,7 @@ fn outcome_of<A: Allocator + Copy>(alloc: A, reply: Reply<A>) -> Outcome<A>
 {
     Outcome {
         reply,
-        changes: Changes::new(alloc),
+        changes: Writes::of(Vec::new(alloc)),
         marks: Marks::of(Vec::new(alloc)),
     }
 }

@@ -24,12 +24,6 @@ least_table-requires-clause-sorted g c =
     let is = ap (map (λ row. row.now)) c.as_slice-2.ensures.value ∙ c.in_ok-rows.ensures.ok ∙ ap (chosen X c.args.table) c.as_slice.ensures in
     subst (λ rows. is_sorted value_cmp rows ≡ true) (sym is) (chosen_rows c.args.catalog.now X c.args.table c.args.conditions.now c.requires.held).sorted
 
-pub delete_rows-requires-clause-sorted : goal.delete_rows-requires-clause-sorted
-delete_rows-requires-clause-sorted g c =
-    let X = g.R.SnapshotReader.tables c.args.reader.now in
-    let is = ap (map (λ row. row.now)) c.as_slice-in-None.ensures.value ∙ c.in_ok-rows.ensures.ok ∙ ap (chosen X c.args.table) c.as_slice.ensures in
-    subst (λ rows. is_sorted value_cmp rows ≡ true) (sym is) (chosen_rows c.args.catalog.now X c.args.table c.args.conditions.now c.requires.held).sorted
-
 pub returns : goal.returns
 returns g c =
     let C = c.args.catalog.now in
@@ -38,7 +32,7 @@ returns g c =
     let shown : c.as_slice-in-None.result.now ≡ c.as_slice-2.result.now = c.as_slice-in-None.ensures.value ∙ sym c.as_slice-2.ensures.value in
     let is : gone ≡ chosen X c.args.table c.args.conditions.now = ap (map (λ row. row.now)) c.as_slice-2.ensures.value ∙ c.in_ok-rows.ensures.ok ∙ ap (chosen X c.args.table) c.as_slice.ensures in
     let rows = subst (AreRowsOf X c.args.table) (sym is) (chosen_rows C X c.args.table c.args.conditions.now c.requires.held) in
-    let e = deleted_none C X c.args.table gone c.len.result c.in_ok-written-in-None.written.changes c.in_ok-written-in-None.written.marks.items c.outcome.result rows c.in-None.ensures.least c.outcome.ensures
+    let e = deleted_none C X c.args.table gone c.len.result c.in_ok-written-in-None.written.changes.items c.in_ok-written-in-None.written.marks.items c.outcome.result rows c.in-None.ensures.least c.outcome.ensures
     (c.len.ensures ∙ sym c.as_slice-2.ensures.len ∙ sym (length-map c.as_slice-2.result.now (λ row. row.now)))
     (c.in_ok-written-in-None.ensures.changes ∙ ap (λ rs. map (removes c.args.table) (map (λ row. row.now) rs)) shown)
     (c.in_ok-written-in-None.ensures.marks ∙ ap (λ rs. references_of_rows c.args.table (columns_of C c.args.table) (map (λ row. row.now) rs)) shown) in

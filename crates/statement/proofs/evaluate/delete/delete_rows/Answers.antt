@@ -1,17 +1,10 @@
-use Rattle.std.proofs.Common.{◌<◌, None, Some, length, ap, sym, subst, ◌++◌, ◌∷◌, [], ◌∙◌, arith, add-one}
+use Rattle.std.proofs.Common.{◌<◌, None, Some, length, ap, sym, ◌++◌, ◌∷◌, [], ◌∙◌, arith, add-one}
 use Rattle.schema.specs.Plain.{columns_of}
 use Rattle.statement.specs.Evaluation.{removes}
 use Rattle.statement.specs.Marks.{references_of}
-use Rattle.statement.specs.Writing.{ComesAfter}
 use Rattle.statement.proofs.DeleteLemmas.{references_more}
-use Rattle.statement.proofs.WritingLemmas.{changes_more, comes_after}
+use Rattle.statement.proofs.WritingLemmas.{changes_more}
 use Rattle.statement.proofs.evaluate.delete.delete_rows.Goals as goal
-
-pub delete-requires-clause-last : goal.delete-requires-clause-last
-delete-requires-clause-last g c =
-    let lt : c.loop-row.row-index < length c.args.rows.now = omega arith in
-    subst (λ xs. ComesAfter xs (removes c.args.table c.row-item.result.now)) (sym c.loop-row.invariant.changes)
-    (comes_after c.args.table (λ r. None) None c.args.rows.now c.loop-row.row-index c.row-item.result c.requires.sorted lt c.row-item.is)
 
 pub loop-row-preserved : goal.loop-row-preserved
 loop-row-preserved g c =

@@ -8,5 +8,5 @@ returns-in-Some-clause-ok g c =
 
 pub returns-in_ok-written-in-None-clause-ok : goal.returns-in_ok-written-in-None-clause-ok
 returns-in_ok-written-in-None-clause-ok g c =
-    inserted_new c.args.catalog.now c.args.table c.args.row (g.R.SnapshotReader.tables c.args.reader.now) c.in_ok-written-in-None.written.changes c.in_ok-written-in-None.written.marks.items c.outcome.result
+    inserted_new c.args.catalog.now c.args.table c.args.row (g.R.SnapshotReader.tables c.args.reader.now) c.in_ok-written-in-None.written.changes.items c.in_ok-written-in-None.written.marks.items c.outcome.result
     (sym c.in-None.is ∙ c.in_ok-fault.ensures.ok) c.outcome.ensures c.in_ok-written-in-None.ensures.changes c.in_ok-written-in-None.ensures.marks

@@ -1,24 +1,15 @@
-use Rattle.std.proofs.Common.{◌<◌, Some, length, ap, sym, subst, ◌++◌, ◌∷◌, [], ◌∙◌, arith, add-one}
+use Rattle.std.proofs.Common.{◌<◌, Some, length, ap, sym, ◌++◌, ◌∷◌, [], ◌∙◌, arith, add-one}
 use Rattle.schema.specs.Plain.{columns_of}
 use Rattle.statement.specs.Evaluation.{puts, updated_row}
 use Rattle.statement.specs.Marks.{references_of}
-use Rattle.statement.specs.Writing.{ComesAfter}
 use Rattle.statement.proofs.UpdatingLemmas.{all_written, row_assignable}
-use Rattle.statement.proofs.WritingLemmas.{changes_more, comes_after, marks_more}
+use Rattle.statement.proofs.WritingLemmas.{changes_more, marks_more}
 use Rattle.statement.proofs.evaluate.update.Updating.write.Goals as goal
 
 pub updated_row-requires : goal.updated_row-requires
 updated_row-requires g c =
     let lt : c.loop-row.row-index < length c.args.rows.now = omega arith in
     row_assignable c.args.self.now.assignments.now c.args.rows.now c.loop-row.row-index c.row-item.result c.requires.assignable lt c.row-item.is
-
-pub update-requires-clause-last : goal.update-requires-clause-last
-update-requires-clause-last g c =
-    let lt : c.loop-row.row-index < length c.args.rows.now = omega arith in
-    let more = c.args.self.now.assignments.now in
-    subst (λ row. ComesAfter c.loop-row.written.changes (puts c.args.table row)) (sym c.in_ok-after.ensures.ok)
-    (subst (λ xs. ComesAfter xs (puts c.args.table (updated_row more c.row-item.result.now))) (sym c.loop-row.invariant.changes)
-    (comes_after c.args.table (λ row. Some (updated_row more row).1) (Some (updated_row more c.row-item.result.now).1) c.args.rows.now c.loop-row.row-index c.row-item.result c.requires.rows.sorted lt c.row-item.is))
 
 pub loop-row-preserved : goal.loop-row-preserved
 loop-row-preserved g c =
@@ -29,7 +20,7 @@ loop-row-preserved g c =
     let columns = columns_of c.args.self.now.catalog.now t in
     let marks = c.loop-row.written.marks.items in record {
       changes = rw add-one (
-          c.in_ok-update.ensures.changes ∙ ap (λ r. c.loop-row.written.changes ++ puts t r ∷ []) c.in_ok-after.ensures.ok ∙ ap (λ xs. xs ++ puts t (updated_row more row) ∷ []) c.loop-row.invariant.changes
+          c.in_ok-update.ensures.changes ∙ ap (λ r. c.loop-row.written.changes.items ++ puts t r ∷ []) c.in_ok-after.ensures.ok ∙ ap (λ xs. xs ++ puts t (updated_row more row) ∷ []) c.loop-row.invariant.changes
           ∙ sym (changes_more t (λ r. Some (updated_row more r).1) c.args.rows.now c.loop-row.row-index c.row-item.result lt c.row-item.is)
           );
       marks = rw add-one (
@@ -43,5 +34,5 @@ loop-row-preserved g c =
 
 pub returns-clause-ok : goal.returns-clause-ok
 returns-clause-ok g c =
-    all_written c.args.self.now.catalog.now (g.R.SnapshotReader.tables c.args.self.now.reader.now) c.args.table c.args.self.now.assignments.now c.args.rows.now c.loop-row.row-index c.outcome.result c.loop-row.written.changes c.loop-row.written.marks.items
+    all_written c.args.self.now.catalog.now (g.R.SnapshotReader.tables c.args.self.now.reader.now) c.args.table c.args.self.now.assignments.now c.args.rows.now c.loop-row.row-index c.outcome.result c.loop-row.written.changes.items c.loop-row.written.marks.items
     (omega arith) c.outcome.ensures c.loop-row.invariant.changes c.loop-row.invariant.marks
