@@ -26,8 +26,14 @@ fn before<A: Allocator + Copy>(
 {
     let table = change.table();
     match tables.get(table, change.key()) {
-        Some(found) => Ok(Change::of_row(table, found.copy(alloc)?)),
-        None => Ok(Change::of_absence(table, change.key().copy(alloc)?)),
+        Some(found) => {
+            let row = found.copy(alloc)?;
+            Ok(Change::of_row(table, row))
+        }
+        None => {
+            let key = change.key().copy(alloc)?;
+            Ok(Change::of_absence(table, key))
+        }
     }
 }
 
