@@ -20,7 +20,10 @@ const LONGER: u64 = 8;
 
 // How many microseconds a nap takes at most for each session, so that all of them together look as often, however many
 // there are.
-const LONGEST: u64 = 150;
+const LONGEST: u64 = 400;
+
+// How many it takes at most where there are many sessions.
+const LONGEST_OF_ALL: u64 = 10_000;
 
 /// Where sessions begin transactions. Whoever finds the lock taken there gives way: it naps, and looks again. So a
 /// few sessions at a time are within a transaction, and each goes on for some events before another processor has
@@ -50,7 +53,7 @@ impl Entrance {
         if crowded < MOST_CROWDED {
             return None;
         }
-        let longest = LONGEST * u64::from(self.sessions);
+        let longest = (LONGEST * u64::from(self.sessions)).min(LONGEST_OF_ALL);
         let nap = (crowded - MOST_CROWDED).saturating_mul(LONGER);
         Some(Duration::from_micros(nap.min(longest)))
     }
