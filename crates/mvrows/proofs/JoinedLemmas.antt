@@ -1,5 +1,5 @@
 -- Pages one after another: where a key belongs, and what a change of one page is to all.
-use Rattle.std.proofs.Common.{suc, zero, ◌≡◌, refl, sym, ap, subst, ◌∙◌, ℕ, ◌+◌, ◌<◌, ◌≤◌, Bool, true, false, true≢false, not, ◌&&◌, List, [], ◌∷◌, ◌++◌, take, drop, length, Option, Some, None, get_or, set, arith, Bor, add-one}
+use Rattle.std.proofs.Common.{suc, zero, ◌≡◌, refl, sym, ap, subst, ◌∙◌, ℕ, ◌+◌, ◌<◌, ◌≤◌, Bool, true, false, true≢false, not, ◌&&◌, List, [], ◌∷◌, ◌++◌, take, drop, length, Option, Some, None, get_or, set, arith, Bor, add-one, ◌-◌}
 use Rattle.std.specs.Prelude.{find}
 use Rattle.std.specs.List.{AllByRecursion, flat_map, cons_option}
 use Rattle.std.specs.List.Sorted.{IsStrictlySortedBy, IsPartitionedBy, IsPartitionPoint}
@@ -50,7 +50,7 @@ flat-split f xs i x lt at = rw add-one (flat-split_suc f xs i x lt at)
 pub flat-set : {X Y : Type 0} (f : X → List Y) (xs : List X) (i : ℕ) (x : X) → i < length xs → flat_map f (set xs i x) ≡ flat_map f (take i xs) ++ (f x ++ flat_map f (drop (i + 1) xs))
 flat-set f xs i x lt = rw add-one (flat-set_suc f xs i x lt)
 
-not-true : (b : Bool) → not b ≡ true → b ≡ false
+pub not-true : (b : Bool) → not b ≡ true → b ≡ false
 not-true true e = sym e
 not-true false e = refl
 
@@ -63,6 +63,9 @@ all-take_less P zero j xs le all = tt
 all-take_less P (suc i) zero xs le all = absurd (omega arith)
 all-take_less P (suc i) (suc j) [] le all = tt
 all-take_less P (suc i) (suc j) (x ∷ xs) le all = (all.0, all-take_less P i j xs (omega arith) all.1)
+
+less_one : (i : ℕ) → suc i - 1 ≡ i
+less_one i = omega arith
 
 or-none : {X : Type 0} (o : Option X) → option_or o None ≡ o
 or-none None = refl
@@ -198,6 +201,30 @@ module _ {A : Type 0} where
 
   pub place-after : (key : Bor (Key A)) (pages : List (VersionedRows A)) (i : ℕ) → AreLaidOut pages → i < length pages → AllByRecursion (λ page. is_before (From key) page ≡ false) (drop i pages) → IsLeast key.now (joined (drop (i + 1) pages))
   place-after key pages i laid lt late = rw add-one (place-after_suc key pages i laid lt late)
+
+  -- where no key of a page is within a bound, none of those before is
+  early-take : (bound : Bound (Bor (Key A))) (pages : List (VersionedRows A)) (i : ℕ) → AreLaidOut pages → i < length pages → is_before bound (get_or pages i []) ≡ true → AllByRecursion (λ page. is_before bound page ≡ true) (take (suc i) pages)
+  early-take bound [] i laid lt early = absurd (omega arith)
+  early-take bound (page ∷ pages) zero laid lt early = (early, tt)
+  early-take bound (page ∷ []) (suc i) laid lt early = absurd (omega arith)
+  early-take bound (page ∷ next ∷ pages) (suc i) laid lt early =
+      let rest = early-take bound (next ∷ pages) i (rest_laid_out page (next ∷ pages) laid) (omega arith) early in
+      let parts = below-append page next (joined pages) (in_order-cut page (joined (next ∷ pages)) laid.0).below in
+      (before-later bound page next parts.0 laid.1.1.0 rest.0, rest)
+
+  -- a key that no page before its own has anything from
+  pub place-above : (key : Bor (Key A)) (pages : List (VersionedRows A)) (i : ℕ) → AreLaidOut pages → 0 < i → i ≤ length pages → is_before (From key) (get_or pages (i - 1) []) ≡ true → AllByRecursion (λ k. is_le (value_cmp key.now k.key) ≡ false) (joined (take i pages))
+  place-above key pages zero laid some le early = absurd (omega arith)
+  place-above key pages (suc i) laid some le early = pages_before (From key) (take (suc i) pages) (early-take (From key) pages i laid (omega arith) (subst (λ n. is_before (From key) (get_or pages n []) ≡ true) (less_one i) early))
+
+  place-below_suc : (key : Bor (Key A)) (pages : List (VersionedRows A)) (i : ℕ) → AreLaidOut pages → i < length pages → is_before (From key) (get_or pages i []) ≡ false → IsLeast key.now (joined (drop (suc i) pages))
+  place-below_suc key [] i laid lt late = absurd (omega arith)
+  place-below_suc key (page ∷ pages) zero laid lt late = strict-after key page (joined pages) (in_order-cut page (joined pages) laid.0).below late
+  place-below_suc key (page ∷ pages) (suc i) laid lt late = place-below_suc key pages i (rest_laid_out page pages laid) (omega arith) late
+
+  -- a key that its own page has something from
+  pub place-below : (key : Bor (Key A)) (pages : List (VersionedRows A)) (i : ℕ) → AreLaidOut pages → i < length pages → is_before (From key) (get_or pages i []) ≡ false → IsLeast key.now (joined (drop (i + 1) pages))
+  place-below key pages i laid lt late = rw add-one (place-below_suc key pages i laid lt late)
 
   -- the last page, where all are before the key
   pub place-before_last : (key : Bor (Key A)) (pages : List (VersionedRows A)) (i j : ℕ) → i ≤ j → AllByRecursion (λ page. is_before (From key) page ≡ true) (take j pages) → AllByRecursion (λ k. is_le (value_cmp key.now k.key) ≡ false) (joined (take i pages))

@@ -38,6 +38,8 @@ use value::refusal::Refusal;
 #[derive_where(Debug)]
 pub(crate) struct Table<A: Allocator = Global> {
     leaves: Vec<Leaf<A>, A>,
+    // Where the page of a key was found last.
+    near: usize,
 }
 
 impl<A: Allocator> Model for Table<A> {
@@ -81,6 +83,69 @@ fn place_of<A: Allocator>(leaves: &[Leaf<A>], key: &Key<A>) -> usize
     } else {
         leaves.len() - 1
     }
+}
+
+// Whether no key of the page at a place is within a bound.
+fn is_before_at<A: Allocator>(leaves: &[Leaf<A>], place: usize, bound: Bound<&Key<A>>) -> bool
+    requires { place < length leaves.now }
+    ensures { result ≡ is_before bound.entry (slice_index_or (pages_of leaves.now) place []) }
+{
+    let leaf = &leaves[place];
+    leaf.page().is_before(bound)
+}
+
+// Whether a key is known to be above those of the pages before a place.
+fn is_above_those_before<A: Allocator>(leaves: &[Leaf<A>], place: usize, key: &Key<A>) -> bool
+    requires laid_out { AreLaidOut (pages_of leaves.now) }
+    requires range { place < length leaves.now }
+    ensures { IsTrue result → AllByRecursion (λ k. is_le (value_cmp key.now k.key) ≡ false)
+        (joined (take place (pages_of leaves.now))) }
+{
+    place == 0 || is_before_at(leaves, place - 1, Bound::From(key))
+}
+
+// Whether a key is known to be below those of the pages behind a place.
+fn is_below_those_behind<A: Allocator>(leaves: &[Leaf<A>], place: usize, key: &Key<A>) -> bool
+    requires laid_out { AreLaidOut (pages_of leaves.now) }
+    requires range { place < length leaves.now }
+    ensures { IsTrue result → AllByRecursion (λ l. value_cmp key.now l ≡ Less)
+        (map (λ k. k.key) (joined (drop (place + 1) (pages_of leaves.now)))) }
+{
+    place + 1 == leaves.len() || !is_before_at(leaves, place, Bound::From(key))
+}
+
+// Whether a key is known to belong to the page at a place.
+fn belongs_to<A: Allocator>(leaves: &[Leaf<A>], place: usize, key: &Key<A>) -> bool
+    requires { AreLaidOut (pages_of leaves.now) }
+    ensures range { IsTrue result → place < length leaves.now }
+    ensures before { IsTrue result → AllByRecursion (λ k. is_le (value_cmp key.now k.key) ≡ false)
+        (joined (take place (pages_of leaves.now))) }
+    ensures after { IsTrue result → AllByRecursion (λ l. value_cmp key.now l ≡ Less)
+        (map (λ k. k.key) (joined (drop (place + 1) (pages_of leaves.now)))) }
+{
+    place < leaves.len()
+        && is_above_those_before(leaves, place, key)
+        && is_below_those_behind(leaves, place, key)
+}
+
+// The place of the page that a key belongs to, which is asked for first at a place and behind it: changes mostly come
+// in key order.
+fn place_near<A: Allocator>(leaves: &[Leaf<A>], near: usize, key: &Key<A>) -> usize
+    requires laid_out { AreLaidOut (pages_of leaves.now) }
+    requires some { 0 < length leaves.now }
+    ensures range { result < length leaves.now }
+    ensures before { AllByRecursion (λ k. is_le (value_cmp key.now k.key) ≡ false)
+        (joined (take result (pages_of leaves.now))) }
+    ensures after { AllByRecursion (λ l. value_cmp key.now l ≡ Less)
+        (map (λ k. k.key) (joined (drop (result + 1) (pages_of leaves.now)))) }
+{
+    if belongs_to(leaves, near, key) {
+        return near;
+    }
+    if near < leaves.len() && belongs_to(leaves, near + 1, key) {
+        return near + 1;
+    }
+    place_of(leaves, key)
 }
 
 // The row of the least key within a bound that a snapshot shows of some pages.
@@ -241,14 +306,15 @@ fn needs_room<A: Allocator>(leaves: &[Leaf<A>], place: usize, key: &Key<A>) -> b
     leaf.page().needs_room(key)
 }
 
-// Cuts the page that a key belongs to, where it has no room for a further one.
+// Cuts the page that a key belongs to, at a place, where it has no room for a further one.
 fn make_room<A: Allocator + Copy>(
     alloc: A,
     leaves: &mut Vec<Leaf<A>, A>,
+    place: usize,
     key: &Key<A>,
 ) -> Result<(), Refusal>
     requires laid_out { AreLaidOut (pages_of leaves.old.items) }
-    requires some { 0 < length leaves.old.items }
+    requires range { place < length leaves.old.items }
     ensures rows { rows_in leaves.new.items ≡ rows_in leaves.old.items }
     ensures laid_out { AreLaidOut (pages_of leaves.new.items) }
     ensures some { 0 < length leaves.new.items }
@@ -257,19 +323,18 @@ fn make_room<A: Allocator + Copy>(
     ensures undoable { (commit : ℕ) → AreUndoable commit leaves.old.items → AreUndoable commit leaves.new.items }
     ensures memory { IfErr result (λ e. e ≡ out_of_memory) }
 {
-    let pages = leaves.as_slice();
-    let place = place_of(pages, key);
-    if needs_room(pages, place, key) {
+    if needs_room(leaves.as_slice(), place, key) {
         cut(alloc, leaves, place)
     } else {
         Ok(())
     }
 }
 
-// Puts a newer version of a change's key into the page that the key belongs to.
+// Puts a newer version of a change's key into the page that the key belongs to, which is mostly near a place.
 fn put<A: Allocator + Copy>(
     alloc: A,
     leaves: &mut Vec<Leaf<A>, A>,
+    near: usize,
     commit: u64,
     change: &Change<A>,
 ) -> Result<(), Refusal>
@@ -285,7 +350,7 @@ fn put<A: Allocator + Copy>(
     ensures undoable { AreUndoable commit leaves.old.items → AreUndoable commit leaves.new.items }
     ensures memory { IfErr result (λ e. e ≡ out_of_memory) }
 {
-    let place = place_of(leaves.as_slice(), change.key());
+    let place = place_near(leaves.as_slice(), near, change.key());
     let leaf = &mut leaves[place];
     leaf.put(alloc, commit, change)
 }
@@ -316,6 +381,7 @@ fn put_first<A: Allocator + Copy>(
 fn put_more<A: Allocator + Copy>(
     alloc: A,
     leaves: &mut Vec<Leaf<A>, A>,
+    near: &mut usize,
     commit: u64,
     change: &Change<A>,
 ) -> Result<(), Refusal>
@@ -331,8 +397,10 @@ fn put_more<A: Allocator + Copy>(
     ensures undoable { AreUndoable commit leaves.old.items → AreUndoable commit leaves.new.items }
     ensures memory { IfErr result (λ e. e ≡ out_of_memory) }
 {
-    make_room(alloc, leaves, change.key())?;
-    put(alloc, leaves, commit, change)
+    let place = place_near(leaves.as_slice(), *near, change.key());
+    *near = place;
+    make_room(alloc, leaves, place, change.key())?;
+    put(alloc, leaves, place, commit, change)
 }
 
 // Takes back the versions of a commit that wasn't finished, page by page.
@@ -371,7 +439,13 @@ fn prune_all<A: Allocator>(leaves: &mut Vec<Leaf<A>, A>, oldest: u64)
 }
 
 // Prunes a key in the page that it belongs to, which goes where no key is left.
-fn settle<A: Allocator>(leaves: &mut Vec<Leaf<A>, A>, oldest: u64, snapshots: &[u64], key: &Key<A>)
+fn settle<A: Allocator>(
+    leaves: &mut Vec<Leaf<A>, A>,
+    near: &mut usize,
+    oldest: u64,
+    snapshots: &[u64],
+    key: &Key<A>,
+)
     requires laid_out { AreLaidOut (pages_of leaves.old.items) }
     requires some { 0 < length leaves.old.items }
     requires fresh { IsFreshIn key.now leaves.old.items }
@@ -380,7 +454,8 @@ fn settle<A: Allocator>(leaves: &mut Vec<Leaf<A>, A>, oldest: u64, snapshots: &[
     ensures laid_out { AreLaidOut (pages_of leaves.new.items) }
     ensures undoable { (commit : ℕ) → AreUndoable commit leaves.old.items → AreUndoable commit leaves.new.items }
 {
-    let place = place_of(leaves.as_slice(), key);
+    let place = place_near(leaves.as_slice(), *near, key);
+    *near = place;
     let leaf = &mut leaves[place];
     leaf.settle(oldest, snapshots, key);
     if !leaf.has_keys() {
@@ -441,14 +516,19 @@ fn share_before<A: Allocator + Copy>(alloc: A, leaves: &mut Vec<Leaf<A>, A>, fro
 }
 
 // Lets views share the page that a key belongs to, and those of its own around it.
-fn share_around<A: Allocator + Copy>(alloc: A, leaves: &mut Vec<Leaf<A>, A>, key: &Key<A>)
+fn share_around<A: Allocator + Copy>(
+    alloc: A,
+    leaves: &mut Vec<Leaf<A>, A>,
+    near: usize,
+    key: &Key<A>,
+)
     requires { AreLaidOut (pages_of leaves.old.items) }
     ensures { pages_of leaves.new.items ≡ pages_of leaves.old.items }
 {
     if leaves.is_empty() {
         return;
     }
-    let place = place_of(leaves.as_slice(), key);
+    let place = place_near(leaves.as_slice(), near, key);
     share_before(alloc, leaves, place);
     share_from(alloc, leaves, place);
 }
@@ -460,6 +540,7 @@ impl<A: Allocator> Table<A> {
     {
         Table {
             leaves: Vec::new(alloc),
+            near: 0,
         }
     }
 
@@ -472,7 +553,7 @@ impl<A: Allocator> Table<A> {
     {
         let mut leaves = open_pages(alloc, rows)?;
         share_all(alloc, &mut leaves);
-        Ok(Table { leaves })
+        Ok(Table { leaves, near: 0 })
     }
 
     /// The keys rise. Nothing is done.
@@ -550,7 +631,7 @@ impl<A: Allocator> Table<A> {
         if self.leaves.is_empty() {
             put_first(alloc, &mut self.leaves, commit, change)
         } else {
-            put_more(alloc, &mut self.leaves, commit, change)
+            put_more(alloc, &mut self.leaves, &mut self.near, commit, change)
         }
     }
 
@@ -591,7 +672,7 @@ impl<A: Allocator> Table<A> {
             IsFresh commit k (rows_in self.new) }
     {
         if !self.leaves.is_empty() {
-            settle(&mut self.leaves, oldest, snapshots, key);
+            settle(&mut self.leaves, &mut self.near, oldest, snapshots, key);
         }
     }
 
@@ -620,7 +701,7 @@ impl<A: Allocator> Table<A> {
         A: Copy,
         ensures { rows_in self.new ≡ rows_in self.old }
     {
-        share_around(alloc, &mut self.leaves, key);
+        share_around(alloc, &mut self.leaves, self.near, key);
     }
 
     /// Lets views share all pages, where there is memory for that.
@@ -643,6 +724,6 @@ impl<A: Allocator> Table<A> {
         for leaf in &self.leaves {
             leaves.push(leaf.lend(alloc)?)?;
         }
-        Ok(Table { leaves })
+        Ok(Table { leaves, near: 0 })
     }
 }
