@@ -192,10 +192,12 @@ impl<'h, A: Allocator> Canvas<'h, A> {
         is_in_danger(arrow, base, self.subject.records_from(self.picture.first))
     }
 
-    // Whether a conflict's reader had ended before its writer began.
+    // Whether one of a conflict's two had ended before the other began: its reader, or its writer that was refused.
     fn is_apart(&self, arrow: &Arrow<A>) -> bool {
         match (self.bar(arrow.from), self.bar(arrow.to)) {
-            (Some(reader), Some(writer)) => reader.end < writer.begin,
+            (Some(reader), Some(writer)) => {
+                reader.end < writer.begin || writer.end < reader.begin
+            }
             _ => false,
         }
     }

@@ -14,7 +14,7 @@ const SIGNS: [&str; 4] = [
     "1st, 2nd, ..: the place in the serial order.",
     "B begin, r read, w write, C commit, R rollback, P poll, E export, I import, p prune, ? no statement; red: refused.",
     "An arrow goes from who read a row to who wrote it and isn't seen by the reader.",
-    "Bold: why a transaction was refused. Pale: the reader had ended before the writer began.",
+    "Bold: why a transaction was refused. Pale: one of the two had ended before the other began.",
 ];
 
 impl<'h, A: Allocator> Canvas<'h, A> {
