@@ -2,4 +2,5 @@ pub mod Described
 pub mod Drawn
 pub mod Headers
 pub mod Marks
+pub mod Taken
 pub mod Terminals

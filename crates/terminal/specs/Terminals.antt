@@ -11,6 +11,7 @@ use Rattle.terminal.specs.Described.{table_described}
 use Rattle.terminal.specs.Drawn.{drawn, shown}
 use Rattle.terminal.specs.Headers.{header_of}
 use Rattle.terminal.specs.Marks.{is_near, mark_in, prompt_text}
+use Rattle.terminal.specs.Taken.{cut_text, is_cut}
 use Rattle.terminal.specs.declared.attended.Aside.{Aside}
 use Rattle.terminal.specs.declared.attended.Aside.TheVariants as aside
 use Rattle.terminal.specs.declared.marks.Mark.TheVariants as mark
@@ -85,6 +86,11 @@ pub record At (H : Type 0) : Type 0 where
 -- the terminal p, where who answers has become h
 abbrev pub with : {H : Type 0} → At H → H → At H
 with p h = record p { attended = h }
+
+-- Where it is refused, p is as it was, and these words are told; else this was done.
+abbrev pub OrRefused : {H : Type 0} → Bool → List ℕ → At H → At H → List ℕ → Type 0 → Type 0
+OrRefused true words p q told Done = (q ≡ p) × (told ≡ words)
+OrRefused false words p q told Done = Done
 
 -- ---- how long an answer took
 
@@ -194,6 +200,10 @@ module _ {A H : Type 0} (answers : H → List ℕ → H → List ℕ → Type 0)
   abbrev pub Does : Typed → At H → List ℕ → At H → List ℕ → Type 0
   Does t p text q told = DoesAs (is_file t) t p text q told
 
+  -- What a typed line asks for was done, unless it may be cut off.
+  abbrev pub DoesLine : At H → List ℕ → At H → List ℕ → Type 0
+  DoesLine p line q told = OrRefused (is_cut line) cut_text p q told (Does (typed_as (text_in line)) p (text_in line) q told)
+
   -- A terminal p was typed a line, and has become q, and this text is shown: what is told of it, and the next prompt.
   abbrev pub Types : At H → List ℕ → At H → List ℕ → Type 0
-  Types p line q text = (told : List ℕ) × Does (typed_as (text_in line)) p (text_in line) q told × (text ≡ told ++ behind held (is_near (held p.attended)) q)
+  Types p line q text = (told : List ℕ) × DoesLine p line q told × (text ≡ told ++ behind held (is_near (held p.attended)) q)

@@ -18,8 +18,8 @@ use std::alloc::Allocator;
 use typing::{Typed, behind_word, session_in};
 use value::refusal::Refusal;
 
-// What is told by who is as before.
-fn tell<A: Allocator, H: Drop>(
+/// What is told by who is as before.
+pub(crate) fn tell<A: Allocator, H: Drop>(
     alloc: A,
     terminal: Terminal<H>,
     text: &[u8],

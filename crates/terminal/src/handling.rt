@@ -3,14 +3,15 @@
 ghost use Rattle.std.specs.Prelude.{◌≡◌, true, IfOk, IfErr};
 ghost use Rattle.value.specs.Refusals.{out_of_memory};
 ghost use Rattle.terminal.specs.Terminals as spec;
-ghost use Rattle.terminal.specs.Terminals.{Does, Types};
+ghost use Rattle.terminal.specs.Terminals.{Does, DoesLine, Types};
 
 use crate::attended::Attended;
-use crate::doing::do_alone;
+use crate::doing::{do_alone, tell};
 use crate::marks::{is_near, prompt};
 use crate::playing::play_file;
+use crate::taking::is_cut;
 use crate::terminal::Terminal;
-use crate::wording::near_text;
+use crate::wording::{cut_text, near_text};
 use conversation::handler::Handler;
 use std::alloc::Allocator;
 use typing::{Typed, behind_word, text_in, typed_as};
@@ -41,6 +42,24 @@ fn do_typed<A: Allocator + Copy, H: Attended<A>>(
         play_file(alloc, terminal, behind_word(text))
     } else {
         do_alone(alloc, terminal, typed, text)
+    }
+}
+
+// Does what a line asks for, unless it may be cut off.
+fn do_line<A: Allocator + Copy, H: Attended<A>>(
+    alloc: A,
+    terminal: Terminal<H>,
+    line: &[u8],
+) -> Result<(Terminal<H>, Vec<u8, A>), Refusal>
+    ensures done { IfOk result (λ x.
+        DoesLine H.answers H.held H.tells H.files terminal line.now x.0 x.1.items) }
+    ensures memory { IfErr result (λ e. e ≡ out_of_memory) }
+{
+    if is_cut(line) {
+        tell(alloc, terminal, cut_text())
+    } else {
+        let text = text_in(line);
+        do_typed(alloc, terminal, typed_as(text), text)
     }
 }
 
@@ -83,9 +102,8 @@ fn answer_typed<A: Allocator + Copy, H: Attended<A>>(
     ensures told { IfOk result (λ x. Types H.answers H.held H.tells H.files terminal line.now x.0 x.1.items) }
     ensures memory { IfErr result (λ e. e ≡ out_of_memory) }
 {
-    let text = text_in(line);
     let was_near = is_near(terminal.attended.shell());
-    let (next, mut told) = do_typed(alloc, terminal, typed_as(text), text)?;
+    let (next, mut told) = do_line(alloc, terminal, line)?;
     let behind = behind(alloc, was_near, &next)?;
     told.extend_from_slice(behind.as_slice())?;
     Ok((next, told))

@@ -2,6 +2,7 @@
 
 ghost use Rattle.std.specs.Prelude.{◌≡◌};
 ghost use Rattle.terminal.specs.Described.{no_table_text as absent_text};
+ghost use Rattle.terminal.specs.Taken as taken;
 ghost use Rattle.terminal.specs.Terminals as spec;
 
 /// What may be typed.
@@ -77,4 +78,11 @@ pub(crate) fn nested_text() -> &'static [u8]
     ensures { result.now ≡ spec.nested_text }
 {
     b"a file can't ask for the lines of another\n"
+}
+
+/// What is told of a line that a terminal may have cut off.
+pub(crate) fn cut_text() -> &'static [u8]
+    ensures { result.now ≡ taken.cut_text }
+{
+    b"ERROR 54000: the line is longer than a terminal passes on; use \\i FILE\n"
 }
