@@ -1,5 +1,9 @@
 -- What a typed line is taken for, and what is told where it is refused (PostgreSQL manual, psql: `help`, `exit`, `quit`, `\timing`; the others are this project's own choice).
-use Rattle.std.specs.Prelude.{ℕ, Bool, List, length, codes, nat_le}
+use Rattle.std.specs.Prelude.{ℕ, Bool, List, Option, Some, None, length, codes, nat_le, unwrap_or, if◌then◌else◌}
+use Rattle.std.specs.Str.{str_eq_ignore_ascii_case}
+use Rattle.typing.specs.Typing.{typed_as}
+use Rattle.typing.specs.declared.Typed.{Typed}
+use Rattle.typing.specs.declared.Typed.TheVariants as typed
 
 -- Whether a line may be cut off: of a longer one a terminal passes on 4095 bytes and the newline, and drops the others.
 abbrev pub is_cut : List ℕ → Bool
@@ -8,3 +12,15 @@ is_cut line = nat_le 4095 (length line)
 -- what is told of it
 abbrev pub cut_text : List ℕ
 cut_text = codes "ERROR 54000: the line is longer than a terminal passes on; use \\i FILE\n"
+
+-- what a word asks for that needs no backslash, in letters of any case
+abbrev pub bare_word : List ℕ → Option Typed
+bare_word text =
+    if str_eq_ignore_ascii_case text (codes "help") then Some typed.Help
+    else if str_eq_ignore_ascii_case text (codes "exit") then Some typed.Quit
+    else if str_eq_ignore_ascii_case text (codes "quit") then Some typed.Quit
+    else None
+
+-- what a text asks for
+abbrev pub asks_for : List ℕ → Typed
+asks_for text = unwrap_or (bare_word text) (typed_as text)

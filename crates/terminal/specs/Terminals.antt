@@ -4,21 +4,21 @@ use Rattle.std.specs.Fmt.{decimal}
 use Rattle.std.specs.List.{slice_split}
 use Rattle.shell.specs.Asked.{catalog_of}
 use Rattle.shell.specs.Shells.{Held}
-use Rattle.typing.specs.Typing.{behind_word, begins, line_of, session_in, text_in, typed_as}
+use Rattle.typing.specs.Typing.{behind_word, begins, line_of, session_in, text_in}
 use Rattle.typing.specs.declared.Typed.{Typed}
 use Rattle.typing.specs.declared.Typed.TheVariants as typed
 use Rattle.terminal.specs.Described.{table_described}
 use Rattle.terminal.specs.Drawn.{drawn, shown}
 use Rattle.terminal.specs.Headers.{header_of}
 use Rattle.terminal.specs.Marks.{is_near, mark_in, prompt_text}
-use Rattle.terminal.specs.Taken.{cut_text, is_cut}
+use Rattle.terminal.specs.Taken.{asks_for, cut_text, is_cut}
 use Rattle.terminal.specs.declared.attended.Aside.{Aside}
 use Rattle.terminal.specs.declared.attended.Aside.TheVariants as aside
 use Rattle.terminal.specs.declared.marks.Mark.TheVariants as mark
 
 -- what may be typed
 abbrev pub help_text : List ℕ
-help_text = codes "SELECT .., INSERT .., UPDATE .., DELETE ..   a statement of this session\nBEGIN [READ ONLY [DEFERRABLE]]               begins a transaction; COMMIT and ROLLBACK end it\nPOLL, EXPORT, IMPORT n, PRUNE, DUMP ..       other commands; CHECKPOINT makes room for events\nCREATE TABLE .., OPEN path                   before the first line of a session\n2                                            goes to session 2, of 64\n2 BEGIN                                      a line of session 2\n\\d [NAME]                                    the tables, or one of them\n\\serial                                      the committed transactions in their serial order\n\\why                                         why a transaction was refused last\n\\draw FILE                                   a picture of the transactions\n\\dump FILE                                   a dump of a safe snapshot\n\\i FILE                                      the lines of a file\n\\timing                                      tells how long answers take, or no longer\n\\q                                           ends the shell\n"
+help_text = codes "SELECT .., INSERT .., UPDATE .., DELETE ..   a statement of this session\nBEGIN [READ ONLY [DEFERRABLE]]               begins a transaction; COMMIT and ROLLBACK end it\nPOLL, EXPORT, IMPORT n, PRUNE, DUMP ..       other commands; CHECKPOINT makes room for events\nCREATE TABLE .., OPEN path                   before the first line of a session\n2                                            goes to session 2, of 64\n2 BEGIN                                      a line of session 2\n\\d [NAME]                                    the tables, or one of them\n\\serial                                      the committed transactions in their serial order\n\\why                                         why a transaction was refused last\n\\draw FILE                                   a picture of the transactions\n\\dump FILE                                   a dump of a safe snapshot\n\\i FILE                                      the lines of a file\n\\timing                                      tells how long answers take, or no longer\n\\?, help                                     this\n\\q, exit, quit                               ends the shell\n"
 
 -- what is told of a word that is none
 abbrev pub unknown_text : List ℕ
@@ -175,7 +175,7 @@ module _ {A H : Type 0} (answers : H → List ℕ → H → List ℕ → Type 0)
 
   -- A file's line was typed behind the prompt, which is shown with it, and what it asks for was done.
   abbrev pub PlaysLine : List ℕ → At H → At H → List ℕ → Type 0
-  PlaysLine line p q told = (text : List ℕ) × DoesAlone (typed_as (text_in line)) p (text_in line) q text × (told ≡ prompt_of held p ++ shown line ++ codes "\n" ++ text)
+  PlaysLine line p q told = (text : List ℕ) × DoesAlone (asks_for (text_in line)) p (text_in line) q text × (told ≡ prompt_of held p ++ shown line ++ codes "\n" ++ text)
 
   -- The same; but nothing more once the conversation is to end.
   abbrev pub PlaysUnless : Bool → List ℕ → At H → At H → List ℕ → Type 0
@@ -202,7 +202,7 @@ module _ {A H : Type 0} (answers : H → List ℕ → H → List ℕ → Type 0)
 
   -- What a typed line asks for was done, unless it may be cut off.
   abbrev pub DoesLine : At H → List ℕ → At H → List ℕ → Type 0
-  DoesLine p line q told = OrRefused (is_cut line) cut_text p q told (Does (typed_as (text_in line)) p (text_in line) q told)
+  DoesLine p line q told = OrRefused (is_cut line) cut_text p q told (Does (asks_for (text_in line)) p (text_in line) q told)
 
   -- A terminal p was typed a line, and has become q, and this text is shown: what is told of it, and the next prompt.
   abbrev pub Types : At H → List ℕ → At H → List ℕ → Type 0

@@ -9,12 +9,12 @@ use crate::attended::Attended;
 use crate::doing::{do_alone, tell};
 use crate::marks::{is_near, prompt};
 use crate::playing::play_file;
-use crate::taking::is_cut;
+use crate::taking::{asks_for, is_cut};
 use crate::terminal::Terminal;
 use crate::wording::{cut_text, near_text};
 use conversation::handler::Handler;
 use std::alloc::Allocator;
-use typing::{Typed, behind_word, text_in, typed_as};
+use typing::{Typed, behind_word, text_in};
 use value::refusal::Refusal;
 
 // Whether the lines of a file are asked for.
@@ -59,7 +59,7 @@ fn do_line<A: Allocator + Copy, H: Attended<A>>(
         tell(alloc, terminal, cut_text())
     } else {
         let text = text_in(line);
-        do_typed(alloc, terminal, typed_as(text), text)
+        do_typed(alloc, terminal, asks_for(text), text)
     }
 }
 

@@ -10,9 +10,10 @@ use crate::attended::Attended;
 use crate::doing::do_alone;
 use crate::drawing::{parts_of, shown};
 use crate::marks::prompt;
+use crate::taking::asks_for;
 use crate::terminal::Terminal;
 use std::alloc::Allocator;
-use typing::{text_in, typed_as};
+use typing::text_in;
 use value::refusal::Refusal;
 
 // A text without the newline at its end.
@@ -55,7 +56,7 @@ fn play_line<A: Allocator + Copy, H: Attended<A>>(
 {
     let mut told = typed_line(alloc, &terminal, line)?;
     let text = text_in(line);
-    let (next, answer) = do_alone(alloc, terminal, typed_as(text), text)?;
+    let (next, answer) = do_alone(alloc, terminal, asks_for(text), text)?;
     told.extend_from_slice(answer.as_slice())?;
     Ok((next, told))
 }

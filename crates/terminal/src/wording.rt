@@ -23,7 +23,8 @@ pub(crate) fn help_text() -> &'static [u8]
       \\dump FILE                                   a dump of a safe snapshot\n\
       \\i FILE                                      the lines of a file\n\
       \\timing                                      tells how long answers take, or no longer\n\
-      \\q                                           ends the shell\n\
+      \\?, help                                     this\n\
+      \\q, exit, quit                               ends the shell\n\
     "
 }
 
