@@ -1,7 +1,8 @@
 -- What a typed line is taken for, and what is told where it is refused (PostgreSQL manual, psql: `help`, `exit`, `quit`, `\timing`; the others are this project's own choice).
-use Rattle.std.specs.Prelude.{ℕ, Bool, List, Option, Some, None, length, codes, nat_le, unwrap_or, if◌then◌else◌}
+use Rattle.std.specs.Prelude.{ℕ, ◌==◌, ◌&&◌, not, Bool, List, Option, Some, None, length, codes, take, nat_le, unwrap_or, if◌then◌else◌}
+use Rattle.std.specs.List.{list_any}
 use Rattle.std.specs.Str.{str_eq_ignore_ascii_case}
-use Rattle.typing.specs.Typing.{typed_as}
+use Rattle.typing.specs.Typing.{behind_word, typed_as}
 use Rattle.typing.specs.declared.Typed.{Typed}
 use Rattle.typing.specs.declared.Typed.TheVariants as typed
 
@@ -24,3 +25,15 @@ bare_word text =
 -- what a text asks for
 abbrev pub asks_for : List ℕ → Typed
 asks_for text = unwrap_or (bare_word text) (typed_as text)
+
+-- whether a text begins with a word, in letters of any case
+abbrev pub starts : List ℕ → List ℕ → Bool
+starts word text = str_eq_ignore_ascii_case (take (length word) text) word
+
+-- whether a text begins to create a table, and comes to the end of no list of columns
+abbrev pub is_unended_table : List ℕ → Bool
+is_unended_table text = starts (codes "create ") text && starts (codes "table") (behind_word text) && not (list_any (λ b. b == 41) text)
+
+-- what is told of it
+abbrev pub unended_table_text : List ℕ
+unended_table_text = codes "ERROR 42601: CREATE TABLE stands on one line: CREATE TABLE name (name kind PRIMARY KEY, name kind, ..)\n"

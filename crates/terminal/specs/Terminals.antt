@@ -11,14 +11,14 @@ use Rattle.terminal.specs.Described.{table_described}
 use Rattle.terminal.specs.Drawn.{drawn, shown}
 use Rattle.terminal.specs.Headers.{header_of}
 use Rattle.terminal.specs.Marks.{is_near, mark_in, prompt_text}
-use Rattle.terminal.specs.Taken.{asks_for, cut_text, is_cut}
+use Rattle.terminal.specs.Taken.{asks_for, cut_text, is_cut, is_unended_table, unended_table_text}
 use Rattle.terminal.specs.declared.attended.Aside.{Aside}
 use Rattle.terminal.specs.declared.attended.Aside.TheVariants as aside
 use Rattle.terminal.specs.declared.marks.Mark.TheVariants as mark
 
 -- what may be typed
 abbrev pub help_text : List ℕ
-help_text = codes "SELECT .., INSERT .., UPDATE .., DELETE ..   a statement of this session\nBEGIN [READ ONLY [DEFERRABLE]]               begins a transaction; COMMIT and ROLLBACK end it\nPOLL, EXPORT, IMPORT n, PRUNE, DUMP ..       other commands; CHECKPOINT makes room for events\nCREATE TABLE .., OPEN path                   before the first line of a session\n2                                            goes to session 2, of 64\n2 BEGIN                                      a line of session 2\n\\d [NAME]                                    the tables, or one of them\n\\serial                                      the committed transactions in their serial order\n\\why                                         why a transaction was refused last\n\\draw FILE                                   a picture of the transactions\n\\dump FILE                                   a dump of a safe snapshot\n\\i FILE                                      the lines of a file\n\\timing                                      tells how long answers take, or no longer\n\\?, help                                     this\n\\q, exit, quit                               ends the shell\n"
+help_text = codes "SELECT .., INSERT .., UPDATE .., DELETE ..   a statement of this session\nBEGIN [READ ONLY [DEFERRABLE]]               begins a transaction; COMMIT and ROLLBACK end it\nPOLL, EXPORT, IMPORT n, PRUNE, DUMP ..       other commands; CHECKPOINT makes room for events\nCREATE TABLE .., OPEN path                   on one line, before the first line of a session\n2                                            goes to session 2, of 64\n2 BEGIN                                      a line of session 2\n\\d [NAME]                                    the tables, or one of them\n\\serial                                      the committed transactions in their serial order\n\\why                                         why a transaction was refused last\n\\draw FILE                                   a picture of the transactions\n\\dump FILE                                   a dump of a safe snapshot\n\\i FILE                                      the lines of a file\n\\timing                                      tells how long answers take, or no longer\n\\?, help                                     this\n\\q, exit, quit                               ends the shell\n"
 
 -- what is told of a word that is none
 abbrev pub unknown_text : List ℕ
@@ -171,7 +171,7 @@ module _ {A H : Type 0} (answers : H → List ℕ → H → List ℕ → Type 0)
   DoesAlone typed.Word p text q told = (h : H) × AsksPlainly answers p.attended text h told × (q ≡ with p h)
   DoesAlone typed.File p text q told = (q ≡ p) × (told ≡ nested_text)
   DoesAlone typed.Unknown p text q told = (q ≡ p) × (told ≡ unknown_text)
-  DoesAlone typed.Command p text q told = DoesCommand p text q told
+  DoesAlone typed.Command p text q told = OrRefused (is_unended_table text) unended_table_text p q told (DoesCommand p text q told)
 
   -- A file's line was typed behind the prompt, which is shown with it, and what it asks for was done.
   abbrev pub PlaysLine : List ℕ → At H → At H → List ℕ → Type 0

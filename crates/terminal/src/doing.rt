@@ -5,15 +5,17 @@ ghost use Rattle.value.specs.Refusals.{out_of_memory};
 ghost use Rattle.shell.specs.Asked.{catalog_of};
 ghost use Rattle.terminal.specs.Described.{table_described};
 ghost use Rattle.typing.specs.Typing.{session_in};
+ghost use Rattle.terminal.specs.Taken as taken;
 ghost use Rattle.terminal.specs.Terminals as spec;
-ghost use Rattle.terminal.specs.Terminals.{AsksPlainly, DoesAlone, DoesCommand, Dumps};
+ghost use Rattle.terminal.specs.Terminals.{AsksPlainly, DoesAlone, DoesCommand, Dumps, OrRefused};
 
 use crate::answering::{ask_command, ask_plainly};
 use crate::attended::{Aside, Attended};
 use crate::describing::describe;
 use crate::dumping::dump;
+use crate::taking::is_unended_table;
 use crate::terminal::{Prompt, Terminal};
-use crate::wording::{help_text, nested_text, timing_text, unknown_text};
+use crate::wording::{help_text, nested_text, timing_text, unended_table_text, unknown_text};
 use std::alloc::Allocator;
 use typing::{Typed, behind_word, session_in};
 use value::refusal::Refusal;
@@ -107,7 +109,7 @@ fn word_at<A: Allocator + Copy, H: Attended<A>>(
 }
 
 // Asks the line that a command stands for.
-fn command_at<A: Allocator + Copy, H: Attended<A>>(
+fn ask_at<A: Allocator + Copy, H: Attended<A>>(
     alloc: A,
     terminal: Terminal<H>,
     command: &[u8],
@@ -118,6 +120,24 @@ fn command_at<A: Allocator + Copy, H: Attended<A>>(
     let Terminal { attended, prompt } = terminal;
     let (attended, told) = ask_command(alloc, attended, prompt.session, prompt.is_timed, command)?;
     Ok((Terminal { attended, prompt }, told))
+}
+
+// The same, unless it begins to create a table and doesn't end it.
+fn command_at<A: Allocator + Copy, H: Attended<A>>(
+    alloc: A,
+    terminal: Terminal<H>,
+    command: &[u8],
+) -> Result<(Terminal<H>, Vec<u8, A>), Refusal>
+    ensures done { IfOk result (λ x.
+        OrRefused (taken.is_unended_table command.now) taken.unended_table_text terminal x.0 x.1.items
+        (DoesCommand H.answers H.held H.tells terminal command.now x.0 x.1.items)) }
+    ensures memory { IfErr result (λ e. e ≡ out_of_memory) }
+{
+    if is_unended_table(command) {
+        tell(alloc, terminal, unended_table_text())
+    } else {
+        ask_at(alloc, terminal, command)
+    }
 }
 
 // Tells of the table of a name.

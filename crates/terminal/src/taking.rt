@@ -1,9 +1,10 @@
 //! What a typed line is taken for.
 
-ghost use Rattle.std.specs.Prelude.{◌≡◌};
+ghost use Rattle.std.specs.Prelude.{◌≡◌, ◌==◌, take};
+ghost use Rattle.std.specs.List.{list_any};
 ghost use Rattle.terminal.specs.Taken as spec;
 
-use typing::{Typed, typed_as};
+use typing::{Typed, behind_word, typed_as};
 
 // The least number of bytes, without its newline, of a line that a terminal may have cut off.
 const LEAST_CUT: usize = 4095;
@@ -38,4 +39,32 @@ pub(crate) fn asks_for(text: &[u8]) -> Typed
         Some(typed) => typed,
         None => typed_as(text),
     }
+}
+
+// The first bytes of a text, so many at most.
+fn first_bytes(count: usize, text: &[u8]) -> &[u8]
+    ensures { result.now ≡ take count text.now }
+{
+    &text[..text.len().min(count)]
+}
+
+/// Whether a text begins with a word, in letters of any case.
+pub(crate) fn starts(word: &[u8], text: &[u8]) -> bool
+    ensures { result ≡ spec.starts word.now text.now }
+{
+    first_bytes(word.len(), text).eq_ignore_ascii_case(word)
+}
+
+// Whether a text has an end of a list.
+fn has_end(text: &[u8]) -> bool
+    ensures { result ≡ list_any (λ b. b == 41) text.now }
+{
+    text.contains(&b')')
+}
+
+/// Whether a text begins to create a table, and comes to the end of no list of columns.
+pub(crate) fn is_unended_table(text: &[u8]) -> bool
+    ensures { result ≡ spec.is_unended_table text.now }
+{
+    starts(b"create ", text) && starts(b"table", behind_word(text)) && !has_end(text)
 }
