@@ -11,6 +11,7 @@ use Rattle.terminal.specs.Described.{table_described}
 use Rattle.terminal.specs.Drawn.{drawn, shown}
 use Rattle.terminal.specs.Headers.{header_of}
 use Rattle.terminal.specs.Marks.{is_near, mark_in, prompt_text}
+use Rattle.terminal.specs.Refused.{worded}
 use Rattle.terminal.specs.Taken.{asks_for, cut_text, is_cut, is_unended_table, unended_table_text}
 use Rattle.terminal.specs.declared.attended.Aside.{Aside}
 use Rattle.terminal.specs.declared.attended.Aside.TheVariants as aside
@@ -45,9 +46,9 @@ abbrev pub session_line : ℕ → List ℕ → List ℕ
 session_line s command = decimal s ++ codes " " ++ command
 
 module _ {H : Type 0} where
-  -- Who is p was asked a line and has become q, and its answer is shown as it is.
+  -- Who is p was asked a line and has become q, and its answer is shown as it is, a refusal in words.
   abbrev pub AsksPlainly : (H → List ℕ → H → List ℕ → Type 0) → H → List ℕ → H → List ℕ → Type 0
-  AsksPlainly answers p line q told = (text : List ℕ) × answers p line q text × (told ≡ shown text)
+  AsksPlainly answers p line q told = (text : List ℕ) × answers p line q text × (told ≡ shown (worded line text))
 
   -- A dump's last two lines: the dump to a path, and the end of its transaction.
   abbrev pub EndsDump : (H → List ℕ → H → List ℕ → Type 0) → ℕ → List ℕ → H → H → List ℕ → Type 0
@@ -70,7 +71,7 @@ module _ {H : Type 0} where
 module _ {A H : Type 0} where
   -- Who is p, and holds what a shell holds, was asked a line and has become q, and its answer was drawn as this text.
   abbrev pub Asks : (H → List ℕ → H → List ℕ → Type 0) → (H → Held A) → H → List ℕ → H → List ℕ → Type 0
-  Asks answers held p line q told = (text : List ℕ) × answers p line q text × (told ≡ drawn (header_of (held p) line) text)
+  Asks answers held p line q told = (text : List ℕ) × answers p line q text × (told ≡ drawn (header_of (held p) line) (worded line text))
 
   -- A session without a transaction makes the dump; or there is none.
   abbrev pub Dumps : (H → List ℕ → H → List ℕ → Type 0) → (H → Held A) → List ℕ → H → H → List ℕ → Type 0

@@ -9,6 +9,7 @@ ghost use Rattle.terminal.specs.Terminals.{Asks, AsksPlainly, AsksTimed};
 use crate::attended::Attended;
 use crate::drawing::{draw_answer, shown};
 use crate::header::header_of;
+use crate::refused::worded;
 use crate::timing::timed;
 use history::session_id::SessionId;
 use std::alloc::Allocator;
@@ -26,6 +27,7 @@ fn ask<A: Allocator + Copy, H: Attended<A>>(
 {
     let header = header_of(alloc, attended.shell(), line)?;
     let (next, answer) = attended.answer(alloc, line)?;
+    let answer = worded(alloc, line, answer)?;
     let told = draw_answer(alloc, header.as_ref(), answer.as_slice())?;
     Ok((next, told))
 }
@@ -74,6 +76,7 @@ pub(crate) fn ask_plainly<A: Allocator + Copy, H: Attended<A>>(
     ensures memory { IfErr result (λ e. e ≡ out_of_memory) }
 {
     let (next, answer) = attended.answer(alloc, line)?;
+    let answer = worded(alloc, line, answer)?;
     let told = shown(alloc, answer.as_slice())?;
     Ok((next, told))
 }

@@ -12,6 +12,7 @@ mod handling;
 mod header;
 mod marks;
 mod playing;
+mod refused;
 mod taking;
 pub mod terminal;
 mod timing;

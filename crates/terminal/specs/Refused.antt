@@ -1,0 +1,27 @@
+-- What a refusal of the syntax tells at a terminal (this project's own choice).
+use Rattle.std.specs.Prelude.{ℕ, ◌-◌, List, ◌++◌, length, codes, take, drop, if◌then◌else◌}
+use Rattle.typing.specs.Typing.{begins, behind_word}
+use Rattle.terminal.specs.Taken.{starts}
+
+-- what is told before the number of the byte from which on the statement of a session's line is refused: there may be two reasons
+abbrev pub statement_words : List ℕ → List ℕ
+statement_words line =
+    if starts (codes "insert ") (behind_word line) then codes "ERROR 42601: this is no statement here, or has another number of values than the table has columns: byte "
+    else if starts (codes "update ") (behind_word line) then codes "ERROR 42601: this is no statement here, or sets the key, or a column twice: byte "
+    else codes "ERROR 42601: this is no statement here: byte "
+
+-- the refusal of a session's line, with these words; the session's number stands before it
+abbrev pub statement_refused : List ℕ → List ℕ → List ℕ
+statement_refused line answer = take (length answer - length (behind_word answer)) answer ++ statement_words line ++ drop 17 (behind_word answer)
+
+-- the refusal of a line, which has words: a colon parts them from the code
+abbrev pub line_refused : List ℕ → List ℕ
+line_refused answer = codes "ERROR 42601: " ++ drop 12 answer
+
+-- the answer to a session's line; where that refuses a statement, in words
+abbrev pub statement_worded : List ℕ → List ℕ → List ℕ
+statement_worded line answer = if begins (codes "ERROR 42601 byte ") (behind_word answer) then statement_refused line answer else answer
+
+-- the answer to a line; where that refuses its syntax, in words
+abbrev pub worded : List ℕ → List ℕ → List ℕ
+worded line answer = if begins (codes "ERROR 42601 ") answer then line_refused answer else statement_worded line answer
