@@ -1,5 +1,5 @@
 -- What a typed line is taken for, and what is told where it is refused (PostgreSQL manual, psql: `help`, `exit`, `quit`, `\timing`; the others are this project's own choice).
-use Rattle.std.specs.Prelude.{ℕ, ◌==◌, ◌&&◌, not, Bool, List, Option, Some, None, length, codes, take, nat_le, unwrap_or, if◌then◌else◌}
+use Rattle.std.specs.Prelude.{ℕ, ◌==◌, ◌&&◌, not, Bool, true, false, List, ◌++◌, Option, Some, None, length, codes, take, nat_le, unwrap_or, if◌then◌else◌}
 use Rattle.std.specs.List.{list_any}
 use Rattle.std.specs.Str.{str_eq_ignore_ascii_case}
 use Rattle.typing.specs.Typing.{behind_word, typed_as}
@@ -26,6 +26,21 @@ bare_word text =
 abbrev pub asks_for : List ℕ → Typed
 asks_for text = unwrap_or (bare_word text) (typed_as text)
 
+-- whether what is asked for takes a file's name
+abbrev pub takes_file : Typed → Bool
+takes_file typed.Dump = true
+takes_file typed.Drawing = true
+takes_file typed.File = true
+takes_file other = false
+
+-- whether a file's name is due behind a word, and isn't there
+abbrev pub lacks_file : Typed → List ℕ → Bool
+lacks_file t text = takes_file t && length (behind_word text) == 0
+
+-- what is told of such a word
+abbrev pub nameless_text : List ℕ → List ℕ
+nameless_text word = word ++ codes " FILE: a file's name is due\n"
+
 -- whether a text begins with a word, in letters of any case
 abbrev pub starts : List ℕ → List ℕ → Bool
 starts word text = str_eq_ignore_ascii_case (take (length word) text) word
@@ -37,3 +52,15 @@ is_unended_table text = starts (codes "create ") text && starts (codes "table") 
 -- what is told of it
 abbrev pub unended_table_text : List ℕ
 unended_table_text = codes "ERROR 42601: CREATE TABLE stands on one line: CREATE TABLE name (name kind PRIMARY KEY, name kind, ..)\n"
+
+-- whether answers are timed from then on, by what stands behind `\timing`: `on`, `off`, or the other way where there is nothing
+abbrev pub timing_after : Bool → List ℕ → Option Bool
+timing_after was text =
+    if length text == 0 then Some (not was)
+    else if str_eq_ignore_ascii_case text (codes "on") then Some true
+    else if str_eq_ignore_ascii_case text (codes "off") then Some false
+    else None
+
+-- what is told where something else stands there
+abbrev pub no_timing_text : List ℕ
+no_timing_text = codes "\\timing takes on, off, or nothing\n"

@@ -12,14 +12,14 @@ use Rattle.terminal.specs.Drawn.{drawn, shown}
 use Rattle.terminal.specs.Headers.{header_of}
 use Rattle.terminal.specs.Marks.{is_near, mark_in, prompt_text}
 use Rattle.terminal.specs.Refused.{worded}
-use Rattle.terminal.specs.Taken.{asks_for, cut_text, is_cut, is_unended_table, unended_table_text}
+use Rattle.terminal.specs.Taken.{asks_for, cut_text, is_cut, is_unended_table, lacks_file, nameless_text, no_timing_text, timing_after, unended_table_text}
 use Rattle.terminal.specs.declared.attended.Aside.{Aside}
 use Rattle.terminal.specs.declared.attended.Aside.TheVariants as aside
 use Rattle.terminal.specs.declared.marks.Mark.TheVariants as mark
 
 -- what may be typed
 abbrev pub help_text : List ℕ
-help_text = codes "SELECT .., INSERT .., UPDATE .., DELETE ..   a statement of this session\nBEGIN [READ ONLY [DEFERRABLE]]               begins a transaction; COMMIT and ROLLBACK end it\nPOLL, EXPORT, IMPORT n, PRUNE, DUMP ..       other commands; CHECKPOINT makes room for events\nCREATE TABLE .., OPEN path                   on one line, before the first line of a session\n2                                            goes to session 2, of 64\n2 BEGIN                                      a line of session 2\n\\d [NAME]                                    the tables, or one of them\n\\serial                                      the committed transactions in their serial order\n\\why                                         why a transaction was refused last\n\\draw FILE                                   a picture of the transactions\n\\dump FILE                                   a dump of a safe snapshot\n\\i FILE                                      the lines of a file\n\\timing                                      tells how long answers take, or no longer\n\\?, help                                     this\n\\q, exit, quit                               ends the shell\n"
+help_text = codes "SELECT .., INSERT .., UPDATE .., DELETE ..   a statement of this session\nBEGIN [READ ONLY [DEFERRABLE]]               begins a transaction; COMMIT and ROLLBACK end it\nPOLL, EXPORT, IMPORT n, PRUNE, DUMP ..       other commands; CHECKPOINT makes room for events\nCREATE TABLE .., OPEN path                   on one line, before the first line of a session\n2                                            goes to session 2, of 64\n2 BEGIN                                      a line of session 2\n\\d [NAME]                                    the tables, or one of them\n\\serial                                      the committed transactions in their serial order\n\\why                                         why a transaction was refused last\n\\draw FILE                                   a picture of the transactions\n\\dump FILE                                   a dump of a safe snapshot\n\\i FILE                                      the lines of a file\n\\timing [on|off]                             tells how long answers take, or no longer\n\\?, help                                     this\n\\q, exit, quit                               ends the shell\n"
 
 -- what is told of a word that is none
 abbrev pub unknown_text : List ℕ
@@ -113,6 +113,11 @@ abbrev pub timing_text : Bool → List ℕ
 timing_text true = codes "Timing is on.\n"
 timing_text false = codes "Timing is off.\n"
 
+-- Answers are timed from then on, or no longer; or it isn't known which.
+abbrev pub Times : {H : Type 0} → Option Bool → At H → At H → List ℕ → Type 0
+Times None p q told = (q ≡ p) × (told ≡ no_timing_text)
+Times (Some is) p q told = (q ≡ record p { is_timed = is }) × (told ≡ timing_text is)
+
 -- ---- the lines of files
 
 -- a text without the newline at its end
@@ -164,7 +169,7 @@ module _ {A H : Type 0} (answers : H → List ℕ → H → List ℕ → Type 0)
   DoesAlone typed.Session p text q told = (q ≡ record p { session = unwrap_or (session_in text) p.session }) × (told ≡ [])
   DoesAlone typed.Help p text q told = (q ≡ p) × (told ≡ help_text)
   DoesAlone typed.Quit p text q told = (q ≡ record p { has_quit = true }) × (told ≡ [])
-  DoesAlone typed.Timing p text q told = (q ≡ record p { is_timed = not p.is_timed }) × (told ≡ timing_text (not p.is_timed))
+  DoesAlone typed.Timing p text q told = Times (timing_after p.is_timed (behind_word text)) p q told
   DoesAlone typed.Columns p text q told = (q ≡ p) × (told ≡ table_described (catalog_of (held p.attended)) (behind_word text))
   DoesAlone typed.Why p text q told = (q ≡ p) × tells p.attended aside.Why (behind_word text) told
   DoesAlone typed.Drawing p text q told = (q ≡ p) × tells p.attended aside.Drawing (behind_word text) told
@@ -174,9 +179,13 @@ module _ {A H : Type 0} (answers : H → List ℕ → H → List ℕ → Type 0)
   DoesAlone typed.Unknown p text q told = (q ≡ p) × (told ≡ unknown_text)
   DoesAlone typed.Command p text q told = OrRefused (is_unended_table text) unended_table_text p q told (DoesCommand p text q told)
 
+  -- The same of the text alone; but a file's name may be due.
+  abbrev pub DoesTextAlone : At H → List ℕ → At H → List ℕ → Type 0
+  DoesTextAlone p text q told = OrRefused (lacks_file (asks_for text) text) (nameless_text text) p q told (DoesAlone (asks_for text) p text q told)
+
   -- A file's line was typed behind the prompt, which is shown with it, and what it asks for was done.
   abbrev pub PlaysLine : List ℕ → At H → At H → List ℕ → Type 0
-  PlaysLine line p q told = (text : List ℕ) × DoesAlone (asks_for (text_in line)) p (text_in line) q text × (told ≡ prompt_of held p ++ shown line ++ codes "\n" ++ text)
+  PlaysLine line p q told = (text : List ℕ) × DoesTextAlone p (text_in line) q text × (told ≡ prompt_of held p ++ shown line ++ codes "\n" ++ text)
 
   -- The same; but nothing more once the conversation is to end.
   abbrev pub PlaysUnless : Bool → List ℕ → At H → At H → List ℕ → Type 0
@@ -201,9 +210,13 @@ module _ {A H : Type 0} (answers : H → List ℕ → H → List ℕ → Type 0)
   abbrev pub Does : Typed → At H → List ℕ → At H → List ℕ → Type 0
   Does t p text q told = DoesAs (is_file t) t p text q told
 
+  -- The same of the text alone; but a file's name may be due.
+  abbrev pub DoesText : At H → List ℕ → At H → List ℕ → Type 0
+  DoesText p text q told = OrRefused (lacks_file (asks_for text) text) (nameless_text text) p q told (Does (asks_for text) p text q told)
+
   -- What a typed line asks for was done, unless it may be cut off.
   abbrev pub DoesLine : At H → List ℕ → At H → List ℕ → Type 0
-  DoesLine p line q told = OrRefused (is_cut line) cut_text p q told (Does (asks_for (text_in line)) p (text_in line) q told)
+  DoesLine p line q told = OrRefused (is_cut line) cut_text p q told (DoesText p (text_in line) q told)
 
   -- A terminal p was typed a line, and has become q, and this text is shown: what is told of it, and the next prompt.
   abbrev pub Types : At H → List ℕ → At H → List ℕ → Type 0

@@ -1,21 +1,23 @@
 //! What a typed text asks for, but for the lines of files.
 
-ghost use Rattle.std.specs.Prelude.{◌≡◌, [], true, not, unwrap_or, IfOk, IfErr};
+ghost use Rattle.std.specs.Prelude.{◌≡◌, [], true, unwrap_or, IfOk, IfErr};
 ghost use Rattle.value.specs.Refusals.{out_of_memory};
 ghost use Rattle.shell.specs.Asked.{catalog_of};
 ghost use Rattle.terminal.specs.Described.{table_described};
 ghost use Rattle.typing.specs.Typing.{session_in};
 ghost use Rattle.terminal.specs.Taken as taken;
 ghost use Rattle.terminal.specs.Terminals as spec;
-ghost use Rattle.terminal.specs.Terminals.{AsksPlainly, DoesAlone, DoesCommand, Dumps, OrRefused};
+ghost use Rattle.terminal.specs.Terminals.{AsksPlainly, DoesAlone, DoesCommand, DoesTextAlone, Dumps, OrRefused, Times};
 
 use crate::answering::{ask_command, ask_plainly};
 use crate::attended::{Aside, Attended};
 use crate::describing::describe;
 use crate::dumping::dump;
-use crate::taking::is_unended_table;
+use crate::taking::{asks_for, is_unended_table, lacks_file, timing_after};
 use crate::terminal::{Prompt, Terminal};
-use crate::wording::{help_text, nested_text, timing_text, unended_table_text, unknown_text};
+use crate::wording::{
+    help_text, nested_text, no_timing_text, timing_text, unended_table_text, unknown_text,
+};
 use std::alloc::Allocator;
 use typing::{Typed, behind_word, session_in};
 use value::refusal::Refusal;
@@ -63,19 +65,35 @@ fn quit<A: Allocator, H: Drop>(alloc: A, terminal: Terminal<H>) -> (Terminal<H>,
 }
 
 // Tells how long answers take from now on, or no longer.
-fn turn_timing<A: Allocator, H: Drop>(
+fn set_timing<A: Allocator, H: Drop>(
     alloc: A,
     terminal: Terminal<H>,
+    is_timed: bool,
 ) -> Result<(Terminal<H>, Vec<u8, A>), Refusal>
-    ensures terminal { IfOk result (λ x. x.0 ≡ record terminal { is_timed = not terminal.is_timed }) }
-    ensures told { IfOk result (λ x. x.1.items ≡ spec.timing_text (not terminal.is_timed)) }
+    ensures terminal { IfOk result (λ x. x.0 ≡ record terminal { is_timed = is_timed }) }
+    ensures told { IfOk result (λ x. x.1.items ≡ spec.timing_text is_timed) }
     ensures memory { IfErr result (λ e. e ≡ out_of_memory) }
 {
     let Terminal { attended, prompt } = terminal;
-    let is_timed = !prompt.is_timed;
     let told = Vec::from_slice(alloc, timing_text(is_timed))?;
     let prompt = Prompt { is_timed, ..prompt };
     Ok((Terminal { attended, prompt }, told))
+}
+
+// The same, as it stands behind the word.
+fn turn_timing<A: Allocator, H: Drop>(
+    alloc: A,
+    terminal: Terminal<H>,
+    text: &[u8],
+) -> Result<(Terminal<H>, Vec<u8, A>), Refusal>
+    ensures done { IfOk result (λ x.
+        Times (taken.timing_after terminal.is_timed text.now) terminal x.0 x.1.items) }
+    ensures memory { IfErr result (λ e. e ≡ out_of_memory) }
+{
+    match timing_after(terminal.prompt.is_timed, text) {
+        Some(is_timed) => set_timing(alloc, terminal, is_timed),
+        None => tell(alloc, terminal, no_timing_text()),
+    }
 }
 
 // Makes a dump to a path.
@@ -184,7 +202,7 @@ pub(crate) fn do_alone<A: Allocator + Copy, H: Attended<A>>(
         Typed::Session => Ok(go_to(alloc, terminal, text)),
         Typed::Help => tell(alloc, terminal, help_text()),
         Typed::Quit => Ok(quit(alloc, terminal)),
-        Typed::Timing => turn_timing(alloc, terminal),
+        Typed::Timing => turn_timing(alloc, terminal, behind_word(text)),
         Typed::Columns => columns_at(alloc, terminal, behind_word(text)),
         Typed::Why => aside_at(alloc, terminal, Aside::Why, behind_word(text)),
         Typed::Drawing => aside_at(alloc, terminal, Aside::Drawing, behind_word(text)),
@@ -193,5 +211,37 @@ pub(crate) fn do_alone<A: Allocator + Copy, H: Attended<A>>(
         Typed::File => tell(alloc, terminal, nested_text()),
         Typed::Unknown => tell(alloc, terminal, unknown_text()),
         Typed::Command => command_at(alloc, terminal, text),
+    }
+}
+
+/// What is told of a word behind which a file's name is due.
+pub(crate) fn tell_nameless<A: Allocator, H: Drop>(
+    alloc: A,
+    terminal: Terminal<H>,
+    word: &[u8],
+) -> Result<(Terminal<H>, Vec<u8, A>), Refusal>
+    ensures same { IfOk result (λ x. x.0 ≡ terminal) }
+    ensures told { IfOk result (λ x. x.1.items ≡ taken.nameless_text word.now) }
+    ensures memory { IfErr result (λ e. e ≡ out_of_memory) }
+{
+    let mut told = Vec::from_slice(alloc, word)?;
+    told.extend_from_slice(b" FILE: a file's name is due\n")?;
+    Ok((terminal, told))
+}
+
+/// Does what a text asks for, unless a file's name is due; that a file's lines are typed, it refuses.
+pub(crate) fn do_text_alone<A: Allocator + Copy, H: Attended<A>>(
+    alloc: A,
+    terminal: Terminal<H>,
+    text: &[u8],
+) -> Result<(Terminal<H>, Vec<u8, A>), Refusal>
+    ensures done { IfOk result (λ x. DoesTextAlone H.answers H.held H.tells terminal text.now x.0 x.1.items) }
+    ensures memory { IfErr result (λ e. e ≡ out_of_memory) }
+{
+    let typed = asks_for(text);
+    if lacks_file(typed, text) {
+        tell_nameless(alloc, terminal, text)
+    } else {
+        do_alone(alloc, terminal, typed, text)
     }
 }

@@ -3,13 +3,13 @@
 ghost use Rattle.std.specs.Prelude.{◌≡◌, true, IfOk, IfErr};
 ghost use Rattle.value.specs.Refusals.{out_of_memory};
 ghost use Rattle.terminal.specs.Terminals as spec;
-ghost use Rattle.terminal.specs.Terminals.{Does, DoesLine, Types};
+ghost use Rattle.terminal.specs.Terminals.{Does, DoesLine, DoesText, Types};
 
 use crate::attended::Attended;
-use crate::doing::{do_alone, tell};
+use crate::doing::{do_alone, tell, tell_nameless};
 use crate::marks::{is_near, prompt};
 use crate::playing::play_file;
-use crate::taking::{asks_for, is_cut};
+use crate::taking::{asks_for, is_cut, lacks_file};
 use crate::terminal::Terminal;
 use crate::wording::{cut_text, near_text};
 use conversation::handler::Handler;
@@ -45,6 +45,24 @@ fn do_typed<A: Allocator + Copy, H: Attended<A>>(
     }
 }
 
+// Does what a text asks for, unless a file's name is due.
+fn do_text<A: Allocator + Copy, H: Attended<A>>(
+    alloc: A,
+    terminal: Terminal<H>,
+    text: &[u8],
+) -> Result<(Terminal<H>, Vec<u8, A>), Refusal>
+    ensures done { IfOk result (λ x.
+        DoesText H.answers H.held H.tells H.files terminal text.now x.0 x.1.items) }
+    ensures memory { IfErr result (λ e. e ≡ out_of_memory) }
+{
+    let typed = asks_for(text);
+    if lacks_file(typed, text) {
+        tell_nameless(alloc, terminal, text)
+    } else {
+        do_typed(alloc, terminal, typed, text)
+    }
+}
+
 // Does what a line asks for, unless it may be cut off.
 fn do_line<A: Allocator + Copy, H: Attended<A>>(
     alloc: A,
@@ -58,8 +76,7 @@ fn do_line<A: Allocator + Copy, H: Attended<A>>(
     if is_cut(line) {
         tell(alloc, terminal, cut_text())
     } else {
-        let text = text_in(line);
-        do_typed(alloc, terminal, asks_for(text), text)
+        do_text(alloc, terminal, text_in(line))
     }
 }
 

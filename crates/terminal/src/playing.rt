@@ -7,10 +7,9 @@ ghost use Rattle.terminal.specs.Terminals as spec;
 ghost use Rattle.terminal.specs.Terminals.{Plays, PlaysFile, PlaysLine, PlaysUnless};
 
 use crate::attended::Attended;
-use crate::doing::do_alone;
+use crate::doing::do_text_alone;
 use crate::drawing::{parts_of, shown};
 use crate::marks::prompt;
-use crate::taking::asks_for;
 use crate::terminal::Terminal;
 use std::alloc::Allocator;
 use typing::text_in;
@@ -55,8 +54,7 @@ fn play_line<A: Allocator + Copy, H: Attended<A>>(
     ensures memory { IfErr result (λ e. e ≡ out_of_memory) }
 {
     let mut told = typed_line(alloc, &terminal, line)?;
-    let text = text_in(line);
-    let (next, answer) = do_alone(alloc, terminal, asks_for(text), text)?;
+    let (next, answer) = do_text_alone(alloc, terminal, text_in(line))?;
     told.extend_from_slice(answer.as_slice())?;
     Ok((next, told))
 }

@@ -41,6 +41,23 @@ pub(crate) fn asks_for(text: &[u8]) -> Typed
     }
 }
 
+// Whether what is asked for takes a file's name.
+fn takes_file(typed: Typed) -> bool
+    ensures { result ≡ spec.takes_file typed }
+{
+    match typed {
+        Typed::Dump | Typed::Drawing | Typed::File => true,
+        _ => false,
+    }
+}
+
+/// Whether a file's name is due behind a word, and isn't there.
+pub(crate) fn lacks_file(typed: Typed, text: &[u8]) -> bool
+    ensures { result ≡ spec.lacks_file typed text.now }
+{
+    takes_file(typed) && behind_word(text).is_empty()
+}
+
 // The first bytes of a text, so many at most.
 fn first_bytes(count: usize, text: &[u8]) -> &[u8]
     ensures { result.now ≡ take count text.now }
@@ -67,4 +84,19 @@ pub(crate) fn is_unended_table(text: &[u8]) -> bool
     ensures { result ≡ spec.is_unended_table text.now }
 {
     starts(b"create ", text) && starts(b"table", behind_word(text)) && !has_end(text)
+}
+
+/// Whether answers are timed from then on, where a text says it behind `\timing`.
+pub(crate) fn timing_after(was_timed: bool, text: &[u8]) -> Option<bool>
+    ensures { result ≡ spec.timing_after was_timed text.now }
+{
+    if text.is_empty() {
+        Some(!was_timed)
+    } else if text.eq_ignore_ascii_case(b"on") {
+        Some(true)
+    } else if text.eq_ignore_ascii_case(b"off") {
+        Some(false)
+    } else {
+        None
+    }
 }

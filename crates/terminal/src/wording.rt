@@ -22,7 +22,7 @@ pub(crate) fn help_text() -> &'static [u8]
       \\draw FILE                                   a picture of the transactions\n\
       \\dump FILE                                   a dump of a safe snapshot\n\
       \\i FILE                                      the lines of a file\n\
-      \\timing                                      tells how long answers take, or no longer\n\
+      \\timing [on|off]                             tells how long answers take, or no longer\n\
       \\?, help                                     this\n\
       \\q, exit, quit                               ends the shell\n\
     "
@@ -93,4 +93,11 @@ pub(crate) fn unended_table_text() -> &'static [u8]
     ensures { result.now ≡ taken.unended_table_text }
 {
     b"ERROR 42601: CREATE TABLE stands on one line: CREATE TABLE name (name kind PRIMARY KEY, name kind, ..)\n"
+}
+
+/// What is told where `\timing` is neither on nor off.
+pub(crate) fn no_timing_text() -> &'static [u8]
+    ensures { result.now ≡ taken.no_timing_text }
+{
+    b"\\timing takes on, off, or nothing\n"
 }
