@@ -7,4 +7,5 @@ mod beginning;
 pub mod served;
 mod serving;
 mod task;
+mod unopened;
 pub mod words;

@@ -10,6 +10,7 @@ ghost use Rattle.command_shell.specs.Words.{Begins, EndsUnbegun, HasBegun, HasDo
 use crate::beginning::{begin, path_text};
 use crate::served::Served;
 use crate::task::{Task, read_words};
+use crate::unopened::tell_unopened;
 use conversation::conversing::{End, converse};
 use conversation::heard::Conversation;
 use program::files::Files;
@@ -58,7 +59,7 @@ where
         task.most_events,
     ) {
         Ok(shell) => Ok(Served { machine, shell }),
-        Err(fault) => Err(tell(&fault, machine.files.reason(), err)),
+        Err(fault) => Err(tell_unopened(&fault, machine.files.reason(), err)),
     }
 }
 
