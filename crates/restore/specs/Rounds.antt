@@ -1,8 +1,8 @@
 -- Rows of lines that are read and wait to be taken into a table.
-use Rattle.std.specs.Prelude.{◌≡◌, ◌≢◌, ℕ, ◌+◌, Bool, true, List, [], ◌∷◌, ◌++◌, length, map, None, Vec, Result, Ok, Err}
+use Rattle.std.specs.Prelude.{◌≡◌, ◌≢◌, ℕ, ◌+◌, Bool, true, List, [], ◌∷◌, ◌++◌, length, map, Option, Vec, Result, Ok, Err}
 use Rattle.std.specs.Borrow.{Bor}
 use Rattle.std.specs.List.{list_all}
-use Rattle.schema.specs.Definition.{Catalog, columns_of}
+use Rattle.schema.specs.Definition.{Catalog, Column, columns_of}
 use Rattle.schema.specs.declared.tables.Tables.{Tables}
 use Rattle.schema.specs.Plain.{is_sound}
 use Rattle.value.specs.declared.kind.Kind.{Kind}
@@ -68,6 +68,6 @@ IsNextRound {A} c t round line result =
     (X : Tables A) (told : Told A) → AreWaiting c t X told round.tables round.number round.pieces.items line.number (line.bytes.now ∷ lines_of line.rest.text.now) → IsBegun c t X told result
 
 -- the rows of a round are taken into its tables, up to the first that isn't, and pieces of the lines behind it are drawn
-abbrev pub AreTakenAndDrawn : {A : Type 0} → Catalog → ℕ → Round A → List Kind → List (Bor (List ℕ)) → Result (Tables A × Vec (Drawn A) A) ReadError → Type 0
-AreTakenAndDrawn {A} c t round kinds lines (Ok (X, drawn)) = AreTaken c t round (Ok X) × (length X ≡ length c) × AreDrawn None (columns_of c t) kinds lines drawn.items
-AreTakenAndDrawn {A} c t round kinds lines (Err e) = AreTaken c t round (Err e)
+abbrev pub AreTakenAndDrawn : {A : Type 0} → Catalog → ℕ → Round A → Option (Tables A) → List Column → List Kind → List (Bor (List ℕ)) → Result (Tables A × Vec (Drawn A) A) ReadError → Type 0
+AreTakenAndDrawn {A} c t round known columns kinds lines (Ok (X, drawn)) = AreTaken c t round (Ok X) × (length X ≡ length c) × AreDrawn known columns kinds lines drawn.items
+AreTakenAndDrawn {A} c t round known columns kinds lines (Err e) = AreTaken c t round (Err e)

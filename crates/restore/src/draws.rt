@@ -1,6 +1,6 @@
 //! The pieces of a round of lines, each read by the thread that draws it.
 
-ghost use Rattle.std.specs.Prelude.{◌≡◌, ◌<◌, ◌≤◌, ◌+◌, ◌*◌, ◌/◌, ◌%◌, [], ℕ, List, Option, min, map, take, drop, length, vec_len, IfOk, IfSome};
+ghost use Rattle.std.specs.Prelude.{◌≡◌, ◌<◌, ◌≤◌, ◌+◌, ◌*◌, ◌/◌, ◌%◌, [], ℕ, List, Option, None, min, map, take, drop, length, vec_len, IfOk, IfSome};
 ghost use Rattle.std.specs.Borrow.{Bor};
 ghost use Rattle.std.specs.Option.{option_copied};
 ghost use Rattle.value.specs.declared.kind.Kind.{Kind};
@@ -41,6 +41,23 @@ pub struct RoundLines<'l, 'd> {
     pub lines: &'l [&'d [u8]],
     /// The kinds of their values.
     pub kinds: &'l [Kind],
+}
+
+/// Reads the pieces of a round's lines.
+#[derive(Drop)]
+pub struct PieceReader<'r, 'd, G, A: Allocator> {
+    pub alloc: A,
+    /// The tables in which references are looked up.
+    pub known: Option<&'r Tables<A>>,
+    /// The columns of the table whose rows the lines are.
+    pub columns: &'r [Column<A>],
+    /// The kinds of their values.
+    pub kinds: &'r [Kind],
+    pub lines: &'r [&'d [u8]],
+    /// How many pieces of the dump come before.
+    pub before: u64,
+    /// It is asked about each piece.
+    pub gate: &'r G,
 }
 
 /// A piece that a thread has drawn and read, and its place in the round.
@@ -116,88 +133,6 @@ fn number_at(before: u64, place: usize) -> u64 {
     before.saturating_add(place as u64).saturating_add(1)
 }
 
-// The piece of some lines, for which the gate is asked. References are looked up in the tables that are known.
-fn read_piece<A: Allocator + Copy, G: Gate>(
-    alloc: A,
-    known: Option<&Tables<A>>,
-    columns: &[Column<A>],
-    kinds: &[Kind],
-    lines: &[&[u8]],
-    gate: &G,
-    number: u64,
-) -> Result<ReadPiece<A>, AllocError>
-    ensures { IfOk result (λ piece. IsPiece (option_copied known.entry) columns.now kinds.now piece
-        (map (λ line. line.now) lines.now)) }
-{
-    gate.before(number);
-    let read = read_each(alloc, kinds, lines);
-    gate.after(number);
-    let rows = read?;
-    Ok(piece_of(known, columns, rows))
-}
-
-/// Draws pieces of a round, and reads each, until all are drawn.
-pub fn draw_pieces<A: Allocator + Copy, G: Gate>(
-    alloc: A,
-    known: Option<&Tables<A>>,
-    columns: &[Column<A>],
-    round: RoundLines<'_, '_>,
-    gate: &G,
-    draws: &Draws,
-) -> Result<DrawnPieces<A>, AllocError>
-    ensures { IfOk result (λ drawn. AreDrawn (option_copied known.entry) columns.now round.entry.kinds.now
-        round.entry.lines.now drawn.items) }
-{
-    let (all, kinds, before) = (round.lines, round.kinds, round.before);
-    let mut drawn = Vec::new(alloc);
-    for _ in 0..all.len() {
-        let place = draws.draw();
-        let lines = piece_lines(all, place);
-        if lines.is_empty() {
-            return Ok(drawn);
-        }
-        let number = number_at(before, place);
-        let piece = read_piece(alloc, known, columns, kinds, lines, gate, number)?;
-        drawn.push(Drawn { place, piece })?;
-    }
-    Ok(drawn)
-}
-
-/// Draws pieces by so many threads.
-pub fn draw_by_threads<R: Threads + Sync, G: Gate, A: Allocator + Copy + Send + Sync>(
-    rt: &R,
-    alloc: A,
-    threads: usize,
-    known: Option<&Tables<A>>,
-    columns: &[Column<A>],
-    round: RoundLines<'_, '_>,
-    gate: &G,
-    draws: &Draws,
-) -> Result<AllDrawn<A>, AllocError>
-    ensures { IfOk result (λ all. AreAllDrawn (option_copied known.entry) columns.now round.entry.kinds.now
-        round.entry.lines.now all.items) }
-{
-    let (number, before, lines, kinds) = (round.number, round.before, round.lines, round.kinds);
-    let all = thread::map_indices(
-        rt,
-        alloc,
-        threads,
-        &|_thread: usize| -> Result<DrawnPieces<A>, AllocError>
-            ensures { IfOk result (λ drawn. AreDrawn (option_copied known.entry) columns.entry.now kinds.entry.now
-                lines.entry.now drawn.items) }
-        {
-            let round = RoundLines {
-                number,
-                before,
-                lines,
-                kinds,
-            };
-            draw_pieces(alloc, known, columns, round, gate, draws)
-        },
-    )?;
-    Ok(all)
-}
-
 // So many places, each without a piece.
 fn empty_places<A: Allocator>(
     alloc: A,
@@ -259,70 +194,173 @@ fn placed<A: Allocator>(
     Ok(places)
 }
 
-// The piece at a place. Where no thread has drawn it, it is read now.
-fn piece_at<A: Allocator + Copy, G: Gate>(
-    alloc: A,
-    known: Option<&Tables<A>>,
-    columns: &[Column<A>],
-    round: RoundLines<'_, '_>,
-    gate: &G,
-    place: usize,
-    drawn: Option<ReadPiece<A>>,
-) -> Result<ReadPiece<A>, AllocError>
-    requires { IfSome drawn (λ piece. IsPiece (option_copied known) columns.now round.kinds.now piece
-        (lines_at round.lines.now place)) }
-    ensures { IfOk result (λ piece. IsPiece (option_copied known.entry) columns.now round.entry.kinds.now piece
-        (lines_at round.entry.lines.now place)) }
-{
-    match drawn {
-        Some(piece) => Ok(piece),
-        None => {
-            let lines = piece_lines(round.lines, place);
-            let number = number_at(round.before, place);
-            read_piece(alloc, known, columns, round.kinds, lines, gate, number)
+impl<'r, 'd, G: Gate, A: Allocator + Copy> PieceReader<'r, 'd, G, A> {
+    /// A reader of pieces whose references are looked up nowhere.
+    pub fn alone(
+        alloc: A,
+        columns: &'r [Column<A>],
+        kinds: &'r [Kind],
+        lines: &'r [&'d [u8]],
+        before: u64,
+        gate: &'r G,
+    ) -> PieceReader<'r, 'd, G, A>
+        ensures known { result.known ≡ None }
+        ensures columns { result.columns.now ≡ columns.now }
+        ensures kinds { result.kinds.now ≡ kinds.now }
+        ensures lines { result.lines.now ≡ lines.now }
+    {
+        PieceReader {
+            alloc,
+            known: None,
+            columns,
+            kinds,
+            lines,
+            before,
+            gate,
         }
     }
-}
 
-// The pieces at some places, in the order of their lines.
-fn in_order<A: Allocator + Copy, G: Gate>(
-    alloc: A,
-    known: Option<&Tables<A>>,
-    columns: &[Column<A>],
-    round: RoundLines<'_, '_>,
-    gate: &G,
-    places: Vec<Option<ReadPiece<A>>, A>,
-) -> Result<ReadPieces<A>, AllocError>
-    requires enough { length round.lines.now ≤ vec_len places * 1000 }
-    requires at { AreAt (option_copied known) columns.now round.kinds.now round.lines.now places.items }
-    ensures read { IfOk result (λ pieces. ArePieces 1000 round.entry.kinds.now pieces.items
-        (map (λ line. line.now) round.entry.lines.now)) }
-    ensures known { IfOk result (λ pieces. AreKnown (option_copied known.entry) columns.now pieces.items) }
-{
-    let mut pieces = Vec::with_capacity(alloc, places.len())?;
-    for drawn in places {
-        let place = pieces.len();
-        let piece = piece_at(alloc, known, columns, round, gate, place, drawn)?;
-        pieces.push(Ok(piece))?;
+    // The piece of some lines, for which the gate is asked.
+    fn read_piece(&self, lines: &[&[u8]], number: u64) -> Result<ReadPiece<A>, AllocError>
+        ensures { IfOk result (λ piece. IsPiece (option_copied self.now.known) self.now.columns.now
+            self.now.kinds.now piece (map (λ line. line.now) lines.now)) }
+    {
+        self.gate.before(number);
+        let read = read_each(self.alloc, self.kinds, lines);
+        self.gate.after(number);
+        let rows = read?;
+        Ok(piece_of(self.known, self.columns, rows))
     }
-    Ok(pieces)
+
+    /// Draws pieces, and reads each, until all are drawn.
+    pub fn draw_pieces(&self, draws: &Draws) -> Result<DrawnPieces<A>, AllocError>
+        ensures { IfOk result (λ drawn. AreDrawn (option_copied self.now.known) self.now.columns.now
+            self.now.kinds.now self.now.lines.now drawn.items) }
+    {
+        let all = self.lines;
+        let mut drawn = Vec::new(self.alloc);
+        for _ in 0..all.len() {
+            let place = draws.draw();
+            let lines = piece_lines(all, place);
+            if lines.is_empty() {
+                return Ok(drawn);
+            }
+            let piece = self.read_piece(lines, number_at(self.before, place))?;
+            drawn.push(Drawn { place, piece })?;
+        }
+        Ok(drawn)
+    }
+
+    // The piece at a place. Where no thread has drawn it, it is read now.
+    fn piece_at(
+        &self,
+        place: usize,
+        drawn: Option<ReadPiece<A>>,
+    ) -> Result<ReadPiece<A>, AllocError>
+        requires { IfSome drawn (λ piece. IsPiece (option_copied self.now.known) self.now.columns.now
+            self.now.kinds.now piece (lines_at self.now.lines.now place)) }
+        ensures { IfOk result (λ piece. IsPiece (option_copied self.now.known) self.now.columns.now
+            self.now.kinds.now piece (lines_at self.now.lines.now place)) }
+    {
+        match drawn {
+            Some(piece) => Ok(piece),
+            None => {
+                let lines = piece_lines(self.lines, place);
+                self.read_piece(lines, number_at(self.before, place))
+            }
+        }
+    }
+
+    // The pieces at some places, in the order of their lines.
+    fn in_order(&self, places: Vec<Option<ReadPiece<A>>, A>) -> Result<ReadPieces<A>, AllocError>
+        requires enough { length self.now.lines.now ≤ vec_len places * 1000 }
+        requires at { AreAt (option_copied self.now.known) self.now.columns.now self.now.kinds.now
+            self.now.lines.now places.items }
+        ensures read { IfOk result (λ pieces. ArePieces 1000 self.now.kinds.now pieces.items
+            (map (λ line. line.now) self.now.lines.now)) }
+        ensures known { IfOk result (λ pieces. AreKnown (option_copied self.now.known) self.now.columns.now
+            pieces.items) }
+    {
+        let mut pieces = Vec::with_capacity(self.alloc, places.len())?;
+        for drawn in places {
+            let place = pieces.len();
+            let piece = self.piece_at(place, drawn)?;
+            pieces.push(Ok(piece))?;
+        }
+        Ok(pieces)
+    }
+
+    /// The pieces that threads have drawn, in the order of their lines.
+    pub fn gather(&self, all: AllDrawn<A>) -> Result<ReadPieces<A>, AllocError>
+        requires { AreAllDrawn (option_copied self.now.known) self.now.columns.now self.now.kinds.now
+            self.now.lines.now all.items }
+        ensures read { IfOk result (λ pieces. ArePieces 1000 self.now.kinds.now pieces.items
+            (map (λ line. line.now) self.now.lines.now)) }
+        ensures known { IfOk result (λ pieces. AreKnown (option_copied self.now.known) self.now.columns.now
+            pieces.items) }
+    {
+        let count = piece_count(self.lines.len());
+        let places = placed(self.alloc, count, all)?;
+        self.in_order(places)
+    }
+
+    /// The pieces that other threads and this one have drawn, in the order of their lines.
+    pub fn gather_both(
+        &self,
+        theirs: AllDrawn<A>,
+        mine: DrawnPieces<A>,
+    ) -> Result<ReadPieces<A>, AllocError>
+        requires theirs { AreAllDrawn (option_copied self.now.known) self.now.columns.now self.now.kinds.now
+            self.now.lines.now theirs.items }
+        requires mine { AreDrawn (option_copied self.now.known) self.now.columns.now self.now.kinds.now
+            self.now.lines.now mine.items }
+        ensures read { IfOk result (λ pieces. ArePieces 1000 self.now.kinds.now pieces.items
+            (map (λ line. line.now) self.now.lines.now)) }
+        ensures known { IfOk result (λ pieces. AreKnown (option_copied self.now.known) self.now.columns.now
+            pieces.items) }
+    {
+        let mut all = theirs;
+        all.push(Ok(mine))?;
+        self.gather(all)
+    }
 }
 
-/// The pieces of a round that threads have drawn, in the order of their lines.
-pub fn gather<A: Allocator + Copy, G: Gate>(
-    alloc: A,
-    known: Option<&Tables<A>>,
-    columns: &[Column<A>],
-    round: RoundLines<'_, '_>,
-    gate: &G,
-    all: AllDrawn<A>,
-) -> Result<ReadPieces<A>, AllocError>
-    requires { AreAllDrawn (option_copied known) columns.now round.kinds.now round.lines.now all.items }
-    ensures read { IfOk result (λ pieces. ArePieces 1000 round.entry.kinds.now pieces.items
-        (map (λ line. line.now) round.entry.lines.now)) }
-    ensures known { IfOk result (λ pieces. AreKnown (option_copied known.entry) columns.now pieces.items) }
-{
-    let count = piece_count(round.lines.len());
-    let places = placed(alloc, count, all)?;
-    in_order(alloc, known, columns, round, gate, places)
+impl<'r, 'd, G: Gate, A: Allocator + Copy + Send + Sync> PieceReader<'r, 'd, G, A> {
+    /// Draws pieces by so many threads.
+    pub fn draw_by_threads<R: Threads + Sync>(
+        &self,
+        rt: &R,
+        threads: usize,
+        draws: &Draws,
+    ) -> Result<AllDrawn<A>, AllocError>
+        ensures { IfOk result (λ all. AreAllDrawn (option_copied self.now.known) self.now.columns.now
+            self.now.kinds.now self.now.lines.now all.items) }
+    {
+        let all = thread::map_indices(
+            rt,
+            self.alloc,
+            threads,
+            &|_thread: usize| -> Result<DrawnPieces<A>, AllocError>
+                ensures { IfOk result (λ drawn. AreDrawn (option_copied self.entry.now.known) self.entry.now.columns.now
+                    self.entry.now.kinds.now self.entry.now.lines.now drawn.items) }
+            { self.draw_pieces(draws) },
+        )?;
+        Ok(all)
+    }
+
+    /// The pieces of all lines, read by so many threads.
+    pub fn read_by_threads<R: Threads + Sync>(
+        &self,
+        rt: &R,
+        threads: usize,
+    ) -> Result<ReadPieces<A>, AllocError>
+        ensures read { IfOk result (λ pieces. ArePieces 1000 self.now.kinds.now pieces.items
+            (map (λ line. line.now) self.now.lines.now)) }
+        ensures known { IfOk result (λ pieces. AreKnown (option_copied self.now.known) self.now.columns.now
+            pieces.items) }
+    {
+        let draws = Draws::new();
+        let all = self.draw_by_threads(rt, threads, &draws)?;
+        self.gather(all)
+    }
 }

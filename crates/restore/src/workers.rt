@@ -1,6 +1,6 @@
 //! Lines of rows read by several threads.
 
-ghost use Rattle.std.specs.Prelude.{◌≡◌, ◌⊎◌, ◌+◌, ◌<◌, ◌≤◌, Bool, true, false, None, Err, length, IfOk};
+ghost use Rattle.std.specs.Prelude.{◌≡◌, ◌⊎◌, ◌+◌, ◌<◌, ◌≤◌, Bool, true, false, None, Some, Err, length, map, IfOk};
 ghost use denote.Param.Send.{IsSend, IsSync, Frees};
 ghost use Rattle.std.specs.Str.{bytes_eq};
 ghost use Rattle.schema.specs.Definition.{columns_of};
@@ -9,22 +9,22 @@ ghost use Rattle.dumpplan.specs.Lines.{end_of_rows};
 ghost use Rattle.restore.specs.Progress.{read_in_steps};
 ghost use Rattle.restore.specs.Reading.{Before, Within, ended, kinds_of, lines_of, read_lines, read_dump};
 ghost use Rattle.restore.specs.Rounds.{AreTakenAndDrawn, IsReady, IsTurn, IsNextRound};
-ghost use Rattle.restore.specs.Rows.{AreAllDrawn};
+ghost use Rattle.restore.specs.Rows.{AreAllDrawn, AreKnown, ArePieces};
 ghost use Rattle.restore.specs.Steps.{Reads, no_memory};
 
-use crate::draws::{AllDrawn, DrawnPieces, Draws, PIECE_LINES, RoundLines};
+use crate::draws::{
+    AllDrawn, DrawnPieces, Draws, PIECE_LINES, PieceReader, ReadPieces, RoundLines,
+};
 use crate::error::{ReadError, RestoreFault};
 use crate::lines::{Line, Lines, next_row_line, row_lines};
 use crate::pieces::have_references;
 use crate::reading::{
     empty_tables, read_copy_line, read_count, read_end, read_end_of_rows, read_head,
 };
-use crate::rounds::{
-    Round, columns_of, draw_alone, gather_both, read_round, take_and_draw, take_round,
-};
+use crate::rounds::{Round, columns_of, take_and_draw, take_round};
 use crate::rows::kinds_of;
 use dumpplan::{Gate, Jobs};
-use schema::catalog::{Catalog, TableNo};
+use schema::catalog::{Catalog, Column, TableNo};
 use schema::tables::Tables;
 use std::alloc::{AllocError, Allocator};
 use std::thread;
@@ -103,21 +103,26 @@ impl<'w, R: Threads + Sync, G: Gate, A: Allocator + Copy + Send + Sync> Workers<
         self.share = self.share.saturating_mul(2).min(SHARE);
     }
 
+    // The gate.
+    fn gate(&self) -> &G {
+        self.gate
+    }
+
     // The next round, whose pieces other threads draw while this one takes the rows of the round before, and then draws
     // some too. None of the rows has references: the tables where these would be looked up change meanwhile.
-    fn read_beside(
-        &self,
-        catalog: &Catalog<A>,
+    fn read_beside<'r>(
+        &'r self,
+        catalog: &'r Catalog<A>,
         table: TableNo,
-        next: RoundLines<'_, '_>,
+        next: RoundLines<'r, '_>,
         round: Round<A>,
     ) -> Result<Round<A>, ReadError>
         requires has { table < length catalog.now }
         requires ready { IsReady catalog.now table round }
         ensures { IsTurn catalog.now table round next.entry result }
     {
-        let (rt, alloc, gate) = (self.rt, self.alloc, self.gate);
-        // Each part is lent by itself: nothing would be known of what a closure returned that borrowed the whole.
+        let (rt, alloc, gate) = (self.rt, self.alloc, self.gate());
+        // Each part is lent by itself: nothing would be known of what a closure returned that borrowed a reader.
         let RoundLines {
             number,
             before,
@@ -135,35 +140,50 @@ impl<'w, R: Threads + Sync, G: Gate, A: Allocator + Copy + Send + Sync> Workers<
                 ensures { IfOk result (λ all. AreAllDrawn None columns.entry.now kinds.entry.now lines.entry.now
                     all.items) }
             {
-                let next = RoundLines {
-                    number,
-                    before,
-                    lines,
-                    kinds,
-                };
-                draw_alone(rt, alloc, others, columns, next, gate, draws)
+                let reader = PieceReader::alone(alloc, columns, kinds, lines, before, gate);
+                reader.draw_by_threads(rt, others, draws)
             },
             move || -> Result<(Tables<A>, DrawnPieces<A>), ReadError>
                 requires { (table < length catalog.now) × IsReady catalog.now table round }
-                ensures { AreTakenAndDrawn catalog.entry.now table round kinds.entry.now lines.entry.now result }
+                ensures { AreTakenAndDrawn catalog.entry.now table round None columns.entry.now kinds.entry.now
+                    lines.entry.now result }
             {
-                let next = RoundLines {
-                    number,
-                    before,
-                    lines,
-                    kinds,
-                };
-                take_and_draw(alloc, catalog, table, round, next, gate, draws)
+                let reader = PieceReader::alone(alloc, columns, kinds, lines, before, gate);
+                take_and_draw(catalog, table, round, &reader, draws)
             },
         );
         let (tables, mine) = mine?;
         let theirs = theirs?;
-        let pieces = gather_both(alloc, columns, next, gate, theirs, mine)?;
+        let reader = PieceReader::alone(alloc, columns, kinds, lines, before, gate);
+        let pieces = reader.gather_both(theirs, mine)?;
         Ok(Round {
             tables,
             number,
             pieces,
         })
+    }
+
+    // The pieces of a round, read by as many threads as there are jobs. References are looked up in these tables.
+    fn read_pieces<'r>(
+        &'r self,
+        tables: &'r Tables<A>,
+        columns: &'r [Column<A>],
+        round: RoundLines<'r, '_>,
+    ) -> Result<ReadPieces<A>, AllocError>
+        ensures read { IfOk result (λ pieces. ArePieces 1000 round.entry.kinds.now pieces.items
+            (map (λ line. line.now) round.entry.lines.now)) }
+        ensures known { IfOk result (λ pieces. AreKnown (Some tables.now) columns.now pieces.items) }
+    {
+        let reader = PieceReader {
+            alloc: self.alloc,
+            known: Some(tables),
+            columns,
+            kinds: round.kinds,
+            lines: round.lines,
+            before: round.before,
+            gate: self.gate(),
+        };
+        reader.read_by_threads(self.rt, self.jobs.get() as usize)
     }
 
     // The next round, whose lines are read once the rows of the round before are taken: what its rows reference is
@@ -179,11 +199,9 @@ impl<'w, R: Threads + Sync, G: Gate, A: Allocator + Copy + Send + Sync> Workers<
         requires ready { IsReady catalog.now table round }
         ensures { IsTurn catalog.now table round next.entry result }
     {
-        let (rt, alloc, gate, number) = (self.rt, self.alloc, self.gate, next.number);
-        let threads = self.jobs.get() as usize;
-        let columns = columns_of(catalog, table);
+        let (alloc, number) = (self.alloc, next.number);
         let tables = take_round(alloc, catalog, table, round)?;
-        let pieces = read_round(rt, alloc, threads, Some(&tables), columns, next, gate)?;
+        let pieces = self.read_pieces(&tables, columns_of(catalog, table), next)?;
         Ok(Round {
             tables,
             number,

@@ -1,5 +1,5 @@
 -- Pieces that threads have drawn, put where they stand.
-use Rattle.std.proofs.Common.{◌≡◌, ◌≢◌, ℕ, zero, suc, ◌+◌, ◌*◌, ◌<◌, ◌≤◌, ◌==◌, min, nat_lt, Bool, true, false, Bor, List, [], ◌∷◌, ◌++◌, length, map, take, drop, get_or, set, Option, Some, None, Result, Ok, Err, IfOk, IfSome, refl, sym, ap, subst, ◌∙◌, arith}
+use Rattle.std.proofs.Common.{◌≡◌, ◌≢◌, ℕ, zero, suc, ◌+◌, ◌<◌, ◌≤◌, ◌==◌, min, nat_lt, Bool, true, false, Bor, List, [], ◌∷◌, ◌++◌, length, take, drop, get_or, set, Option, Some, None, Result, Ok, IfOk, IfSome, refl, sym, ap, subst, ◌∙◌, arith}
 use Rattle.std.specs.List.{AllByRecursion}
 use Rattle.std.proofs.Math.ListN.{get_or-append}
 use Rattle.std.proofs.Math.Seq.{get_or-append_seam}
@@ -9,9 +9,8 @@ use Rattle.std.proofs.lemmas.List.{get_or-set_other, length-set, length-append, 
 use Rattle.value.specs.declared.kind.Kind.{Kind}
 use Rattle.schema.specs.Definition.{Column}
 use Rattle.schema.specs.declared.tables.Tables.{Tables}
-use Rattle.restore.specs.declared.draws.Drawn.{Drawn}
 use Rattle.restore.specs.declared.rows.ReadPiece.{ReadPiece}
-use Rattle.restore.specs.Rows.{IsPiece, AreDrawn, AreAt, lines_at}
+use Rattle.restore.specs.Rows.{IsPiece, AreAt, lines_at}
 use Rattle.restore.proofs.taking.Pieces.{EachIs}
 
 -- what holds at each place holds of all

@@ -1,4 +1,4 @@
-use Rattle.std.proofs.Common.{arith, ◌≡◌, ◌∷◌, ◌∙◌, IfOk, subst, sym, ap, refl}
+use Rattle.std.proofs.Common.{arith, ◌∷◌, ◌∙◌, IfOk, subst, sym, ap}
 use Rattle.restore.specs.Rows.{AreDrawn, AreAllDrawn}
 use Rattle.restore.proofs.taking.Drawn.{all_first}
 use Rattle.restore.proofs.draws.placed.Goals as goal

@@ -1,4 +1,4 @@
-use Rattle.std.proofs.Common.{◌≡◌, ◌∙◌, refl, subst, sym}
+use Rattle.std.proofs.Common.{◌∙◌, refl, subst, sym}
 use Rattle.restore.specs.Rows.{IsPiece, AreDrawn, lines_at}
 use Rattle.restore.proofs.taking.Drawn.{all_first}
 use Rattle.restore.proofs.draws.put_drawn.Goals as goal

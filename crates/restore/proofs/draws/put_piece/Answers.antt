@@ -1,6 +1,4 @@
-use Rattle.std.proofs.Common.{ℕ, ◌<◌, arith, length}
-use Rattle.std.proofs.lemmas.List.{length-set}
-use Rattle.std.proofs.Common.{Some}
+use Rattle.std.proofs.Common.{arith}
 use Rattle.restore.proofs.taking.Drawn.{at-set}
 use Rattle.restore.proofs.draws.put_piece.Goals as goal
 

@@ -1,7 +1,0 @@
-use Rattle.std.specs.Option.{option_copied}
-use Rattle.restore.specs.Rows.{AreDrawn}
-use Rattle.restore.proofs.draws.draw_pieces.Given as goal
-
--- the pieces so far are drawn
-abbrev pub invariant-loop : goal.invariant-loop
-invariant-loop g l = AreDrawn (option_copied l.known) l.columns l.kinds l.all l.drawn.items

@@ -1,8 +1,0 @@
-use Rattle.std.proofs.Common.{Bor, List, ℕ, IfOk, map, subst}
-use Rattle.std.specs.Option.{option_copied}
-use Rattle.restore.specs.Rows.{IsPiece}
-use Rattle.restore.proofs.draws.piece_at.Goals as goal
-
-pub returns-in-None : goal.returns-in-None
-returns-in-None g c =
-    subst (λ (ls : List (Bor (List ℕ))). IfOk c.read_piece.result (λ piece. IsPiece (option_copied c.args.known) c.args.columns.now c.args.round.kinds.now piece (map (λ line. line.now) ls))) c.piece_lines-lines.ensures c.read_piece.ensures
