@@ -48,6 +48,28 @@ fn has_checkpoint<A: Allocator>(lines: &[Line<A>]) -> bool {
     false
 }
 
+/// How many lines one session has, up to a COMMIT, before another has one, where a script has no checkpoint: they look like
+/// a setup.
+pub(crate) fn lines_like_a_setup<A: Allocator>(lines: &[Line<A>]) -> usize {
+    if has_checkpoint(lines) {
+        return 0;
+    }
+    let mut count = 0;
+    let mut first = None;
+    for (place, line) in lines.iter().enumerate() {
+        let Step::Session(session, command) = &line.step else {
+            return 0;
+        };
+        if *first.get_or_insert(session.number()) != session.number() {
+            return count;
+        }
+        if matches!(command, Command::Ask(Request::Commit)) {
+            count = place + 1;
+        }
+    }
+    0
+}
+
 // The fault of a refused line.
 fn fault_of<'p>(refusal: Refusal, number: u64) -> Fault<'p> {
     match refusal.code {

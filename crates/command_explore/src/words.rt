@@ -5,7 +5,7 @@ ghost use Rattle.std.specs.Prelude.{◌≡◌, ◌≤◌};
 use crate::exploring::explored_text;
 use crate::fault::{Fault, tell};
 use crate::one_schedule::ordered_text;
-use crate::setup::set_up;
+use crate::setup::{lines_like_a_setup, set_up};
 use crate::task::{Task, read_words};
 use program::files::Files;
 use program::machine::Machine;
@@ -54,6 +54,17 @@ fn print<W: Write, E: Write>(text: &[u8], out: &mut W, err: &mut E) -> u8
     0
 }
 
+// Tells of lines that look like a setup, and are interleaved with the others.
+fn tell_setup<A: Allocator, E: Write>(lines: &[Line<A>], err: &mut E) {
+    let count = lines_like_a_setup(lines);
+    if count > 0 {
+        let _ = writeln!(
+            err,
+            "explore: the first {count} lines of sessions are interleaved with the others too; a line `CHECKPOINT;` behind them has them done once, before"
+        );
+    }
+}
+
 // Explores a script that was read, and prints what comes of it, or tells why it isn't explored.
 fn explore_script<A, F, T, W, E>(
     machine: &Machine<'_, F, T, A>,
@@ -72,6 +83,9 @@ where
     ensures { result ≤ 3 }
 {
     let (catalog, opens, lines) = script.into_parts();
+    if task.order.is_none() {
+        tell_setup(lines.as_slice(), err);
+    }
     match text_of(machine, text, catalog, opens.as_ref(), lines, task) {
         Ok(told) => print(told.as_slice(), out, err),
         Err(fault) => tell(&fault, machine.files.reason(), err),
