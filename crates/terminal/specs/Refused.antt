@@ -23,5 +23,5 @@ abbrev pub statement_worded : List ℕ → List ℕ → List ℕ
 statement_worded line answer = if begins (codes "ERROR 42601 byte ") (behind_word answer) then statement_refused line answer else answer
 
 -- the answer to a line; where that refuses its syntax, in words
-abbrev pub worded : List ℕ → List ℕ → List ℕ
+unfoldable pub worded : List ℕ → List ℕ → List ℕ
 worded line answer = if begins (codes "ERROR 42601 ") answer then line_refused answer else statement_worded line answer

@@ -5,7 +5,7 @@ ghost use Rattle.typing.specs.Typing.{begins};
 ghost use Rattle.value.specs.Refusals.{out_of_memory};
 ghost use Rattle.terminal.specs.Marks as marks;
 ghost use Rattle.terminal.specs.Terminals as spec;
-ghost use Rattle.terminal.specs.Terminals.{Dumps, DumpsBy, EndsDump, GivesUp, GoesOnTo};
+ghost use Rattle.terminal.specs.Terminals.{AsksPlainly, Dumps, DumpsBy, EndsDump, GivesUp, GoesOnTo};
 
 use crate::answering::ask_plainly;
 use crate::attended::Attended;
@@ -60,6 +60,22 @@ fn ask_session<A: Allocator + Copy, H: Attended<A>>(
     attended.answer(alloc, line.as_slice())
 }
 
+// Lets a session ask for a dump to a path.
+fn ask_dump<A: Allocator + Copy, H: Attended<A>>(
+    alloc: A,
+    attended: H,
+    session: SessionId,
+    path: &[u8],
+) -> Result<(H, Vec<u8, A>), Refusal>
+    ensures asked { IfOk result (λ x. AsksPlainly H.answers attended
+        (spec.session_line session (codes "DUMP 1 1000 " ++ path.now ++ codes ";")) x.0 x.1.items) }
+    ensures memory { IfErr result (λ e. e ≡ out_of_memory) }
+{
+    let command = dump_command(alloc, path)?;
+    let line = session_line(alloc, session, command.as_slice())?;
+    ask_plainly(alloc, attended, line.as_slice())
+}
+
 // Makes the dump, and ends its transaction.
 fn end_dump<A: Allocator + Copy, H: Attended<A>>(
     alloc: A,
@@ -70,9 +86,7 @@ fn end_dump<A: Allocator + Copy, H: Attended<A>>(
     ensures done { IfOk result (λ x. EndsDump H.answers session path.now attended x.0 x.1.items) }
     ensures memory { IfErr result (λ e. e ≡ out_of_memory) }
 {
-    let command = dump_command(alloc, path)?;
-    let line = session_line(alloc, session, command.as_slice())?;
-    let (next, told) = ask_plainly(alloc, attended, line.as_slice())?;
+    let (next, told) = ask_dump(alloc, attended, session, path)?;
     let (last, _) = ask_session(alloc, next, session, b"COMMIT;")?;
     Ok((last, told))
 }

@@ -68,6 +68,7 @@ fn statement_worded<A: Allocator>(
 }
 
 /// The answer to a line; where that refuses its syntax, in words.
+#[tactic(auto, unfolding(crate::specs::Refused::worded))]
 pub(crate) fn worded<A: Allocator>(
     alloc: A,
     line: &[u8],
