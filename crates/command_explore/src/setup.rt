@@ -48,8 +48,20 @@ fn has_checkpoint<A: Allocator>(lines: &[Line<A>]) -> bool {
     false
 }
 
-/// How many lines one session has, up to a COMMIT, before another has one, where a script has no checkpoint: they look like
-/// a setup.
+// Whether a session has a line among these.
+fn has_line_of<A: Allocator>(lines: &[Line<A>], number: u32) -> bool {
+    for line in lines {
+        if let Step::Session(session, _) = &line.step {
+            if session.number() == number {
+                return true;
+            }
+        }
+    }
+    false
+}
+
+/// How many lines one session has, up to a COMMIT, before another has one, where it goes on behind that and the script has
+/// no checkpoint: they look like a setup.
 pub(crate) fn lines_like_a_setup<A: Allocator>(lines: &[Line<A>]) -> usize {
     if has_checkpoint(lines) {
         return 0;
@@ -60,8 +72,13 @@ pub(crate) fn lines_like_a_setup<A: Allocator>(lines: &[Line<A>]) -> usize {
         let Step::Session(session, command) = &line.step else {
             return 0;
         };
-        if *first.get_or_insert(session.number()) != session.number() {
-            return count;
+        let number = *first.get_or_insert(session.number());
+        if number != session.number() {
+            return if has_line_of(&lines[place..], number) {
+                count
+            } else {
+                0
+            };
         }
         if matches!(command, Command::Ask(Request::Commit)) {
             count = place + 1;
