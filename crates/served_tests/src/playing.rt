@@ -119,18 +119,31 @@ pub(crate) fn play<'w, J: Naming<Global>, R: Threads + Wait + Abort + Sync>(
     rt: &R,
     alloc: Global,
     server: &Server<'w, J>,
+    pass: &mut Pass<'w, J>,
+    session: &str,
+    script: &str,
+    barrier: &Barrier,
+) {
+    for line in script.lines() {
+        let (asked, want) = line.rsplit_once(": ").unwrap_or((line, "no answer"));
+        if let Some(asked) = asked.strip_prefix(session) {
+            let is_so = told(rt, alloc, server, pass, asked, barrier) == want;
+            assert!(rt; is_so, "{line}");
+        }
+    }
+}
+
+// Plays the lines of a session whose pass goes to a thread and comes back.
+fn play_on<'w, J: Naming<Global>, R: Threads + Wait + Abort + Sync>(
+    rt: &R,
+    alloc: Global,
+    server: &Server<'w, J>,
     mut pass: Pass<'w, J>,
     session: &str,
     script: &str,
     barrier: &Barrier,
 ) -> Pass<'w, J> {
-    for line in script.lines() {
-        let (asked, want) = line.rsplit_once(": ").unwrap_or((line, "no answer"));
-        if let Some(asked) = asked.strip_prefix(session) {
-            let is_so = told(rt, alloc, server, &mut pass, asked, barrier) == want;
-            assert!(rt; is_so, "{line}");
-        }
-    }
+    play(rt, alloc, server, &mut pass, session, script, barrier);
     pass
 }
 
@@ -146,8 +159,8 @@ fn play_two<'w, J: Naming<Global> + Send + Sync, R: Threads + Wait + Abort + Syn
 ) -> (Pass<'w, J>, Pass<'w, J>) {
     join(
         rt,
-        move || play(rt, alloc, server, two, "2 ", script, barrier),
-        move || play(rt, alloc, server, three, "3 ", script, barrier),
+        move || play_on(rt, alloc, server, two, "2 ", script, barrier),
+        move || play_on(rt, alloc, server, three, "3 ", script, barrier),
     )
 }
 
@@ -162,7 +175,7 @@ pub(crate) fn play_three<'w, J: Naming<Global> + Send + Sync, R: Threads + Wait 
 ) -> (Pass<'w, J>, (Pass<'w, J>, Pass<'w, J>)) {
     join(
         rt,
-        move || play(rt, alloc, server, one, "1 ", script, barrier),
+        move || play_on(rt, alloc, server, one, "1 ", script, barrier),
         move || play_two(rt, alloc, server, two, three, script, barrier),
     )
 }

@@ -273,6 +273,11 @@ fn are_played(script: &str) -> bool {
         .all(|line| matches!(line.get(..2), Some("1 " | "2 " | "3 ")))
 }
 
+// The script at a place.
+fn script_at(place: usize) -> &'static str {
+    SCRIPTS.split("\n\n").nth(place).unwrap_or("no script")
+}
+
 // Each script on a server of its own.
 #[test]
 fn sessions_on_threads(rt: HostRuntime) -> Result<(), Refusal> {
@@ -337,13 +342,10 @@ fn play_script<J: Naming<Global> + Send + Sync, R: Threads + Wait + Abort + Sync
     requires most { J.most ≡ 100 }
     requires sound { IsTrue (is_sound catalog tables) }
 {
-    let Ok(opened) = Server::<J>::open(alloc, word, first, catalog, tables, 100, 3) else {
-        panic!(rt; "no server")
-    };
-    let Some(script) = SCRIPTS.split("\n\n").nth(place) else {
-        panic!(rt; "no script")
-    };
-    play_opened(rt, alloc, opened, script);
+    match Server::<J>::open(alloc, word, first, catalog, tables, 100, 3) {
+        Ok(opened) => play_opened(rt, alloc, opened, script_at(place)),
+        Err(_) => panic!(rt; "no server"),
+    }
 }
 
 #[test]
@@ -365,6 +367,21 @@ fn a_checkpoint_is_gone_on_from(rt: HostRuntime) -> Result<(), Refusal> {
     go_on::<Brand, _>(&rt, alloc, &word, first, core)
 }
 
+// Plays a script by the one session of a server, which then is closed.
+fn play_alone<'w, J: Naming<Global>, R: Threads + Wait + Abort + Sync>(
+    rt: &R,
+    alloc: Global,
+    (server, mut passes): (Server<'w, J>, Vec<Pass<'w, J>>),
+    script: &str,
+) -> Core {
+    assert!(rt; passes.len() == 1);
+    let barrier = Barrier::open();
+    for pass in &mut passes {
+        play(rt, alloc, &server, pass, "1 ", script, &barrier);
+    }
+    server.close(passes)
+}
+
 // A core in which a row was committed by one session's server.
 fn one_row<J: Naming<Global>, R: Threads + Wait + Abort + Sync>(
     rt: &R,
@@ -380,12 +397,14 @@ fn one_row<J: Naming<Global>, R: Threads + Wait + Abort + Sync>(
     requires most { J.most ≡ 100 }
     requires sound { IsTrue (is_sound catalog tables) }
 {
-    let (server, mut passes) = Server::<J>::open(alloc, word, first, catalog, tables, 100, 1)?;
-    let pass = passes.pop().ok_or(not_asked())?;
-    let script = "1 BEGIN: begun\n1 INSERT INTO a VALUES (7): inserted\n1 COMMIT: committed";
-    let pass = play(rt, alloc, &server, pass, "1 ", script, &Barrier::open());
-    passes.push(pass)?;
-    Ok(server.close(passes))
+    match Server::<J>::open(alloc, word, first, catalog, tables, 100, 1) {
+        Ok(opened) => {
+            let script =
+                "1 BEGIN: begun\n1 INSERT INTO a VALUES (7): inserted\n1 COMMIT: committed";
+            Ok(play_alone(rt, alloc, opened, script))
+        }
+        Err(refusal) => Err(refusal),
+    }
 }
 
 // The row is there on a server that goes on with the core.
@@ -400,11 +419,12 @@ fn go_on<J: Naming<Global>, R: Threads + Wait + Abort + Sync>(
     requires first { first ≡ J.table }
     requires core { core ≡ record { opening = J.opening; records = []; most = J.most } }
 {
-    let Ok((server, mut passes)) = Server::<J>::resume(alloc, word, first, core, 1) else {
-        return Err(not_asked());
-    };
-    let pass = passes.pop().ok_or(not_asked())?;
-    let script = "1 BEGIN: begun\n1 SELECT * FROM a WHERE id = 7: one row";
-    let _pass = play(rt, alloc, &server, pass, "1 ", script, &Barrier::open());
-    Ok(())
+    match Server::<J>::resume(alloc, word, first, core, 1) {
+        Ok(opened) => {
+            let script = "1 BEGIN: begun\n1 SELECT * FROM a WHERE id = 7: one row";
+            play_alone(rt, alloc, opened, script);
+            Ok(())
+        }
+        Err(_) => Err(not_asked()),
+    }
 }
