@@ -166,7 +166,7 @@ where
     Ok(())
 }
 
-// A session's line is answered; one that is refused, out of memory, is repeated.
+// A session's line is answered; one that is refused when out of memory is repeated.
 fn answer_at_last<'w, J, A, R>(
     rt: &R,
     (memory, alloc): (&Memory, A),
@@ -216,30 +216,24 @@ where
     Ok(())
 }
 
-// What is asked and answered where a script is played on a server: the text begins with what stands before its lines.
+// The lines of the script at a place are asked on a server, and answered.
 fn play<'w, J, A, R>(
     rt: &R,
     (memory, alloc): (&Memory, A),
-    (server, passes): (Server<'w, J, A>, Vec<Pass<'w, J, A>, A>),
+    (server, mut passes): (Server<'w, J, A>, Vec<Pass<'w, J, A>, A>),
     script: &str,
-    trial: &mut Trial,
-) -> Result<Vec<u8>, Refusal>
+    given: (&mut Vec<u8>, &mut Trial),
+) -> Result<(), Refusal>
 where
     J: Naming<A>,
     A: Allocator + Copy + Send + Sync,
     R: Abort + Threads + Wait + Sync,
 {
-    let mut passes = passes;
-    let (creates, _lines) = script.split_once("\n>").ok_or(not_asked())?;
-    let mut text = Vec::from_slice(memory.inner, creates.as_bytes())?;
-    text.push(b'\n')?;
-    let given = (&mut text, trial);
-    ask_all(rt, (memory, alloc), &server, &mut passes, script, given)?;
-    Ok(text)
+    ask_all(rt, (memory, alloc), &server, &mut passes, script, given)
 }
 
-// What is asked and answered where the script at a place is played on a server of this word; none where the opening is
-// refused when out of memory. The opening's tables are those of the word.
+// What is asked and answered where the script at a place is played on a server of this word, behind the text; nothing
+// where the opening is refused when out of memory. The opening's tables are those of the word.
 fn serve<J, A, R>(
     rt: &R,
     given: (&Memory, A),
@@ -247,8 +241,8 @@ fn serve<J, A, R>(
     first: FirstSeat<A>,
     opening: (Catalog<A>, Tables<A>),
     place: usize,
-    trial: &mut Trial,
-) -> Result<Option<Vec<u8>>, Refusal>
+    out: (&mut Vec<u8>, &mut Trial),
+) -> Result<bool, Refusal>
 where
     J: Naming<A>,
     A: Allocator + Copy + Send + Sync,
@@ -259,23 +253,22 @@ where
     requires most { J.most ≡ 40 }
     requires sound { IsTrue (is_sound opening.0 opening.1) }
 {
+    let script = script_at(place)?;
+    let (text, trial) = out;
     let (memory, alloc) = given;
     let (catalog, tables) = opening;
     let start = trial.begin(memory);
     let opened = Server::<J, A>::open(alloc, word, first, catalog, tables, 40, 4);
-    if !trial.end(memory, start) {
+    let takes = trial.end(memory, start);
+    let is_opened = opened.is_ok();
+    match opened {
+        Ok(opened) => play(rt, (memory, alloc), opened, script, (text, trial))?,
+        Err(refusal) => trial.repeat("the opening", refusal)?,
+    }
+    if !takes {
         return Err(not_asked());
     }
-    match opened {
-        Ok(opened) => {
-            let text = play(rt, (memory, alloc), opened, script_at(place)?, trial)?;
-            Ok(Some(text))
-        }
-        Err(refusal) => {
-            trial.repeat("the opening", refusal)?;
-            Ok(None)
-        }
-    }
+    Ok(is_opened)
 }
 
 // The same on a server and a word of its own.
@@ -283,12 +276,20 @@ fn serve_anew<R: Abort + Threads + Wait + Sync>(
     rt: &R,
     memory: &Memory,
     place: usize,
-    trial: &mut Trial,
-) -> Result<Option<Vec<u8>>, Refusal> {
+    out: (&mut Vec<u8>, &mut Trial),
+) -> Result<bool, Refusal> {
     let (creates, _lines) = script_at(place)?.split_once("\n>").ok_or(not_asked())?;
     let opening = opening(memory, creates)?;
     let (word, first) = HistoryWord::new(memory, &opening.0, &opening.1, Base::zero())?;
-    serve::<Brand, _, _>(rt, (memory, memory), &word, first, opening, place, trial)
+    serve::<Brand, _, _>(rt, (memory, memory), &word, first, opening, place, out)
+}
+
+// What stands before the lines of the script at a place.
+fn creates(memory: &Memory, place: usize) -> Result<Vec<u8>, Refusal> {
+    let (creates, _lines) = script_at(place)?.split_once("\n>").ok_or(not_asked())?;
+    let mut text = Vec::from_slice(memory.inner, creates.as_bytes())?;
+    text.push(b'\n')?;
+    Ok(text)
 }
 
 // What is asked and answered where the script at a place is played on a server, while one request is refused; where
@@ -299,9 +300,13 @@ fn serve_at_last<R: Abort + Threads + Wait + Sync>(
     place: usize,
     trial: &mut Trial,
 ) -> Result<Vec<u8>, Refusal> {
-    match serve_anew(rt, memory, place, trial)? {
-        Some(text) => Ok(text),
-        None => serve_anew(rt, memory, place, trial)?.ok_or(not_asked()),
+    let mut text = creates(memory, place)?;
+    if serve_anew(rt, memory, place, (&mut text, trial))?
+        || serve_anew(rt, memory, place, (&mut text, trial))?
+    {
+        Ok(text)
+    } else {
+        Err(not_asked())
     }
 }
 
