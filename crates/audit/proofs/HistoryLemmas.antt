@@ -4,6 +4,7 @@ use Rattle.std.specs.List.{All, filter, list_all, list_any}
 use Rattle.std.proofs.lemmas.List.Sorted.{All-permutation, sum_by-IsPermutation}
 use Rattle.value.proofs.IsolationLemmas.{In}
 use Rattle.value.proofs.LastWriter.{Rising}
+use Rattle.value.proofs.Basics.{In-mapped}
 use Rattle.schema.specs.Definition.{Catalog}
 use Rattle.schema.specs.declared.tables.Tables.{Tables}
 use Rattle.schema.specs.Plain.{is_sound}
@@ -29,11 +30,6 @@ use Rattle.serial.proofs.legal.Histories.{run-catalog}
 use Rattle.audit.specs.Replay.{are_fit, replays}
 use Rattle.audit.proofs.TrackLemmas.{all-courses, run-base}
 use Rattle.audit.proofs.OrderLemmas.{Fine, Answered, goes-again, goes-through}
-
-In-map : {X Y : Type 0} (f : X → Y) (x : X) (xs : List X) → In x xs → In (f x) (map f xs)
-In-map f x [] i = absurd i
-In-map f x (y ∷ ys) (inl e) = inl (ap f e)
-In-map f x (y ∷ ys) (inr i) = inr (In-map f x ys i)
 
 -- ---- what holds of every course
 
@@ -144,7 +140,7 @@ module _ {A : Type 0} (o : Opening A) (es : List (Record A)) (l : Legal o es) wh
   opening_sound = l.0
 
   sane : (t : Txn A) → In t w.txns → IsSane (course_of n p t)
-  sane t i = sane-courses 0 es [] (λ x j. absurd j) (course_of n p t) (subst (In (course_of n p t)) (sym legal-courses) (In-map (course_of n p) t w.txns i))
+  sane t i = sane-courses 0 es [] (λ x j. absurd j) (course_of n p t) (subst (In (course_of n p t)) (sym legal-courses) (In-mapped (course_of n p) t w.txns i))
 
   fine : (t : Txn A) → In t (committed w) → Fine o.catalog n p t
   fine t i =

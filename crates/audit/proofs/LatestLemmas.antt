@@ -3,6 +3,7 @@ use Rattle.std.proofs.Common.{◌≡◌, refl, sym, ap, subst, ◌∙◌, ℕ, s
 use Rattle.std.proofs.lemmas.Bool.{eqb-true}
 use Rattle.std.proofs.lemmas.Grind.{common_steps}
 use Rattle.std.proofs.lemmas.Option.{get_or_from_slice_get, slice_get_within}
+use Rattle.std.specs.Cmp.{first_so}
 use Rattle.std.specs.List.{find}
 use Rattle.std.specs.Option.{IfNone}
 use Rattle.std.specs.Ordering.{nat_cmp}
@@ -70,10 +71,6 @@ push-at {T} (x ∷ xs) (suc k) v y e = go (push-at xs k v y e)
 
 same_place : (i k : ℕ) → Some i ≡ Some k → i ≡ k
 same_place i k e = cc
-
-first_true : (a b : Bool) → (a && b) ≡ true → a ≡ true
-first_true true b e = refl
-first_true false b e = e
 
 never_both : (a : Bool) → (a && false) ≡ true → ⊥
 never_both true e = true≢false (sym e)
@@ -170,7 +167,7 @@ module _ {A : Type 0} where
     where
       at : (q k : ℕ) (y : Track A) → is_its q y ≡ true → ((k ≡ length cs) × (y ≡ course_begun s n place)) ⊎ (slice_get cs k ≡ Some y) → new q ≡ Some k
       at q k y i (inl u) =
-          let same : s ≡ q = eqb-true s q (first_true (eqb s q) true (ap (is_its q) (sym u.1) ∙ i)) in
+          let same : s ≡ q = eqb-true s q (first_so (eqb s q) true (ap (is_its q) (sym u.1) ∙ i)) in
           ap new (sym same) ∙ here ∙ ap Some (sym u.0)
       at q k y i (inr u) = go (eqb s q) refl
         where

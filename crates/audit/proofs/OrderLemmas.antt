@@ -1,7 +1,7 @@
 -- A replay of courses goes through exactly where their transactions are a serial order.
 use Rattle.std.proofs.Common.{◌≡◌, refl, sym, ap, subst, ◌∙◌, ℕ, ◌-◌, ◌<◌, ◌≤◌, max, Bool, true, false, true≢false, cond, not, ◌&&◌, inl, inr, List, [], ◌∷◌, map, Option, Some, None, eqb, nat_lt, sum_by, arith}
 use Rattle.std.proofs.lemmas.Bool.Decides.{nat_tests}
-use Rattle.std.proofs.lemmas.Bool.{eq-eqb, eqb-true}
+use Rattle.std.proofs.lemmas.Bool.{eq-eqb, eqb-true, ltb-true, not-true, and_parts}
 use Rattle.std.specs.List.{filter, find, list_all}
 use Rattle.std.specs.List.Sorted.{IsPermutation}
 use Rattle.std.specs.Option.{option_map}
@@ -9,6 +9,7 @@ use Rattle.std.proofs.lemmas.List.Sums.{sum_by-cons}
 use Rattle.std.proofs.lemmas.List.Sorted.{IsPermutation-refl, IsPermutation-cons, IsPermutation-trans, IsPermutation-middle, sum_by-IsPermutation}
 use Rattle.value.proofs.IsolationLemmas.{In}
 use Rattle.value.proofs.LastWriter.{Rising}
+use Rattle.value.proofs.Basics.{and_from_three, find-In}
 use Rattle.schema.specs.Definition.{Catalog}
 use Rattle.schema.specs.declared.tables.Tables.{Tables}
 use Rattle.statement.specs.declared.statement.Statement.{Statement}
@@ -18,29 +19,17 @@ use Rattle.history.specs.Transactions.{Txn, is_done}
 use Rattle.history.specs.Answer.{is_refused}
 use Rattle.history.specs.Serial.{Alone, InTurn, InTime, precedes}
 use Rattle.history.proofs.Alone.{In-filter, filter-In}
-use Rattle.serial.proofs.legal.Legal.{found}
 use Rattle.serial.proofs.safe.Prefix.{all_by, by_all}
 use Rattle.audit.specs.Course.{Track, course_of}
 use Rattle.audit.specs.Same.{same_answer}
 use Rattle.audit.specs.Replay.{answers_again, end_of, latest_with, goes_next, without, replays}
 use Rattle.audit.proofs.SameLemmas.{same_answer-true, answers-itself}
 
-both : (a b : Bool) → (a && b) ≡ true → (a ≡ true) × (b ≡ true)
-both true b e = (refl, e)
-both false b e = absurd (true≢false (sym e))
-
-is_false : (b : Bool) → not b ≡ true → b ≡ false
-is_false true e = absurd (true≢false (sym e))
-is_false false e = refl
-
 at_least : (a b : ℕ) → not (nat_lt a b) ≡ true → b ≤ a
-at_least a b e = let f = is_false (nat_lt a b) e in grind (arith, nat_tests)
+at_least a b e = let f = not-true (nat_lt a b) e in grind (arith, nat_tests)
 
 not_below : (a b : ℕ) → b ≤ a → not (nat_lt a b) ≡ true
 not_below a b h = grind (arith, nat_tests)
-
-below_true : (a b : ℕ) → nat_lt a b ≡ true → a < b
-below_true a b e = grind (arith, nat_tests)
 
 apart : (k m : ℕ) → (eqb k m ≡ true → ⊥) → eqb k m ≡ false
 apart k m h = go (eqb k m) refl
@@ -51,9 +40,6 @@ apart k m h = go (eqb k m) refl
 
 later_end : (late l k : ℕ) → late ≤ l → l ≤ k → late ≤ k
 later_end late l k a b = omega arith
-
-three_true : (a b d : Bool) → a ≡ true → b ≡ true → d ≡ true → (a && b && d) ≡ true
-three_true a b d p q r = cc
 
 module _ {A : Type 0} where
   -- no reply of these is a refusal
@@ -89,14 +75,14 @@ module _ {A : Type 0} (c : Catalog) (n p : ℕ) where
   alone-true : (qs : List (Statement A × Reply A)) (X : Tables A) → answers_again c qs X ≡ true → Alone c qs X (end_of c qs X)
   alone-true [] X e = refl
   alone-true (q ∷ qs) X e =
-      let s = both (same_answer (outcome c q.0 X).reply q.1) (answers_again c qs (after c q.0 X)) e in
+      let s = and_parts (same_answer (outcome c q.0 X).reply q.1) (answers_again c qs (after c q.0 X)) e in
       (same_answer-true (outcome c q.0 X).reply q.1 s.0, alone-true qs (after c q.0 X) s.1)
 
   alone-again : (qs : List (Statement A × Reply A)) (X Y : Tables A) → Answered qs → Alone c qs X Y → (answers_again c qs X ≡ true) × (Y ≡ end_of c qs X)
   alone-again [] X Y h a = (refl, a)
   alone-again (q ∷ qs) X Y h a =
-      let s = both (not (is_refused q.1)) (list_all (λ r. not (is_refused r.1)) qs) h in
-      let unrefused : is_refused (outcome c q.0 X).reply ≡ false = ap is_refused a.0 ∙ is_false (is_refused q.1) s.0 in
+      let s = and_parts (not (is_refused q.1)) (list_all (λ r. not (is_refused r.1)) qs) h in
+      let unrefused : is_refused (outcome c q.0 X).reply ≡ false = ap is_refused a.0 ∙ not-true (is_refused q.1) s.0 in
       let rest = alone-again qs (after c q.0 X) Y s.1 a.1 in
       let same : same_answer (outcome c q.0 X).reply q.1 ≡ true = sym (ap (same_answer (outcome c q.0 X).reply) a.0) ∙ answers-itself c q.0 X unrefused in
       (ap (λ b. b && answers_again c qs (after c q.0 X)) same ∙ rest.0, rest.1)
@@ -186,9 +172,9 @@ module _ {A : Type 0} (c : Catalog) (n p : ℕ) where
 
   in_time : (x t : Txn A) (late : ℕ) → Fine x → latest_with late (course_of n p x) ≤ t.end - p → precedes t x ≡ true → ⊥
   in_time x t late h l e =
-      let s = both (nat_lt t.end x.begin) (not x.imported) e in
-      let begun : x.begin - p ≤ latest_with late (course_of n p x) = latest-new late (course_of n p x) (is_false x.imported s.1) in
-      let before : t.end < x.begin = below_true t.end x.begin s.0 in
+      let s = and_parts (nat_lt t.end x.begin) (not x.imported) e in
+      let begun : x.begin - p ≤ latest_with late (course_of n p x) = latest-new late (course_of n p x) (not-true x.imported s.1) in
+      let before : t.end < x.begin = ltb-true t.end x.begin s.0 in
       let after_base : p < x.begin = h.begin in
       absurd (omega arith)
 
@@ -224,10 +210,10 @@ module _ {A : Type 0} (c : Catalog) (n p : ℕ) where
           → Found late left (m ∷ ns) X
       go None q f rest = absurd (true≢false (sym f))
       go (Some x) q f rest =
-          let it = found (λ t. eqb (t.number - n) (m - n)) left x q in
+          let it = find-In (λ t. eqb (t.number - n) (m - n)) left x q in
           let fine = h x it.0 in
-          let s = both (not (nat_lt (course_of n p x).end late) && answers_again c x.statements X) (replays c n (latest_with late (course_of n p x)) (map (course_of n p) (others (m - n) left)) ns (end_of c x.statements X)) f in
-          let u = both (not (nat_lt (course_of n p x).end late)) (answers_again c x.statements X) s.0 in
+          let s = and_parts (not (nat_lt (course_of n p x).end late) && answers_again c x.statements X) (replays c n (latest_with late (course_of n p x)) (map (course_of n p) (others (m - n) left)) ns (end_of c x.statements X)) f in
+          let u = and_parts (not (nat_lt (course_of n p x).end late)) (answers_again c x.statements X) s.0 in
           let ended : late ≤ x.end - p = subst (λ k. late ≤ k) (end_is x fine) (at_least (course_of n p x).end late u.0) in
           let more = rest (latest_with late (course_of n p x)) (end_of c x.statements X) (λ t i. h t (In-filter (λ v. not (eqb (v.number - n) (m - n))) left t i).0) s.1 in
           let above : n < x.number = fine.number in
@@ -249,7 +235,7 @@ module _ {A : Type 0} (c : Catalog) (n p : ℕ) where
       filter-In (λ u. not (eqb (u.number - n) (x.number - n))) left t i (ap not (apart (t.number - n) (x.number - n) (λ f. apart_from (omega (arith, eqb-true (t.number - n) (x.number - n) f)))))
 
   none_other : (x : Txn A) (left : List (Txn A)) (u : Txn A) → In u (others (x.number - n) left) → eqb u.number x.number ≡ false
-  none_other x left u i = apart u.number x.number (λ f. absurd (true≢false (sym (eq-eqb (u.number - n) (x.number - n) (ap (λ k. k - n) (eqb-true u.number x.number f))) ∙ is_false (eqb (u.number - n) (x.number - n)) (In-filter (λ v. not (eqb (v.number - n) (x.number - n))) left u i).1)))
+  none_other x left u i = apart u.number x.number (λ f. absurd (true≢false (sym (eq-eqb (u.number - n) (x.number - n) (ap (λ k. k - n) (eqb-true u.number x.number f))) ∙ not-true (eqb (u.number - n) (x.number - n)) (In-filter (λ v. not (eqb (v.number - n) (x.number - n))) left u i).1)))
 
   pub goes-again : (order : List (Txn A)) (late : ℕ) (left : List (Txn A)) (X : Tables A) → ((t : Txn A) → In t left → Fine t) → Rising (λ (t : Txn A). t.number) left → ((t : Txn A) → In t order → In t left)
       → ((f : Txn A → ℕ) → sum_by f order ≡ sum_by f left) → InTurn c order X → InTime order → ((t : Txn A) → In t order → late ≤ t.end - p)
@@ -275,4 +261,4 @@ module _ {A : Type 0} (c : Catalog) (n p : ℕ) where
       let ns : List ℕ = map (λ (t : Txn A). t.number) order in
       ap (λ o. goes_next c late X o (λ l Y. replays c n l (without m (map (course_of n p) left)) ns Y)) (find-course m left ∙ ap (option_map (course_of n p)) q)
       ∙ ap (λ us. goes_next c late X (Some (course_of n p x)) (λ l Y. replays c n l us ns Y)) (others-course m left)
-      ∙ three_true (not (nat_lt (course_of n p x).end late)) (answers_again c x.statements X) (replays c n latest (map (course_of n p) rest) ns (end_of c x.statements X)) (not_below (course_of n p x).end late late_x) again.0 more
+      ∙ and_from_three (not (nat_lt (course_of n p x).end late)) (answers_again c x.statements X) (replays c n latest (map (course_of n p) rest) ns (end_of c x.statements X)) (not_below (course_of n p x).end late late_x) again.0 more

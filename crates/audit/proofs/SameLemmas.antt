@@ -1,6 +1,6 @@
 -- Answers are the same exactly where they are equal.
-use Rattle.std.proofs.Common.{◌≡◌, refl, sym, ap, ◌∙◌, Bool, true, false, true≢false, ◌&&◌, List, [], ◌∷◌, length, map, zip, eqb, Option, Some, None, is_some, if◌then◌else◌, arith}
-use Rattle.std.proofs.lemmas.Bool.{eq-eqb, eqb-true}
+use Rattle.std.proofs.Common.{◌≡◌, refl, sym, ap, ◌∙◌, Bool, true, false, true≢false, ◌&&◌, List, [], ◌∷◌, length, map, zip, eqb, Option, Some, None, is_some, if◌then◌else◌}
+use Rattle.std.proofs.lemmas.Bool.{eq-eqb, eqb-true, and_parts}
 use Rattle.std.specs.List.{list_all}
 use Rattle.value.specs.declared.value.Value.{Value}
 use Rattle.value.specs.Order.{value_eq-equivalence}
@@ -17,21 +17,9 @@ use Rattle.statement.specs.declared.outcome.Outcome.{Outcome}
 use Rattle.statement.specs.Conditions.{chosen}
 use Rattle.statement.specs.Evaluation.{outcome, shown, ◌or_else◌, at_column, at_table, least_column, least_table, lacks_value, lacks_row, first_bad, assigned_lacks_value, assigned_out_of_range, assigned_lacks_row, updated_row, writes_rows, puts, removes}
 use Rattle.value.specs.declared.refusal.Code.TheVariants as code
+use Rattle.value.proofs.Basics.{zip_same}
 use Rattle.history.specs.Answer.{is_refused}
 use Rattle.audit.specs.Same.{same_answer, same_rows, same_values}
-
-both : (a b : Bool) → (a && b) ≡ true → (a ≡ true) × (b ≡ true)
-both true b e = (refl, e)
-both false b e = absurd (true≢false (sym e))
-
-zip_same : {X : Type 0} (f : X → X → Bool) → ((x y : X) → f x y ≡ true → x ≡ y) → (xs ys : List X) → length xs ≡ length ys → list_all (λ p. f p.0 p.1) (zip xs ys) ≡ true → xs ≡ ys
-zip_same f h [] [] e a = refl
-zip_same f h [] (y ∷ ys) e a = absurd (omega arith)
-zip_same f h (x ∷ xs) [] e a = absurd (omega arith)
-zip_same f h (x ∷ xs) (y ∷ ys) e a =
-    let p = both (f x y) (list_all (λ p. f p.0 p.1) (zip xs ys)) a in
-    let l : length xs ≡ length ys = omega arith in
-    ap (λ z. z ∷ xs) (h x y p.0) ∙ ap (λ zs. y ∷ zs) (zip_same f h xs ys l p.1)
 
 zip_self : {X : Type 0} (f : X → X → Bool) → ((x : X) → f x x ≡ true) → (xs : List X) → list_all (λ p. f p.0 p.1) (zip xs xs) ≡ true
 zip_self f h [] = refl
@@ -39,10 +27,10 @@ zip_self f h (x ∷ xs) = ap (λ b. b && list_all (λ p. f p.0 p.1) (zip xs xs))
 
 module _ {A : Type 0} where
   same_values-true : (vs ws : List (Value A)) → same_values vs ws ≡ true → vs ≡ ws
-  same_values-true vs ws e = let p = both (eqb (length vs) (length ws)) (list_all (λ p. same p.0 p.1) (zip vs ws)) e in zip_same same same_value vs ws (eqb-true (length vs) (length ws) p.0) p.1
+  same_values-true vs ws e = let p = and_parts (eqb (length vs) (length ws)) (list_all (λ p. same p.0 p.1) (zip vs ws)) e in zip_same same same_value vs ws (eqb-true (length vs) (length ws) p.0) p.1
 
   same_rows-true : (vs ws : List (List (Value A))) → same_rows vs ws ≡ true → vs ≡ ws
-  same_rows-true vs ws e = let p = both (eqb (length vs) (length ws)) (list_all (λ p. same_values p.0 p.1) (zip vs ws)) e in zip_same same_values same_values-true vs ws (eqb-true (length vs) (length ws) p.0) p.1
+  same_rows-true vs ws e = let p = and_parts (eqb (length vs) (length ws)) (list_all (λ p. same_values p.0 p.1) (zip vs ws)) e in zip_same same_values same_values-true vs ws (eqb-true (length vs) (length ws) p.0) p.1
 
   pub same_answer-true : (r q : Reply A) → same_answer r q ≡ true → r ≡ q
   same_answer-true Inserted Inserted e = refl

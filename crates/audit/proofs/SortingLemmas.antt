@@ -1,5 +1,6 @@
 -- Entries put in the order of their keys.
 use Rattle.std.proofs.Common.{◌≡◌, refl, sym, ap, subst, ◌∙◌, ℕ, suc, ◌+◌, ◌≤◌, Bool, true, false, true≢false, cond, not, ◌&&◌, ◌⊎◌, inl, inr, Result, Ok, Err, IfOk, List, [], ◌∷◌, length, map, get_or, arith}
+use Rattle.std.proofs.lemmas.Bool.{not-true, and_parts}
 use Rattle.std.specs.List.{filter}
 use Rattle.std.specs.List.Sorted.{IsSortedBy, IsStableBy, ties}
 use Rattle.std.specs.Cmp.{IsStrictWeakOrder}
@@ -7,6 +8,7 @@ use Rattle.std.specs.Ordering.{is_lt}
 use Rattle.value.specs.Isolation.{key_cmp}
 use Rattle.value.proofs.IsolationLemmas.{Below, In}
 use Rattle.value.proofs.SortLemmas.{Apart, Below-asym, Below-trans, InOrder, In-sorted, Tied, key_order, same_order, sorted-In, sorted-InOrder}
+use Rattle.value.proofs.Basics.{filter-In, In-map, In-mapped}
 use Rattle.history.specs.Transactions.{Txn, World}
 use Rattle.history.specs.Serial.{committed, in_commit_order, key, keys_by_commit, serial_order, with_keys}
 use Rattle.serial.proofs.order.SerialTheorem.{IsGood, isolated_world}
@@ -67,23 +69,15 @@ keys_order = record {
 sym_tied : (k l : Key) → Tied k l → Tied l k
 sym_tied k l t = (sym t.0, sym t.1, sym t.2)
 
-two_of : (a b : Bool) → (a && b) ≡ true → (a ≡ true) × (b ≡ true)
-two_of true b e = (refl, e)
-two_of false b e = absurd (true≢false (sym e))
-
-was_not : (b : Bool) → not b ≡ true → b ≡ false
-was_not true e = absurd (true≢false (sym e))
-was_not false e = refl
-
 ties_so : (d e : Entry) → Tied (key_of d) (key_of e) → ties comes_before d e ≡ true
 ties_so d e t =
     ap (λ b. not b && not (comes_before e d)) (not_before (key_of d) (key_of e) (inl t)) ∙ ap not (not_before (key_of e) (key_of d) (inl (sym_tied (key_of d) (key_of e) t)))
 
 tied_so : (d e : Entry) → ties comes_before d e ≡ true → Tied (key_of d) (key_of e)
-tied_so d e h = go (not_after (key_of d) (key_of e) (was_not (comes_before d e) p.0)) (not_after (key_of e) (key_of d) (was_not (comes_before e d) p.1))
+tied_so d e h = go (not_after (key_of d) (key_of e) (not-true (comes_before d e) p.0)) (not_after (key_of e) (key_of d) (not-true (comes_before e d) p.1))
   where
     p : (not (comes_before d e) ≡ true) × (not (comes_before e d) ≡ true)
-    p = two_of (not (comes_before d e)) (not (comes_before e d)) h
+    p = and_parts (not (comes_before d e)) (not (comes_before e d)) h
 
     go : Tied (key_of d) (key_of e) ⊎ Below (key_of e) (key_of d) → Tied (key_of e) (key_of d) ⊎ Below (key_of d) (key_of e) → Tied (key_of d) (key_of e)
     go (inl t) q = t
@@ -102,16 +96,6 @@ module _ {T : Type 0} where
       go true rest (inr j) = inr (rest j)
       go false rest j = inr (rest j)
 
-  filter-In : (p : T → Bool) (x : T) (xs : List T) → In x xs → p x ≡ true → In x (filter p xs)
-  filter-In p x [] i e = absurd i
-  filter-In p x (y ∷ xs) i e = go (p y) refl i (λ j. filter-In p x xs j e)
-    where
-      go : (b : Bool) → p y ≡ b → (x ≡ y) ⊎ In x xs → (In x xs → In x (filter p xs)) → In x (cond b (y ∷ filter p xs) (filter p xs))
-      go true d (inl q) rest = inl q
-      go true d (inr j) rest = inr (rest j)
-      go false d (inl q) rest = absurd (true≢false (sym e ∙ ap p q ∙ d))
-      go false d (inr j) rest = rest j
-
   some_length : (x : T) (xs : List T) → In x xs → 1 ≤ length xs
   some_length x [] i = absurd i
   some_length x (y ∷ xs) i = omega arith
@@ -123,27 +107,17 @@ module _ {T : Type 0} where
       go true = omega arith
       go false = omega arith
 
-  map-In : {U : Type 0} (f : T → U) (xs : List T) (u : U) → In u (map f xs) → (x : T) × In x xs × (u ≡ f x)
-  map-In f [] u i = absurd i
-  map-In f (x ∷ xs) u (inl p) = (x, inl refl, p)
-  map-In f (x ∷ xs) u (inr i) = let r = map-In f xs u i in (r.0, inr r.1, r.2)
-
-  In-map : {U : Type 0} (f : T → U) (xs : List T) (x : T) → In x xs → In (f x) (map f xs)
-  In-map f [] x i = absurd i
-  In-map f (y ∷ xs) x (inl p) = inl (ap f p)
-  In-map f (y ∷ xs) x (inr i) = inr (In-map f xs x i)
-
   map-InOrder : {U : Type 0} (f : T → U) (k : U → Key) (xs : List T) → InOrder (λ x. k (f x)) xs → InOrder k (map f xs)
   map-InOrder f k [] o = tt
-  map-InOrder f k (x ∷ xs) o = (λ y i. let r = map-In f xs y i in subst (λ u. Below (k (f x)) (k u)) (sym r.2) (o.0 r.0 r.1), map-InOrder f k xs o.1)
+  map-InOrder f k (x ∷ xs) o = (λ y i. let r = In-map f y xs i in subst (λ u. Below (k (f x)) (k u)) (sym r.2) (o.0 r.0 r.1), map-InOrder f k xs o.1)
 
   map-Apart : {U : Type 0} (f : T → U) (k : U → Key) (xs : List T) → Apart (λ x. k (f x)) xs → Apart k (map f xs)
   map-Apart f k [] a = tt
-  map-Apart f k (x ∷ xs) a = (λ y i t. let r = map-In f xs y i in a.0 r.0 r.1 (subst (λ u. Tied (k (f x)) (k u)) r.2 t), map-Apart f k xs a.1)
+  map-Apart f k (x ∷ xs) a = (λ y i t. let r = In-map f y xs i in a.0 r.0 r.1 (subst (λ u. Tied (k (f x)) (k u)) r.2 t), map-Apart f k xs a.1)
 
   Apart-map : {U : Type 0} (f : T → U) (k : U → Key) (xs : List T) → Apart k (map f xs) → Apart (λ x. k (f x)) xs
   Apart-map f k [] a = tt
-  Apart-map f k (x ∷ xs) a = (λ y i t. a.0 (f y) (In-map f xs y i) t, Apart-map f k xs a.1)
+  Apart-map f k (x ∷ xs) a = (λ y i t. a.0 (f y) (In-mapped f y xs i) t, Apart-map f k xs a.1)
 
 -- ---- sorted entries
 
@@ -243,15 +217,15 @@ module _ {A : Type 0} (w : World A) (g : IsGood w) where
 
       there : (p : ℕ × Key) → In p (map keyed ds) → In p (with_keys w (serial_order w))
       there p i =
-          let d = map-In keyed ds p i in
-          let t = map-In entry (in_commit_order w) p (subst (In p) e (subst (λ q. In q (map keyed es)) (sym d.2) (In-map keyed es d.0 (stable_in es ds s d.0 d.1)))) in
-          subst (λ q. In q (with_keys w (serial_order w))) (sym t.2) (In-map entry (serial_order w) t.0 (sorted-In (key w) t.0 (committed w) (In-sorted by_end t.0 (committed w) t.1)))
+          let d = In-map keyed p ds i in
+          let t = In-map entry p (in_commit_order w) (subst (In p) e (subst (λ q. In q (map keyed es)) (sym d.2) (In-mapped keyed d.0 es (stable_in es ds s d.0 d.1)))) in
+          subst (λ q. In q (with_keys w (serial_order w))) (sym t.2) (In-mapped entry t.0 (serial_order w) (sorted-In (key w) t.0 (committed w) (In-sorted by_end t.0 (committed w) t.1)))
 
       back : (p : ℕ × Key) → In p (with_keys w (serial_order w)) → In p (map keyed ds)
       back p i =
-          let t = map-In entry (serial_order w) p i in
-          let d = map-In keyed es p (subst (In p) (sym e) (subst (λ q. In q (with_keys w (in_commit_order w))) (sym t.2) (In-map entry (in_commit_order w) t.0 (sorted-In by_end t.0 (committed w) (In-sorted (key w) t.0 (committed w) t.1))))) in
-          subst (λ q. In q (map keyed ds)) (sym d.2) (In-map keyed ds d.0 (in_stable es ds s d.0 d.1))
+          let t = In-map entry p (serial_order w) i in
+          let d = In-map keyed p es (subst (In p) (sym e) (subst (λ q. In q (with_keys w (in_commit_order w))) (sym t.2) (In-mapped entry t.0 (in_commit_order w) (sorted-In by_end t.0 (committed w) (In-sorted (key w) t.0 (committed w) t.1))))) in
+          subst (λ q. In q (map keyed ds)) (sym d.2) (In-mapped keyed d.0 ds (in_stable es ds s d.0 d.1))
 
 -- ---- numbers
 

@@ -1,5 +1,6 @@
 -- Steps of walks over courses, changes and answers.
-use Rattle.std.proofs.Common.{◌≡◌, refl, sym, ap, ◌∙◌, ℕ, suc, zero, ◌+◌, ◌<◌, Bool, true, false, true≢false, cond, ◌||◌, ◌&&◌, ◌-◌, ◌≤◌, map, slice_get, subst, add-one, drop-cons, inl, inr, List, [], ◌∷◌, length, take, drop, get_or, set, Some, None, is_some, eqb, IfOk, Result, Ok, Err, nat_lt, not, arith}
+use Rattle.std.proofs.Common.{◌≡◌, refl, sym, ap, ◌∙◌, ℕ, suc, zero, ◌+◌, ◌<◌, Bool, true, false, cond, ◌||◌, ◌&&◌, ◌-◌, ◌≤◌, map, slice_get, subst, add-one, drop-cons, inl, inr, List, [], ◌∷◌, length, take, drop, get_or, set, Some, None, is_some, eqb, Ok, nat_lt, not, arith}
+use Rattle.std.proofs.lemmas.Bool.{and_parts}
 use Rattle.std.proofs.lemmas.Bool.Decides.{nat_tests}
 use Rattle.std.specs.List.{find, list_any}
 use Rattle.value.specs.Refusals.{AnswersOrNoMemory}
@@ -13,10 +14,10 @@ use Rattle.statement.specs.Evaluation.{outcome, after}
 use Rattle.statement.specs.Fits.{fits}
 use Rattle.statement.proofs.LawsLemmas.{sound_after}
 use Rattle.history.specs.declared.event.Record.{Record}
-use Rattle.transactions.proofs.WalkLemmas.{first_and_rest}
 use Rattle.audit.specs.Course.{Track, at_first, begins, courses_after, gone_on, is_its, with_record}
 use Rattle.audit.specs.Replay.{answers_again, are_fit, end_of, goes_next, replays, without}
 use Rattle.value.specs.declared.refusal.TxnNo.{TxnNo}
+use Rattle.value.proofs.Basics.{first_and_rest}
 use Rattle.audit.specs.Same.{same_answer}
 
 pub answered-ok : {T : Type 0} (x a : T) → AnswersOrNoMemory (Ok x) (Ok a) → x ≡ a
@@ -45,16 +46,12 @@ some_at [] i lt = absurd (omega arith)
 some_at (x ∷ xs) zero lt = (x, refl, refl)
 some_at (x ∷ xs) (suc i) lt = some_at xs i (omega arith)
 
-two : (a b : Bool) → (a && b) ≡ true → (a ≡ true) × (b ≡ true)
-two true b e = (refl, e)
-two false b e = absurd (true≢false (sym e))
-
 pub found-passes : {T : Type 0} (q p : T → Bool) (xs ds : List T) (x : T) → ds ≡ xs → list_all q xs ≡ true → Some x ≡ find p ds → q x ≡ true
 found-passes {T} q p xs ds x same all e = go xs all (e ∙ ap (find p) same)
   where
     go : (ys : List T) → list_all q ys ≡ true → Some x ≡ find p ys → q x ≡ true
     go [] h f = cc
-    go (y ∷ ys) h f = at (p y) (two (q y) (list_all q ys) h) (λ k. go ys (two (q y) (list_all q ys) h).1 k) f
+    go (y ∷ ys) h f = at (p y) (and_parts (q y) (list_all q ys) h) (λ k. go ys (and_parts (q y) (list_all q ys) h).1 k) f
       where
         at : (b : Bool) → (q y ≡ true) × (list_all q ys ≡ true) → (Some x ≡ find p ys → q x ≡ true) → Some x ≡ cond b (Some y) (find p ys) → q x ≡ true
         at true r rest k = let same_one : x ≡ y = cc in ap q same_one ∙ r.0
@@ -62,7 +59,7 @@ found-passes {T} q p xs ds x same all e = go xs all (e ∙ ap (find p) same)
 
 pub all-filter : {T : Type 0} (q p : T → Bool) (xs : List T) → list_all q xs ≡ true → list_all q (filter p xs) ≡ true
 all-filter q p [] h = refl
-all-filter {T} q p (x ∷ xs) h = go (p x) (two (q x) (list_all q xs) h) (all-filter q p xs (two (q x) (list_all q xs) h).1)
+all-filter {T} q p (x ∷ xs) h = go (p x) (and_parts (q x) (list_all q xs) h) (all-filter q p xs (and_parts (q x) (list_all q xs) h).1)
   where
     go : (b : Bool) → (q x ≡ true) × (list_all q xs ≡ true) → list_all q (filter p xs) ≡ true → list_all q (cond b (x ∷ filter p xs) (filter p xs)) ≡ true
     go true r rest = ap (λ b. b && list_all q (filter p xs)) r.0 ∙ rest
@@ -107,7 +104,7 @@ module _ {A : Type 0} where
   again-step {T} show c qs q X Y long first fit sound same done =
       let rest : List T = take (length qs - 1) (drop 1 qs) in
       let all : qs ≡ q ∷ rest = first_and_rest qs q long first in
-      let parts = two (fits c (show q).0) (are_fit c (map show rest)) (sym (ap (λ (xs : List T). are_fit c (map show xs)) all) ∙ fit) in (
+      let parts = and_parts (fits c (show q).0) (are_fit c (map show rest)) (sym (ap (λ (xs : List T). are_fit c (map show xs)) all) ∙ fit) in (
         ap (answers_again c (map show rest)) done ∙ sym (ap (λ b. b && answers_again c (map show rest) (after c (show q).0 X)) same) ∙ sym (ap (λ (xs : List T). answers_again c (map show xs) X) all),
         ap (end_of c (map show rest)) done ∙ sym (ap (λ (xs : List T). end_of c (map show xs) X) all),
         parts.1,
@@ -118,7 +115,7 @@ module _ {A : Type 0} where
   pub first-fits : {T : Type 0} (show : T → Statement A × Reply A) (c : Catalog) (qs : List T) (q : T) → 1 ≤ length qs → q ≡ get_or qs 0 q → are_fit c (map show qs) ≡ true → fits c (show q).0 ≡ true
   first-fits {T} show c qs q long first fit =
       let rest : List T = take (length qs - 1) (drop 1 qs) in
-      (two (fits c (show q).0) (are_fit c (map show rest)) (sym (ap (λ (xs : List T). are_fit c (map show xs)) (first_and_rest qs q long first)) ∙ fit)).0
+      (and_parts (fits c (show q).0) (are_fit c (map show rest)) (sym (ap (λ (xs : List T). are_fit c (map show xs)) (first_and_rest qs q long first)) ∙ fit)).0
 
   -- it gets another answer
   pub again-stops : {T : Type 0} (show : T → Statement A × Reply A) (c : Catalog) (qs : List T) (q : T) (X : Tables A) → 1 ≤ length qs → q ≡ get_or qs 0 q → same_answer (outcome c (show q).0 X).reply (show q).1 ≡ false
@@ -129,7 +126,7 @@ module _ {A : Type 0} where
 
   pub sound-end : (c : Catalog) (qs : List (Statement A × Reply A)) (X : Tables A) → are_fit c qs ≡ true → is_sound c X ≡ true → is_sound c (end_of c qs X) ≡ true
   sound-end c [] X f h = h
-  sound-end c (q ∷ qs) X f h = let p = two (fits c q.0) (are_fit c qs) f in sound-end c qs (after c q.0 X) p.1 (sound_after c q.0 X p.0 h)
+  sound-end c (q ∷ qs) X f h = let p = and_parts (fits c q.0) (are_fit c qs) f in sound-end c qs (after c q.0 X) p.1 (sound_after c q.0 X p.0 h)
 
   -- one more number
   pub replays-next : (c : Catalog) (base late late' : ℕ) (left left' : List (Track A)) (X X' : Tables A) (qs : List TxnNo) (q : TxnNo) (k : ℕ) (b : Bool) → 1 ≤ length qs → q ≡ get_or qs 0 q → k ≡ q.0 - base
@@ -140,10 +137,6 @@ module _ {A : Type 0} where
       ap (λ (xs : List TxnNo). replays c base late left (map (λ (n : TxnNo). n.0) xs) X) (first_and_rest qs q long first)
       ∙ sym (ap (λ (j : ℕ). goes_next c late X (find (λ y. eqb y.number j) left) (λ l Y. replays c base l (without j left) rest Y)) e)
       ∙ goes (λ l xs Y. replays c base l xs rest Y)
-
-pub if-ok : {T E : Type 0} {P Q : T → Type 0} (r : Result T E) → IfOk r P → ((x : T) → P x → Q x) → IfOk r Q
-if-ok (Ok x) h f = f x h
-if-ok (Err e) h f = h
 
 -- one that had ended goes no further, and one that hadn't goes by its answers
 pub ended-before : (a b : ℕ) (r : Bool) → a < b → (not (nat_lt a b) && r) ≡ false

@@ -1,6 +1,6 @@
 -- Transactions still to come, each at the place before its number.
 use Rattle.std.proofs.Common.{◌≡◌, refl, sym, ap, subst, ◌∙◌, ℕ, suc, zero, ◌+◌, ◌<◌, ◌≤◌, Bool, true, false, cond, not, ◌⊎◌, inl, inr, List, [], ◌∷◌, ◌++◌, append_assoc, length, map, set, get_or, slice_get, Option, Some, None, is_some, eqb, arith}
-use Rattle.std.proofs.lemmas.Bool.{eq-eqb, eqb-true}
+use Rattle.std.proofs.lemmas.Bool.{eq-eqb, ne_eqb}
 use Rattle.std.proofs.lemmas.Option.{slice_get-get_or}
 use Rattle.std.specs.List.{filter, find, list_any}
 use Rattle.statement.specs.declared.reply.Reply.{Reply}
@@ -11,13 +11,6 @@ use Rattle.history.specs.declared.event.Record.{Record}
 use Rattle.audit.specs.Course.{Track, at_first, begins, course_begun, courses_after, gone_on, is_committed, is_imported, is_its, with_record}
 use Rattle.audit.specs.Replay.{AreInPlace, if_committed, is_empty, present, without}
 use Rattle.audit.proofs.LatestLemmas.{set-at}
-
-apart : (k m : ℕ) → (k ≡ m → ⊥) → eqb k m ≡ false
-apart k m h = go (eqb k m) refl
-  where
-    go : (b : Bool) → eqb k m ≡ b → b ≡ false
-    go true e = absurd (h (eqb-true k m e))
-    go false e = refl
 
 -- one more is pushed
 pub push-step : {X Y : Type 0} (f : X → Y) (kept new : List Y) (left rest : List X) (x : X) (y : Y) → left ≡ x ∷ rest → y ≡ f x → new ≡ kept ++ y ∷ [] → new ++ map f rest ≡ kept ++ map f left
@@ -45,7 +38,7 @@ module _ {A : Type 0} where
   find-none m k (None ∷ xs) h l = find-none (m + 1) k xs (tail_placed m None xs h) (omega arith)
   find-none m k (Some x ∷ xs) h l =
       let n : x.number ≡ m + 0 + 1 = h 0 x refl in
-      ap (λ b. cond b (Some x) (find (λ y. eqb y.number k) (present xs))) (apart x.number k (λ e. absurd (omega arith)))
+      ap (λ b. cond b (Some x) (find (λ y. eqb y.number k) (present xs))) (ne_eqb x.number k (λ e. absurd (omega arith)))
       ∙ find-none (m + 1) k xs (tail_placed m (Some x) xs h) (omega arith)
 
   without-none : (m k : ℕ) (xs : List (Option (Track A))) → ArePlaced m xs → k ≤ m → without k (present xs) ≡ present xs
@@ -53,7 +46,7 @@ module _ {A : Type 0} where
   without-none m k (None ∷ xs) h l = without-none (m + 1) k xs (tail_placed m None xs h) (omega arith)
   without-none m k (Some x ∷ xs) h l =
       let n : x.number ≡ m + 0 + 1 = h 0 x refl in
-      ap (λ b. cond (not b) (x ∷ without k (present xs)) (without k (present xs))) (apart x.number k (λ e. absurd (omega arith)))
+      ap (λ b. cond (not b) (x ∷ without k (present xs)) (without k (present xs))) (ne_eqb x.number k (λ e. absurd (omega arith)))
       ∙ ap (λ ys. x ∷ ys) (without-none (m + 1) k xs (tail_placed m (Some x) xs h) (omega arith))
 
   -- ---- the one with a number
@@ -67,7 +60,7 @@ module _ {A : Type 0} where
   find-placed m (suc i) k (None ∷ xs) h e = find-placed (m + 1) i k xs (tail_placed m None xs h) (omega arith)
   find-placed m (suc i) k (Some x ∷ xs) h e =
       let n : x.number ≡ m + 0 + 1 = h 0 x refl in
-      ap (λ b. cond b (Some x) (find (λ y. eqb y.number k) (present xs))) (apart x.number k (λ f. absurd (omega arith)))
+      ap (λ b. cond b (Some x) (find (λ y. eqb y.number k) (present xs))) (ne_eqb x.number k (λ f. absurd (omega arith)))
       ∙ find-placed (m + 1) i k xs (tail_placed m (Some x) xs h) (omega arith)
 
   without-placed : (m i k : ℕ) (xs : List (Option (Track A))) → ArePlaced m xs → k ≡ m + i + 1 → without k (present xs) ≡ present (set xs i None)
@@ -80,7 +73,7 @@ module _ {A : Type 0} where
   without-placed m (suc i) k (None ∷ xs) h e = without-placed (m + 1) i k xs (tail_placed m None xs h) (omega arith)
   without-placed m (suc i) k (Some x ∷ xs) h e =
       let n : x.number ≡ m + 0 + 1 = h 0 x refl in
-      ap (λ b. cond (not b) (x ∷ without k (present xs)) (without k (present xs))) (apart x.number k (λ f. absurd (omega arith)))
+      ap (λ b. cond (not b) (x ∷ without k (present xs)) (without k (present xs))) (ne_eqb x.number k (λ f. absurd (omega arith)))
       ∙ ap (λ ys. x ∷ ys) (without-placed (m + 1) i k xs (tail_placed m (Some x) xs h) (omega arith))
 
   -- ---- taken out

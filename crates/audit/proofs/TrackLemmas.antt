@@ -1,12 +1,14 @@
 -- The courses that records tell are those of the transactions that they come to.
-use Rattle.std.proofs.Common.{◌≡◌, refl, sym, ap, subst, ◌∙◌, ℕ, ◌+◌, ◌-◌, ◌<◌, ◌≤◌, Bool, true, false, true≢false, cond, not, ◌&&◌, ◌||◌, inl, inr, List, [], ◌∷◌, ◌++◌, length, map, Option, Some, None, is_some, eqb, arith}
+use Rattle.std.proofs.Common.{◌≡◌, refl, sym, ap, subst, ◌∙◌, ℕ, ◌+◌, ◌-◌, ◌<◌, ◌≤◌, Bool, true, false, true≢false, cond, not, ◌||◌, inl, inr, List, [], ◌∷◌, ◌++◌, length, map, Option, Some, None, is_some, eqb, arith}
 use Rattle.std.proofs.lemmas.Bool.{eq-eqb, eqb-true}
 use Rattle.std.proofs.lemmas.List.{map-append, length-map}
+use Rattle.std.specs.Cmp.{second_so}
 use Rattle.std.specs.List.{find, list_any}
 use Rattle.value.specs.declared.refusal.Cause.{Cause}
 use Rattle.value.specs.declared.refusal.Code.TheVariants as code
 use Rattle.value.proofs.IsolationLemmas.{In}
 use Rattle.value.proofs.LastWriter.{Rising}
+use Rattle.value.proofs.Basics.{find-In}
 use Rattle.statement.specs.declared.statement.Statement.{Statement}
 use Rattle.statement.specs.declared.reply.Reply.{Reply}
 use Rattle.statement.specs.declared.reply.Reply.TheVariants.{Begun, Imported, Safe, Wait, Exported, Refused}
@@ -17,7 +19,6 @@ use Rattle.history.specs.Transactions.{Standing, Open, Doomed, Failed, Aborted, 
 use Rattle.history.specs.Events.{goes_on, ended, moved, told, settled, turned_from, import, begun, causes, doomed_by, replaced, without_transaction, followed, follows, run}
 use Rattle.history.specs.declared.base.Base.{Base}
 use Rattle.history.specs.Answer.{reply_in, reply_of, reply_from, open_reply, import_reply, commit_reply, cause_of, doomed, failed, refuses, IsAnswered}
-use Rattle.serial.proofs.legal.Legal.{found}
 use Rattle.serial.proofs.structures.Dooms.{Fate, Spared, Over, fate}
 use Rattle.serial.proofs.legal.Numbers.{polled_keeps}
 use Rattle.serial.proofs.order.SerialTheorem.{IsGood, good_run}
@@ -29,10 +30,6 @@ open_parts (Doomed c) e = absurd (true≢false (sym e))
 open_parts Failed e = absurd (true≢false (sym e))
 open_parts Aborted e = absurd (true≢false (sym e))
 open_parts Done e = absurd (true≢false (sym e))
-
-second_of : (c d : Bool) → (c && d) ≡ true → d ≡ true
-second_of true d q = q
-second_of false d q = absurd (true≢false (sym q))
 
 module _ {A : Type 0} (n p : ℕ) where
   -- a transaction's course, by how it stands and where it ended
@@ -179,7 +176,7 @@ module _ {A : Type 0} (n p : ℕ) where
           ∙ ap (λ d. d ∷ map (course_of n p) (replaced x us)) (c ∙ ap (λ y. f (course_of n p y)) (sym same))
           ∙ ap (λ ys. f (course_of n p u) ∷ map (course_of n p) ys) (replaced-none x us (λ y i. subst (λ m. m < y.number) (sym number) (r.0 y i)))
       go false q g rest =
-          let below : u.number < t.number = r.0 t (found (is_of s) us t g).0 in
+          let below : u.number < t.number = r.0 t (find-In (is_of s) us t g).0 in
           ap (λ y. course_of n p y ∷ map (course_of n p) (replaced x us)) (other (eqb u.number x.number) refl (omega arith))
           ∙ ap (λ ys. course_of n p u ∷ ys) (rest g c k)
 
@@ -209,8 +206,8 @@ module _ {A : Type 0} (n p : ℕ) where
           → let e : Record A = record { session = s; action = a; reply = reply_of w o a } in map (course_of n p) (followed w e o).txns ≡ with_record (w.place + 1 - p) e (map (course_of n p) w.txns)
       go None e = begins_course w s a b ∙ sym (ap (λ c. cond c (at_first (is_its s) (gone_on (w.place + 1 - p) a (reply_of w None a)) (map (course_of n p) w.txns)) (begins (w.place + 1 - p) s a (map (course_of n p) w.txns))) (any_its s w.txns None e))
       go (Some t) e =
-          let in_list = found (is_of s) w.txns t e in
-          let k = told_any w t a t.standing (second_of (eqb t.session s) (is_owed t.standing) in_list.1) in
+          let in_list = find-In (is_of s) w.txns t e in
+          let k = told_any w t a t.standing (second_so (eqb t.session s) (is_owed t.standing) in_list.1) in
           courses-doomed (w.place + 1) (causes w a (reply_of w (Some t) a) t) (replaced (turned_from t.standing w a (reply_from t.standing w t a) t) w.txns)
           ∙ courses-replaced s t (turned_from t.standing w a (reply_from t.standing w t a) t) (gone_on (w.place + 1 - p) a (reply_from t.standing w t a)) w.txns r e k.0 k.1
           ∙ sym (ap (λ c. cond c (at_first (is_its s) (gone_on (w.place + 1 - p) a (reply_of w (Some t) a)) (map (course_of n p) w.txns)) (begins (w.place + 1 - p) s a (map (course_of n p) w.txns))) (any_its s w.txns (Some t) e))

@@ -24,13 +24,6 @@ without ks e n has mistake memory help (inr (inl one)) = inr (inl one)
 without ks e n has mistake memory help (inr (inr (inl two))) = inl ((kind_of e, among ks e has (mistake two).0, mistake two), two)
 without ks e n has mistake memory help (inr (inr (inr three))) = inr (inr (help_of ks e has (λ m. let one : n ≡ 1 = memory m in absurd (omega (arith, one, three))) (help (inr three)), inr three))
 
--- one of four is at most three
-pub four_within : (n : ℕ) → (n ≡ 0) ⊎ (n ≡ 1) ⊎ (n ≡ 2) ⊎ (n ≡ 3) → n ≤ 3
-four_within n (inl e) = omega (arith, e)
-four_within n (inr (inl e)) = omega (arith, e)
-four_within n (inr (inr (inl e))) = omega (arith, e)
-four_within n (inr (inr (inr e))) = omega (arith, e)
-
 -- an exit status that no mistaken words have
 of_fault : (f : Fault) (n : ℕ) → n ≡ status f → (n ≡ 1) ⊎ (n ≡ 3)
 of_fault (fault.Script line) n is = inl is

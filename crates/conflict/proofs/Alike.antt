@@ -1,16 +1,18 @@
 -- Trackers that answer alike, whatever is told of later.
 use Rattle.std.proofs.Common.{◌≡◌, refl, sym, ap, subst, ◌∙◌, ℕ, ◌+◌, ◌<◌, ◌≤◌, Bool, true, false, cond, not, ◌&&◌, ◌||◌, ◌⊎◌, inl, inr, List, [], ◌∷◌, ◌++◌, map, Option, Some, None, fold, eqb, nat_lt, arith, append-nil}
+use Rattle.std.proofs.lemmas.Bool.{and_parts, and_from, or_cases, or_left, or_right, false_from_ne_true, ltb-true, lt-ltb, eqb-true, eq-eqb, le-ltb}
 use Rattle.std.proofs.lemmas.List.Elements.{filter-append}
 use Rattle.std.specs.List.{filter, find, list_any}
 use Rattle.std.specs.Option.{option_map, option_to_list}
 use Rattle.value.specs.declared.refusal.Cause.{Cause}
 use Rattle.value.specs.Isolation.{cause_from, earliest, bound, first_cause, is_doomed, is_first, is_live, is_other, with_doom}
 use Rattle.value.proofs.IsolationLemmas.{In}
+use Rattle.value.proofs.Basics.{filter-In, any-In, In-any, find-In, filter-map, In-map}
 use Rattle.conflict.specs.Tracked.{Party, Tracked, Each, IsNumbered, IsProper, node, reads, edge, opened, after_forget, cause_of, dooms_of, dooms_from, first_out, out_from, party_of, is_active, is_needed, is_recent, is_writer, forgetful, with_edge, with_snapshot, with_commit, without_active}
 use Rattle.conflict.specs.Later.{Told, Begins, Reads, Moves, Commits, Drops, told, all_told, has_committed, CanTell, CanTellAll, IsFrom, is_recent_from, AnswersAlike, Alike, IsOldest}
-use Rattle.conflict.proofs.Lists.{both_true, and_true, either, or_left, or_right, is_false, clash, Each-In, Each-all, In-filter, In-append, filter-In, In-any, any-In, In-map, filter_alike, filter-kept, filter-filter, filter-map, find-In, find-kept, find-alike, fold-kept, fold-alike}
+use Rattle.conflict.proofs.Lists.{clash, Each-In, Each-all, In-filter, In-append, filter_alike, filter-kept, filter-filter, find-kept, find-alike, fold-kept, fold-alike}
 use Rattle.conflict.proofs.Proper.{edge_still, one_of_number, proper_drop, proper_begin, proper_edge, proper_move, proper_commit}
-use Rattle.conflict.proofs.Thinned.{Thinned, active_recent, commit_recent, commit_step, edge_step, lt_of, move_recent, move_step, moved_snapshot, needed_by, needed_cases, needed_recent, not_lt, same_cause, same_of, thinned_needed, to_lt, to_same}
+use Rattle.conflict.proofs.Thinned.{Thinned, active_recent, commit_recent, commit_step, edge_step, move_recent, move_step, moved_snapshot, needed_by, needed_cases, needed_recent, same_cause, thinned_needed}
 
 abbrev keeps : (ℕ → Bool) → Party → Bool
 keeps keep p = keep p.number
@@ -47,7 +49,7 @@ module _ (o : ℕ) (r : Tracked) (h : IsProper r) (old : IsOldest o r) where
       go p (inr (inr i)) = absurd i
   oldest_told (Reads t u) from = record { commits = old.commits; active = late_map (with_edge r.begun t u) (λ p i. late p i) }
   oldest_told (Moves t n) from = record { commits = old.commits; active = late_map (with_snapshot t n) (λ p i a. moved_snapshot o r h old t n from p i a) }
-  oldest_told (Commits t) from = record { commits = grown (list_any (is_writer t) r.parties); active = late_map (with_commit t (r.commits + 1)) (λ p i a. late p i (both_true (not (eqb p.number t)) p.active a).1) }
+  oldest_told (Commits t) from = record { commits = grown (list_any (is_writer t) r.parties); active = late_map (with_commit t (r.commits + 1)) (λ p i a. late p i (and_parts (not (eqb p.number t)) p.active a).1) }
     where
       grown : (b : Bool) → o ≤ cond b (r.commits + 1) r.commits
       grown true = omega (arith, old.commits)
@@ -85,7 +87,7 @@ module _ (o : ℕ) (r : Tracked) (h : IsProper r) (old : IsOldest o r) where
 
     can_tell : (x : Told) → CanTell x r → CanTell x s
     can_tell (Begins t m n) can = (subst (λ c. c < t) (sym thin.begun) can.0, subst (λ c. n ≤ c) (sym thin.commits) can.1)
-    can_tell (Reads t u) can = is_false _ (λ e. let b = both_true (has_committed t s.parties) (has_committed u s.parties) e in clash _ (and_true _ _ (has_fewer t b.0) (has_fewer u b.1)) can)
+    can_tell (Reads t u) can = false_from_ne_true _ (λ e. let b = and_parts (has_committed t s.parties) (has_committed u s.parties) e in clash _ (and_from _ _ (has_fewer t b.0) (has_fewer u b.1)) can)
     can_tell (Moves t n) can = subst (λ c. n ≤ c) (sym thin.commits) can
     can_tell (Commits t) can = check_alike t ∙ can
     can_tell (Drops t) can = tt
@@ -102,13 +104,13 @@ module _ (o : ℕ) (r : Tracked) (h : IsProper r) (old : IsOldest o r) where
         there : list_any (is_writer t) r.parties ≡ true → list_any (is_writer t) s.parties ≡ true
         there e =
             let x = any-In (is_writer t) r.parties e in
-            let a = both_true (eqb x.0.number t) x.0.active (both_true (is_active t x.0) x.0.read_write x.2).0 in
+            let a = and_parts (eqb x.0.number t) x.0.active (and_parts (is_active t x.0) x.0.read_write x.2).0 in
             let kept = thin.needed x.0 x.1 (needed_recent o r.parties x.0 (active_recent o x.0 a.1)) in
             In-any (is_writer t) s.parties x.0 (subst (λ ps. In x.0 ps) (sym thin.parties) (filter-In k x.0 r.parties x.1 kept)) x.2
 
         go : (b : Bool) → list_any (is_writer t) r.parties ≡ b → list_any (is_writer t) s.parties ≡ list_any (is_writer t) r.parties
         go true e = there e ∙ sym e
-        go false e = is_false _ (λ d. clash _ (more d) e) ∙ sym e
+        go false e = false_from_ne_true _ (λ d. clash _ (more d) e) ∙ sym e
 
     active_there : (t : ℕ) → list_any (is_active t) s.parties ≡ list_any (is_active t) r.parties
     active_there t = go (list_any (is_active t) r.parties) refl
@@ -121,12 +123,12 @@ module _ (o : ℕ) (r : Tracked) (h : IsProper r) (old : IsOldest o r) where
         there : list_any (is_active t) r.parties ≡ true → list_any (is_active t) s.parties ≡ true
         there e =
             let x = any-In (is_active t) r.parties e in
-            let kept = thin.needed x.0 x.1 (needed_recent o r.parties x.0 (active_recent o x.0 (both_true (eqb x.0.number t) x.0.active x.2).1)) in
+            let kept = thin.needed x.0 x.1 (needed_recent o r.parties x.0 (active_recent o x.0 (and_parts (eqb x.0.number t) x.0.active x.2).1)) in
             In-any (is_active t) s.parties x.0 (subst (λ ps. In x.0 ps) (sym thin.parties) (filter-In k x.0 r.parties x.1 kept)) x.2
 
         go : (b : Bool) → list_any (is_active t) r.parties ≡ b → list_any (is_active t) s.parties ≡ list_any (is_active t) r.parties
         go true e = there e ∙ sym e
-        go false e = is_false _ (λ d. clash _ (more d) e) ∙ sym e
+        go false e = false_from_ne_true _ (λ d. clash _ (more d) e) ∙ sym e
 
     thin_told : (x : Told) → IsFrom o x → CanTell x r → Thinned o keep (told x s) (told x r)
     thin_told (Begins t m n) from can = record {
@@ -146,7 +148,7 @@ module _ (o : ℕ) (r : Tracked) (h : IsProper r) (old : IsOldest o r) where
           where
             by : (q : Party) → In q r.parties ⊎ ((q ≡ opened t m n) ⊎ ⊥) → is_recent o q ≡ true → edge q p ≡ true → is_needed o r.parties p ≡ true
             by q (inl j) x y = needed_by o r.parties p q j x y
-            by q (inr (inl z)) x y = clash _ (both_true (not (eqb t p.number) && nat_lt n p.commit) false (subst (λ u. edge u p ≡ true) z y)).1 refl
+            by q (inr (inl z)) x y = clash _ (and_parts (not (eqb t p.number) && nat_lt n p.commit) false (subst (λ u. edge u p ≡ true) z y)).1 refl
             by q (inr (inr j)) x y = absurd j
 
             before : (is_recent o p ≡ true) ⊎ ((q : Party) × In q (r.parties ++ opened t m n ∷ []) × (is_recent o q ≡ true) × (edge q p ≡ true)) → is_needed o r.parties p ≡ true
@@ -220,23 +222,23 @@ module _ (o : ℕ) (r : Tracked) (h : IsProper r) (old : IsOldest o r) where
 
       -- those that are gone are neither the committer nor active
       gone_other : (q : Party) → k q ≡ false → is_other node reads q p ≡ true
-      gone_other q e = ap not (is_false (eqb q.number p.number) (λ d. clash _ kept (ap keep (sym (same_of q.number p.number d)) ∙ e)))
+      gone_other q e = ap not (false_from_ne_true (eqb q.number p.number) (λ d. clash _ kept (ap keep (sym (eqb-true q.number p.number d)) ∙ e)))
 
       gone_idle : (q : Party) → In q r.parties → k q ≡ false → q.active ≡ false
-      gone_idle q j e = is_false q.active (λ d. clash _ (thin.needed q j (needed_recent o r.parties q (active_recent o q d))) e)
+      gone_idle q j e = false_from_ne_true q.active (λ d. clash _ (thin.needed q j (needed_recent o r.parties q (active_recent o q d))) e)
 
       gone_not_live : (q : Party) → In q r.parties → k q ≡ false → is_live node reads p q ≡ false
-      gone_not_live q j e = is_false _ (λ d. clash q.active (both_true (is_other node reads q p) q.active (both_true (is_other node reads q p && q.active) q.read_write d).0).1 (gone_idle q j e))
+      gone_not_live q j e = false_from_ne_true _ (λ d. clash q.active (and_parts (is_other node reads q p) q.active (and_parts (is_other node reads q p && q.active) q.read_write d).0).1 (gone_idle q j e))
 
       gone_not_first : (causes : List Cause) (b q : Party) → In q r.parties → k q ≡ false → is_first node reads p causes b q ≡ false
       gone_not_first causes b q j e =
-          is_false _ (λ d.
-          let x = both_true (is_other node reads q b && (not (is_other node reads q p) || is_live node reads p q && not (is_doomed node reads causes q))) (reads q b) d in
-          go (either (not (is_other node reads q p)) (is_live node reads p q && not (is_doomed node reads causes q)) (both_true (is_other node reads q b) (not (is_other node reads q p) || is_live node reads p q && not (is_doomed node reads causes q)) x.0).1))
+          false_from_ne_true _ (λ d.
+          let x = and_parts (is_other node reads q b && (not (is_other node reads q p) || is_live node reads p q && not (is_doomed node reads causes q))) (reads q b) d in
+          go (or_cases (not (is_other node reads q p)) (is_live node reads p q && not (is_doomed node reads causes q)) (and_parts (is_other node reads q b) (not (is_other node reads q p) || is_live node reads p q && not (is_doomed node reads causes q)) x.0).1))
         where
           go : (not (is_other node reads q p) ≡ true) ⊎ ((is_live node reads p q && not (is_doomed node reads causes q)) ≡ true) → ⊥
           go (inl y) = clash _ (sym (ap not (gone_other q e)) ∙ y) refl
-          go (inr y) = clash _ (both_true (is_live node reads p q) (not (is_doomed node reads causes q)) y).0 (gone_not_live q j e)
+          go (inr y) = clash _ (and_parts (is_live node reads p q) (not (is_doomed node reads causes q)) y).0 (gone_not_live q j e)
 
       doom_alike : (causes : List Cause) (b : Party) → with_doom node reads (filter k r.parties) p causes b ≡ with_doom node reads r.parties p causes b
       doom_alike causes b =
@@ -296,8 +298,8 @@ forget_thinned o s h = record {
   begun = refl;
   commits = refl;
   parties = filter_alike (is_needed o s.parties) (λ p. stays o s p.number) s.parties same;
-  later = λ n l. or_left (nat_lt s.begun n) _ (to_lt s.begun n l);
-  needed = λ p i e. or_right (nat_lt s.begun p.number) _ (In-any (λ q. eqb q.number p.number && is_needed o s.parties q) s.parties p i (and_true (eqb p.number p.number) (is_needed o s.parties p) (to_same p.number p.number refl) e));
+  later = λ n l. or_left (nat_lt s.begun n) _ (lt-ltb s.begun n l);
+  needed = λ p i e. or_right (nat_lt s.begun p.number) _ (In-any (λ q. eqb q.number p.number && is_needed o s.parties q) s.parties p i (and_from (eqb p.number p.number) (is_needed o s.parties p) (eq-eqb p.number p.number refl) e));
 }
   where
     same : (p : Party) → In p s.parties → is_needed o s.parties p ≡ stays o s p.number
@@ -305,16 +307,16 @@ forget_thinned o s h = record {
       where
         among : (q : Party) → In q s.parties → (eqb q.number p.number && is_needed o s.parties q) ≡ true → is_needed o s.parties p ≡ true
         among q j e =
-            let b = both_true (eqb q.number p.number) (is_needed o s.parties q) e in
-            subst (λ z. is_needed o s.parties z ≡ true) (one_of_number s.parties h.rising q p j i (same_of q.number p.number b.0)) b.1
+            let b = and_parts (eqb q.number p.number) (is_needed o s.parties q) e in
+            subst (λ z. is_needed o s.parties z ≡ true) (one_of_number s.parties h.rising q p j i (eqb-true q.number p.number b.0)) b.1
 
         one : (nat_lt s.begun p.number ≡ true) ⊎ (list_any (λ q. eqb q.number p.number && is_needed o s.parties q) s.parties ≡ true) → is_needed o s.parties p ≡ true
-        one (inl e) = clash _ e (not_lt s.begun p.number (Each-In (IsNumbered s.begun s.commits) s.parties p h.numbered i).number)
+        one (inl e) = clash _ e (le-ltb s.begun p.number (Each-In (IsNumbered s.begun s.commits) s.parties p h.numbered i).number)
         one (inr e) = let x = any-In (λ q. eqb q.number p.number && is_needed o s.parties q) s.parties e in among x.0 x.1 x.2
 
         go : (b : Bool) → is_needed o s.parties p ≡ b → is_needed o s.parties p ≡ stays o s p.number
-        go true e = e ∙ sym (or_right (nat_lt s.begun p.number) _ (In-any (λ q. eqb q.number p.number && is_needed o s.parties q) s.parties p i (and_true (eqb p.number p.number) (is_needed o s.parties p) (to_same p.number p.number refl) e)))
-        go false e = e ∙ sym (is_false _ (λ d. clash _ (one (either (nat_lt s.begun p.number) _ d)) e))
+        go true e = e ∙ sym (or_right (nat_lt s.begun p.number) _ (In-any (λ q. eqb q.number p.number && is_needed o s.parties q) s.parties p i (and_from (eqb p.number p.number) (is_needed o s.parties p) (eq-eqb p.number p.number refl) e)))
+        go false e = e ∙ sym (false_from_ne_true _ (λ d. clash _ (one (or_cases (nat_lt s.begun p.number) _ d)) e))
 
 -- What is left answers alike.
 pub forgets_alike : (o : ℕ) (s : Tracked) → IsProper s → IsOldest o s → Alike o (after_forget o s) s
@@ -333,11 +335,11 @@ alike_told o s r x a from can = record {
 
 recent_before : (o p : ℕ) → o ≤ p → (x : Option Party) → is_recent_from p x ≡ true → is_recent_from o x ≡ true
 recent_before o p l None e = e
-recent_before o p l (Some q) e = go (either q.active (nat_lt p (bound node edge q)) e)
+recent_before o p l (Some q) e = go (or_cases q.active (nat_lt p (bound node edge q)) e)
   where
     go : (q.active ≡ true) ⊎ (nat_lt p (bound node edge q) ≡ true) → is_recent o q ≡ true
     go (inl a) = active_recent o q a
-    go (inr a) = or_right q.active (nat_lt o (bound node edge q)) (to_lt o (bound node edge q) (let b = lt_of p (bound node edge q) a in omega (arith, b, l)))
+    go (inr a) = or_right q.active (nat_lt o (bound node edge q)) (lt-ltb o (bound node edge q) (let b = ltb-true p (bound node edge q) a in omega (arith, b, l)))
 
 from_before : (o p : ℕ) → o ≤ p → (x : Told) → IsFrom p x → IsFrom o x
 from_before o p l (Begins t m n) f = omega (arith, l, f)

@@ -1,28 +1,12 @@
 -- Structures and dooms, found from the front of a list.
-use Rattle.std.proofs.Common.{◌≡◌, refl, sym, ap, ◌∙◌, ℕ, Bool, true, false, cond, ◌&&◌, List, [], ◌∷◌, ◌++◌, Option, Some, None, is_some, nat_lt, nat_le, arith}
-use Rattle.std.proofs.lemmas.Bool.Decides.{nat_tests}
+use Rattle.std.proofs.Common.{◌≡◌, refl, sym, ap, ◌∙◌, Bool, true, false, cond, ◌&&◌, List, [], ◌∷◌, ◌++◌, Option, Some, None, nat_lt, nat_le}
 use Rattle.std.specs.List.{filter}
 use Rattle.std.specs.Option.{option_map}
-use Rattle.value.specs.Isolation.{Node, caused, earlier, earliest, first_some, is_dangerous}
+use Rattle.value.specs.Isolation.{Node, caused, earlier, earliest, is_dangerous}
+use Rattle.value.proofs.Basics.{nat_lt-trans, not_nat_lt-trans}
 use Rattle.conflict.specs.Earliest.{first_of}
 
--- ---- the first that a function gives
-
-pub first_some-passes : {A B : Type 0} (f : A → Option B) (xs ys : List A) → first_some f xs ≡ None → first_some f (xs ++ ys) ≡ first_some f ys
-first_some-passes f [] ys none = refl
-first_some-passes {A} {B} f (x ∷ xs) ys none = go (f x) (first_some-passes f xs ys) none
-  where
-    go : (o : Option B) → (first_some f xs ≡ None → first_some f (xs ++ ys) ≡ first_some f ys) → cond (is_some o) o (first_some f xs) ≡ None → cond (is_some o) o (first_some f (xs ++ ys)) ≡ first_some f ys
-    go None rest e = rest e
-    go (Some y) rest e = cc
-
 -- ---- the first to commit
-
-before_or_after : (a b c : ℕ) → nat_lt a b ≡ false → nat_lt b c ≡ false → nat_lt a c ≡ false
-before_or_after a b c p q = grind (arith, nat_tests)
-
-before_both : (a b c : ℕ) → nat_lt a b ≡ true → nat_lt b c ≡ true → nat_lt a c ≡ true
-before_both a b c p q = grind (arith, nat_tests)
 
 -- the first to commit of a transaction and of those after it
 abbrev earlier_of : Node → Option Node → Node
@@ -35,10 +19,10 @@ earlier_first n (Some k) m = go (nat_lt m.commit k.commit) refl (nat_lt k.commit
   where
     go : (b : Bool) → nat_lt m.commit k.commit ≡ b → (d : Bool) → nat_lt k.commit n.commit ≡ d
         → cond (nat_lt (cond b m k).commit n.commit) (cond b m k) n ≡ cond (nat_lt m.commit (cond d k n).commit) m (cond d k n)
-    go true p true q = ap (λ b. cond b m n) (before_both m.commit k.commit n.commit p q) ∙ sym (ap (λ b. cond b m k) p)
+    go true p true q = ap (λ b. cond b m n) (nat_lt-trans m.commit k.commit n.commit p q) ∙ sym (ap (λ b. cond b m k) p)
     go true p false q = refl
     go false p true q = ap (λ b. cond b k n) q ∙ sym (ap (λ b. cond b m k) p)
-    go false p false q = ap (λ b. cond b k n) q ∙ sym (ap (λ b. cond b m n) (before_or_after m.commit k.commit n.commit p q))
+    go false p false q = ap (λ b. cond b k n) q ∙ sym (ap (λ b. cond b m n) (not_nat_lt-trans m.commit k.commit n.commit p q))
 
 module _ {T : Type 0} (node : T → Node) (edge : T → T → Bool) where
   node-earlier : (x : T) (o : Option T) → node (earlier node edge x o) ≡ earlier_of (node x) (option_map node o)

@@ -1,13 +1,15 @@
 -- Every structure that a commit would make has the committer first or in its middle.
 use Rattle.std.proofs.Common.{◌≡◌, refl, sym, ap, subst, ◌∙◌, ℕ, ◌+◌, ◌<◌, ◌≤◌, Bool, true, false, cond, ◌&&◌, inl, inr, List, [], ◌∷◌, Option, Some, None, is_some, eqb, nat_lt, arith}
+use Rattle.std.proofs.lemmas.Bool.{and_from, false_from_ne_true, ltb-true}
 use Rattle.std.proofs.lemmas.Bool.Decides.{nat_tests}
 use Rattle.value.specs.Isolation.{caused, earliest, edge_of, first_some, is_dangerous}
 use Rattle.value.proofs.IsolationLemmas.{In}
+use Rattle.value.proofs.Basics.{filter_none, first_some-none}
 use Rattle.conflict.specs.Tracked.{Party, Tracked, Each, IsNumbered, IsProper, Rising, cause_of, edge, is_active, is_writer, node, node_after, reads, with_commit}
 use Rattle.conflict.specs.Through.{IsThrough, through}
-use Rattle.conflict.proofs.Lists.{and_true, clash, is_false, Each-In, Each-all, filter_none, first_some-none}
+use Rattle.conflict.proofs.Lists.{clash, Each-In, Each-all}
 use Rattle.conflict.proofs.Structures.{parts, no_danger, no_cause, cause-map}
-use Rattle.conflict.proofs.Thinned.{above, commit_stays, lt_of, one_more}
+use Rattle.conflict.proofs.Thinned.{above, commit_stays, one_more}
 
 -- of the one of a number alone it gives something
 only_one : {B : Type 0} (f : Party → Option B) (t : ℕ) (ps : List Party) (x : Party) → Rising ps → In x ps → x.number ≡ t → ((p : Party) → In p ps → eqb p.number t ≡ false → f p ≡ None) → first_some f ps ≡ f x
@@ -41,7 +43,7 @@ module _ (r : Tracked) (h : IsProper r) (t : ℕ) where
   num p i = Each-In (IsNumbered r.begun r.commits) r.parties p h.numbered i
 
   last_before : (b c : Party) → In b r.parties → In c r.parties → edge (g b) (g c) ≡ true → nat_lt (g c).commit (g b).commit ≡ true → is_active t c ≡ false
-  last_before b c j k e l = is_false (is_active t c) (λ a. late a c.read_write refl)
+  last_before b c j k e l = false_from_ne_true (is_active t c) (λ a. late a c.read_write refl)
     where
       most : (g b).commit ≤ n
       most = one_more r.commits n (is_writer t b) b.commit (num b j).commit refl
@@ -52,8 +54,8 @@ module _ (r : Tracked) (h : IsProper r) (t : ℕ) where
 
       late : is_active t c ≡ true → (w : Bool) → c.read_write ≡ w → ⊥
       late a true w =
-          let x : (g c).commit ≡ n = ap (λ z. cond z n c.commit) (and_true (is_active t c) c.read_write a w) in
-          let y = lt_of (g c).commit (g b).commit l in
+          let x : (g c).commit ≡ n = ap (λ z. cond z n c.commit) (and_from (is_active t c) c.read_write a w) in
+          let y = ltb-true (g c).commit (g b).commit l in
           omega (arith, x, y, most)
       late a false w =
           let z : is_writer t c ≡ false = ap (λ x. is_active t c && x) w ∙ and_no (is_active t c) in
@@ -67,7 +69,7 @@ module _ (r : Tracked) (h : IsProper r) (t : ℕ) where
 
   -- without the committer there is none
   none_without : (a b c : Party) → In a r.parties → In b r.parties → In c r.parties → eqb a.number t ≡ false → eqb b.number t ≡ false → is_dangerous node edge (g a) (g b) (g c) ≡ false
-  none_without a b c i j k x y = is_false _ (λ d.
+  none_without a b c i j k x y = false_from_ne_true _ (λ d.
       let p = parts node edge (g a) (g b) (g c) d in
       let e = commit_stays t n a (not_of a x) in
       let f = commit_stays t n b (not_of b y) in

@@ -1,20 +1,20 @@
 -- Transactions that go one by one from the last, none of which another is needed for.
 use Rattle.std.proofs.Common.{◌≡◌, refl, sym, ap, subst, ◌∙◌, ℕ, zero, suc, ◌+◌, ◌<◌, ◌≤◌, Bool, true, false, cond, not, ◌&&◌, ◌||◌, List, [], ◌∷◌, ◌++◌, Option, Some, None, length, take, drop, get_or, eqb, nat_lt, arith, append-nil, drop-cons, take-append-drop, drop_of_length-le}
-use Rattle.std.proofs.lemmas.Bool.Decides.{nat_tests}
+use Rattle.std.proofs.lemmas.Bool.{and_parts, false_from_ne_true}
 use Rattle.std.proofs.lemmas.List.{take_all}
 use Rattle.std.proofs.lemmas.List.Folds.{list_any-append}
 use Rattle.std.specs.List.{filter, list_any, remove}
 use Rattle.value.proofs.IsolationLemmas.{In}
 use Rattle.value.specs.Isolation.{is_other}
+use Rattle.value.proofs.Basics.{eqb-self, lt-eqb, gt-eqb, take_next}
 use Rattle.conflict.specs.Tracked.{Each, IsSorted, Party, Rising, edge, is_among, is_needed, is_recent, node, reads}
 use Rattle.conflict.specs.Undo.{AreSound}
 use Rattle.conflict.specs.Walks.{KnowsReaders, found, is_holding, is_unseen}
 use Rattle.conflict.proofs.Found.{found_is, passes_one}
-use Rattle.conflict.proofs.Lists.{clash, is_false, both_true, Each-In, Each-all}
+use Rattle.conflict.proofs.Lists.{clash, Each-In, Each-all}
 use Rattle.conflict.proofs.Places.{get-In}
 use Rattle.conflict.proofs.Proper.{edges_filter, rising_filter}
 use Rattle.conflict.proofs.Thinned.{needed_recent}
-use Rattle.conflict.proofs.WalkLemmas.{take_next}
 
 -- the list once those from the i-th on were looked at
 abbrev pub looked_at : (Party → Bool) → ℕ → List Party → List Party
@@ -39,7 +39,7 @@ needed_same o ps i p = ap (λ b. is_recent o p || b) (
     f q = is_recent o q && edge q p
 
     idle : (q : Party) → is_needed o ps q ≡ false → (is_recent o q && edge q p) ≡ false
-    idle q e = is_false (is_recent o q && edge q p) (λ d. clash (is_needed o ps q) (needed_recent o ps q (both_true (is_recent o q) (edge q p) d).0) e)
+    idle q e = false_from_ne_true (is_recent o q && edge q p) (λ d. clash (is_needed o ps q) (needed_recent o ps q (and_parts (is_recent o q) (edge q p) d).0) e)
 
 -- ---- the next before those that were looked at
 
@@ -97,28 +97,19 @@ all_looked_at k ps now i e is = is ∙ ap (λ n. looked_at k n ps) e
 sound_filter : (k : Party → Bool) (ps : List Party) → AreSound ps → AreSound (filter k ps)
 sound_filter k ps s = (rising_filter k ps s.0, edges_filter k ps s.1)
 
-later : (a b : ℕ) → a < b → eqb b a ≡ false
-later a b l = grind (arith, nat_tests)
-
-sooner : (a b : ℕ) → a < b → eqb a b ≡ false
-sooner a b l = grind (arith, nat_tests)
-
-same : (a : ℕ) → eqb a a ≡ true
-same a = grind (arith, nat_tests)
-
 all_stay : (n : ℕ) (ps : List Party) → Each (λ (q : Party). n < q.number) ps → filter (λ (q : Party). not (eqb q.number n)) ps ≡ ps
 all_stay n [] h = refl
-all_stay n (p ∷ ps) h = ap (λ b. cond (not b) (p ∷ filter (λ (q : Party). not (eqb q.number n)) ps) (filter (λ (q : Party). not (eqb q.number n)) ps)) (later n p.number h.0) ∙ ap (λ qs. p ∷ qs) (all_stay n ps h.1)
+all_stay n (p ∷ ps) h = ap (λ b. cond (not b) (p ∷ filter (λ (q : Party). not (eqb q.number n)) ps) (filter (λ (q : Party). not (eqb q.number n)) ps)) (gt-eqb n p.number h.0) ∙ ap (λ qs. p ∷ qs) (all_stay n ps h.1)
 
 removed_number : (ps : List Party) (i : ℕ) (p : Party) → Rising ps → i < length ps → p ≡ get_or ps i p → remove ps i ≡ filter (λ (q : Party). not (eqb q.number p.number)) ps
 removed_number [] i p r lt e = absurd (omega arith)
 removed_number (x ∷ ps) zero p r lt e =
     sym (ap (λ (y : Party). filter (λ (q : Party). not (eqb q.number y.number)) (x ∷ ps)) e
-    ∙ ap (λ b. cond (not b) (x ∷ filter (λ (q : Party). not (eqb q.number x.number)) ps) (filter (λ (q : Party). not (eqb q.number x.number)) ps)) (same x.number) ∙ all_stay x.number ps r.0)
+    ∙ ap (λ b. cond (not b) (x ∷ filter (λ (q : Party). not (eqb q.number x.number)) ps) (filter (λ (q : Party). not (eqb q.number x.number)) ps)) (eqb-self x.number) ∙ all_stay x.number ps r.0)
 removed_number (x ∷ ps) (suc i) p r lt e =
     ap (λ qs. x ∷ qs) (removed_number ps i p r.1 (omega arith) e)
     ∙ sym (ap (λ b. cond (not b) (x ∷ filter (λ (q : Party). not (eqb q.number p.number)) ps) (filter (λ (q : Party). not (eqb q.number p.number)) ps))
-    (sooner x.number p.number (subst (λ (y : Party). x.number < y.number) (sym e) (Each-In (λ (q : Party). x.number < q.number) ps (get_or ps i p) r.0 (get-In ps i p (omega arith))))))
+    (lt-eqb x.number p.number (subst (λ (y : Party). x.number < y.number) (sym e) (Each-In (λ (q : Party). x.number < q.number) ps (get_or ps i p) r.0 (get-In ps i p (omega arith))))))
 
 pub sound_removed : (ps new : List Party) (i : ℕ) (p : Party) → AreSound ps → i < length ps → p ≡ get_or ps i p → new ≡ remove ps i → AreSound new
 sound_removed ps new i p s lt e gone = subst AreSound (sym (gone ∙ removed_number ps i p s.0 lt e)) (sound_filter (λ (q : Party). not (eqb q.number p.number)) ps s)

@@ -1,35 +1,30 @@
 -- What is found from the numbers that a transaction knows is what stands among all.
 use Rattle.std.proofs.Common.{◌≡◌, refl, sym, ap, ◌∙◌, ℕ, suc, ◌+◌, ◌<◌, ◌≤◌, Bool, true, false, true≢false, cond, ◌||◌, List, [], ◌∷◌, ◌++◌, length, take, drop, get_or, fold, Option, Some, None, is_some, eqb, arith, append-nil, drop-cons, take-append-drop}
-use Rattle.std.proofs.lemmas.Bool.Decides.{nat_tests}
+use Rattle.std.proofs.lemmas.Bool.{eqb-true}
 use Rattle.std.proofs.lemmas.List.{take_more}
 use Rattle.std.proofs.lemmas.List.Elements.{filter-append}
 use Rattle.std.proofs.lemmas.List.Folds.{find-append}
+use Rattle.std.proofs.lemmas.List.Sums.{fold-append}
 use Rattle.std.specs.List.{filter, find, list_any}
 use Rattle.std.specs.Option.{option_map, option_or, option_to_list}
 use Rattle.value.specs.declared.refusal.Cause.{Cause}
 use Rattle.value.specs.Isolation.{Node, earliest, first_some}
+use Rattle.value.proofs.Basics.{lt-eqb, first_some-passes, eqb_comm}
 use Rattle.conflict.specs.Earliest.{first_of}
 use Rattle.conflict.specs.Tracked.{Ascending, Each, Party, Rising, is_among}
 use Rattle.conflict.specs.Walks.{first_with, folded, found, given, passing}
-use Rattle.conflict.proofs.CauseLemmas.{earliest-push, first_some-passes}
+use Rattle.conflict.proofs.CauseLemmas.{earliest-push}
 use Rattle.conflict.proofs.Lists.{Each-In, filter_alike}
-use Rattle.conflict.proofs.Ordered.{eq_turned}
 
 abbrev pub one_of : ℕ → List Party → Option Party
 one_of n ps = find (λ (p : Party). eqb p.number n) ps
 
 -- ---- those of ascending numbers, in the order of all
 
-no_eq : (a b : ℕ) → a < b → eqb a b ≡ false
-no_eq a b l = grind (arith, nat_tests)
-
-same : (a b : ℕ) → eqb a b ≡ true → a ≡ b
-same a b e = grind (arith, nat_tests)
-
 none_above : (n m : ℕ) (ps : List Party) → n ≤ m → Each (λ (q : Party). m < q.number) ps → one_of n ps ≡ None
 none_above n m [] le all = refl
 none_above n m (p ∷ ps) le all =
-    ap (λ b. cond b (Some p) (one_of n ps)) (eq_turned p.number n ∙ no_eq n p.number (let a = all.0 in omega (arith, a, le)))
+    ap (λ b. cond b (Some p) (one_of n ps)) (eqb_comm p.number n ∙ lt-eqb n p.number (let a = all.0 in omega (arith, a, le)))
     ∙ none_above n m ps le all.1
 
 -- with one more number, below those before
@@ -38,27 +33,27 @@ one_more n f above [] r = refl
 one_more n f above (p ∷ ps) r = go (eqb p.number n) refl (f p) refl (one_more n f above ps r.1)
   where
     after : n ≤ p.number → filter (λ q. eqb n q.number || f q) ps ≡ filter f ps
-    after le = filter_alike (λ q. eqb n q.number || f q) f ps (λ q i. ap (λ b. b || f q) (no_eq n q.number (let a = Each-In (λ (x : Party). p.number < x.number) ps q r.0 i in omega (arith, a, le))))
+    after le = filter_alike (λ q. eqb n q.number || f q) f ps (λ q i. ap (λ b. b || f q) (lt-eqb n q.number (let a = Each-In (λ (x : Party). p.number < x.number) ps q r.0 i in omega (arith, a, le))))
 
     go : (a : Bool) → eqb p.number n ≡ a → (b : Bool) → f p ≡ b → option_to_list (one_of n ps) ++ filter f ps ≡ filter (λ q. eqb n q.number || f q) ps
         → option_to_list (cond a (Some p) (one_of n ps)) ++ cond b (p ∷ filter f ps) (filter f ps) ≡ cond (eqb n p.number || f p) (p ∷ filter (λ q. eqb n q.number || f q) ps) (filter (λ q. eqb n q.number || f q) ps)
-    go true e true d rest = absurd_lt (above p d) (same p.number n e)
+    go true e true d rest = absurd_lt (above p d) (eqb-true p.number n e)
       where
         absurd_lt : n < p.number → p.number ≡ n → p ∷ p ∷ filter f ps ≡ cond (eqb n p.number || f p) (p ∷ filter (λ q. eqb n q.number || f q) ps) (filter (λ q. eqb n q.number || f q) ps)
         absurd_lt l s = absurd (omega (arith, l, s))
     go true e false d rest =
-        let s = same p.number n e in
+        let s = eqb-true p.number n e in
         ap (λ qs. p ∷ qs) (sym (after (omega (arith, s))))
-        ∙ sym (ap (λ b. cond (b || f p) (p ∷ filter (λ q. eqb n q.number || f q) ps) (filter (λ q. eqb n q.number || f q) ps)) (eq_turned n p.number ∙ e))
+        ∙ sym (ap (λ b. cond (b || f p) (p ∷ filter (λ q. eqb n q.number || f q) ps) (filter (λ q. eqb n q.number || f q) ps)) (eqb_comm n p.number ∙ e))
     go false e true d rest =
         let l = above p d in
         ap (λ o. option_to_list o ++ p ∷ filter f ps) (none_above n p.number ps (omega (arith, l)) r.0)
         ∙ ap (λ qs. p ∷ qs) (sym (after (omega (arith, l))))
-        ∙ sym (ap (λ b. cond (b || f p) (p ∷ filter (λ q. eqb n q.number || f q) ps) (filter (λ q. eqb n q.number || f q) ps)) (eq_turned n p.number ∙ e)
+        ∙ sym (ap (λ b. cond (b || f p) (p ∷ filter (λ q. eqb n q.number || f q) ps) (filter (λ q. eqb n q.number || f q) ps)) (eqb_comm n p.number ∙ e)
         ∙ ap (λ b. cond b (p ∷ filter (λ q. eqb n q.number || f q) ps) (filter (λ q. eqb n q.number || f q) ps)) d)
     go false e false d rest =
         rest
-        ∙ sym (ap (λ b. cond (b || f p) (p ∷ filter (λ q. eqb n q.number || f q) ps) (filter (λ q. eqb n q.number || f q) ps)) (eq_turned n p.number ∙ e)
+        ∙ sym (ap (λ b. cond (b || f p) (p ∷ filter (λ q. eqb n q.number || f q) ps) (filter (λ q. eqb n q.number || f q) ps)) (eqb_comm n p.number ∙ e)
         ∙ ap (λ b. cond b (p ∷ filter (λ q. eqb n q.number || f q) ps) (filter (λ q. eqb n q.number || f q) ps)) d)
 
 none_passes : (ps : List Party) → filter (λ (p : Party). is_among p.number []) ps ≡ []
@@ -70,7 +65,7 @@ above_all n [] all p e = absurd (true≢false (sym e))
 above_all n (m ∷ ns) all p e = go (eqb m p.number) refl e (above_all n ns all.1 p)
   where
     go : (b : Bool) → eqb m p.number ≡ b → (b || is_among p.number ns) ≡ true → (is_among p.number ns ≡ true → n < p.number) → n < p.number
-    go true d h rest = let s = same m p.number d in let a = all.0 in omega (arith, s, a)
+    go true d h rest = let s = eqb-true m p.number d in let a = all.0 in omega (arith, s, a)
     go false d h rest = rest h
 
 pub found_is : (ns : List ℕ) (ps : List Party) → Ascending ns → Rising ps → found ns ps ≡ filter (λ (p : Party). is_among p.number ns) ps
@@ -223,10 +218,6 @@ module _ (f : Party → Bool) where
       ∙ ap (λ b. b || list_any f (option_to_list (one_of (get_or ns i 0) ps))) none ∙ any_none (one_of (get_or ns i 0) ps) e
 
 -- ---- one after the other
-
-fold-append : {A B : Type 0} (f : B → A → B) (b : B) (xs ys : List A) → fold f b (xs ++ ys) ≡ fold f (fold f b xs) ys
-fold-append f b [] ys = refl
-fold-append f b (x ∷ xs) ys = fold-append f (f b x) xs ys
 
 module _ (f : List Cause → Party → List Cause) where
   fold_list : (b : List Cause) (o : Option Party) → folded f b o ≡ fold f b (option_to_list o)

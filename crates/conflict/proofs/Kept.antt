@@ -1,5 +1,7 @@
 -- What the calls of a tracker leave is proper, and what was told.
 use Rattle.std.proofs.Common.{◌≡◌, refl, sym, ap, subst, ◌∙◌, ℕ, ◌+◌, ◌<◌, ◌≤◌, Bool, true, false, cond, not, ◌&&◌, ◌||◌, ◌⊎◌, inl, inr, List, [], ◌∷◌, ◌++◌, map, fold, length, Option, Some, None, Result, Ok, Err, OnOk, OnErr, eqb, nat_lt, arith}
+use Rattle.std.proofs.Math.Bool.{and-false}
+use Rattle.std.proofs.lemmas.Bool.{eqb-true}
 use Rattle.std.proofs.lemmas.Bool.Decides.{nat_tests}
 use Rattle.std.proofs.lemmas.List.Sums.{length-filter}
 use Rattle.std.specs.List.{count_by, filter, find, list_any}
@@ -7,9 +9,10 @@ use Rattle.value.specs.declared.refusal.Mode.{Mode}
 use Rattle.value.specs.declared.refusal.TxnNo.{TxnNo}
 use Rattle.value.specs.Isolation.{is_live}
 use Rattle.value.proofs.IsolationLemmas.{In}
+use Rattle.value.proofs.Basics.{find-In}
 use Rattle.conflict.specs.Tracked.{AreEdges, Ascending, IsSorted, Party, Rising, Tracked, Each, IsProper, after_commit, after_edge, after_edges, after_forget, cause_of, is_needed, is_rival, is_writer, lesser, next_commit, node, opened, reads, rivals, with_commit, with_edge, with_edges, with_snapshot, without_active}
 use Rattle.conflict.specs.Later.{Alike, CanTellEdges, IsOldest, has_committed}
-use Rattle.conflict.proofs.Lists.{Each-In, Each-all, clash, find-In}
+use Rattle.conflict.proofs.Lists.{Each-In, Each-all, clash}
 use Rattle.conflict.proofs.Proper.{proper_begin, proper_commit, proper_drop, proper_edge, proper_filter, proper_move}
 use Rattle.conflict.specs.Through.{IsThrough}
 use Rattle.conflict.specs.Undo.{AreSorted}
@@ -111,16 +114,13 @@ commit_proper s now q t e h none is = subst IsProper (sym is) (proper_commit t n
 
 pub few_live : (s now : Tracked) (t : ℕ) (p : Party) (ps qs : List Party) → s ≡ now → rivals t now ≤ 63 → ps ≡ s.parties → find (λ (q : Party). eqb q.number t) ps ≡ Some p → qs ≡ s.parties → length (filter (is_live node reads p) qs) ≤ 63
 few_live s now t p ps qs e few at found same =
-    let number : p.number ≡ t = same_number (find-In (λ (q : Party). eqb q.number t) ps p found).1 in
+    let number : p.number ≡ t = eqb-true p.number t (find-In (λ (q : Party). eqb q.number t) ps p found).1 in
     let k : length (filter (is_live node reads p) qs) ≡ rivals t now =
     ap (λ n. length (filter (λ (x : Party). not (eqb x.number n) && x.active && x.read_write) qs)) number
     ∙ length-filter (is_rival t) qs
     ∙ ap (count_by (is_rival t)) same
     ∙ ap (rivals t) e in
     omega (arith, k, few)
-  where
-    same_number : eqb p.number t ≡ true → p.number ≡ t
-    same_number f = grind (arith, nat_tests)
 
 -- ---- forgetting
 
@@ -193,21 +193,18 @@ nobody_found t (q ∷ ps) e p i = go (eqb q.number t) refl e i (nobody_found t p
     go false d f (inl s) rest = ap (λ (x : Party). eqb x.number t) s ∙ d
     go false d f (inr j) rest = rest f p j
 
-same_number : (n t : ℕ) → eqb n t ≡ true → n ≡ t
-same_number n t f = grind (arith, nat_tests)
-
 pub among_found : (s : Tracked) (t : ℕ) (x : Party) (ps qs : List Party) → IsProper s → ps ≡ s.parties → find (λ (q : Party). eqb q.number t) ps ≡ Some x → qs ≡ s.parties → IsAmong qs x
 among_found s t x ps qs h at found same =
     let f = find-In (λ (q : Party). eqb q.number t) ps x found in (
       subst Rising (sym same) h.rising,
       subst AreEdges (sym same) h.edges,
-      ap (λ n. find (λ (q : Party). eqb q.number n) qs) (same_number x.number t f.1) ∙ ap (find (λ (q : Party). eqb q.number t)) (same ∙ sym at) ∙ found,
+      ap (λ n. find (λ (q : Party). eqb q.number n) qs) (eqb-true x.number t f.1) ∙ ap (find (λ (q : Party). eqb q.number t)) (same ∙ sym at) ∙ found,
     )
 
 pub committer_found : (s : Tracked) (t : ℕ) (x : Party) (ps qs : List Party) → IsProper s → ps ≡ s.parties → find (λ (q : Party). eqb q.number t) ps ≡ Some x → qs ≡ s.parties → IsCommitter t (s.commits + 1) x qs
 committer_found s t x ps qs h at found same =
     let f = find-In (λ (q : Party). eqb q.number t) ps x found in
-    let n = same_number x.number t f.1 in
+    let n = eqb-true x.number t f.1 in
     (among_found s t x ps qs h at found same, n, subst (λ us. Each (IsThrough t (s.commits + 1) us x) us) (sym same) (through_committer s h t x (subst (In x) at f.0) n))
 
 pub sorted_now : (s : Tracked) (qs : List Party) → IsProper s → qs ≡ s.parties → AreSorted qs
@@ -220,18 +217,14 @@ rising_now s qs h same = subst Rising (sym same) h.rising
 pub outs_found : (s : Tracked) (t : ℕ) (x : Party) (ps : List Party) → IsProper s → ps ≡ s.parties → find (λ (q : Party). eqb q.number t) ps ≡ Some x → Ascending x.outs
 outs_found s t x ps h at found = (Each-In IsSorted s.parties x h.edges.sorted (subst (In x) at (find-In (λ (q : Party). eqb q.number t) ps x found).0)).0
 
-and_no : (b : Bool) → (b && false) ≡ false
-and_no true = refl
-and_no false = refl
-
 pub committed_found : (s now : Tracked) (t : ℕ) (x : Party) (ps : List Party) (b : Bool) → s ≡ now → IsProper s → ps ≡ s.parties → find (λ (q : Party). eqb q.number t) ps ≡ Some x → b ≡ (not x.active && eqb x.number t) → b ≡ has_committed t now.parties
 committed_found s now t x ps b e h at found is =
-    is ∙ any_found (λ (p : Party). not p.active && eqb p.number t) t (λ p d. ap (λ z. not p.active && z) d ∙ and_no (not p.active)) ps x (subst Rising (sym at) h.rising) found
+    is ∙ any_found (λ (p : Party). not p.active && eqb p.number t) t (λ p d. ap (λ z. not p.active && z) d ∙ and-false (not p.active)) ps x (subst Rising (sym at) h.rising) found
     ∙ ap (has_committed t) (at ∙ ap (λ (z : Tracked). z.parties) e)
 
 pub committed_none : (s now : Tracked) (t : ℕ) (ps : List Party) → s ≡ now → ps ≡ s.parties → find (λ (q : Party). eqb q.number t) ps ≡ None → false ≡ has_committed t now.parties
 committed_none s now t ps e at none =
-    any_none (λ (p : Party). not p.active && eqb p.number t) t (λ p d. ap (λ z. not p.active && z) d ∙ and_no (not p.active)) ps none
+    any_none (λ (p : Party). not p.active && eqb p.number t) t (λ p d. ap (λ z. not p.active && z) d ∙ and-false (not p.active)) ps none
     ∙ ap (has_committed t) (at ∙ ap (λ (z : Tracked). z.parties) e)
 
 pub nobody_makes : (s now : Tracked) (t : ℕ) (ps : List Party) → s ≡ now → IsProper s → ps ≡ s.parties → find (λ (q : Party). eqb q.number t) ps ≡ None → None ≡ cause_of t now

@@ -11,7 +11,6 @@ pub mod Places
 pub mod Proper
 pub mod Structures
 pub mod Thinned
-mod WalkLemmas
 mod WalkedCause
 mod WalkedDooms
 mod WorldLemmas

@@ -3,15 +3,16 @@ use Rattle.std.proofs.Common.{◌≡◌, sym, ap, ◌∙◌, Bool, List, map}
 use Rattle.std.specs.List.{filter}
 use Rattle.value.specs.Isolation.{Node, caused, earliest, first_cause, first_some, is_dangerous}
 use Rattle.value.proofs.IsolationLemmas.{In}
+use Rattle.value.proofs.Basics.{first_some-same_in}
 use Rattle.conflict.specs.Tracked.{Each, Party, edge, node}
-use Rattle.conflict.proofs.Lists.{Each-In, filter_alike, first_some-alike}
+use Rattle.conflict.proofs.Lists.{Each-In, filter_alike}
 use Rattle.conflict.proofs.Structures.{cause-map}
 
 -- the same structures by two kinds of edges
 cause-alike : {T : Type 0} (n : T → Node) (e d : T → T → Bool) (ts : List T) → ((a b c : T) → In a ts → In b ts → In c ts → is_dangerous n e a b c ≡ is_dangerous n d a b c) → first_cause n e ts ≡ first_cause n d ts
 cause-alike n e d ts h =
-    first_some-alike (λ a. first_some (λ b. caused n e a b (earliest n e (filter (is_dangerous n e a b) ts))) ts) (λ a. first_some (λ b. caused n d a b (earliest n d (filter (is_dangerous n d a b) ts))) ts) ts
-    (λ a i. first_some-alike (λ b. caused n e a b (earliest n e (filter (is_dangerous n e a b) ts))) (λ b. caused n d a b (earliest n d (filter (is_dangerous n d a b) ts))) ts
+    first_some-same_in (λ a. first_some (λ b. caused n e a b (earliest n e (filter (is_dangerous n e a b) ts))) ts) (λ a. first_some (λ b. caused n d a b (earliest n d (filter (is_dangerous n d a b) ts))) ts) ts
+    (λ a i. first_some-same_in (λ b. caused n e a b (earliest n e (filter (is_dangerous n e a b) ts))) (λ b. caused n d a b (earliest n d (filter (is_dangerous n d a b) ts))) ts
     (λ b j. ap (λ cs. caused n e a b (earliest n e cs)) (filter_alike (is_dangerous n e a b) (is_dangerous n d a b) ts (λ c k. h a b c i j k))))
 
 pub cause_seen : {T : Type 0} (n : T → Node) (e : T → T → Bool) (f : T → Party) (ts : List T) → ((t : T) → record (n t) { place = 0 } ≡ node (f t))

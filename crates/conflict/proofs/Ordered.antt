@@ -1,44 +1,24 @@
 -- Numbers in their order, and what stands by a number: found by halves, put in and taken out.
 use Rattle.std.proofs.Common.{◌≡◌, refl, sym, ap, ◌∙◌, ℕ, zero, suc, ◌<◌, ◌≤◌, Bool, true, false, true≢false, cond, not, ◌||◌, List, [], ◌∷◌, length, take, drop, get_or, eqb, nat_lt, arith}
+use Rattle.std.proofs.lemmas.Bool.{eqb-true, or_left, or_right}
 use Rattle.std.proofs.lemmas.Bool.Decides.{nat_tests}
 use Rattle.std.specs.Prelude.{slice_get}
 use Rattle.std.specs.Option.{option_map_or}
 use Rattle.std.specs.List.{AllWithin, filter, insert, list_any, remove}
 use Rattle.std.specs.List.Sorted.{IsPartitionedBy}
+use Rattle.value.proofs.Basics.{eqb-self, gt-eqb}
 use Rattle.conflict.specs.Tracked.{Ascending, Each, Party, Rising, is_among, put_in}
 use Rattle.conflict.specs.Undo.{IsGap, IsPlace}
 use Rattle.conflict.specs.Tracked.{without}
-use Rattle.conflict.proofs.Lists.{clash, or_left, or_right}
+use Rattle.conflict.proofs.Lists.{clash}
 
 -- ---- comparisons
-
-pub eq_turned : (a b : ℕ) → eqb a b ≡ eqb b a
-eq_turned a b = go (eqb a b) refl
-  where
-    go : (x : Bool) → eqb a b ≡ x → x ≡ eqb b a
-    go true e = yes_turned
-      where
-        yes_turned : true ≡ eqb b a
-        yes_turned = grind (arith, nat_tests)
-    go false e = no_turned
-      where
-        no_turned : false ≡ eqb b a
-        no_turned = grind (arith, nat_tests)
 
 lt_not_eq : (a b : ℕ) → nat_lt a b ≡ true → eqb a b ≡ false
 lt_not_eq a b e = grind (arith, nat_tests)
 
-gt_not_eq : (a b : ℕ) → a < b → eqb b a ≡ false
-gt_not_eq a b e = grind (arith, nat_tests)
-
 past : (a b : ℕ) → nat_lt a b ≡ false → eqb a b ≡ false → b < a
 past a b e f = grind (arith, nat_tests)
-
-same : (a b : ℕ) → eqb a b ≡ true → a ≡ b
-same a b e = grind (arith, nat_tests)
-
-eq_refl : (a : ℕ) → eqb a a ≡ true
-eq_refl a = grind (arith, nat_tests)
 
 before_step : (a b n : ℕ) → a < b → nat_lt b n ≡ true → nat_lt a n ≡ true
 before_step a b n lt e = grind (arith, nat_tests)
@@ -80,7 +60,7 @@ module _ {X : Type 0} (key : X → ℕ) where
   -- none above n has the key n
   pub none_above : (n m : ℕ) (xs : List X) → n ≤ m → Each (λ y. m < key y) xs → list_any (λ y. eqb (key y) n) xs ≡ false
   none_above n m [] le all = refl
-  none_above n m (x ∷ xs) le all = ap (λ b. b || list_any (λ y. eqb (key y) n) xs) (gt_not_eq n (key x) (let a = all.0 in omega (arith, a, le))) ∙ none_above n m xs le all.1
+  none_above n m (x ∷ xs) le all = ap (λ b. b || list_any (λ y. eqb (key y) n) xs) (gt-eqb n (key x) (let a = all.0 in omega (arith, a, le))) ∙ none_above n m xs le all.1
 
   -- none has the key n, where the first from there on hasn't
   pub none_there : (n : ℕ) (xs : List X) (i : ℕ) (d : X) → Pairs xs → Each (λ x. nat_lt (key x) n ≡ true) (take i xs) → Each (λ x. nat_lt (key x) n ≡ false) (drop i xs)
@@ -117,7 +97,7 @@ among_put n m (k ∷ ks) = go (nat_lt k n) (eqb k n) refl (among_put n m ks)
 
     go : (a b : Bool) → eqb k n ≡ b → is_among m (put_in n ks) ≡ (eqb n m || is_among m ks) → is_among m (cond a (k ∷ put_in n ks) (cond b (k ∷ ks) (n ∷ k ∷ ks))) ≡ (eqb n m || (eqb k m || is_among m ks))
     go true b e rest = ap (λ z. eqb k m || z) rest ∙ turned (eqb k m) (eqb n m) (is_among m ks)
-    go false true e rest = twice (eqb k m) (is_among m ks) ∙ ap (λ j. eqb j m || (eqb k m || is_among m ks)) (same k n e)
+    go false true e rest = twice (eqb k m) (is_among m ks) ∙ ap (λ j. eqb j m || (eqb k m || is_among m ks)) (eqb-true k n e)
     go false false e rest = refl
 
 pub each_put : (P : ℕ → Type 0) (n : ℕ) (ns : List ℕ) → P n → Each P ns → Each P (put_in n ns)
@@ -170,7 +150,7 @@ among_other n m [] e = refl
 among_other n m (k ∷ ks) e = go (eqb k n) refl (among_other n m ks e)
   where
     go : (b : Bool) → eqb k n ≡ b → is_among m (without n ks) ≡ is_among m ks → is_among m (cond (not b) (k ∷ without n ks) (without n ks)) ≡ (eqb k m || is_among m ks)
-    go true f rest = rest ∙ sym (ap (λ x. x || is_among m ks) (ap (λ j. eqb j m) (same k n f) ∙ e))
+    go true f rest = rest ∙ sym (ap (λ x. x || is_among m ks) (ap (λ j. eqb j m) (eqb-true k n f) ∙ e))
     go false f rest = ap (λ x. eqb k m || x) rest
 
 pub among_still : (n m : ℕ) (ns : List ℕ) → is_among m (without n ns) ≡ true → is_among m ns ≡ true
@@ -202,13 +182,13 @@ each_without P n (k ∷ ks) all = go (eqb k n) (each_without P n ks all.1)
     go false rest = (all.0, rest)
 
 pub without_put : (n : ℕ) (ns : List ℕ) → is_among n ns ≡ false → without n (put_in n ns) ≡ ns
-without_put n [] e = ap (λ b. cond (not b) (n ∷ []) []) (eq_refl n)
+without_put n [] e = ap (λ b. cond (not b) (n ∷ []) []) (eqb-self n)
 without_put n (k ∷ ks) e = go (nat_lt k n) (eqb k n) refl e (without_put n ks)
   where
     go : (x y : Bool) → eqb k n ≡ y → (y || is_among n ks) ≡ false → (is_among n ks ≡ false → without n (put_in n ks) ≡ ks) → without n (cond x (k ∷ put_in n ks) (cond y (k ∷ ks) (n ∷ k ∷ ks))) ≡ k ∷ ks
     go x true f h rest = absurd (true≢false h)
     go true false f h rest = ap (λ b. cond (not b) (k ∷ without n (put_in n ks)) (without n (put_in n ks))) f ∙ ap (λ ms. k ∷ ms) (rest h)
-    go false false f h rest = ap (λ b. cond (not b) (n ∷ without n (k ∷ ks)) (without n (k ∷ ks))) (eq_refl n) ∙ without_none n (k ∷ ks) (ap (λ b. b || is_among n ks) f ∙ h)
+    go false false f h rest = ap (λ b. cond (not b) (n ∷ without n (k ∷ ks)) (without n (k ∷ ks))) (eqb-self n) ∙ without_none n (k ∷ ks) (ap (λ b. b || is_among n ks) f ∙ h)
 
 pub ascending_filter : (f : ℕ → Bool) (ns : List ℕ) → Ascending ns → Ascending (filter f ns)
 ascending_filter f [] a = tt
@@ -265,10 +245,10 @@ among_at n (k ∷ ks) (suc i) lt e = or_right (eqb k n) (is_among n ks) (among_a
 pub removed_number : (n : ℕ) (ns : List ℕ) (i : ℕ) → Ascending ns → i < length ns → eqb (get_or ns i 0) n ≡ true → remove ns i ≡ without n ns
 removed_number n [] i a lt e = absurd (omega arith)
 removed_number n (k ∷ ks) zero a lt e =
-    sym (ap (λ b. cond (not b) (k ∷ without n ks) (without n ks)) e ∙ without_none n ks (none_above (λ m. m) n k ks (let s = same k n e in omega (arith, s)) a.0))
+    sym (ap (λ b. cond (not b) (k ∷ without n ks) (without n ks)) e ∙ without_none n ks (none_above (λ m. m) n k ks (let s = eqb-true k n e in omega (arith, s)) a.0))
 removed_number n (k ∷ ks) (suc i) a lt e =
     ap (λ ms. k ∷ ms) (removed_number n ks i a.1 (omega arith) e)
-    ∙ sym (ap (λ b. cond (not b) (k ∷ without n ks) (without n ks)) (first_apart (let s = same (get_or ks i 0) n e in let u = each-at (λ m. m) (λ m. k < m) ks i 0 (omega arith) a.0 in omega (arith, s, u))))
+    ∙ sym (ap (λ b. cond (not b) (k ∷ without n ks) (without n ks)) (first_apart (let s = eqb-true (get_or ks i 0) n e in let u = each-at (λ m. m) (λ m. k < m) ks i 0 (omega arith) a.0 in omega (arith, s, u))))
   where
     first_apart : k < n → eqb k n ≡ false
     first_apart l = grind (arith, nat_tests)

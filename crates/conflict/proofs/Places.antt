@@ -1,7 +1,10 @@
 -- Transactions found and changed by their places.
-use Rattle.std.proofs.Common.{◌≡◌, refl, sym, ap, subst, ◌∙◌, ℕ, suc, zero, ◌+◌, ◌<◌, ◌≤◌, Bool, true, false, true≢false, cond, not, ◌&&◌, ◌||◌, inl, inr, List, [], ◌∷◌, ◌++◌, map, length, take, drop, set, get_or, Some, None, Result, Ok, Err, IfOk, OnOk, OnErr, eqb, nat_le, nat_lt, arith}
+use Rattle.std.proofs.Common.{◌≡◌, refl, sym, ap, subst, ◌∙◌, ℕ, suc, zero, ◌+◌, ◌<◌, ◌≤◌, Bool, true, false, true≢false, cond, not, ◌&&◌, ◌||◌, inl, inr, List, [], ◌∷◌, ◌++◌, map, length, take, drop, set, get_or, Some, None, Result, Ok, Err, IfOk, OnOk, eqb, nat_le, nat_lt, arith}
+use Rattle.std.proofs.Math.Bool.{and-false}
+use Rattle.std.proofs.lemmas.Bool.{eq-eqb, eqb-true}
 use Rattle.std.proofs.lemmas.Bool.Decides.{nat_tests}
 use Rattle.std.proofs.lemmas.List.{take_more}
+use Rattle.std.proofs.lemmas.Result.{on_ok_weaker}
 use Rattle.std.specs.Prelude.{slice_get}
 use Rattle.std.specs.Option.{option_map_or}
 use Rattle.std.specs.List.{filter, find, list_any, remove}
@@ -11,19 +14,12 @@ use Rattle.conflict.specs.Undo.{AreSorted, IsActiveAt, changed_at, is_tracked, t
 use Rattle.conflict.specs.Tracked.{without}
 use Rattle.conflict.specs.Walks.{IsAt}
 use Rattle.conflict.proofs.Lists.{Each-In, Each-all, In-filter}
-use Rattle.conflict.proofs.Ordered.{ascending_filter, ascending_put, eq_turned, none_there, rising_pairs, stands_at, stands_not, stands_within, without_none, without_twice}
+use Rattle.conflict.proofs.Ordered.{ascending_filter, ascending_put, none_there, rising_pairs, stands_at, stands_not, stands_within, without_none, without_twice}
 use Rattle.conflict.proofs.Proper.{each_map, rising_map}
 use Rattle.value.proofs.IsolationLemmas.{In}
+use Rattle.value.proofs.Basics.{lt-eqb, eqb_comm}
 
 -- ---- results
-
-pub on_ok : {T E : Type 0} {P Q : Type 0} (r : Result T E) → (P → Q) → OnOk r P → OnOk r Q
-on_ok (Ok v) f h = f h
-on_ok (Err v) f h = h
-
-pub on_err : {T E : Type 0} {P Q : Type 0} (r : Result T E) → (P → Q) → OnErr r P → OnErr r Q
-on_err (Ok v) f h = h
-on_err (Err v) f h = f h
 
 pub if_ok : {T E : Type 0} {P Q : T → Type 0} (r : Result T E) → ((x : T) → P x → Q x) → IfOk r P → IfOk r Q
 if_ok (Ok v) f h = f v h
@@ -46,27 +42,14 @@ changed_at-set f (p ∷ ps) (suc i) x h e = ap (λ qs. p ∷ qs) (changed_at-set
 above : (n t : ℕ) → t < n → eqb n t ≡ false
 above n t h = grind (arith, nat_tests)
 
-below : (n t : ℕ) → n < t → eqb n t ≡ false
-below n t h = grind (arith, nat_tests)
-
 pub get-In : (ps : List Party) (i : ℕ) (d : Party) → i < length ps → In (get_or ps i d) ps
 get-In [] i d h = absurd (omega arith)
 get-In (p ∷ ps) zero d h = inl refl
 get-In (p ∷ ps) (suc i) d h = inr (get-In ps i d (omega arith))
 
-same : (a b : ℕ) → eqb a b ≡ true → a ≡ b
-same a b e = grind (arith, nat_tests)
-
-same_too : (a b : ℕ) → a ≡ b → eqb a b ≡ true
-same_too a b e = grind (arith, nat_tests)
-
-and_no : (x : Bool) → (x && false) ≡ false
-and_no true = refl
-and_no false = refl
-
 pub at_found : (t : ℕ) (ps : List Party) (i : ℕ) (x : Party) → i < length ps → x ≡ get_or ps i x → eqb x.number t ≡ true → IsAt i t ps
 at_found t [] i x lt at e = absurd (omega arith)
-at_found t (p ∷ ps) zero x lt at e = ap (λ (y : Party). y.number) (sym at) ∙ same x.number t e
+at_found t (p ∷ ps) zero x lt at e = ap (λ (y : Party). y.number) (sym at) ∙ eqb-true x.number t e
 at_found t (p ∷ ps) (suc i) x lt at e = at_found t ps i x (omega arith) at e
 
 pub at_stands : (t : ℕ) (ps : List Party) (i : ℕ) → option_map_or (λ (p : Party). eqb p.number t) (slice_get ps i) false ≡ true → IsAt i t ps
@@ -99,8 +82,8 @@ at_above t n (p ∷ ps) (suc i) all at = at_above t n ps i all.1 at
 
 pub at_find : (t : ℕ) (ps : List Party) (i : ℕ) (x : Party) → Rising ps → IsAt i t ps → x ≡ get_or ps i x → find (λ (q : Party). eqb q.number t) ps ≡ Some x
 at_find t [] i x r at e = absurd at
-at_find t (p ∷ ps) zero x r at e = ap (λ b. cond b (Some p) (find (λ (q : Party). eqb q.number t) ps)) (same_too p.number t at) ∙ ap Some (sym e)
-at_find t (p ∷ ps) (suc i) x r at e = ap (λ b. cond b (Some p) (find (λ (q : Party). eqb q.number t) ps)) (below p.number t (at_above t p.number ps i r.0 at)) ∙ at_find t ps i x r.1 at e
+at_find t (p ∷ ps) zero x r at e = ap (λ b. cond b (Some p) (find (λ (q : Party). eqb q.number t) ps)) (eq-eqb p.number t at) ∙ ap Some (sym e)
+at_find t (p ∷ ps) (suc i) x r at e = ap (λ b. cond b (Some p) (find (λ (q : Party). eqb q.number t) ps)) (lt-eqb p.number t (at_above t p.number ps i r.0 at)) ∙ at_find t ps i x r.1 at e
 
 pub none_find : (t : ℕ) (ps : List Party) → is_tracked t ps ≡ false → find (λ (q : Party). eqb q.number t) ps ≡ None
 none_find t [] e = refl
@@ -120,7 +103,7 @@ module _ (f : Party → Party) (t : ℕ) (other : (p : Party) → eqb p.number t
   pub at_map : (ps : List Party) (i : ℕ) → Rising ps → IsAt i t ps → changed_at i f ps ≡ map f ps
   at_map [] i r at = absurd at
   at_map (p ∷ ps) zero r at = ap (λ qs. f p ∷ qs) (sym (others_stay p.number ps (omega (arith, at)) r.0))
-  at_map (p ∷ ps) (suc i) r at = ap (λ qs. p ∷ qs) (at_map ps i r.1 at) ∙ ap (λ x. x ∷ map f ps) (sym (other p (below p.number t (at_above t p.number ps i r.0 at))))
+  at_map (p ∷ ps) (suc i) r at = ap (λ qs. p ∷ qs) (at_map ps i r.1 at) ∙ ap (λ x. x ∷ map f ps) (sym (other p (lt-eqb p.number t (at_above t p.number ps i r.0 at))))
 
   pub none_map : (ps : List Party) → is_tracked t ps ≡ false → ps ≡ map f ps
   none_map [] e = refl
@@ -138,7 +121,7 @@ module _ (f : Party → Party) (t : ℕ) (other : (p : Party) → eqb p.number t
 pub set_back : (f : Party → Party) (t : ℕ) → ((p : Party) → eqb p.number t ≡ false → f p ≡ p) → (ps : List Party) (i : ℕ) (x y : Party) → Rising ps → IsAt i t ps → x ≡ get_or ps i x → y.number ≡ x.number → f y ≡ x → map f (set ps i y) ≡ ps
 set_back f t other [] i x y r at e n back = absurd at
 set_back f t other (p ∷ ps) zero x y r at e n back = ap (λ z. z ∷ map f ps) (back ∙ e) ∙ ap (λ qs. p ∷ qs) (others_stay f t other p.number ps (omega (arith, at)) r.0)
-set_back f t other (p ∷ ps) (suc i) x y r at e n back = ap (λ z. z ∷ map f (set ps i y)) (other p (below p.number t (at_above t p.number ps i r.0 at))) ∙ ap (λ qs. p ∷ qs) (set_back f t other ps i x y r.1 at e n back)
+set_back f t other (p ∷ ps) (suc i) x y r at e n back = ap (λ z. z ∷ map f (set ps i y)) (other p (lt-eqb p.number t (at_above t p.number ps i r.0 at))) ∙ ap (λ qs. p ∷ qs) (set_back f t other ps i x y r.1 at e n back)
 
 pub set_same : (t : ℕ) (ps : List Party) (i : ℕ) (x y : Party) → IsAt i t ps → x ≡ get_or ps i x → y ≡ x → set ps i y ≡ ps
 set_same t [] i x y at e g = absurd at
@@ -154,7 +137,7 @@ other_in b t u p e = ap (λ x. record p { ins = cond (x && nat_le t b) (put_in t
 module _ {X E : Type 0} (r : Result X E) (p now : Party) (ns : List ℕ) (view : p ≡ now) where
   -- what a reader knows
   pub read_ok : (b w : ℕ) → w ≤ b → OnOk r (ns ≡ put_in w p.outs) → OnOk r (record p { outs = ns } ≡ with_out b now.number w now)
-  read_ok b w le h = on_ok r (λ e. is e ∙ ap (λ (q : Party). with_out b q.number w q) view) h
+  read_ok b w le h = on_ok_weaker r (λ e. is e ∙ ap (λ (q : Party). with_out b q.number w q) view) h
     where
       known : nat_le w b ≡ true
       known = grind (arith, nat_tests)
@@ -162,12 +145,12 @@ module _ {X E : Type 0} (r : Result X E) (p now : Party) (ns : List ℕ) (view :
       is : ns ≡ put_in w p.outs → record p { outs = ns } ≡ with_out b p.number w p
       is e =
           ap (λ ms. record p { outs = ms }) e
-          ∙ sym (ap (λ x. record p { outs = cond (x && nat_le w b) (put_in w p.outs) p.outs }) (same_too p.number p.number refl)
+          ∙ sym (ap (λ x. record p { outs = cond (x && nat_le w b) (put_in w p.outs) p.outs }) (eq-eqb p.number p.number refl)
           ∙ ap (λ x. record p { outs = cond x (put_in w p.outs) p.outs }) known)
 
   -- what a writer knows
   pub be_read_ok : (b t : ℕ) → t ≤ b → OnOk r (ns ≡ put_in t p.ins) → OnOk r (record p { ins = ns } ≡ with_in b t now.number now)
-  be_read_ok b t le h = on_ok r (λ e. is e ∙ ap (λ (q : Party). with_in b t q.number q) view) h
+  be_read_ok b t le h = on_ok_weaker r (λ e. is e ∙ ap (λ (q : Party). with_in b t q.number q) view) h
     where
       known : nat_le t b ≡ true
       known = grind (arith, nat_tests)
@@ -175,37 +158,37 @@ module _ {X E : Type 0} (r : Result X E) (p now : Party) (ns : List ℕ) (view :
       is : ns ≡ put_in t p.ins → record p { ins = ns } ≡ with_in b t p.number p
       is e =
           ap (λ ms. record p { ins = ms }) e
-          ∙ sym (ap (λ x. record p { ins = cond (x && nat_le t b) (put_in t p.ins) p.ins }) (same_too p.number p.number refl)
+          ∙ sym (ap (λ x. record p { ins = cond (x && nat_le t b) (put_in t p.ins) p.ins }) (eq-eqb p.number p.number refl)
           ∙ ap (λ x. record p { ins = cond x (put_in t p.ins) p.ins }) known)
 
 module _ {E : Type 0} (r : Result Bool E) (p now : Party) (ns : List ℕ) (view : p ≡ now) where
   pub read_new : (w : ℕ) → IfOk r (λ new. new ≡ true → without w ns ≡ p.outs) → IfOk r (λ new. new ≡ true → without_out now.number w (record p { outs = ns }) ≡ now)
   read_new w h = if_ok r (λ x back e. ap (λ (q : Party). without_out q.number w (record p { outs = ns })) (sym view)
-      ∙ ap (λ b. record p { outs = cond b (without w ns) ns }) (same_too p.number p.number refl) ∙ ap (λ ms. record p { outs = ms }) (back e) ∙ view) h
+      ∙ ap (λ b. record p { outs = cond b (without w ns) ns }) (eq-eqb p.number p.number refl) ∙ ap (λ ms. record p { outs = ms }) (back e) ∙ view) h
 
   pub be_read_new : (t : ℕ) → IfOk r (λ new. new ≡ true → without t ns ≡ p.ins) → IfOk r (λ new. new ≡ true → without_in t now.number (record p { ins = ns }) ≡ now)
   be_read_new t h = if_ok r (λ x back e. ap (λ (q : Party). without_in t q.number (record p { ins = ns })) (sym view)
-      ∙ ap (λ b. record p { ins = cond b (without t ns) ns }) (same_too p.number p.number refl) ∙ ap (λ ms. record p { ins = ms }) (back e) ∙ view) h
+      ∙ ap (λ b. record p { ins = cond b (without t ns) ns }) (eq-eqb p.number p.number refl) ∙ ap (λ ms. record p { ins = ms }) (back e) ∙ view) h
 
 pub read_past : (b w : ℕ) (p : Party) → b < w → p ≡ with_out b p.number w p
-read_past b w p lt = sym (ap (λ x. record p { outs = cond x (put_in w p.outs) p.outs }) (ap (λ x. eqb p.number p.number && x) unknown ∙ and_no (eqb p.number p.number)))
+read_past b w p lt = sym (ap (λ x. record p { outs = cond x (put_in w p.outs) p.outs }) (ap (λ x. eqb p.number p.number && x) unknown ∙ and-false (eqb p.number p.number)))
   where
     unknown : nat_le w b ≡ false
     unknown = grind (arith, nat_tests)
 
 pub be_read_past : (b t : ℕ) (p : Party) → b < t → p ≡ with_in b t p.number p
-be_read_past b t p lt = sym (ap (λ x. record p { ins = cond x (put_in t p.ins) p.ins }) (ap (λ x. eqb p.number p.number && x) unknown ∙ and_no (eqb p.number p.number)))
+be_read_past b t p lt = sym (ap (λ x. record p { ins = cond x (put_in t p.ins) p.ins }) (ap (λ x. eqb p.number p.number && x) unknown ∙ and-false (eqb p.number p.number)))
   where
     unknown : nat_le t b ≡ false
     unknown = grind (arith, nat_tests)
 
 pub unread_is : (p now : Party) (w : ℕ) (ns : List ℕ) → p ≡ now → ns ≡ without w p.outs → record p { outs = ns } ≡ without_out now.number w now
 unread_is p now w ns view e =
-    ap (λ ms. record p { outs = ms }) e ∙ sym (ap (λ x. record p { outs = cond x (without w p.outs) p.outs }) (same_too p.number p.number refl)) ∙ ap (λ (q : Party). without_out q.number w q) view
+    ap (λ ms. record p { outs = ms }) e ∙ sym (ap (λ x. record p { outs = cond x (without w p.outs) p.outs }) (eq-eqb p.number p.number refl)) ∙ ap (λ (q : Party). without_out q.number w q) view
 
 pub be_unread_is : (p now : Party) (t : ℕ) (ns : List ℕ) → p ≡ now → ns ≡ without t p.ins → record p { ins = ns } ≡ without_in t now.number now
 be_unread_is p now t ns view e =
-    ap (λ ms. record p { ins = ms }) e ∙ sym (ap (λ x. record p { ins = cond x (without t p.ins) p.ins }) (same_too p.number p.number refl)) ∙ ap (λ (q : Party). without_in t q.number q) view
+    ap (λ ms. record p { ins = ms }) e ∙ sym (ap (λ x. record p { ins = cond x (without t p.ins) p.ins }) (eq-eqb p.number p.number refl)) ∙ ap (λ (q : Party). without_in t q.number q) view
 
 pub other_no_out : (t u : ℕ) (p : Party) → eqb p.number t ≡ false → without_out t u p ≡ p
 other_no_out t u p e = ap (λ x. record p { outs = cond x (without u p.outs) p.outs }) e
@@ -237,7 +220,7 @@ module _ (f : Party → Bool) (t : ℕ) (other : (p : Party) → eqb p.number t 
       go : (b : Bool) → eqb p.number t ≡ b → cond b (Some p) (find (λ (q : Party). eqb q.number t) ps) ≡ Some x → (find (λ (q : Party). eqb q.number t) ps ≡ Some x → f x ≡ list_any f ps) → f x ≡ (f p || list_any f ps)
       go true d h rest =
           let q : p ≡ x = cc in
-          or_false (f x) ∙ sym (ap (λ y. f y || list_any f ps) q ∙ ap (λ b. f x || b) (none_after p.number ps (let s = same p.number t d in omega (arith, s)) r.0))
+          or_false (f x) ∙ sym (ap (λ y. f y || list_any f ps) q ∙ ap (λ b. f x || b) (none_after p.number ps (let s = eqb-true p.number t d in omega (arith, s)) r.0))
       go false d h rest = rest h ∙ sym (ap (λ b. b || list_any f ps) (other p d))
 
   pub any_none : (ps : List Party) → find (λ (q : Party). eqb q.number t) ps ≡ None → false ≡ list_any f ps
@@ -260,19 +243,19 @@ stay t n (p ∷ ps) e h =
 pub at_removed : (t : ℕ) (ps : List Party) (i : ℕ) (x : Party) → Rising ps → IsAt i t ps → x ≡ get_or ps i x → x.active ≡ true → remove ps i ≡ filter (λ p. not (is_active t p)) ps
 at_removed t [] i x r at e a = absurd at
 at_removed t (p ∷ ps) zero x r at e a =
-    sym (ap (λ b. cond (not b) (p ∷ filter (λ q. not (is_active t q)) ps) (filter (λ q. not (is_active t q)) ps)) (ap (λ b. b && p.active) (same_too p.number t at) ∙ ap (λ (y : Party). y.active) (sym e) ∙ a)
+    sym (ap (λ b. cond (not b) (p ∷ filter (λ q. not (is_active t q)) ps) (filter (λ q. not (is_active t q)) ps)) (ap (λ b. b && p.active) (eq-eqb p.number t at) ∙ ap (λ (y : Party). y.active) (sym e) ∙ a)
     ∙ stay t p.number ps (sym at) r.0)
 at_removed t (p ∷ ps) (suc i) x r at e a =
     ap (λ qs. p ∷ qs) (at_removed t ps i x r.1 at e a)
-    ∙ sym (ap (λ b. cond (not (b && p.active)) (p ∷ filter (λ q. not (is_active t q)) ps) (filter (λ q. not (is_active t q)) ps)) (below p.number t (at_above t p.number ps i r.0 at)))
+    ∙ sym (ap (λ b. cond (not (b && p.active)) (p ∷ filter (λ q. not (is_active t q)) ps) (filter (λ q. not (is_active t q)) ps)) (lt-eqb p.number t (at_above t p.number ps i r.0 at)))
 
 pub at_idle : (t : ℕ) (ps : List Party) (i : ℕ) (x : Party) → Rising ps → IsAt i t ps → x ≡ get_or ps i x → x.active ≡ false → ps ≡ filter (λ p. not (is_active t p)) ps
 at_idle t [] i x r at e a = absurd at
 at_idle t (p ∷ ps) zero x r at e a =
-    sym (ap (λ b. cond (not b) (p ∷ filter (λ q. not (is_active t q)) ps) (filter (λ q. not (is_active t q)) ps)) (ap (λ b. b && p.active) (same_too p.number t at) ∙ ap (λ (y : Party). y.active) (sym e) ∙ a)
+    sym (ap (λ b. cond (not b) (p ∷ filter (λ q. not (is_active t q)) ps) (filter (λ q. not (is_active t q)) ps)) (ap (λ b. b && p.active) (eq-eqb p.number t at) ∙ ap (λ (y : Party). y.active) (sym e) ∙ a)
     ∙ ap (λ qs. p ∷ qs) (stay t p.number ps (sym at) r.0))
 at_idle t (p ∷ ps) (suc i) x r at e a =
-    sym (ap (λ b. cond (not (b && p.active)) (p ∷ filter (λ q. not (is_active t q)) ps) (filter (λ q. not (is_active t q)) ps)) (below p.number t (at_above t p.number ps i r.0 at))
+    sym (ap (λ b. cond (not (b && p.active)) (p ∷ filter (λ q. not (is_active t q)) ps) (filter (λ q. not (is_active t q)) ps)) (lt-eqb p.number t (at_above t p.number ps i r.0 at))
     ∙ ap (λ qs. p ∷ qs) (sym (at_idle t ps i x r.1 at e a)))
 
 pub none_idle : (t : ℕ) (ps : List Party) → is_tracked t ps ≡ false → ps ≡ filter (λ p. not (is_active t p)) ps
@@ -313,12 +296,12 @@ map_alike f g (p ∷ ps) h = ap (λ q. q ∷ map f ps) (h p (inl refl)) ∙ ap (
 unread_push : (t w : ℕ) (us : List ℕ) (p : Party) → without_in t w (unread_by t us p) ≡ unread_by t (us ++ w ∷ []) p
 unread_push t w us p =
     ap (λ ns. record p { ins = ns }) (twice_cond t p.ins (is_among p.number us) (eqb p.number w)
-    ∙ ap (λ b. cond b (without t p.ins) p.ins) (ap (λ b. is_among p.number us || b) (eq_turned p.number w) ∙ sym (among_push p.number w us)))
+    ∙ ap (λ b. cond b (without t p.ins) p.ins) (ap (λ b. is_among p.number us || b) (eqb_comm p.number w) ∙ sym (among_push p.number w us)))
 
 unreading_push : (t w : ℕ) (us : List ℕ) (p : Party) → without_out w t (unreading t us p) ≡ unreading t (us ++ w ∷ []) p
 unreading_push t w us p =
     ap (λ ns. record p { outs = ns }) (twice_cond t p.outs (is_among p.number us) (eqb p.number w)
-    ∙ ap (λ b. cond b (without t p.outs) p.outs) (ap (λ b. is_among p.number us || b) (eq_turned p.number w) ∙ sym (among_push p.number w us)))
+    ∙ ap (λ b. cond b (without t p.outs) p.outs) (ap (λ b. is_among p.number us || b) (eqb_comm p.number w) ∙ sym (among_push p.number w us)))
 
 pub unread_next : (t : ℕ) (ws : List ℕ) (i : ℕ) (ps now new : List Party) → i < length ws → now ≡ map (unread_by t (take i ws)) ps → new ≡ map (without_in t (get_or ws i 0)) now → new ≡ map (unread_by t (take (i + 1) ws)) ps
 unread_next t ws i ps now new lt so_far e =
@@ -355,7 +338,7 @@ at_In t ps i x at e = subst (λ (y : Party). In y ps) (sym e) (get-In ps i x (at
 
 any_active : (t : ℕ) (ps : List Party) (i : ℕ) → IsAt i t ps → IsActiveAt i ps → list_any (is_active t) ps ≡ true
 any_active t [] i at a = absurd at
-any_active t (p ∷ ps) zero at a = ap (λ b. b || list_any (is_active t) ps) (ap (λ b. b && p.active) (same_too p.number t at) ∙ a)
+any_active t (p ∷ ps) zero at a = ap (λ b. b || list_any (is_active t) ps) (ap (λ b. b && p.active) (eq-eqb p.number t at) ∙ a)
 any_active t (p ∷ ps) (suc i) at a = ap (λ b. is_active t p || b) (any_active t ps i at a) ∙ or_true (is_active t p)
   where
     or_true : (b : Bool) → (b || true) ≡ true
@@ -417,7 +400,7 @@ idle_stays t ps i x r at e a =
     nobody_goes t ps (sym (any_found (is_active t) t (λ p d. ap (λ b. b && p.active) d) ps x r (at_find t ps i x r at e)) ∙ idle) (at_idle t ps i x r at e a)
   where
     idle : is_active t x ≡ false
-    idle = ap (λ b. eqb x.number t && b) a ∙ and_no (eqb x.number t)
+    idle = ap (λ b. eqb x.number t && b) a ∙ and-false (eqb x.number t)
 
 -- ---- edges taken back
 

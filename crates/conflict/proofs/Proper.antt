@@ -1,24 +1,17 @@
 -- What is told keeps the transactions in their order, and free of dangerous structures.
 use Rattle.std.proofs.Common.{◌≡◌, refl, sym, ap, subst, ◌∙◌, ℕ, ◌+◌, ◌<◌, ◌≤◌, Bool, true, false, true≢false, cond, not, ◌&&◌, ◌||◌, ◌⊎◌, inl, inr, List, [], ◌∷◌, ◌++◌, map, None, eqb, nat_lt, nat_le, arith}
+use Rattle.std.proofs.lemmas.Bool.{not_from_false, not-true, and_parts, and_from, false_from_ne_true}
 use Rattle.std.proofs.lemmas.Bool.Decides.{nat_tests}
 use Rattle.std.specs.List.{filter, list_any}
 use Rattle.value.specs.declared.refusal.Mode.{Mode}
 use Rattle.value.specs.Isolation.{first_cause, is_dangerous}
 use Rattle.value.proofs.IsolationLemmas.{In}
+use Rattle.value.proofs.Basics.{any-In, In-any, eqb_comm, In-map}
 use Rattle.conflict.specs.Tracked.{AreEdges, Ascending, IsSorted, Party, Tracked, Each, IsNumbered, IsProper, Rising, is_among, put_in, node, reads, edge, opened, after_begin, after_drop, after_edge, after_move, after_commit, cause_of, is_active, is_writer, forgetful, with_edge, with_snapshot, with_commit, without}
 use Rattle.conflict.specs.Later.{has_committed}
-use Rattle.conflict.proofs.Lists.{both_true, and_true, is_false, clash, Each-In, Each-all, In-filter, In-append, In-any, any-In, In-map}
-use Rattle.conflict.proofs.Ordered.{among_other, among_put, among_still, ascending_filter, ascending_put, each_put, each_without, eq_turned}
+use Rattle.conflict.proofs.Lists.{clash, Each-In, Each-all, In-filter, In-append}
+use Rattle.conflict.proofs.Ordered.{among_other, among_put, among_still, ascending_filter, ascending_put, each_put, each_without}
 use Rattle.conflict.proofs.Structures.{parts, whole, no_danger, no_cause}
-
--- ---- tests
-
-pub not_true : (b : Bool) → not b ≡ true → b ≡ false
-not_true true e = absurd (true≢false (sym e))
-not_true false e = refl
-
-pub true_not : (b : Bool) → b ≡ false → not b ≡ true
-true_not b e = ap not e
 
 -- ---- the order of numbers
 
@@ -68,14 +61,14 @@ one_of_number (x ∷ ps) r p q (inr i) (inr j) e = one_of_number ps r.1 p q i j 
 
 -- a structure's transactions have committed
 pub committed_first : (a b c : Party) → is_dangerous node edge a b c ≡ true → (a.active ≡ false) × (b.active ≡ false) × (c.active ≡ false)
-committed_first a b c e = let d = parts node edge a b c e in (not_true a.active d.first, not_true b.active d.pivot, not_true c.active d.last)
+committed_first a b c e = let d = parts node edge a b c e in (not-true a.active d.first, not-true b.active d.pivot, not-true c.active d.last)
 
 -- Nothing is new among the transactions that have committed.
 none_map : (f : Party → Party) (ps : List Party) → first_cause node edge ps ≡ None
     → ((a b c : Party) → In a ps → In b ps → In c ps → is_dangerous node edge (f a) (f b) (f c) ≡ true → is_dangerous node edge a b c ≡ true)
     → first_cause node edge (map f ps) ≡ None
 none_map f ps none old =
-    no_cause node edge (map f ps) (λ a b c i j k. is_false _ (λ d.
+    no_cause node edge (map f ps) (λ a b c i j k. false_from_ne_true _ (λ d.
     let x = In-map f a ps i in
     let y = In-map f b ps j in
     let z = In-map f c ps k in
@@ -152,10 +145,10 @@ edges_edge b t u ps few e = record {
     one : (p q : Party) → In p ps → In q ps → is_among q.number (cond (eqb p.number t && nat_le u b) (put_in u p.outs) p.outs) ≡ is_among p.number (cond (eqb q.number u && nat_le t b) (put_in t q.ins) q.ins)
     one p q i j =
         among_cond (eqb p.number t && nat_le u b) u q.number p.outs
-        ∙ ap (λ x. (eqb p.number t && nat_le u b) && x || is_among q.number p.outs) (eq_turned u q.number)
+        ∙ ap (λ x. (eqb p.number t && nat_le u b) && x || is_among q.number p.outs) (eqb_comm u q.number)
         ∙ both_ways (eqb p.number t) (nat_le u b) (eqb q.number u) (nat_le t b) (is_among q.number p.outs) (within p i t) (within q j u)
         ∙ ap (λ x. (eqb q.number u && nat_le t b) && eqb p.number t || x) (Each-In (λ (x : Party). is_among x.number p.outs ≡ is_among p.number x.ins) ps q (Each-In (Both ps) ps p e.both i) j)
-        ∙ ap (λ x. (eqb q.number u && nat_le t b) && x || is_among p.number q.ins) (eq_turned p.number t)
+        ∙ ap (λ x. (eqb q.number u && nat_le t b) && x || is_among p.number q.ins) (eqb_comm p.number t)
         ∙ sym (among_cond (eqb q.number u && nat_le t b) t p.number q.ins)
 
 -- ---- some go
@@ -182,7 +175,7 @@ module _ (t : ℕ) (s : Tracked) (h : IsProper s) where
 
   -- those that are left have other numbers
   apart : goes ≡ true → (p : Party) → In p left → eqb t p.number ≡ false
-  apart g p i = is_false (eqb t p.number) one
+  apart g p i = false_from_ne_true (eqb t p.number) one
     where
       x : (y : Party) × In y s.parties × (is_active t y ≡ true)
       x = any-In (is_active t) s.parties g
@@ -195,8 +188,8 @@ module _ (t : ℕ) (s : Tracked) (h : IsProper s) where
 
       one : eqb t p.number ≡ true → ⊥
       one e =
-          let k = one_of_number s.parties h.rising x.0 p x.1 j.0 (same_number t p.number x.0.number e (both_true (eqb x.0.number t) x.0.active x.2).0) in
-          clash (is_active t p) (subst (λ y. is_active t y ≡ true) k x.2) (not_true (is_active t p) j.1)
+          let k = one_of_number s.parties h.rising x.0 p x.1 j.0 (same_number t p.number x.0.number e (and_parts (eqb x.0.number t) x.0.active x.2).0) in
+          clash (is_active t p) (subst (λ y. is_active t y ≡ true) k x.2) (not-true (is_active t p) j.1)
 
   num_cond : (b : Bool) (ns : List ℕ) → Each (λ n. n ≤ s.begun) ns → Each (λ n. n ≤ s.begun) (cond b (without t ns) ns)
   num_cond true ns all = each_without (λ n. n ≤ s.begun) t ns all
@@ -216,8 +209,8 @@ module _ (t : ℕ) (s : Tracked) (h : IsProper s) where
 
   pub edge_still : (b : Bool) (p q : Party) → edge (forgetful b t p) (forgetful b t q) ≡ true → edge p q ≡ true
   edge_still b p q e =
-      let k = both_true (not (eqb p.number q.number) && nat_lt p.snapshot q.commit) (reads (forgetful b t p) q) e in
-      and_true (not (eqb p.number q.number) && nat_lt p.snapshot q.commit) (reads p q) k.0 (still_cond b q.number p.outs k.1)
+      let k = and_parts (not (eqb p.number q.number) && nat_lt p.snapshot q.commit) (reads (forgetful b t p) q) e in
+      and_from (not (eqb p.number q.number) && nat_lt p.snapshot q.commit) (reads p q) k.0 (still_cond b q.number p.outs k.1)
 
   pub proper_drop : IsProper (after_drop t s)
   proper_drop = record {
@@ -254,7 +247,7 @@ proper_begin t m n s h later shown = record {
   rising = rising_push s.parties (opened t m n) h.rising (Each-all _ s.parties (λ p i. let e = (Each-In (IsNumbered s.begun s.commits) s.parties p h.numbered i).number in omega (arith, e, later)));
   numbered = each_push (IsNumbered t s.commits) s.parties (opened t m n) (Each-all (IsNumbered t s.commits) s.parties older) (record { number = omega arith; snapshot = shown; commit = omega arith; active = λ _. refl; reader = λ _. refl; outs = tt; ins = tt });
   edges = edges_begin t m n s.begun s.commits s.parties later h.numbered h.edges;
-  none = no_cause node edge (s.parties ++ opened t m n ∷ []) (λ a b c i j k. is_false _ (λ d. let e = committed_first a b c d in clash _ d (no_danger node edge s.parties h.none a b c (old a i e.0) (old b j e.1) (old c k e.2))));
+  none = no_cause node edge (s.parties ++ opened t m n ∷ []) (λ a b c i j k. false_from_ne_true _ (λ d. let e = committed_first a b c d in clash _ d (no_danger node edge s.parties h.none a b c (old a i e.0) (old b j e.1) (old c k e.2))));
 }
   where
     older_numbers : (ns : List ℕ) → Each (λ k. k ≤ s.begun) ns → Each (λ k. k ≤ t) ns
@@ -288,7 +281,7 @@ pub one_active : (t u : ℕ) (ps : List Party) → (has_committed t ps && has_co
 one_active t u ps h p q i j e = go p.active refl q.active refl
   where
     both : (eqb p.number t ≡ true) × (eqb u q.number ≡ true)
-    both = both_true (eqb p.number t) (eqb u q.number) e
+    both = and_parts (eqb p.number t) (eqb u q.number) e
 
     turned : eqb q.number u ≡ true
     turned = grind (arith, nat_tests, both.1)
@@ -298,9 +291,9 @@ one_active t u ps h p q i j e = go p.active refl q.active refl
     go false f true g = inr g
     go false f false g =
         clash _
-        (and_true (has_committed t ps) (has_committed u ps)
-        (In-any (λ (x : Party). not x.active && eqb x.number t) ps p i (and_true (not p.active) (eqb p.number t) (true_not p.active f) both.0))
-        (In-any (λ (x : Party). not x.active && eqb x.number u) ps q j (and_true (not q.active) (eqb q.number u) (true_not q.active g) turned)))
+        (and_from (has_committed t ps) (has_committed u ps)
+        (In-any (λ (x : Party). not x.active && eqb x.number t) ps p i (and_from (not p.active) (eqb p.number t) (not_from_false p.active f) both.0))
+        (In-any (λ (x : Party). not x.active && eqb x.number u) ps q j (and_from (not q.active) (eqb q.number u) (not_from_false q.active g) turned)))
         h
 
 pub proper_edge : (t u : ℕ) (s : Tracked) → IsProper s → (has_committed t s.parties && has_committed u s.parties) ≡ false → IsProper (after_edge t u s)
@@ -324,9 +317,9 @@ proper_edge t u s h new = record {
 
     same_edge : (p q : Party) → In p s.parties → In q s.parties → p.active ≡ false → q.active ≡ false → edge (with_edge s.begun t u p) (with_edge s.begun t u q) ≡ true → edge p q ≡ true
     same_edge p q i j f g e =
-        let k = both_true (not (eqb p.number q.number) && nat_lt p.snapshot q.commit) (reads (with_edge s.begun t u p) q) e in
-        let o : (eqb p.number t && eqb u q.number) ≡ false = is_false _ (λ d. neither (one_active t u s.parties new p q i j d)) in
-        and_true (not (eqb p.number q.number) && nat_lt p.snapshot q.commit) (reads p q) k.0 (sym (reads_otherwise s.begun t u p q o) ∙ k.1)
+        let k = and_parts (not (eqb p.number q.number) && nat_lt p.snapshot q.commit) (reads (with_edge s.begun t u p) q) e in
+        let o : (eqb p.number t && eqb u q.number) ≡ false = false_from_ne_true _ (λ d. neither (one_active t u s.parties new p q i j d)) in
+        and_from (not (eqb p.number q.number) && nat_lt p.snapshot q.commit) (reads p q) k.0 (sym (reads_otherwise s.begun t u p q o) ∙ k.1)
       where
         neither : (p.active ≡ true) ⊎ (q.active ≡ true) → ⊥
         neither (inl x) = clash p.active x f

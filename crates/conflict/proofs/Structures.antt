@@ -1,11 +1,13 @@
 -- Dangerous structures among transactions of which some go, or are seen otherwise.
 use Rattle.std.proofs.Common.{◌≡◌, refl, ap, ◌∙◌, Bool, true, false, cond, ◌&&◌, List, [], ◌∷◌, map, Option, Some, None, nat_lt, nat_le}
+use Rattle.std.proofs.lemmas.Bool.{and_parts, and_from, false_from_ne_true}
 use Rattle.std.specs.List.{filter}
 use Rattle.std.specs.Option.{option_map}
 use Rattle.value.specs.declared.refusal.Cause.{Cause}
 use Rattle.value.specs.Isolation.{Node, bound, caused, earlier, earliest, first_cause, first_some, is_dangerous}
 use Rattle.value.proofs.IsolationLemmas.{In}
-use Rattle.conflict.proofs.Lists.{both_true, and_true, clash, is_false, filter_none, filter-none, filter-kept, filter-map, In-filter, first_some-alike, first_some-kept, first_some-map, first_some-none, first_some-None}
+use Rattle.value.proofs.Basics.{filter_none, first_some-same_in, first_some-none, first_some-In, none_from_filter, filter-map, first_some-map}
+use Rattle.conflict.proofs.Lists.{clash, filter-kept, In-filter, first_some-kept}
 
 module _ {T : Type 0} (node : T → Node) (edge : T → T → Bool) where
   -- what a dangerous structure is
@@ -20,16 +22,16 @@ module _ {T : Type 0} (node : T → Node) (edge : T → T → Bool) where
 
   pub parts : (a b c : T) → is_dangerous node edge a b c ≡ true → Danger a b c
   parts a b c e =
-      let p6 = both_true ((node a).committed && (node b).committed && (node c).committed && edge a b && edge b c && nat_lt (node c).commit (node b).commit) (nat_le (node c).commit (bound node edge a)) e in
-      let p5 = both_true ((node a).committed && (node b).committed && (node c).committed && edge a b && edge b c) (nat_lt (node c).commit (node b).commit) p6.0 in
-      let p4 = both_true ((node a).committed && (node b).committed && (node c).committed && edge a b) (edge b c) p5.0 in
-      let p3 = both_true ((node a).committed && (node b).committed && (node c).committed) (edge a b) p4.0 in
-      let p2 = both_true ((node a).committed && (node b).committed) (node c).committed p3.0 in
-      let p1 = both_true (node a).committed (node b).committed p2.0 in
+      let p6 = and_parts ((node a).committed && (node b).committed && (node c).committed && edge a b && edge b c && nat_lt (node c).commit (node b).commit) (nat_le (node c).commit (bound node edge a)) e in
+      let p5 = and_parts ((node a).committed && (node b).committed && (node c).committed && edge a b && edge b c) (nat_lt (node c).commit (node b).commit) p6.0 in
+      let p4 = and_parts ((node a).committed && (node b).committed && (node c).committed && edge a b) (edge b c) p5.0 in
+      let p3 = and_parts ((node a).committed && (node b).committed && (node c).committed) (edge a b) p4.0 in
+      let p2 = and_parts ((node a).committed && (node b).committed) (node c).committed p3.0 in
+      let p1 = and_parts (node a).committed (node b).committed p2.0 in
       record { first = p1.0; pivot = p1.1; last = p2.1; into = p3.1; out = p4.1; before = p5.1; within = p6.1 }
 
   pub whole : (a b c : T) → Danger a b c → is_dangerous node edge a b c ≡ true
-  whole a b c d = and_true _ _ (and_true _ _ (and_true _ _ (and_true _ _ (and_true _ _ (and_true _ _ d.first d.pivot) d.last) d.into) d.out) d.before) d.within
+  whole a b c d = and_from _ _ (and_from _ _ (and_from _ _ (and_from _ _ (and_from _ _ (and_from _ _ d.first d.pivot) d.last) d.into) d.out) d.before) d.within
 
   abbrev through : List T → T → T → Option Cause
   through ts a b = caused node edge a b (earliest node edge (filter (is_dangerous node edge a b) ts))
@@ -44,7 +46,7 @@ module _ {T : Type 0} (node : T → Node) (edge : T → T → Bool) where
   -- There is none where none is named,
   pub no_danger : (ts : List T) → first_cause node edge ts ≡ None → (a b c : T) → In a ts → In b ts → In c ts → is_dangerous node edge a b c ≡ false
   no_danger ts e a b c i j k =
-      filter-none (is_dangerous node edge a b) ts c (none_caused a b (filter (is_dangerous node edge a b) ts) (first_some-None (through ts a) ts b (first_some-None (from ts) ts a e i) j)) k
+      none_from_filter (is_dangerous node edge a b) ts c (none_caused a b (filter (is_dangerous node edge a b) ts) (first_some-In (through ts a) ts b (first_some-In (from ts) ts a e i) j)) k
 
   no_through : (ts : List T) (a b : T) → ((c : T) → In c ts → is_dangerous node edge a b c ≡ false) → through ts a b ≡ None
   no_through ts a b h = ap (λ ys. caused node edge a b (earliest node edge ys)) (filter_none (is_dangerous node edge a b) ts h)
@@ -57,16 +59,16 @@ module _ {T : Type 0} (node : T → Node) (edge : T → T → Bool) where
   pub cause-kept : (k : T → Bool) (ts : List T) → ((a b c : T) → In a ts → In b ts → In c ts → is_dangerous node edge a b c ≡ true → (k a ≡ true) × (k b ≡ true) × (k c ≡ true))
       → first_cause node edge (filter k ts) ≡ first_cause node edge ts
   cause-kept k ts h =
-      first_some-alike (from (filter k ts)) (from ts) (filter k ts) (λ a i. same_from a (In-filter k a ts i).0)
-      ∙ first_some-kept (from ts) k ts (λ a i e. first_some-none (through ts a) ts (λ b j. no_through ts a b (λ c l. is_false _ (λ d. clash (k a) (h a b c i j l d).0 e))))
+      first_some-same_in (from (filter k ts)) (from ts) (filter k ts) (λ a i. same_from a (In-filter k a ts i).0)
+      ∙ first_some-kept (from ts) k ts (λ a i e. first_some-none (through ts a) ts (λ b j. no_through ts a b (λ c l. false_from_ne_true _ (λ d. clash (k a) (h a b c i j l d).0 e))))
     where
       same_through : (a b : T) → In a ts → In b ts → through (filter k ts) a b ≡ through ts a b
       same_through a b i j = ap (λ ys. caused node edge a b (earliest node edge ys)) (filter-kept (is_dangerous node edge a b) k ts (λ c l d. (h a b c i j l d).2))
 
       same_from : (a : T) → In a ts → from (filter k ts) a ≡ from ts a
       same_from a i =
-          first_some-alike (through (filter k ts) a) (through ts a) (filter k ts) (λ b j. same_through a b i (In-filter k b ts j).0)
-          ∙ first_some-kept (through ts a) k ts (λ b j e. no_through ts a b (λ c l. is_false _ (λ d. clash (k b) (h a b c i j l d).1 e)))
+          first_some-same_in (through (filter k ts) a) (through ts a) (filter k ts) (λ b j. same_through a b i (In-filter k b ts j).0)
+          ∙ first_some-kept (through ts a) k ts (λ b j e. no_through ts a b (λ c l. false_from_ne_true _ (λ d. clash (k b) (h a b c i j l d).1 e)))
 
 module _ {S T : Type 0} (g : S → T) (node : T → Node) (edge : T → T → Bool) where
   abbrev node_of : S → Node
@@ -103,4 +105,4 @@ module _ {S T : Type 0} (g : S → T) (node : T → Node) (edge : T → T → Bo
   pub cause-map : (xs : List S) → first_cause node edge (map g xs) ≡ first_cause node_of edge_of xs
   cause-map xs =
       first_some-map g (λ a. first_some (λ b. caused node edge a b (earliest node edge (filter (is_dangerous node edge a b) (map g xs)))) (map g xs)) xs
-      ∙ first_some-alike _ _ xs (λ a i. first_some-map g (λ b. caused node edge (g a) b (earliest node edge (filter (is_dangerous node edge (g a) b) (map g xs)))) xs ∙ first_some-alike _ _ xs (λ b j. through-map xs a b))
+      ∙ first_some-same_in _ _ xs (λ a i. first_some-map g (λ b. caused node edge (g a) b (earliest node edge (filter (is_dangerous node edge (g a) b) (map g xs)))) xs ∙ first_some-same_in _ _ xs (λ b j. through-map xs a b))

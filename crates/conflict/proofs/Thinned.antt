@@ -1,12 +1,13 @@
 -- A tracker of which some transactions have gone, those alone that no later answer rests on.
 use Rattle.std.proofs.Common.{◌≡◌, refl, sym, ap, subst, ◌∙◌, ℕ, ◌+◌, ◌<◌, ◌≤◌, Bool, true, false, true≢false, cond, not, ◌&&◌, ◌⊎◌, inl, inr, List, map, eqb, nat_lt, nat_le, arith}
-use Rattle.std.proofs.lemmas.Bool.Decides.{nat_tests}
+use Rattle.std.proofs.lemmas.Bool.{leb-true, lt-ltb, ltb-true, and_parts, and_from, or_cases, or_left, or_right, false_from_ne_true}
 use Rattle.std.specs.List.{filter, list_any}
 use Rattle.value.specs.Isolation.{bound, first_cause, is_dangerous}
 use Rattle.value.proofs.IsolationLemmas.{In}
+use Rattle.value.proofs.Basics.{any-In, In-any, filter-map, In-map}
 use Rattle.conflict.specs.Tracked.{Party, Tracked, IsNumbered, IsProper, node, reads, edge, is_active, is_needed, is_recent, is_writer, with_edge, with_snapshot, with_commit}
 use Rattle.conflict.specs.Later.{has_committed, IsOldest}
-use Rattle.conflict.proofs.Lists.{both_true, and_true, either, or_left, or_right, is_false, clash, Each-In, In-any, any-In, In-map, filter-map}
+use Rattle.conflict.proofs.Lists.{clash, Each-In}
 use Rattle.conflict.proofs.Structures.{Danger, parts, whole, no_danger, cause-kept}
 use Rattle.conflict.proofs.Proper.{one_active, reads_otherwise, snapshot_stays}
 
@@ -18,43 +19,23 @@ pub record Thinned (o : ℕ) (keep : ℕ → Bool) (s r : Tracked) : Type 0 wher
   pub later : (n : ℕ) → r.begun < n → keep n ≡ true
   pub needed : (p : Party) → In p r.parties → is_needed o r.parties p ≡ true → keep p.number ≡ true
 
--- ---- numbers
-
-pub lt_of : (a b : ℕ) → nat_lt a b ≡ true → a < b
-lt_of a b e = grind (arith, nat_tests)
-
-pub to_lt : (a b : ℕ) → a < b → nat_lt a b ≡ true
-to_lt a b h = grind (arith, nat_tests)
-
-pub le_of : (a b : ℕ) → nat_le a b ≡ true → a ≤ b
-le_of a b e = grind (arith, nat_tests)
-
-pub same_of : (a b : ℕ) → eqb a b ≡ true → a ≡ b
-same_of a b e = grind (arith, nat_tests)
-
-pub to_same : (a b : ℕ) → a ≡ b → eqb a b ≡ true
-to_same a b e = grind (arith, nat_tests)
-
-pub not_lt : (a b : ℕ) → b ≤ a → nat_lt a b ≡ false
-not_lt a b h = grind (arith, nat_tests)
-
 -- ---- what is needed
 
 pub needed_cases : (o : ℕ) (ps : List Party) (p : Party) → is_needed o ps p ≡ true → (is_recent o p ≡ true) ⊎ ((q : Party) × In q ps × (is_recent o q ≡ true) × (edge q p ≡ true))
-needed_cases o ps p e = go (either (is_recent o p) (list_any (λ q. is_recent o q && edge q p) ps) e)
+needed_cases o ps p e = go (or_cases (is_recent o p) (list_any (λ q. is_recent o q && edge q p) ps) e)
   where
     go : (is_recent o p ≡ true) ⊎ (list_any (λ q. is_recent o q && edge q p) ps ≡ true) → (is_recent o p ≡ true) ⊎ ((q : Party) × In q ps × (is_recent o q ≡ true) × (edge q p ≡ true))
     go (inl r) = inl r
     go (inr a) =
         let x = any-In (λ q. is_recent o q && edge q p) ps a in
-        let b = both_true (is_recent o x.0) (edge x.0 p) x.2 in
+        let b = and_parts (is_recent o x.0) (edge x.0 p) x.2 in
         inr (x.0, x.1, b.0, b.1)
 
 pub needed_recent : (o : ℕ) (ps : List Party) (p : Party) → is_recent o p ≡ true → is_needed o ps p ≡ true
 needed_recent o ps p e = or_left (is_recent o p) (list_any (λ q. is_recent o q && edge q p) ps) e
 
 pub needed_by : (o : ℕ) (ps : List Party) (p q : Party) → In q ps → is_recent o q ≡ true → edge q p ≡ true → is_needed o ps p ≡ true
-needed_by o ps p q i r e = or_right (is_recent o p) (list_any (λ x. is_recent o x && edge x p) ps) (In-any (λ x. is_recent o x && edge x p) ps q i (and_true (is_recent o q) (edge q p) r e))
+needed_by o ps p q i r e = or_right (is_recent o p) (list_any (λ x. is_recent o x && edge x p) ps) (In-any (λ x. is_recent o x && edge x p) ps q i (and_from (is_recent o q) (edge q p) r e))
 
 pub active_recent : (o : ℕ) (p : Party) → p.active ≡ true → is_recent o p ≡ true
 active_recent o p e = or_left p.active (nat_lt o (bound node edge p)) e
@@ -62,16 +43,16 @@ active_recent o p e = or_left p.active (nat_lt o (bound node edge p)) e
 -- an edge leads to a commit above the snapshot
 pub above : (p q : Party) → edge p q ≡ true → p.snapshot < q.commit
 above p q e =
-    let a = both_true (not (eqb q.number p.number) && nat_lt p.snapshot q.commit) (reads p q) in
-    let b = both_true (not (eqb p.number q.number) && nat_lt p.snapshot q.commit) (reads p q) e in
-    lt_of p.snapshot q.commit (both_true (not (eqb p.number q.number)) (nat_lt p.snapshot q.commit) b.0).1
+    let a = and_parts (not (eqb q.number p.number) && nat_lt p.snapshot q.commit) (reads p q) in
+    let b = and_parts (not (eqb p.number q.number) && nat_lt p.snapshot q.commit) (reads p q) e in
+    ltb-true p.snapshot q.commit (and_parts (not (eqb p.number q.number)) (nat_lt p.snapshot q.commit) b.0).1
 
 -- a commit above o is recent
 late_recent : (o n m : ℕ) (p : Party) → IsNumbered n m p → o < p.commit → is_recent o p ≡ true
 late_recent o n m p num l = or_right p.active (nat_lt o (bound node edge p)) (go p.read_write refl)
   where
     go : (b : Bool) → p.read_write ≡ b → nat_lt o (cond b p.commit p.snapshot) ≡ true
-    go true e = to_lt o p.commit l
+    go true e = lt-ltb o p.commit l
     go false e = let z = num.reader e in absurd (omega (arith, z, l))
 
 module _ (o : ℕ) (r : Tracked) (h : IsProper r) (old : IsOldest o r) where
@@ -115,10 +96,10 @@ module _ (o : ℕ) (r : Tracked) (h : IsProper r) (old : IsOldest o r) where
   edge_step t u new q p j i e = go (eqb q.number t && eqb u p.number) refl
     where
       k : ((not (eqb q.number p.number) && nat_lt q.snapshot p.commit) ≡ true) × (reads (with_edge r.begun t u q) p ≡ true)
-      k = both_true (not (eqb q.number p.number) && nat_lt q.snapshot p.commit) (reads (with_edge r.begun t u q) p) e
+      k = and_parts (not (eqb q.number p.number) && nat_lt q.snapshot p.commit) (reads (with_edge r.begun t u q) p) e
 
       late : q.active ≡ true → is_recent o p ≡ true
-      late a = late_recent o r.begun r.commits p (num p i) (let x = oldest q j a in let y = lt_of q.snapshot p.commit (both_true (not (eqb q.number p.number)) (nat_lt q.snapshot p.commit) k.0).1 in omega (arith, x, y))
+      late a = late_recent o r.begun r.commits p (num p i) (let x = oldest q j a in let y = ltb-true q.snapshot p.commit (and_parts (not (eqb q.number p.number)) (nat_lt q.snapshot p.commit) k.0).1 in omega (arith, x, y))
 
       one : (q.active ≡ true) ⊎ (p.active ≡ true) → is_recent o p ≡ true
       one (inl a) = late a
@@ -126,7 +107,7 @@ module _ (o : ℕ) (r : Tracked) (h : IsProper r) (old : IsOldest o r) where
 
       go : (b : Bool) → (eqb q.number t && eqb u p.number) ≡ b → (edge q p ≡ true) ⊎ (is_recent o p ≡ true)
       go true d = inr (one (one_active t u r.parties new q p j i d))
-      go false d = inl (and_true (not (eqb q.number p.number) && nat_lt q.snapshot p.commit) (reads q p) k.0 (sym (reads_otherwise r.begun t u q p d) ∙ k.1))
+      go false d = inl (and_from (not (eqb q.number p.number) && nat_lt q.snapshot p.commit) (reads q p) k.0 (sym (reads_otherwise r.begun t u q p d) ∙ k.1))
 
   -- another snapshot
   pub move_recent : (t n : ℕ) (p : Party) → In p r.parties → is_recent o (with_snapshot t n p) ≡ true → is_recent o p ≡ true
@@ -182,7 +163,7 @@ module _ (o : ℕ) (r : Tracked) (h : IsProper r) (old : IsOldest o r) where
   commit_step t q p j i e = go (is_active t p) refl
     where
       go : (b : Bool) → is_active t p ≡ b → (edge q p ≡ true) ⊎ (is_recent o p ≡ true)
-      go true a = inr (active_recent o p (both_true (eqb p.number t) p.active a).1)
+      go true a = inr (active_recent o p (and_parts (eqb p.number t) p.active a).1)
       go false a = inl (subst (λ z. edge (with_commit t n q) z ≡ true) (commit_stays t n p a) e)
 
   -- ---- the structure that a commit would make is of those that are needed
@@ -198,22 +179,22 @@ module _ (o : ℕ) (r : Tracked) (h : IsProper r) (old : IsOldest o r) where
     kept_recent p i e = needed p i (needed_recent o r.parties p e)
 
     kept_active : (p : Party) → In p r.parties → is_active t p ≡ true → Kept p
-    kept_active p i e = kept_recent p i (active_recent o p (both_true (eqb p.number t) p.active e).1)
+    kept_active p i e = kept_recent p i (active_recent o p (and_parts (eqb p.number t) p.active e).1)
 
     kept_late : (p : Party) → In p r.parties → o < p.commit → Kept p
     kept_late p i l = kept_recent p i (late_recent o r.begun r.commits p (num o r h old p i) l)
 
     -- the last one has committed before
     last_before : (b c : Party) → In b r.parties → In c r.parties → edge (g b) (g c) ≡ true → nat_lt (g c).commit (g b).commit ≡ true → is_active t c ≡ false
-    last_before b c j k e l = is_false (is_active t c) (λ a. late a c.read_write refl)
+    last_before b c j k e l = false_from_ne_true (is_active t c) (λ a. late a c.read_write refl)
       where
         most : (g b).commit ≤ n
         most = one_more r.commits n (is_writer t b) b.commit (num o r h old b j).commit refl
 
         late : is_active t c ≡ true → (w : Bool) → c.read_write ≡ w → ⊥
         late a true w = absurd (
-            let x : (g c).commit ≡ n = ap (λ z. cond z n c.commit) (and_true (is_active t c) c.read_write a w) in
-            let y = lt_of (g c).commit (g b).commit l in
+            let x : (g c).commit ≡ n = ap (λ z. cond z n c.commit) (and_from (is_active t c) c.read_write a w) in
+            let y = ltb-true (g c).commit (g b).commit l in
             omega (arith, x, y, most))
         late a false w = absurd (
             let z : is_writer t c ≡ false = ap (λ x. is_active t c && x) w ∙ and_no (is_active t c) in
@@ -236,14 +217,14 @@ module _ (o : ℕ) (r : Tracked) (h : IsProper r) (old : IsOldest o r) where
         where
           late : o < c.commit
           late =
-              let y = oldest o r h old b j (both_true (eqb b.number t) b.active x).1 in
+              let y = oldest o r h old b j (and_parts (eqb b.number t) b.active x).1 in
               let z = above (g b) c (subst (λ u. edge (g b) u ≡ true) same_c d.out) in
               omega (arith, y, z)
 
           bounded : g a ≡ a → nat_lt o (bound node edge a) ≡ true
           bounded e =
-              let y = le_of c.commit (bound node edge a) (subst (λ u. nat_le u.commit (bound node edge a) ≡ true) same_c (subst (λ u. nat_le (g c).commit (bound node edge u) ≡ true) e d.within)) in
-              to_lt o (bound node edge a) (omega (arith, y, late))
+              let y = leb-true c.commit (bound node edge a) (subst (λ u. nat_le u.commit (bound node edge a) ≡ true) same_c (subst (λ u. nat_le (g c).commit (bound node edge u) ≡ true) e d.within)) in
+              lt-ltb o (bound node edge a) (omega (arith, y, late))
 
           first : (s : Bool) → is_active t a ≡ s → Kept a
           first true e = kept_active a i e
@@ -255,7 +236,7 @@ module _ (o : ℕ) (r : Tracked) (h : IsProper r) (old : IsOldest o r) where
         where
           recent : is_recent o b ≡ true
           recent =
-              let y = oldest o r h old a i (both_true (eqb a.number t) a.active x).1 in
+              let y = oldest o r h old a i (and_parts (eqb a.number t) a.active x).1 in
               let z = above (g a) b (subst (λ u. edge (g a) u ≡ true) same d.into) in
               late_recent o r.begun r.commits b (num o r h old b j) (omega (arith, y, z))
 

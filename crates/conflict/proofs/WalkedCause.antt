@@ -6,13 +6,14 @@ use Rattle.std.specs.Option.{option_map}
 use Rattle.value.specs.declared.refusal.Cause.{Cause}
 use Rattle.value.specs.Isolation.{Node, bound, caused, earlier, earliest, edge_of, first_cause, first_some, is_dangerous, is_other, structure}
 use Rattle.value.proofs.IsolationLemmas.{In}
+use Rattle.value.proofs.Basics.{find-In, first_some-same_in}
 use Rattle.conflict.specs.Tracked.{AreEdges, Ascending, Each, IsSorted, Party, Rising, is_among, node_after, reads}
 use Rattle.conflict.specs.Tracked.{node as seen, edge as seen_edge}
 use Rattle.conflict.specs.Through.{IsThrough, from_first, through}
 use Rattle.conflict.specs.Walks.{IsCommitter, closed_by, found, from_other, from_own, is_last, is_pair, is_unseen, last_of, sooner, walked_cause}
 use Rattle.conflict.proofs.CauseLemmas.{caused-none}
 use Rattle.conflict.proofs.Found.{found_is}
-use Rattle.conflict.proofs.Lists.{Each-In, In-filter, filter_alike, find-In, first_some-alike, first_some-kept}
+use Rattle.conflict.proofs.Lists.{Each-In, In-filter, filter_alike, first_some-kept}
 
 abbrev none_at_all : Option Cause
 none_at_all = None
@@ -179,7 +180,7 @@ module _ (t n : ℕ) (ps : List Party) where
     others : first_some (from_other t n x (last_of t n ps x)) (found x.ins ps) ≡ first_some other ps
     others =
         ap (first_some (from_other t n x (last_of t n ps x))) (found_is x.ins ps (ascending x here).1 rising)
-        ∙ first_some-alike (from_other t n x (last_of t n ps x)) other (filter (λ (a : Party). is_among a.number x.ins) ps) (λ a i. let j = In-filter (λ (p : Party). is_among p.number x.ins) a ps i in other_same a (known a j.0 ∙ j.1))
+        ∙ first_some-same_in (from_other t n x (last_of t n ps x)) other (filter (λ (a : Party). is_among a.number x.ins) ps) (λ a i. let j = In-filter (λ (p : Party). is_among p.number x.ins) a ps i in other_same a (known a j.0 ∙ j.1))
         ∙ first_some-kept other (λ (a : Party). is_among a.number x.ins) ps (λ a i e. other_none a (known a i ∙ e))
 
     -- of its own
@@ -189,7 +190,7 @@ module _ (t n : ℕ) (ps : List Party) where
     own : first_some (from_own t n ps x) (found x.outs ps) ≡ from_first t n ps x
     own =
         ap (first_some (from_own t n ps x)) (found_is x.outs ps (ascending x here).0 rising)
-        ∙ first_some-alike (from_own t n ps x) (through t n ps x) (filter (λ (b : Party). is_among b.number x.outs) ps) (λ b i. let j = In-filter (λ (p : Party). is_among p.number x.outs) b ps i in own_same b j.0 j.1)
+        ∙ first_some-same_in (from_own t n ps x) (through t n ps x) (filter (λ (b : Party). is_among b.number x.outs) ps) (λ b i. let j = In-filter (λ (p : Party). is_among p.number x.outs) b ps i in own_same b j.0 j.1)
         ∙ first_some-kept (through t n ps x) (λ (b : Party). is_among b.number x.outs) ps (λ b i e. through_none x b e)
 
 -- ---- nothing closes one
@@ -230,7 +231,7 @@ module _ (f g : Party → Option Cause) (t : ℕ) (x : Party)
   at_first qs alike all = go (f x) (first_some g qs) refl
     where
       alike_all : first_some f qs ≡ first_some g qs
-      alike_all = first_some-alike f g qs (λ a i. alike a i (later t a.number (Each-In (λ (q : Party). t < q.number) qs a all i)))
+      alike_all = first_some-same_in f g qs (λ a i. alike a i (later t a.number (Each-In (λ (q : Party). t < q.number) qs a all i)))
 
       go : (o w : Option Cause) → first_some g qs ≡ w → cond (is_some o) o (first_some f qs) ≡ sooner t w o
       go None None e = alike_all ∙ e

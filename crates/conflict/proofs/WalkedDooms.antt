@@ -1,15 +1,17 @@
 -- Those that are doomed by the committer's numbers are those that are doomed of all; how many there are.
-use Rattle.std.proofs.Common.{◌≡◌, refl, sym, ap, ◌∙◌, ℕ, suc, ◌+◌, ◌<◌, ◌≤◌, Bool, true, false, cond, ◌&&◌, inl, inr, List, [], ◌∷◌, ◌++◌, length, take, drop, get_or, fold, Option, Some, None, eqb, arith, length-append, append-nil}
+use Rattle.std.proofs.Common.{◌≡◌, refl, sym, ap, ◌∙◌, ℕ, suc, ◌+◌, ◌<◌, ◌≤◌, Bool, true, false, cond, ◌&&◌, List, [], ◌∷◌, ◌++◌, length, take, drop, get_or, fold, Option, Some, None, eqb, arith, length-append, append-nil}
+use Rattle.std.proofs.Math.Bool.{and-false, and-true}
 use Rattle.std.proofs.lemmas.List.Elements.{filter-append}
 use Rattle.std.specs.List.{filter, find}
 use Rattle.std.specs.Option.{option_to_list}
 use Rattle.value.specs.declared.refusal.Cause.{Cause}
 use Rattle.value.specs.Isolation.{cause_from, dooms, is_first, is_live, with_doom}
 use Rattle.value.proofs.IsolationLemmas.{In}
+use Rattle.value.proofs.Basics.{fold-same_in, find-same_in, find-In}
 use Rattle.conflict.specs.Tracked.{Ascending, Each, IsSorted, Party, is_among, node, reads}
 use Rattle.conflict.specs.Walks.{IsAmong, folded, found, may_be_first, with_walked}
 use Rattle.conflict.proofs.Found.{found_is, found_next, found_split, one_of}
-use Rattle.conflict.proofs.Lists.{Each-In, In-filter, find-In, fold-kept}
+use Rattle.conflict.proofs.Lists.{Each-In, In-filter, fold-kept}
 
 -- ---- lists
 
@@ -21,27 +23,11 @@ find_both {X} p k (x ∷ xs) = go (k x) (find_both p k xs)
     go true rest = ap (λ o. cond (p x) (Some x) o) rest
     go false rest = rest
 
-find_alike : {X : Type 0} (p q : X → Bool) (xs : List X) → ((x : X) → In x xs → p x ≡ q x) → find p xs ≡ find q xs
-find_alike p q [] h = refl
-find_alike p q (x ∷ xs) h = ap (λ b. cond b (Some x) (find p xs)) (h x (inl refl)) ∙ ap (λ o. cond (q x) (Some x) o) (find_alike p q xs (λ y i. h y (inr i)))
-
-fold_same : {X B : Type 0} (f g : B → X → B) (b : B) (xs : List X) → ((c : B) (x : X) → In x xs → f c x ≡ g c x) → fold f b xs ≡ fold g b xs
-fold_same f g b [] h = refl
-fold_same f g b (x ∷ xs) h = fold_same f g (f b x) xs (λ c y i. h c y (inr i)) ∙ ap (λ a. fold g a xs) (h b x (inl refl))
-
 turned : (a b : Bool) → (a && b) ≡ (b && a)
 turned true true = refl
 turned true false = refl
 turned false true = refl
 turned false false = refl
-
-and_true : (a : Bool) → (a && true) ≡ a
-and_true true = refl
-and_true false = refl
-
-and_false : (a : Bool) → (a && false) ≡ false
-and_false true = refl
-and_false false = refl
 
 -- ---- dooms
 
@@ -60,25 +46,25 @@ module _ (ps : List Party) (c : Party) (among : IsAmong ps c) where
       sym (
       ap (find (may_be_first c causes b)) (found_is b.ins ps (ascending b j) among.0)
       ∙ find_both (may_be_first c causes b) (λ (a : Party). is_among a.number b.ins) ps
-      ∙ find_alike (λ a. is_among a.number b.ins && may_be_first c causes b a) (is_first node reads c causes b) ps
+      ∙ find-same_in (λ a. is_among a.number b.ins && may_be_first c causes b a) (is_first node reads c causes b) ps
       (λ a i. turned (is_among a.number b.ins) (may_be_first c causes b a) ∙ ap (λ x. may_be_first c causes b a && x) (sym (known a b i j))))
 
   doom_same : (causes : List Cause) (b : Party) → In b ps → reads b c ≡ true → with_doom node reads ps c causes b ≡ with_walked ps c causes b
   doom_same causes b i r =
       ap (λ x. causes ++ option_to_list (cond (is_live node reads c b && x) (cause_from node reads b c (find (is_first node reads c causes b) ps)) None)) r
-      ∙ ap (λ x. causes ++ option_to_list (cond x (cause_from node reads b c (find (is_first node reads c causes b) ps)) None)) (and_true (is_live node reads c b))
+      ∙ ap (λ x. causes ++ option_to_list (cond x (cause_from node reads b c (find (is_first node reads c causes b) ps)) None)) (and-true (is_live node reads c b))
       ∙ ap (λ o. causes ++ option_to_list (cond (is_live node reads c b) (cause_from node reads b c o) None)) (first_same causes b i)
 
   no_doom : (causes : List Cause) (b : Party) → In b ps → is_among b.number c.ins ≡ false → with_doom node reads ps c causes b ≡ causes
   no_doom causes b i e =
       ap (λ x. causes ++ option_to_list (cond (is_live node reads c b && x) (cause_from node reads b c (find (is_first node reads c causes b) ps)) None)) (known b c i here ∙ e)
-      ∙ ap (λ x. causes ++ option_to_list (cond x (cause_from node reads b c (find (is_first node reads c causes b) ps)) None)) (and_false (is_live node reads c b))
+      ∙ ap (λ x. causes ++ option_to_list (cond x (cause_from node reads b c (find (is_first node reads c causes b) ps)) None)) (and-false (is_live node reads c b))
       ∙ append-nil causes
 
   pub dooms_walked : fold (with_walked ps c) [] (found c.ins ps) ≡ dooms node reads ps c
   dooms_walked =
       ap (fold (with_walked ps c) []) (found_is c.ins ps (ascending c here) among.0)
-      ∙ fold_same (with_walked ps c) (with_doom node reads ps c) [] (filter (λ (b : Party). is_among b.number c.ins) ps)
+      ∙ fold-same_in (with_walked ps c) (with_doom node reads ps c) [] (filter (λ (b : Party). is_among b.number c.ins) ps)
       (λ causes b i. let j = In-filter (λ (p : Party). is_among p.number c.ins) b ps i in sym (doom_same causes b j.0 (known b c j.0 here ∙ j.1)))
       ∙ fold-kept (with_doom node reads ps c) [] (λ (b : Party). is_among b.number c.ins) ps no_doom
 

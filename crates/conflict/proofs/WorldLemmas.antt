@@ -1,37 +1,23 @@
 -- What is asked of a world is what is asked of those of it that are tracked.
-use Rattle.std.proofs.Common.{◌≡◌, refl, sym, ap, ◌∙◌, ℕ, ◌<◌, ◌≤◌, min, Bool, true, false, cond, not, ◌&&◌, ◌||◌, ◌⊎◌, inl, inr, List, [], ◌∷◌, ◌++◌, map, fold, Option, Some, None, nat_lt, nat_le, arith, append-nil}
+use Rattle.std.proofs.Common.{◌≡◌, refl, sym, ap, ◌∙◌, ℕ, min, Bool, true, false, cond, not, ◌&&◌, ◌||◌, ◌⊎◌, inl, inr, List, [], ◌∷◌, ◌++◌, map, fold, Option, Some, None, nat_lt, nat_le, arith, append-nil}
+use Rattle.std.proofs.lemmas.Bool.{ltb-false, ltb-true, and_from}
 use Rattle.std.proofs.lemmas.Bool.Decides.{nat_tests}
 use Rattle.std.specs.List.{filter, find, list_any}
 use Rattle.std.specs.Option.{option_map, option_to_list}
 use Rattle.value.specs.declared.refusal.Cause.{Cause}
 use Rattle.value.specs.Isolation.{Node, bound, cause_from, dooms, earlier, earliest, first_cause, first_part, is_dangerous, is_doomed, is_first, is_live, is_other, with_doom}
 use Rattle.value.proofs.IsolationLemmas.{In}
+use Rattle.value.proofs.Basics.{fold-same_in, find-map, find-same_in, filter-map}
 use Rattle.conflict.specs.Tracked.{Each, Party, edge, least_out, node, reads}
 use Rattle.conflict.specs.World.{AreIdle, AreSpared, IsSafeReader, first_commit_out, least_of, shows}
-use Rattle.conflict.proofs.Lists.{and_true, clash, Each-In, filter_alike, filter-kept, filter-map, find-alike, fold-alike, fold-kept}
+use Rattle.conflict.proofs.Lists.{clash, Each-In, filter_alike, filter-kept, find-alike, fold-alike, fold-kept}
 use Rattle.conflict.proofs.Structures.{cause-kept, earliest-map, parts}
 
 -- ---- lists
 
-find_alike : {X : Type 0} (p q : X → Bool) (xs : List X) → ((x : X) → In x xs → p x ≡ q x) → find p xs ≡ find q xs
-find_alike p q [] h = refl
-find_alike p q (x ∷ xs) h = ap (λ b. cond b (Some x) (find p xs)) (h x (inl refl)) ∙ ap (λ o. cond (q x) (Some x) o) (find_alike p q xs (λ y i. h y (inr i)))
-
-find-map : {X Y : Type 0} (f : X → Y) (p : Y → Bool) (xs : List X) → find p (map f xs) ≡ option_map f (find (λ x. p (f x)) xs)
-find-map f p [] = refl
-find-map {X} {Y} f p (x ∷ xs) = go (p (f x)) (find-map f p xs)
-  where
-    go : (b : Bool) → find p (map f xs) ≡ option_map f (find (λ y. p (f y)) xs) → cond b (Some (f x)) (find p (map f xs)) ≡ option_map f (cond b (Some x) (find (λ y. p (f y)) xs))
-    go true rest = refl
-    go false rest = rest
-
 fold-map : {X Y B : Type 0} (f : X → Y) (g : B → Y → B) (b : B) (xs : List X) → fold g b (map f xs) ≡ fold (λ c x. g c (f x)) b xs
 fold-map f g b [] = refl
 fold-map f g b (x ∷ xs) = fold-map f g (g b (f x)) xs
-
-fold-same : {X B : Type 0} (f g : B → X → B) (b : B) (xs : List X) → ((c : B) (x : X) → In x xs → f c x ≡ g c x) → fold f b xs ≡ fold g b xs
-fold-same f g b [] h = refl
-fold-same f g b (x ∷ xs) h = fold-same f g (f b x) xs (λ c y i. h c y (inr i)) ∙ ap (λ a. fold g a xs) (h b x (inl refl))
 
 -- ---- dooms
 
@@ -41,10 +27,10 @@ module _ {T : Type 0} (n : T → Node) (r d : T → T → Bool) (ts : List T) (c
   doom_same pairs last causes b i =
       ap (λ x. causes ++ option_to_list (cond (is_live n r c b && x) (cause_from n r b c (find (is_first n r c causes b) ts)) None)) (last b i)
       ∙ ap (λ o. causes ++ option_to_list (cond (is_live n d c b && d b c) (cause_from n d b c o) None))
-      (find_alike (is_first n r c causes b) (is_first n d c causes b) ts (λ a j. ap (λ x. is_other n r a b && (not (is_other n r a c) || is_live n r c a && not (is_doomed n r causes a)) && x) (pairs a b j i)))
+      (find-same_in (is_first n r c causes b) (is_first n d c causes b) ts (λ a j. ap (λ x. is_other n r a b && (not (is_other n r a c) || is_live n r c a && not (is_doomed n r causes a)) && x) (pairs a b j i)))
 
   dooms_same : ((a b : T) → In a ts → In b ts → r a b ≡ d a b) → ((a : T) → In a ts → r a c ≡ d a c) → dooms n r ts c ≡ dooms n d ts c
-  dooms_same pairs last = fold-same (with_doom n r ts c) (with_doom n d ts c) [] ts (doom_same pairs last)
+  dooms_same pairs last = fold-same_in (with_doom n r ts c) (with_doom n d ts c) [] ts (doom_same pairs last)
 
 -- of transactions as they are seen through f
 module _ {S T : Type 0} (f : S → T) (n : T → Node) (r : T → T → Bool) where
@@ -135,12 +121,6 @@ out_left {T} n e keep ts t gone = ap (λ us. option_map (λ u. (n u).commit) (ea
 
 -- ---- what comes from it
 
-lt_of : (a b : ℕ) → nat_lt a b ≡ true → a < b
-lt_of a b e = grind (arith, nat_tests)
-
-not_lt_of : (a b : ℕ) → nat_lt a b ≡ false → b ≤ a
-not_lt_of a b e = grind (arith, nat_tests)
-
 module _ {T : Type 0} (n : T → Node) (e : T → T → Bool) (t : T) where
   abbrev of_commit : T → ℕ
   of_commit u = (n u).commit
@@ -157,16 +137,16 @@ module _ {T : Type 0} (n : T → Node) (e : T → T → Bool) (t : T) where
       both (Some v) l = pick (nat_lt (of_commit v) (of_commit u)) refl
         where
           pick : (b : Bool) → nat_lt (of_commit v) (of_commit u) ≡ b → min (of_commit u) (min (of_commit v) (of_commit t)) ≡ min (of_commit (cond b v u)) (of_commit t)
-          pick true x = let y = lt_of (of_commit v) (of_commit u) x in omega (arith, y)
-          pick false x = let y = not_lt_of (of_commit v) (of_commit u) x in omega (arith, y)
+          pick true x = let y = ltb-true (of_commit v) (of_commit u) x in omega (arith, y)
+          pick false x = let y = ltb-false (of_commit v) (of_commit u) x in omega (arith, y)
 
       past : (o : Option T) → nat_lt (of_commit u) (of_commit t) ≡ false → least_of (of_commit t) (option_map of_commit o) ≡ least_of (of_commit t) (Some (of_commit (earlier n e u o)))
-      past None l = let y = not_lt_of (of_commit u) (of_commit t) l in omega (arith, y)
+      past None l = let y = ltb-false (of_commit u) (of_commit t) l in omega (arith, y)
       past (Some v) l = pick (nat_lt (of_commit v) (of_commit u)) refl
         where
           pick : (b : Bool) → nat_lt (of_commit v) (of_commit u) ≡ b → min (of_commit v) (of_commit t) ≡ min (of_commit (cond b v u)) (of_commit t)
           pick true x = refl
-          pick false x = let y = not_lt_of (of_commit v) (of_commit u) x in let z = not_lt_of (of_commit u) (of_commit t) l in omega (arith, y, z)
+          pick false x = let y = ltb-false (of_commit v) (of_commit u) x in let z = ltb-false (of_commit u) (of_commit t) l in omega (arith, y, z)
 
       go : (a b : Bool) → nat_lt (of_commit u) (of_commit t) ≡ b → first_part n e t us ≡ least_of (of_commit t) (option_map of_commit (outs us)) →
           cond (a && b) (min (of_commit u) (first_part n e t us)) (first_part n e t us) ≡ least_of (of_commit t) (option_map of_commit (earliest n e (cond a (u ∷ filter (e t) us) (filter (e t) us))))
@@ -235,7 +215,7 @@ cause_left {T} n e keep ts idle = cause-kept n e keep ts three
         first (inl x) = clash (n a).committed (parts n e a b c d).first x
         first (inr x) =
             clash (nat_le (n c).commit (n a).snapshot) (within_snapshot a c x.reader (parts n e a b c d).within)
-            (Each-In (λ z. (e a b && e b z) ≡ true → nat_le (n z).commit (n a).snapshot ≡ false) ts c (Each-In (λ y. Each (λ z. (e a y && e y z) ≡ true → nat_le (n z).commit (n a).snapshot ≡ false) ts) ts b x.safe j) k (and_true (e a b) (e b c) (parts n e a b c d).into (parts n e a b c d).out))
+            (Each-In (λ z. (e a b && e b z) ≡ true → nat_le (n z).commit (n a).snapshot ≡ false) ts c (Each-In (λ y. Each (λ z. (e a y && e y z) ≡ true → nat_le (n z).commit (n a).snapshot ≡ false) ts) ts b x.safe j) k (and_from (e a b) (e b c) (parts n e a b c d).into (parts n e a b c d).out))
 
         pivot : ((n b).committed ≡ false) ⊎ IsSafeReader n e ts b → ⊥
         pivot (inl x) = clash (n b).committed (parts n e a b c d).pivot x

@@ -1,8 +1,8 @@
 -- Escaped bytes: they are cut nowhere, hold no break, and stand for the bytes.
-use Rattle.std.proofs.Common.{◌≡◌, ◌⊎◌, ℕ, zero, suc, ◌+◌, ◌<◌, Bool, true, false, cond, ◌&&◌, ◌||◌, not, eqb, List, [], ◌∷◌, ◌++◌, length, drop, Option, Some, None, inl, inr, refl, sym, ap, subst, ◌∙◌, append_assoc}
+use Rattle.std.proofs.Common.{◌≡◌, ◌⊎◌, ℕ, zero, suc, ◌+◌, ◌<◌, true, false, cond, ◌&&◌, ◌||◌, not, eqb, List, [], ◌∷◌, ◌++◌, length, drop, Option, Some, None, inl, inr, refl, sym, ap, subst, ◌∙◌, append_assoc}
 use Rattle.std.specs.Option.{option_map, is_some}
 use Rattle.std.specs.List.{flat_map, list_any}
-use Rattle.std.proofs.lemmas.Bool.{eqb-true}
+use Rattle.std.proofs.lemmas.Bool.{eqb-true, cases_Bool}
 use Rattle.copytext.specs.Writing.{letter_of, by_letter, escaped}
 use Rattle.copytext.specs.Reading.{onto_first, cut_after, escape, content, is_break, is_field, is_null_mark}
 use Rattle.copytext.proofs.FieldLemmas.{behind, behind_nothing, content_plain, content_escape}
@@ -27,10 +27,6 @@ pub record HasLetter (b l : ℕ) : Type 0 where
 abbrev pub Written : ℕ → Type 0
 Written b = IsPlain b ⊎ ((l : ℕ) × HasLetter b l)
 
-test_cases : (t : Bool) → (t ≡ true) ⊎ (t ≡ false)
-test_cases true = inl refl
-test_cases false = inr refl
-
 abbrev lettered : (b l : ℕ) → HasLetter b l → Written b
 lettered b l h = inr (l, h)
 
@@ -39,19 +35,19 @@ at_byte b m e w = subst Written (sym (eqb-true b m e)) w
 
 pub written : (b : ℕ) → Written b
 written b =
-    elim (test_cases (eqb b 8)) [
+    elim (cases_Bool (eqb b 8)) [
       | inl e ↦ at_byte b 8 e (lettered 8 98 record { letter = refl; back = λ rest. refl; no_null = refl; no_dot = refl; no_newline = refl; no_return = refl })
-      | inr n8 ↦ elim (test_cases (eqb b 9)) [
+      | inr n8 ↦ elim (cases_Bool (eqb b 9)) [
         | inl e ↦ at_byte b 9 e (lettered 9 116 record { letter = refl; back = λ rest. refl; no_null = refl; no_dot = refl; no_newline = refl; no_return = refl })
-        | inr n9 ↦ elim (test_cases (eqb b 10)) [
+        | inr n9 ↦ elim (cases_Bool (eqb b 10)) [
           | inl e ↦ at_byte b 10 e (lettered 10 110 record { letter = refl; back = λ rest. refl; no_null = refl; no_dot = refl; no_newline = refl; no_return = refl })
-          | inr n10 ↦ elim (test_cases (eqb b 11)) [
+          | inr n10 ↦ elim (cases_Bool (eqb b 11)) [
             | inl e ↦ at_byte b 11 e (lettered 11 118 record { letter = refl; back = λ rest. refl; no_null = refl; no_dot = refl; no_newline = refl; no_return = refl })
-            | inr n11 ↦ elim (test_cases (eqb b 12)) [
+            | inr n11 ↦ elim (cases_Bool (eqb b 12)) [
               | inl e ↦ at_byte b 12 e (lettered 12 102 record { letter = refl; back = λ rest. refl; no_null = refl; no_dot = refl; no_newline = refl; no_return = refl })
-              | inr n12 ↦ elim (test_cases (eqb b 13)) [
+              | inr n12 ↦ elim (cases_Bool (eqb b 13)) [
                 | inl e ↦ at_byte b 13 e (lettered 13 114 record { letter = refl; back = λ rest. refl; no_null = refl; no_dot = refl; no_newline = refl; no_return = refl })
-                | inr n13 ↦ elim (test_cases (eqb b 92)) [
+                | inr n13 ↦ elim (cases_Bool (eqb b 92)) [
                   | inl e ↦ at_byte b 92 e (lettered 92 92 record { letter = refl; back = λ rest. refl; no_null = refl; no_dot = refl; no_newline = refl; no_return = refl })
                   | inr n92 ↦ inl record { letter = rw (n8, n9, n10, n11, n12, n13, n92) refl; no_tab = n9; no_newline = n10; no_return = n13; no_backslash = n92 }
                 ]

@@ -1,5 +1,5 @@
 -- What is written of values of their kinds reads as these values.
-use Rattle.std.proofs.Common.{◌≡◌, ◌⊎◌, ℕ, zero, suc, ◌+◌, ◌-◌, ◌^◌, ◌<◌, ◌≤◌, ℤ, pos, negsuc, Bool, true, false, cond, ◌&&◌, ◌||◌, not, eqb, ltb, List, [], ◌∷◌, ◌++◌, length, get_or, map, Option, Some, None, Result, Ok, Err, inl, inr, refl, sym, ap, subst, ◌∙◌, arith, rules}
+use Rattle.std.proofs.Common.{◌≡◌, ◌⊎◌, ℕ, zero, suc, ◌+◌, ◌-◌, ◌^◌, ◌<◌, ◌≤◌, ℤ, pos, negsuc, Bool, true, false, cond, ◌&&◌, ◌||◌, not, eqb, ltb, List, [], ◌∷◌, ◌++◌, length, get_or, map, Option, Some, None, Result, Ok, Err, inl, inr, refl, sym, ap, subst, ◌∙◌, arith}
 use Rattle.std.specs.Prelude.{codes}
 use Rattle.std.specs.Char.{is_ascii_digit}
 use Rattle.std.specs.Fmt.{decimal, signed_decimal}
@@ -12,7 +12,6 @@ use Rattle.std.proofs.lemmas.Fmt.{digits_decimal, digits_value-decimal, decimal_
 use Rattle.std.proofs.lemmas.Grind.{common_steps}
 use Rattle.std.proofs.lemmas.Int.{ints}
 use Rattle.std.proofs.lemmas.List.{append-nil}
-use Rattle.std.proofs.lemmas.Str.Parse.{IsNumeralModel, numerals_by_value}
 use Rattle.hex.specs.Hex.{IsBytes, encode_lower}
 use Rattle.hex.proofs.HexLemmas.{decode_of-encode_lower}
 use Rattle.value.specs.declared.kind.Kind.{Kind}
@@ -24,6 +23,7 @@ use Rattle.std.specs.Str.{is_utf8}
 use Rattle.value.specs.declared.value.Value.{Value}
 use Rattle.value.specs.declared.value.Value.TheVariants.{Null, Int, Text, Bytes}
 use Rattle.value.specs.Literal.{signed_number, bigint_of, text_of, decoded, bytea_of, as_int, as_text, as_bytes, literal_of}
+use Rattle.value.proofs.LiteralLemmas.{numerals}
 use Rattle.schema.specs.Plain.{in_range, has_kind}
 use Rattle.copytext.specs.Writing.{tab, escaped, field_text, line_text}
 use Rattle.copytext.specs.Reading.{onto_first, cut, cut_after, content, is_break, is_field, is_null_mark, field_value, onto_values, field_values, line_values}
@@ -33,9 +33,6 @@ use Rattle.copytext.proofs.WritingLemmas.{is_plain, escaped-plain, join_cons}
 use Rattle.copytext.proofs.EscapedLemmas.{content-escaped, no_break-escaped, no_null-escaped, IsUncut, uncut-escaped, onto_behind}
 
 -- ---- numbers
-
-numerals : IsNumeralModel (λ ds. list_all is_ascii_digit ds ≡ true) (digits_value 10)
-numerals = numerals_by_value _ (search rules)
 
 no_sign : (ds : List ℕ) → list_all is_ascii_digit ds ≡ true → (starts_with_minus ds ≡ false) × (without_leading_sign ds ≡ ds)
 no_sign [] h = (refl, refl)

@@ -1,5 +1,6 @@
 -- How the values of a line's fields are read from the left.
-use Rattle.std.proofs.Common.{◌≡◌, ◌⊎◌, ℕ, ◌+◌, ◌<◌, ◌≤◌, Bool, true, false, ◌||◌, eqb, List, [], ◌∷◌, ◌++◌, length, get_or, drop, Option, Some, None, Result, Ok, Err, inl, inr, refl, sym, ap, ◌∙◌, append_assoc}
+use Rattle.std.proofs.Common.{◌≡◌, ◌⊎◌, ℕ, ◌+◌, ◌<◌, ◌≤◌, false, eqb, List, [], ◌∷◌, ◌++◌, length, get_or, drop, Option, Some, None, Result, Ok, Err, inl, inr, refl, sym, ap, ◌∙◌, append_assoc}
+use Rattle.std.proofs.lemmas.Bool.{or_parts}
 use Rattle.std.specs.Option.{option_map}
 use Rattle.std.specs.List.{list_any}
 use Rattle.std.proofs.lemmas.List.{append-nil, drop_more, drop_all}
@@ -17,15 +18,11 @@ null_mark-short (a ∷ []) h = refl
 null_mark-short (a ∷ b ∷ []) h = absurd (h refl)
 null_mark-short (a ∷ b ∷ c ∷ raw) h = refl
 
-neither : (p q : Bool) → (p || q) ≡ false → (p ≡ false) × (q ≡ false)
-neither true q h = absurd cc
-neither false q h = (refl, h)
-
 -- a field without a backslash is its own content
 pub content-whole : (raw : List ℕ) → list_any (λ b. eqb b 92) raw ≡ false → content raw ≡ Some raw
 content-whole [] h = refl
 content-whole (b ∷ raw) h =
-    let parts = neither (eqb b 92) (list_any (λ x. eqb x 92) raw) h in
+    let parts = or_parts (eqb b 92) (list_any (λ x. eqb x 92) raw) h in
     rw (parts.0, content-whole raw parts.1) refl
 
 pub field_value-whole : {A : Type 0} (kind : Kind) (raw : List ℕ) → is_null_mark raw ≡ false → list_any (λ b. eqb b 92) raw ≡ false → field_value {A = A} kind raw ≡ literal_of kind raw

@@ -1,6 +1,7 @@
 -- What is written byte by byte is the field's text.
-use Rattle.std.proofs.Common.{◌≡◌, ℕ, ◌/◌, ◌%◌, Bool, true, false, ◌&&◌, List, [], ◌∷◌, ◌++◌, get_or, map, Option, Some, None, refl, sym, ap, ◌∙◌, append_assoc}
+use Rattle.std.proofs.Common.{◌≡◌, ℕ, ◌/◌, ◌%◌, Bool, true, List, [], ◌∷◌, ◌++◌, get_or, map, Option, Some, None, refl, sym, ap, ◌∙◌, append_assoc}
 use Rattle.std.proofs.Common.{subst, zero, suc, ◌+◌, ◌<◌, ◌≤◌, length, take, arith, Result, Ok, Err}
+use Rattle.std.proofs.lemmas.Bool.{and_parts}
 use Rattle.std.specs.Prelude.{OnErr}
 use Rattle.value.specs.Printed.{bytea_text}
 use Rattle.std.proofs.lemmas.List.{append-nil, take_at, take-take, take_more, length-append, flat_map_more}
@@ -16,10 +17,6 @@ is_plain b = is_none (letter_of b)
 plain_byte : (b : ℕ) (o : Option ℕ) → is_none o ≡ true → by_letter b o ≡ b ∷ []
 plain_byte b None h = refl
 plain_byte b (Some l) h = absurd cc
-
-pub and_parts : (p q : Bool) → (p && q) ≡ true → (p ≡ true) × (q ≡ true)
-and_parts true q h = (refl, h)
-and_parts false q h = absurd cc
 
 -- bytes none of which has a letter are written as they are
 pub escaped-plain : (bytes : List ℕ) → list_all is_plain bytes ≡ true → escaped bytes ≡ bytes

@@ -7,6 +7,7 @@ use Rattle.std.proofs.lemmas.List.{append-nil}
 use Rattle.std.proofs.lemmas.List.Concat.{flat_map-append}
 use Rattle.std.proofs.lemmas.List.Folds.{flat_map-map}
 use Rattle.value.specs.declared.key.Key.{Key}
+use Rattle.value.proofs.Basics.{all-append}
 use Rattle.schema.specs.Definition.{TableSchema, Catalog}
 use Rattle.schema.specs.Plain.{rows_of}
 use Rattle.schema.specs.Rows.{IsInKeyOrder}
@@ -24,10 +25,6 @@ use Rattle.dumpplan.proofs.PieceLemmas.{ranges_text, rows_from-none, Rises-cuts,
 pub all_of_each : {X : Type 0} (P : X → Type 0) (d : X) (xs : List X) → ((k : ℕ) → k < length xs → P (slice_index_or xs k d)) → AllByRecursion P xs
 all_of_each P d [] each = tt
 all_of_each P d (x ∷ xs) each = (each zero (omega arith), all_of_each P d xs (λ k lt. each (suc k) (omega arith)))
-
-pub all_append : {X : Type 0} (P : X → Type 0) (xs ys : List X) → AllByRecursion P xs → AllByRecursion P ys → AllByRecursion P (xs ++ ys)
-all_append P [] ys of_xs of_ys = of_ys
-all_append P (x ∷ xs) ys of_xs of_ys = (of_xs.0, all_append P xs ys of_xs.1 of_ys)
 
 module _ {A : Type 0} where
   -- ---- the text
@@ -75,10 +72,10 @@ module _ {A : Type 0} where
   known_tables : (n most t : ℕ) (X : List (List (Row A))) → t + length X ≤ n → AllByRecursion (IsPieceOf n) (tables_pieces most t X)
   known_tables n most t [] within = tt
   known_tables n most t (rows ∷ more) within =
-      all_append (IsPieceOf n) (table_pieces most t rows) (tables_pieces most (t + 1) more) (known_ranges n t (length rows) (omega arith) None (cuts most most rows)) (known_tables n most (t + 1) more (omega arith))
+      all-append (IsPieceOf n) (table_pieces most t rows) (tables_pieces most (t + 1) more) (known_ranges n t (length rows) (omega arith) None (cuts most most rows)) (known_tables n most (t + 1) more (omega arith))
 
   pub known_plan : (n most : ℕ) (X : List (List (Row A))) → length X ≤ n → AllByRecursion (IsPieceOf n) (planned most X)
-  known_plan n most X within = all_append (IsPieceOf n) (Head ∷ tables_pieces most 0 X) (End ∷ []) (tt, known_tables n most 0 X (omega arith)) (tt, tt)
+  known_plan n most X within = all-append (IsPieceOf n) (Head ∷ tables_pieces most 0 X) (End ∷ []) (tt, known_tables n most 0 X (omega arith)) (tt, tt)
 
   -- ---- one more table
 

@@ -1,9 +1,8 @@
 -- A transaction that meets on its reads the rows that it met, run alone, gets its replies.
-use Rattle.std.proofs.Common.{◌≡◌, refl, sym, ap, subst, ◌∙◌, ℕ, suc, ◌-◌, ◌<◌, ◌≤◌, Bool, true, false, true≢false, ◌≢◌, cond, not, ◌&&◌, ◌||◌, ◌⊎◌, inl, inr, List, [], ◌∷◌, ◌++◌, length, take, Option, Some, None, is_some, unwrap_or, if◌then◌else◌, eqb, nat_lt, nat_le, arith}
+use Rattle.std.proofs.Common.{◌≡◌, refl, sym, ap, subst, ◌∙◌, ℕ, suc, ◌-◌, ◌<◌, ◌≤◌, Bool, true, false, true≢false, ◌≢◌, cond, not, ◌&&◌, ◌||◌, ◌⊎◌, inl, inr, List, [], ◌∷◌, ◌++◌, length, take, Option, Some, None, is_some, unwrap_or, if◌then◌else◌, eqb, nat_le, arith}
 use Rattle.std.specs.List.{list_any, filter, AllByRecursion}
 use Rattle.std.specs.FinMap.{find}
 use Rattle.std.specs.FinMap.Entries.{same_entries}
-use Rattle.std.proofs.lemmas.Bool.Decides.{nat_tests}
 use Rattle.value.specs.Order.{value_cmp, value_cmp-total}
 use Rattle.schema.specs.declared.row.Row.{Row}
 use Rattle.value.specs.declared.value.Value.{Value}
@@ -12,10 +11,11 @@ use Rattle.value.proofs.SortLemmas.{InOrder, Apart, Below-asym, In-sorted, sorte
 use Rattle.value.proofs.LastWriter.{after_all}
 use Rattle.value.proofs.MarkedWriters.{marked_left, IsMarked, same_showing}
 use Rattle.value.proofs.SerialLemmas.{IsRead, IsWritten, NumberedFrom, same_row, same_prefix, beginning, In-right, In-left, In-take, InOrder-front}
+use Rattle.value.proofs.Basics.{append_cons, any-neither, any-cases, and_from_three, any-back, any-front}
 use Rattle.schema.specs.declared.changes.Change.{Change}
 use Rattle.schema.specs.Definition.{Catalog}
 use Rattle.schema.specs.declared.tables.Tables.{Tables}
-use Rattle.std.proofs.lemmas.Bool.{eqb-true}
+use Rattle.std.proofs.lemmas.Bool.{eqb-true, lt-ltb, or_right, or_left, and_parts}
 use Rattle.schema.specs.Plain.{row_at, rows_of, put_all, same, is_null}
 use Rattle.std.proofs.lemmas.Bool.Decides.{eqb_tells}
 use Rattle.schema.proofs.PlainLemmas.{IsOrdered, put_all-ordered, put_all-append, length-put_all, row_at-put_all, row_at-both, left_by, left_by-change, touches, same_value, rows_of-past}
@@ -37,48 +37,6 @@ use Rattle.statement.proofs.Suffices.{suffices, WithKeys, outcome_keys, put_all-
 use Rattle.history.specs.Transactions.{Txn, World, node, edge, reads_key_of, reads_mark_of, tables_at, with_all}
 use Rattle.history.specs.Serial.{committed, serial_order, key, Alone, InTurn, InTime, IsSerial, precedes, prefix, RunsTo}
 
-two_of : (a b : Bool) → (a && b) ≡ true → (a ≡ true) × (b ≡ true)
-two_of true b e = (refl, e)
-two_of false b e = absurd (true≢false (sym e))
-
-any_left : {A : Type 0} (p : A → Bool) (xs ys : List A) → list_any p xs ≡ true → list_any p (xs ++ ys) ≡ true
-any_left p [] ys h = absurd (true≢false (sym h))
-any_left p (x ∷ xs) ys h = go (p x) (any_left p xs ys) h
-  where
-    go : (b : Bool) → (list_any p xs ≡ true → list_any p (xs ++ ys) ≡ true) → (b || list_any p xs) ≡ true → (b || list_any p (xs ++ ys)) ≡ true
-    go true rest e = refl
-    go false rest e = rest e
-
-any_right : {A : Type 0} (p : A → Bool) (xs ys : List A) → list_any p ys ≡ true → list_any p (xs ++ ys) ≡ true
-any_right p [] ys h = h
-any_right p (x ∷ xs) ys h = go (p x) (any_right p xs ys h)
-  where
-    go : (b : Bool) → list_any p (xs ++ ys) ≡ true → (b || list_any p (xs ++ ys)) ≡ true
-    go true e = refl
-    go false e = e
-
-or_first : (a b : Bool) → a ≡ true → (a || b) ≡ true
-or_first a b e = ap (λ c. c || b) e
-
-or_right : (a b : Bool) → b ≡ true → (a || b) ≡ true
-or_right true b e = refl
-or_right false b e = e
-
-and_three : (a b d : Bool) → a ≡ true → b ≡ true → d ≡ true → (a && b && d) ≡ true
-and_three a b d p q r = cc
-
-lt_true : (a b : ℕ) → a < b → nat_lt a b ≡ true
-lt_true a b h = grind (arith, nat_tests)
-
--- what some member of a joined list is, one of either part is
-any_part : {A : Type 0} (p : A → Bool) (xs ys : List A) → list_any p (xs ++ ys) ≡ true → (list_any p xs ≡ true) ⊎ (list_any p ys ≡ true)
-any_part p [] ys e = inr e
-any_part p (x ∷ xs) ys e = go (p x) (any_part p xs ys) e
-  where
-    go : (b : Bool) → (list_any p (xs ++ ys) ≡ true → (list_any p xs ≡ true) ⊎ (list_any p ys ≡ true)) → (b || list_any p (xs ++ ys)) ≡ true → ((b || list_any p xs) ≡ true) ⊎ (list_any p ys ≡ true)
-    go true rest f = inl refl
-    go false rest f = rest f
-
 none_part : {A : Type 0} (p : A → Bool) (xs ys : List A) → list_any p (xs ++ ys) ≡ false → (list_any p xs ≡ false) × (list_any p ys ≡ false)
 none_part p [] ys e = (refl, e)
 none_part p (x ∷ xs) ys e = go (p x) (none_part p xs ys) e
@@ -87,21 +45,9 @@ none_part p (x ∷ xs) ys e = go (p x) (none_part p xs ys) e
     go true rest f = absurd (true≢false f)
     go false rest f = rest f
 
-none_both : {A : Type 0} (p : A → Bool) (xs ys : List A) → list_any p xs ≡ false → list_any p ys ≡ false → list_any p (xs ++ ys) ≡ false
-none_both p [] ys e f = f
-none_both p (x ∷ xs) ys e f = go (p x) (λ h. none_both p xs ys h f) e
-  where
-    go : (b : Bool) → (list_any p xs ≡ false → list_any p (xs ++ ys) ≡ false) → (b || list_any p xs) ≡ false → (b || list_any p (xs ++ ys)) ≡ false
-    go true rest h = absurd (true≢false h)
-    go false rest h = rest h
-
 no_some : {A : Type 0} (o : Option A) → (is_some o ≡ true → ⊥) → o ≡ None
 no_some None f = refl
 no_some (Some x) f = absurd (f refl)
-
-append_cons : {A : Type 0} (xs : List A) (y : A) (ys : List A) → xs ++ y ∷ ys ≡ (xs ++ y ∷ []) ++ ys
-append_cons [] y ys = refl
-append_cons (x ∷ xs) y ys = ap (λ zs. x ∷ zs) (append_cons xs y ys)
 
 module _ {A : Type 0} where
   -- Done from B, the statements get these replies, read there, and change and mark this.
@@ -152,8 +98,8 @@ module _ {A : Type 0} where
 
         here : Agree (footprint c q.0) X B
         here = record {
-          at = λ t k h. agree.at t k (subst (λ rs'. reads_key rs' t k ≡ true) (sym a.5) (any_left _ (footprint c q.0) a.0 h));
-          naming = λ t j k h p. agree.naming t j k (subst (λ rs'. reads_value rs' t j k ≡ true) (sym a.5) (any_left _ (footprint c q.0) a.0 h)) p;
+          at = λ t k h. agree.at t k (subst (λ rs'. reads_key rs' t k ≡ true) (sym a.5) (any-front _ (footprint c q.0) a.0 h));
+          naming = λ t j k h p. agree.naming t j k (subst (λ rs'. reads_value rs' t j k ≡ true) (sym a.5) (any-front _ (footprint c q.0) a.0 h)) p;
         }
 
         same : outcome c q.0 X ≡ outcome c q.0 B
@@ -161,8 +107,8 @@ module _ {A : Type 0} where
 
         rest : Agree a.0 (put_all (outcome c q.0 B).changes X) (after c q.0 B)
         rest = record {
-          at = λ t k h. row_at-both changes X B t k len (agree.at t k (subst (λ rs'. reads_key rs' t k ≡ true) (sym a.5) (any_right _ (footprint c q.0) a.0 h)));
-          naming = λ t j k h p. naming-both changes X B t j k p len (agree.naming t j k (subst (λ rs'. reads_value rs' t j k ≡ true) (sym a.5) (any_right _ (footprint c q.0) a.0 h)) p);
+          at = λ t k h. row_at-both changes X B t k len (agree.at t k (subst (λ rs'. reads_key rs' t k ≡ true) (sym a.5) (any-back _ (footprint c q.0) a.0 h)));
+          naming = λ t j k h p. naming-both changes X B t j k p len (agree.naming t j k (subst (λ rs'. reads_value rs' t j k ≡ true) (sym a.5) (any-back _ (footprint c q.0) a.0 h)) p);
         }
 
   -- ---- many transactions
@@ -201,20 +147,20 @@ module _ {A : Type 0} where
     where
       same_mark : is_mark n j k m ≡ true → covers_value rs m.table m.column m.key ≡ true
       same_mark f =
-          let a = two_of (eqb m.table n && eqb m.column j) (same m.key k) f in
-          let b = two_of (eqb m.table n) (eqb m.column j) a.0 in
+          let a = and_parts (eqb m.table n && eqb m.column j) (same m.key k) f in
+          let b = and_parts (eqb m.table n) (eqb m.column j) a.0 in
           ap (λ t. covers_value rs t m.column m.key) (eqb-true m.table n b.0) ∙ ap (λ i. covers_value rs n i m.key) (eqb-true m.column j b.1) ∙ ap (covers_value rs n j) (same_value m.key k a.1) ∙ h
 
       go : (b : Bool) → is_mark n j k m ≡ b → (marks_reference ms n j k ≡ true → list_any (λ x. covers_value rs x.table x.column x.key) ms ≡ true) → (b || marks_reference ms n j k) ≡ true
           → (covers_value rs m.table m.column m.key || list_any (λ x. covers_value rs x.table x.column x.key) ms) ≡ true
-      go true f rest g = or_first (covers_value rs m.table m.column m.key) _ (same_mark f)
+      go true f rest g = or_left (covers_value rs m.table m.column m.key) _ (same_mark f)
       go false f rest g = or_right (covers_value rs m.table m.column m.key) _ (rest g)
 
   -- the columns and keys of the references that statements read
   along_names : (c : Catalog) (qs : List (Statement A × Reply A)) (B : Tables A) (rs : List (Reading A)) (xs : List (Change A)) (ms : List (Mark A)) (n j : ℕ) (k : Value A)
       → Along c qs B rs xs ms → reads_value rs n j k ≡ true → (refers c n j ≡ true) × (is_null k ≡ false)
   along_names c [] B rs xs ms n j k a r = absurd (true≢false (sym r ∙ ap (λ zs. reads_value zs n j k) a.0))
-  along_names c (q ∷ qs) B rs xs ms n j k a r = side (any_part _ (footprint c q.0) a.0 (sym (ap (λ zs. reads_value zs n j k) a.5) ∙ r)) (λ h. along_names c qs (after c q.0 B) a.0 a.1 a.2 n j k a.8 h)
+  along_names c (q ∷ qs) B rs xs ms n j k a r = side (any-cases _ (footprint c q.0) a.0 (sym (ap (λ zs. reads_value zs n j k) a.5) ∙ r)) (λ h. along_names c qs (after c q.0 B) a.0 a.1 a.2 n j k a.8 h)
     where
       side : (reads_value (footprint c q.0) n j k ≡ true) ⊎ (reads_value a.0 n j k ≡ true) → (reads_value a.0 n j k ≡ true → (refers c n j ≡ true) × (is_null k ≡ false)) → (refers c n j ≡ true) × (is_null k ≡ false)
       side (inl h) rest = footprint_names c q.0 n j k h
@@ -256,7 +202,7 @@ module _ {A : Type 0} where
       go true d true e rest = ((here d).0, ends (rest e).1)
       go true d false e rest = ((here d).0, ends (kept a.1 Y (rw length-put_all l) e ∙ (here d).1))
       go false d true e rest = (sym (kept changes B l d) ∙ (rest e).0, ends (rest e).1)
-      go false d false e rest = absurd (true≢false (sym h ∙ ap (list_any (touches n p)) a.6 ∙ none_both (touches n p) changes a.1 d e))
+      go false d false e rest = absurd (true≢false (sym h ∙ ap (list_any (touches n p)) a.6 ∙ any-neither (touches n p) changes a.1 d e))
 
   -- What is known of a world after a legal history.
   pub record IsIsolatedWorld (w : World A) : Type 0 where
@@ -336,8 +282,8 @@ module _ {A : Type 0} where
           where
             go : (b : Bool) → eqb t.number u.number ≡ b → (u ≡ t) ⊎ (edge t u ≡ true)
             go true e = inl (iso.unique t u i j e)
-            go false e = inr (and_three _ _ _ (ap not e) (lt_true t.snapshot u.commit lt)
-                (or_first (reads_key_of t u) (reads_mark_of t u) (touched t.reads n k u.changes (covers_reads t.reads n k r) (left_by-change n k u.changes h))))
+            go false e = inr (and_from_three _ _ _ (ap not e) (lt-ltb t.snapshot u.commit lt)
+                (or_left (reads_key_of t u) (reads_mark_of t u) (touched t.reads n k u.changes (covers_reads t.reads n k r) (left_by-change n k u.changes h))))
 
     -- of the writers of any place
     is_written : (n : ℕ) (k : Value A) → IsWritten node edge (committed w) (λ u. left_by n k u.changes)
@@ -367,7 +313,7 @@ module _ {A : Type 0} where
           where
             go : (b : Bool) → eqb t.number u.number ≡ b → (u ≡ t) ⊎ (edge t u ≡ true)
             go true e = inl (iso.unique t u i l e)
-            go false e = inr (and_three _ _ _ (ap not e) (lt_true t.snapshot u.commit lt)
+            go false e = inr (and_from_three _ _ _ (ap not e) (lt-ltb t.snapshot u.commit lt)
                 (or_right (reads_key_of t u) (reads_mark_of t u) (marked_any t.reads n j k u.marks (covers_values t.reads n j k r) (both u h).1)))
 
     -- of the writers of a key that don't mark a reference

@@ -1,9 +1,9 @@
 -- Statements done again, one after the other.
-use Rattle.std.proofs.Common.{◌≡◌, refl, sym, ap, ◌∙◌, subst, ℕ, zero, suc, eqb, slice_get, ◌-◌, ◌<◌, ◌≤◌, Bool, true, false, true≢false, ◌&&◌, cond, inl, inr, List, [], ◌∷◌, length, map, take, drop, get_or, Option, Some, None, Result, Ok, Err, IfOk, arith}
-use Rattle.std.proofs.lemmas.Bool.{eqb-true}
-use Rattle.std.proofs.lemmas.List.{take_all}
+use Rattle.std.proofs.Common.{◌≡◌, refl, sym, ap, ◌∙◌, subst, ℕ, zero, suc, eqb, slice_get, ◌-◌, ◌≤◌, Bool, true, false, cond, inl, inr, List, [], ◌∷◌, length, map, take, drop, get_or, Option, Some, None, Ok, arith}
+use Rattle.std.proofs.lemmas.Bool.{eqb-true, and_parts}
 use Rattle.std.specs.Option.{option_map}
 use Rattle.value.specs.Refusals.{AnswersOrNoMemory}
+use Rattle.value.proofs.Basics.{first_and_rest}
 use Rattle.schema.specs.Definition.{Catalog}
 use Rattle.schema.specs.declared.tables.Tables.{Tables}
 use Rattle.schema.specs.declared.changes.Change.{Change}
@@ -18,17 +18,6 @@ use Rattle.orders.specs.Explains.{agrees, alone, are_fit}
 pub answered-ok : {T : Type 0} (x a : T) → AnswersOrNoMemory (Ok x) (Ok a) → x ≡ a
 answered-ok x a (inl e) = cc
 answered-ok x a (inr e) = cc
-
--- a list that isn't empty is its first element and the rest
-pub first_and_rest : {T : Type 0} (xs : List T) (x : T) → 1 ≤ length xs → x ≡ get_or xs 0 x → xs ≡ x ∷ take (length xs - 1) (drop 1 xs)
-first_and_rest [] x long first = absurd (omega arith)
-first_and_rest (y ∷ ys) x long first =
-    let e : length (y ∷ ys) - 1 ≡ length ys = omega arith in
-    ap (λ z. z ∷ ys) (sym first) ∙ ap (λ zs. x ∷ zs) (sym (ap (λ n. take n ys) e ∙ take_all (length ys) ys (omega arith)))
-
-two : (a b : Bool) → (a && b) ≡ true → (a ≡ true) × (b ≡ true)
-two true b e = (refl, e)
-two false b e = absurd (true≢false (sym e))
 
 module _ {A : Type 0} where
   -- what an answer that agrees changes, and none where it doesn't
@@ -47,7 +36,7 @@ module _ {A : Type 0} where
   pub first-fits : {T : Type 0} (show : T → Statement A × Reply A) (c : Catalog) (qs : List T) (q : T) → 1 ≤ length qs → q ≡ get_or qs 0 q → are_fit c (map show qs) ≡ true → fits c (show q).0 ≡ true
   first-fits {T} show c qs q long first fit =
       let rest : List T = take (length qs - 1) (drop 1 qs) in
-      (two (fits c (show q).0) (are_fit c (map show rest)) (sym (ap (λ (xs : List T). are_fit c (map show xs)) (first_and_rest qs q long first)) ∙ fit)).0
+      (and_parts (fits c (show q).0) (are_fit c (map show rest)) (sym (ap (λ (xs : List T). are_fit c (map show xs)) (first_and_rest qs q long first)) ∙ fit)).0
 
   -- it gets an answer that agrees, and the rest goes on
   pub alone-step : {T : Type 0} (show : T → Statement A × Reply A) (c : Catalog) (qs : List T) (q : T) (X : Tables A) (xs : List (Change A)) → 1 ≤ length qs → q ≡ get_or qs 0 q → are_fit c (map show qs) ≡ true → is_sound c X ≡ true
@@ -56,7 +45,7 @@ module _ {A : Type 0} where
   alone-step {T} show c qs q X xs long first fit sound e =
       let rest : List T = take (length qs - 1) (drop 1 qs) in
       let all : qs ≡ q ∷ rest = first_and_rest qs q long first in
-      let parts = two (fits c (show q).0) (are_fit c (map show rest)) (sym (ap (λ (ys : List T). are_fit c (map show ys)) all) ∙ fit) in
+      let parts = and_parts (fits c (show q).0) (are_fit c (map show rest)) (sym (ap (λ (ys : List T). are_fit c (map show ys)) all) ∙ fit) in
       let a = changes-agree (agrees (outcome c (show q).0 X).reply (show q).1) xs (outcome c (show q).0 X).changes e in
       let done : put_all xs X ≡ after c (show q).0 X = ap (λ ys. put_all ys X) a.1 in (
         ap (alone c (map show rest)) done ∙ sym (ap (λ b. cond b (alone c (map show rest) (after c (show q).0 X)) None) a.0) ∙ sym (ap (λ (ys : List T). alone c (map show ys) X) all),
@@ -79,10 +68,6 @@ some-is f o v r e h = sym (ap (λ p. option_map f p) e) ∙ h
 pub none-is : {V T : Type 0} (f : V → T) (o : Option V) (r : Option T) → o ≡ None → option_map f o ≡ r → None ≡ r
 none-is f o r e h = sym (ap (λ p. option_map f p) e) ∙ h
 
-pub if-ok : {T E : Type 0} {P Q : T → Type 0} (r : Result T E) → IfOk r P → ((x : T) → P x → Q x) → IfOk r Q
-if-ok (Ok x) h f = f x h
-if-ok (Err e) h f = h
-
 -- ---- elements
 
 pub read-at : {T : Type 0} (xs : List T) (i : ℕ) (x y : T) → x ≡ get_or xs i x → slice_get xs i ≡ Some y → x ≡ y
@@ -94,11 +79,6 @@ pub past-none : {T : Type 0} (xs : List T) (i : ℕ) (y : T) → length xs ≤ i
 past-none [] i y l g = cc
 past-none (z ∷ zs) zero y l g = absurd (omega (arith, l))
 past-none (z ∷ zs) (suc i) y l g = past-none zs i y (omega (arith, l)) g
-
-pub there : {T : Type 0} (xs : List T) (i : ℕ) (x : T) → i < length xs → x ≡ get_or xs i x → slice_get xs i ≡ Some x
-there [] i x l e = absurd (omega (arith, l))
-there (z ∷ zs) zero x l e = ap Some (sym e)
-there (z ∷ zs) (suc i) x l e = there zs i x (omega (arith, l)) e
 
 pub no-changes : {T : Type 0} (xs : List T) (n : ℕ) → n ≡ length xs → eqb n 0 ≡ true → xs ≡ []
 no-changes [] n e h = refl

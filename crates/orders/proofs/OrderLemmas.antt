@@ -1,19 +1,21 @@
 -- An order explains what was recorded exactly where its transactions can come one after the other.
 use Rattle.std.proofs.Common.{◌≡◌, ◌⊎◌, refl, sym, ap, ◌∙◌, subst, ℕ, zero, suc, map, Bool, true, false, true≢false, not, ◌&&◌, inl, inr, List, [], ◌∷◌, slice_get, slice_set, Option, Some, None, is_some}
+use Rattle.std.proofs.lemmas.Bool.{cases_eq}
+use Rattle.std.proofs.lemmas.Option.{same_Some}
 use Rattle.std.specs.List.{AllByRecursion}
 use Rattle.schema.specs.Definition.{Catalog}
 use Rattle.schema.specs.declared.tables.Tables.{Tables}
 use Rattle.orders.specs.Explains.{Trace, Explains, InTurn, InTime, MayFollow, AreApart, Stands, alone, precedes, ended_before}
 use Rattle.orders.specs.Turns.{MayCome}
 use Rattle.orders.specs.Walks.{AllDone, Goes, none_done}
-use Rattle.orders.proofs.PlaceLemmas.{some-injective, get-set, get-other, get-false, decide, all_at, all_from}
+use Rattle.orders.proofs.PlaceLemmas.{get-set, get-other, get-false, all_at, all_from}
 
 endless : {A : Type 0} (a t : Trace A) → a.end ≡ None → precedes a t ≡ false
 endless a t e = ap (λ o. ended_before o t.begin && not t.imported) e
 
 none-true : {T : Type 0} (xs : List T) (i : ℕ) → slice_get (map (λ (_ : T). false) xs) i ≡ Some true → ⊥
 none-true [] i e = cc
-none-true (x ∷ xs) zero e = true≢false (some-injective true false (sym e))
+none-true (x ∷ xs) zero e = true≢false (same_Some true false (sym e))
 none-true (x ∷ xs) (suc i) e = none-true xs i e
 
 module _ {A : Type 0} (c : Catalog) (ts : List (Trace A)) where
@@ -33,13 +35,13 @@ module _ {A : Type 0} (c : Catalog) (ts : List (Trace A)) where
   Fresh done order = (i : ℕ) → Stands i order → slice_get done i ≡ Some false
 
   clash : {B : Type 0} (done : List Bool) (i : ℕ) → slice_get done i ≡ Some true → slice_get done i ≡ Some false → B
-  clash done i t f = absurd (true≢false (some-injective true false (sym t ∙ f)))
+  clash done i t f = absurd (true≢false (same_Some true false (sym t ∙ f)))
 
   fresh-next : (done : List Bool) (i : ℕ) (later : List ℕ) → Fresh done (i ∷ later) → AllByRecursion (λ j. j ≡ i → ⊥) later → Fresh (slice_set done i true) later
   fresh-next done i later f apart = λ k s. get-other done i k true (all_at (λ j. j ≡ i → ⊥) later k apart s) ∙ f k (inr s)
 
   whole-next : (done : List Bool) (i : ℕ) (later : List ℕ) → slice_get done i ≡ Some false → Whole done (i ∷ later) → Whole (slice_set done i true) later
-  whole-next done i later l w = λ k t g e. go k (w k t g e) (decide k i)
+  whole-next done i later l w = λ k t g e. go k (w k t g e) (cases_eq k i)
     where
       go : (k : ℕ) → (slice_get done k ≡ Some true) ⊎ Stands k (i ∷ later) → (k ≡ i) ⊎ (k ≡ i → ⊥) → (slice_get (slice_set done i true) k ≡ Some true) ⊎ Stands k later
       go k h (inl e) = inl (ap (slice_get (slice_set done i true)) e ∙ get-set done i false true l)
@@ -78,7 +80,7 @@ module _ {A : Type 0} (c : Catalog) (ts : List (Trace A)) where
 
   goes-fresh : (order : List ℕ) (done : List Bool) (X : Tables A) → Goes c ts done X order → Fresh done order
   goes-fresh [] done X g = λ k s. absurd s
-  goes-fresh (i ∷ later) done X g = λ k s. go (goes-fresh later (slice_set done i true) g.1 g.4) k s (decide k i)
+  goes-fresh (i ∷ later) done X g = λ k s. go (goes-fresh later (slice_set done i true) g.1 g.4) k s (cases_eq k i)
     where
       go : Fresh (slice_set done i true) later → (k : ℕ) → Stands k (i ∷ later) → (k ≡ i) ⊎ (k ≡ i → ⊥) → slice_get done k ≡ Some false
       go r k s (inl e) = ap (slice_get done) e ∙ g.2.left
@@ -94,7 +96,7 @@ module _ {A : Type 0} (c : Catalog) (ts : List (Trace A)) where
 
   goes-whole : (order : List ℕ) (done : List Bool) (X : Tables A) → Goes c ts done X order → Whole done order
   goes-whole [] done X g = λ i t h e. inl (g i t h e)
-  goes-whole (i ∷ later) done X g = λ k t h e. go k (decide k i) (goes-whole later (slice_set done i true) g.1 g.4 k t h e)
+  goes-whole (i ∷ later) done X g = λ k t h e. go k (cases_eq k i) (goes-whole later (slice_set done i true) g.1 g.4 k t h e)
     where
       go : (k : ℕ) → (k ≡ i) ⊎ (k ≡ i → ⊥) → (slice_get (slice_set done i true) k ≡ Some true) ⊎ Stands k later → (slice_get done k ≡ Some true) ⊎ Stands k (i ∷ later)
       go k (inl e) h = inr (inl e)
@@ -109,7 +111,7 @@ module _ {A : Type 0} (c : Catalog) (ts : List (Trace A)) where
   goes-time [] done X g = tt
   goes-time (i ∷ later) done X g = (
     all_from (λ j. MayFollow ts i j) (i ∷ later) (λ j s a b ga gb.
-        subst (λ u. precedes a u ≡ false) (some-injective g.0 b (sym g.2.stands ∙ gb)) (g.2.in_time j a ga (goes-fresh (i ∷ later) done X g j s))),
+        subst (λ u. precedes a u ≡ false) (same_Some g.0 b (sym g.2.stands ∙ gb)) (g.2.in_time j a ga (goes-fresh (i ∷ later) done X g j s))),
     goes-time later (slice_set done i true) g.1 g.4,
   )
 

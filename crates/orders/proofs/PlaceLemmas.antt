@@ -1,12 +1,8 @@
 -- Places of lists: what is read after a write, and what stands among places.
-use Rattle.std.proofs.Common.{◌≡◌, ◌⊎◌, refl, sym, ap, ◌∙◌, subst, ℕ, zero, suc, ◌<◌, ◌≤◌, Bool, true, false, true≢false, eqb, nat_lt, inl, inr, List, [], ◌∷◌, length, map, slice_get, slice_set, Option, Some, None, arith}
-use Rattle.std.proofs.lemmas.Bool.{eq-eqb, eqb-true}
-use Rattle.std.proofs.lemmas.Bool.Decides.{nat_tests}
+use Rattle.std.proofs.Common.{◌≡◌, refl, sym, ap, subst, ℕ, zero, suc, false, inl, inr, List, [], ◌∷◌, length, map, slice_get, slice_set, Option, Some, None}
+use Rattle.std.proofs.lemmas.Option.{same_Some}
 use Rattle.std.specs.List.{AllByRecursion}
 use Rattle.orders.specs.Explains.{Stands}
-
-pub some-injective : {T : Type 0} (x y : T) → Some x ≡ Some y → x ≡ y
-some-injective x y e = cc
 
 pub get-set : {T : Type 0} (xs : List T) (i : ℕ) (x y : T) → slice_get xs i ≡ Some x → slice_get (slice_set xs i y) i ≡ Some y
 get-set [] i x y e = cc
@@ -22,30 +18,13 @@ get-other (z ∷ zs) (suc i) (suc j) y n = get-other zs i j y (λ e. n (ap suc e
 
 pub set-back : {T : Type 0} (xs : List T) (i : ℕ) (x y : T) → slice_get xs i ≡ Some x → slice_set (slice_set xs i y) i x ≡ xs
 set-back [] i x y e = refl
-set-back (z ∷ zs) zero x y e = ap (λ w. w ∷ zs) (sym (some-injective z x e))
+set-back (z ∷ zs) zero x y e = ap (λ w. w ∷ zs) (sym (same_Some z x e))
 set-back (z ∷ zs) (suc i) x y e = ap (λ ws. z ∷ ws) (set-back zs i x y e)
 
 pub get-false : {T : Type 0} (xs : List T) (i : ℕ) (x : T) → slice_get xs i ≡ Some x → slice_get (map (λ (_ : T). false) xs) i ≡ Some false
 get-false [] i x e = cc
 get-false (z ∷ zs) zero x e = refl
 get-false (z ∷ zs) (suc i) x e = get-false zs i x e
-
--- ---- numbers
-
--- one of two
-pub decide : (i j : ℕ) → (i ≡ j) ⊎ (i ≡ j → ⊥)
-decide i j = go (eqb i j) refl
-  where
-    go : (b : Bool) → eqb i j ≡ b → (i ≡ j) ⊎ (i ≡ j → ⊥)
-    go true e = inl (eqb-true i j e)
-    go false e = inr (λ q. true≢false (sym (eq-eqb i j q) ∙ e))
-
-pub below_or : (i j : ℕ) → (i < j) ⊎ (j ≤ i)
-below_or i j = go (nat_lt i j) refl
-  where
-    go : (b : Bool) → nat_lt i j ≡ b → (i < j) ⊎ (j ≤ i)
-    go true e = let h : i < j = grind (arith, nat_tests) in inl h
-    go false e = let h : j ≤ i = grind (arith, nat_tests) in inr h
 
 -- ---- all of some places
 

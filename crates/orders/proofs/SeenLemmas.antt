@@ -1,8 +1,8 @@
 -- What is remembered, and tables that are compared.
-use Rattle.std.proofs.Common.{◌≡◌, refl, sym, ap, ◌∙◌, subst, ℕ, zero, suc, ◌<◌, ◌≤◌, Bool, true, false, true≢false, ◌&&◌, zip, List, [], ◌∷◌, ◌++◌, length, get_or, take, map, slice_get, eqb, Option, Some, None, Bor, arith}
+use Rattle.std.proofs.Common.{◌≡◌, refl, sym, ap, ◌∙◌, subst, ℕ, zero, suc, ◌<◌, ◌≤◌, Bool, true, false, true≢false, zip, List, [], ◌∷◌, ◌++◌, length, get_or, take, map, slice_get, eqb, Option, Some, None, Bor, arith}
 use Rattle.std.specs.List.{list_all, AllByRecursion}
-use Rattle.std.proofs.lemmas.Bool.{eqb-true}
-use Rattle.std.proofs.lemmas.List.{take_all}
+use Rattle.std.proofs.lemmas.Bool.{eqb-true, and_parts}
+use Rattle.std.proofs.lemmas.List.{take_all, ext_get_or}
 use Rattle.value.specs.declared.value.Value.{Value}
 use Rattle.schema.specs.Definition.{Catalog}
 use Rattle.schema.specs.declared.row.Row.{Row}
@@ -15,11 +15,6 @@ use Rattle.schema.proofs.PlainLemmas.{same_value}
 use Rattle.orders.specs.Explains.{Trace, same_values}
 use Rattle.orders.specs.Seen.{AreDead, Stand, alike, same_row}
 use Rattle.orders.specs.Walks.{IsDead}
-use Rattle.orders.proofs.PlaceLemmas.{some-injective}
-
-two : (a b : Bool) → (a && b) ≡ true → (a ≡ true) × (b ≡ true)
-two true b e = (refl, e)
-two false b e = absurd (true≢false (sym e))
 
 push-all : {S : Type 0} (P : S → Type 0) (xs : List S) (x : S) → AllByRecursion P xs → P x → AllByRecursion P (xs ++ x ∷ [])
 push-all P [] x a p = (p, tt)
@@ -29,13 +24,6 @@ all-get : {S : Type 0} (P : S → Type 0) (xs : List S) (i : ℕ) (x : S) → Al
 all-get P [] i x a l e = absurd (omega (arith, l))
 all-get P (y ∷ ys) zero x a l e = subst P (sym e) a.0
 all-get P (y ∷ ys) (suc i) x a l e = all-get P ys i x a.1 (omega (arith, l)) e
-
--- lists of the same length, of which each element is found at its place
-each-same : {S : Type 0} (d : S) (xs ys : List S) → length xs ≡ length ys → ((i : ℕ) → i < length xs → get_or xs i d ≡ get_or ys i d) → xs ≡ ys
-each-same d [] [] n h = refl
-each-same d [] (y ∷ ys) n h = absurd (omega (arith, n))
-each-same d (x ∷ xs) [] n h = absurd (omega (arith, n))
-each-same d (x ∷ xs) (y ∷ ys) n h = ap (λ z. z ∷ xs) (h 0 (omega arith)) ∙ ap (λ zs. y ∷ zs) (each-same d xs ys (omega (arith, n)) (λ i l. h (suc i) (omega (arith, l))))
 
 alike-same : (a b : Bool) → alike a b ≡ true → a ≡ b
 alike-same true true h = refl
@@ -48,7 +36,7 @@ flags-same [] [] n h = refl
 flags-same [] (y ∷ ys) n h = absurd (omega (arith, n))
 flags-same (x ∷ xs) [] n h = absurd (omega (arith, n))
 flags-same (x ∷ xs) (y ∷ ys) n h =
-    let p = two (alike x y) (list_all (λ p. alike p.0 p.1) (zip xs ys)) h in
+    let p = and_parts (alike x y) (list_all (λ p. alike p.0 p.1) (zip xs ys)) h in
     ap (λ z. z ∷ xs) (alike-same x y p.0) ∙ ap (λ zs. y ∷ zs) (flags-same xs ys (omega (arith, n)) p.1)
 
 pub stand-same : {A : Type 0} (s : Stand A) (done : List Bool) (X : Tables A) → s.done ≡ done → s.tables ≡ X → s ≡ record { done = done; tables = X }
@@ -70,13 +58,13 @@ module _ {A : Type 0} where
   values-same [] (w ∷ ws) n h = absurd (omega (arith, n))
   values-same (v ∷ vs) [] n h = absurd (omega (arith, n))
   values-same (v ∷ vs) (w ∷ ws) n h =
-      let p = two (same v w) (list_all (λ p. same p.0 p.1) (zip vs ws)) h in
+      let p = and_parts (same v w) (list_all (λ p. same p.0 p.1) (zip vs ws)) h in
       ap (λ x. x ∷ vs) (same_value v w p.0) ∙ ap (λ xs. w ∷ xs) (values-same vs ws (omega (arith, n)) p.1)
 
   row-same : (r s : Row A) → same_row r s ≡ true → r ≡ s
   row-same r s h =
-      let p = two (same r.0 s.0) (same_values r.1 s.1) h in
-      let q = two (eqb (length r.1) (length s.1)) (list_all (λ p. same p.0 p.1) (zip r.1 s.1)) p.1 in
+      let p = and_parts (same r.0 s.0) (same_values r.1 s.1) h in
+      let q = and_parts (eqb (length r.1) (length s.1)) (list_all (λ p. same p.0 p.1) (zip r.1 s.1)) p.1 in
       let k : r.0 ≡ s.0 = same_value r.0 s.0 p.0 in
       let f : r.1 ≡ s.1 = values-same r.1 s.1 (eqb-true (length r.1) (length s.1) q.0) q.1 in
       λ i. (k i, f i)
@@ -86,7 +74,7 @@ module _ {A : Type 0} where
   rows-same [] (s ∷ ss) n h = absurd (omega (arith, n))
   rows-same (r ∷ rs) [] n h = absurd (omega (arith, n))
   rows-same (r ∷ rs) (s ∷ ss) n h =
-      let p = two (same_row r.now s.now) (list_all (λ p. same_row p.0.now p.1.now) (zip rs ss)) h in
+      let p = and_parts (same_row r.now s.now) (list_all (λ p. same_row p.0.now p.1.now) (zip rs ss)) h in
       ap (λ x. x ∷ lent rs) (row-same r.now s.now p.0) ∙ ap (λ xs. s.now ∷ xs) (rows-same rs ss (omega (arith, n)) p.1)
 
   -- ---- tables
@@ -99,4 +87,4 @@ module _ {A : Type 0} where
   all-taken rows n e = ap (take n) (within-all rows) ∙ take_all n rows (omega (arith, e))
 
   pub tables-same : (X Y : Tables A) → length X ≡ length Y → ((t : ℕ) → t < length X → rows_of X t ≡ rows_of Y t) → X ≡ Y
-  tables-same X Y n h = each-same [] X Y n h
+  tables-same X Y n h = ext_get_or [] X Y n h

@@ -1,17 +1,11 @@
 -- Who may come next by time, found by the least end of those that aren't done.
 use Rattle.std.proofs.Common.{◌≡◌, ◌⊎◌, refl, sym, ap, ◌∙◌, subst, ℕ, zero, suc, ◌+◌, ◌-◌, ◌^◌, ◌<◌, ◌≤◌, min, Bool, true, false, true≢false, ◌&&◌, ◌||◌, not, zip, inl, inr, List, [], ◌∷◌, length, get_or, slice_get, Option, Some, None, nat_lt, arith}
+use Rattle.std.proofs.lemmas.Bool.{le-ltb, lt-ltb, cases_eq, cases_lt}
 use Rattle.std.specs.List.{list_all}
-use Rattle.std.proofs.lemmas.Bool.Decides.{nat_tests}
+use Rattle.std.proofs.lemmas.Option.{same_Some}
 use Rattle.orders.specs.Explains.{Trace, precedes, ended_before}
 use Rattle.orders.specs.Turns.{IsLeastEnd, comes, comes_so, end_at, end_or_last, lesser_end}
-use Rattle.orders.proofs.PlaceLemmas.{below_or, decide, some-injective}
 use Rattle.orders.proofs.WalkLemmas.{free-at, free-from}
-
-below : (n m : ℕ) → n < m → nat_lt n m ≡ true
-below n m l = grind (arith, nat_tests)
-
-not-below : (n m : ℕ) → m ≤ n → nat_lt n m ≡ false
-not-below n m l = grind (arith, nat_tests)
 
 module _ {A : Type 0} (ts : List (Trace A)) where
   abbrev waits : List Bool → Trace A → Bool
@@ -22,14 +16,14 @@ module _ {A : Type 0} (ts : List (Trace A)) where
     where
       go : (o : Option ℕ) → a.end ≡ o → t.begin ≤ end_or_last o → precedes a t ≡ false
       go None e l = ap (λ o. ended_before o t.begin && not t.imported) e
-      go (Some n) e l = ap (λ o. ended_before o t.begin && not t.imported) e ∙ ap (λ b. b && not t.imported) (not-below n t.begin l)
+      go (Some n) e l = ap (λ o. ended_before o t.begin && not t.imported) e ∙ ap (λ b. b && not t.imported) (le-ltb n t.begin l)
 
   ends-sooner : (a t : Trace A) → t.begin < 2 ^ 64 → t.imported ≡ false → end_or_last a.end < t.begin → precedes a t ≡ true
   ends-sooner a t fits i l = go a.end refl l
     where
       go : (o : Option ℕ) → a.end ≡ o → end_or_last o < t.begin → precedes a t ≡ true
       go None e l = absurd (omega (arith, l, fits))
-      go (Some n) e l = ap (λ o. ended_before o t.begin && not t.imported) e ∙ ap (λ b. b && not t.imported) (below n t.begin l) ∙ ap (λ b. not b) i
+      go (Some n) e l = ap (λ o. ended_before o t.begin && not t.imported) e ∙ ap (λ b. b && not t.imported) (lt-ltb n t.begin l) ∙ ap (λ b. not b) i
 
   imported-waits : (a t : Trace A) → t.imported ≡ true → precedes a t ≡ false
   imported-waits a t i = ap (λ b. ended_before a.end t.begin && not b) i ∙ and-false (ended_before a.end t.begin)
@@ -54,13 +48,13 @@ module _ {A : Type 0} (ts : List (Trace A)) where
   is-false false h = refl
 
   pub waits-least : (done : List Bool) (e : ℕ) (t : Trace A) → t.begin < 2 ^ 64 → IsLeastEnd ts done e → (t.imported || not (nat_lt e t.begin)) ≡ waits done t
-  waits-least done e t fits least = go t.imported refl (below_or e t.begin)
+  waits-least done e t fits least = go t.imported refl (cases_lt e t.begin)
     where
       go : (b : Bool) → t.imported ≡ b → (e < t.begin) ⊎ (t.begin ≤ e) → (b || not (nat_lt e t.begin)) ≡ waits done t
       go true i o = sym (free-from ts t ts done (λ j a g l. imported-waits a t i))
-      go false i (inl l) = ap not (below e t.begin l) ∙ sym (is-false (waits done t) (none-waits done e t fits i least l))
+      go false i (inl l) = ap not (lt-ltb e t.begin l) ∙ sym (is-false (waits done t) (none-waits done e t fits i least l))
       go false i (inr l) =
-          ap not (not-below e t.begin l)
+          ap not (le-ltb e t.begin l)
           ∙ sym (free-from ts t ts done (λ j a g d. ends-later a t (omega (arith, l, subst (λ o. e ≤ end_at o) g (least.0 j d)))))
 
   -- ---- the least end, found one by one
@@ -76,7 +70,7 @@ module _ {A : Type 0} (ts : List (Trace A)) where
   within-get (y ∷ ys) (suc i) x e = let h = within-get ys i x e in omega (arith, h)
 
   least-next : (done : List Bool) (n e m : ℕ) (o : Option Bool) → slice_get done n ≡ o → IsLeastOf done n e → m ≡ lesser_end o (end_at (slice_get ts n)) e → IsLeastOf done (n + 1) m
-  least-next done n e m (Some false) d h q = (λ j l f. go j f (decide j n) l, at (below_or (end_at (slice_get ts n)) e))
+  least-next done n e m (Some false) d h q = (λ j l f. go j f (cases_eq j n) l, at (cases_lt (end_at (slice_get ts n)) e))
     where
       go : (j : ℕ) → slice_get done j ≡ Some false → (j ≡ n) ⊎ (j ≡ n → ⊥) → j < n + 1 → m ≤ end_at (slice_get ts j)
       go j f (inl p) l = subst (λ k. m ≤ end_at (slice_get ts k)) (sym p) (omega (arith, q))
@@ -85,12 +79,12 @@ module _ {A : Type 0} (ts : List (Trace A)) where
       at : (end_at (slice_get ts n) < e) ⊎ (e ≤ end_at (slice_get ts n)) → (m ≡ 2 ^ 64 - 1) ⊎ ((j : ℕ) × (slice_get done j ≡ Some false) × (m ≡ end_at (slice_get ts j)))
       at (inl l) = inr (n, d, omega (arith, q, l))
       at (inr l) = let is : m ≡ e = omega (arith, q, l) in subst (λ k. (k ≡ 2 ^ 64 - 1) ⊎ ((j : ℕ) × (slice_get done j ≡ Some false) × (k ≡ end_at (slice_get ts j)))) (sym is) h.1
-  least-next done n e m (Some true) d h q = (λ j l f. go j f (decide j n) l, subst (λ k. (k ≡ 2 ^ 64 - 1) ⊎ ((j : ℕ) × (slice_get done j ≡ Some false) × (k ≡ end_at (slice_get ts j)))) (sym q) h.1)
+  least-next done n e m (Some true) d h q = (λ j l f. go j f (cases_eq j n) l, subst (λ k. (k ≡ 2 ^ 64 - 1) ⊎ ((j : ℕ) × (slice_get done j ≡ Some false) × (k ≡ end_at (slice_get ts j)))) (sym q) h.1)
     where
       go : (j : ℕ) → slice_get done j ≡ Some false → (j ≡ n) ⊎ (j ≡ n → ⊥) → j < n + 1 → m ≤ end_at (slice_get ts j)
-      go j f (inl p) l = absurd (true≢false (some-injective true false (sym d ∙ ap (slice_get done) (sym p) ∙ f)))
+      go j f (inl p) l = absurd (true≢false (same_Some true false (sym d ∙ ap (slice_get done) (sym p) ∙ f)))
       go j f (inr p) l = subst (λ k. k ≤ end_at (slice_get ts j)) (sym q) (h.0 j (omega (arith, p, l)) f)
-  least-next done n e m None d h q = (λ j l f. go j f (decide j n) l, subst (λ k. (k ≡ 2 ^ 64 - 1) ⊎ ((j : ℕ) × (slice_get done j ≡ Some false) × (k ≡ end_at (slice_get ts j)))) (sym q) h.1)
+  least-next done n e m None d h q = (λ j l f. go j f (cases_eq j n) l, subst (λ k. (k ≡ 2 ^ 64 - 1) ⊎ ((j : ℕ) × (slice_get done j ≡ Some false) × (k ≡ end_at (slice_get ts j)))) (sym q) h.1)
     where
       go : (j : ℕ) → slice_get done j ≡ Some false → (j ≡ n) ⊎ (j ≡ n → ⊥) → j < n + 1 → m ≤ end_at (slice_get ts j)
       go j f (inl p) l = absurd (none-some (sym d ∙ ap (slice_get done) (sym p) ∙ f))

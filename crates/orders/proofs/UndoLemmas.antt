@@ -1,12 +1,15 @@
 -- Changes that take others back.
-use Rattle.std.proofs.Common.{◌≡◌, ◌⊎◌, refl, sym, ap, ◌∙◌, subst, ℕ, zero, suc, ◌<◌, ◌≤◌, Bool, true, false, T, not, cond, inl, inr, List, [], ◌∷◌, ◌++◌, length, get_or, slice_get, slice_set, Option, Some, None, arith}
+use Rattle.std.proofs.Common.{◌≡◌, ◌⊎◌, refl, sym, ap, ◌∙◌, subst, ℕ, zero, suc, ◌<◌, ◌≤◌, Bool, true, false, T, not, cond, inl, inr, List, [], ◌∷◌, ◌++◌, length, slice_get, slice_set, Option, Some, None, arith}
+use Rattle.std.proofs.lemmas.Bool.{cases_lt}
 use Rattle.std.specs.Cmp.{alike_right, eq_by_cmp_equiv}
 use Rattle.std.specs.FinMap.{find, is_sorted}
 use Rattle.std.specs.FinMap.Entries.{find-put, find-where_key, same_entries}
 use Rattle.std.specs.Ordering.{is_eq}
 use Rattle.std.proofs.lemmas.List.{get_or-set_same}
+use Rattle.std.proofs.lemmas.Option.{slice_get-get_or, same_Some}
 use Rattle.value.specs.declared.value.Value.{Value}
 use Rattle.value.specs.Order.{value_cmp, value_cmp-total, value_cmp-exact}
+use Rattle.value.proofs.Basics.{true_from_T, cond-not}
 use Rattle.schema.specs.Definition.{Catalog}
 use Rattle.schema.specs.declared.row.Row.{Row}
 use Rattle.schema.specs.declared.changes.Change.{Change}
@@ -16,21 +19,11 @@ use Rattle.schema.specs.Rows.{row_of}
 use Rattle.schema.proofs.PlainLemmas.{IsOrdered, changed_sorted, put_in-ordered, same_value}
 use Rattle.statement.proofs.HeldLemmas.{held_sound, held_table}
 use Rattle.orders.specs.Undone.{AreOrdered, before_of, put_back}
-use Rattle.orders.proofs.PlaceLemmas.{below_or, some-injective}
-
-turned : {T : Type 0} (b : Bool) (x y : T) → cond (not b) x y ≡ cond b y x
-turned true x y = refl
-turned false x y = refl
 
 set-past : {T : Type 0} (xs : List T) (i : ℕ) (y : T) → length xs ≤ i → slice_set xs i y ≡ xs
 set-past [] i y h = refl
 set-past (x ∷ xs) zero y h = absurd (omega (arith, h))
 set-past (x ∷ xs) (suc i) y h = ap (λ zs. x ∷ zs) (set-past xs i y (omega (arith, h)))
-
-get-within : {T : Type 0} (xs : List T) (i : ℕ) (d : T) → i < length xs → slice_get xs i ≡ Some (get_or xs i d)
-get-within [] i d h = absurd (omega (arith, h))
-get-within (x ∷ xs) zero d h = refl
-get-within (x ∷ xs) (suc i) d h = get-within xs i d (omega (arith, h))
 
 set-twice : {T : Type 0} (xs : List T) (i : ℕ) (x y : T) → slice_set (slice_set xs i x) i y ≡ slice_set xs i y
 set-twice [] i x y = refl
@@ -39,12 +32,9 @@ set-twice (z ∷ zs) (suc i) x y = ap (λ ws. z ∷ ws) (set-twice zs i x y)
 
 set-same : {T : Type 0} (xs : List T) (i : ℕ) (x : T) → slice_get xs i ≡ Some x → slice_set xs i x ≡ xs
 set-same [] i x e = refl
-set-same (z ∷ zs) zero x e = ap (λ w. w ∷ zs) (sym (some-injective z x e))
+set-same (z ∷ zs) zero x e = ap (λ w. w ∷ zs) (sym (same_Some z x e))
 set-same (z ∷ zs) (suc i) x e = ap (λ ws. z ∷ ws) (set-same zs i x e)
 
-true-of : (b : Bool) → T b → b ≡ true
-true-of true h = refl
-true-of false h = absurd h
 
 module _ {A : Type 0} where
   -- ---- rows by key
@@ -55,7 +45,7 @@ module _ {A : Type 0} where
     where
       go : (b : Bool) → same k s.0 ≡ b → Some r ≡ cond b (Some s) (row_of rows k) → (Some r ≡ row_of rows k → (r.0 ≡ k) × (find value_cmp k rows ≡ Some r.1)) → (r.0 ≡ k) × (cond b (Some s.1) (find value_cmp k rows) ≡ Some r.1)
       go true h f more =
-          let is : r ≡ s = some-injective r s f in
+          let is : r ≡ s = same_Some r s f in
           (ap (λ (x : Row A). x.0) is ∙ sym (same_value k s.0 h), ap (λ (x : Row A). Some x.1) (sym is))
       go false h f more = more f
 
@@ -73,7 +63,7 @@ module _ {A : Type 0} where
   find-changed q k (Some fields) rows = find-put value_cmp value_cmp-total q k fields rows
   find-changed q k None rows =
       find-where_key value_cmp (λ x. not (same k x)) q (λ x e. ap (λ o. not (is_eq o)) (sym (alike_right value_cmp-total q x k e))) rows
-      ∙ turned (same k q) _ _ ∙ ap (λ b. cond b None (find value_cmp q rows)) ((eq_by_cmp_equiv value_cmp-total).symm k q)
+      ∙ cond-not (same k q) _ _ ∙ ap (λ b. cond b None (find value_cmp q rows)) ((eq_by_cmp_equiv value_cmp-total).symm k q)
 
   changed-back : (k : Value A) (fields : Option (List (Value A))) (rows : List (Row A)) → T (is_sorted value_cmp rows) → changed k (find value_cmp k rows) (changed k fields rows) ≡ rows
   changed-back k fields rows h =
@@ -88,7 +78,7 @@ module _ {A : Type 0} where
   put-past x X h = set-past X x.table (changed x.key x.fields (rows_of X x.table)) h
 
   pub taken-back : (x : Change A) (X : Tables A) → is_sorted value_cmp (rows_of X x.table) ≡ true → put_in (before_of x X) (put_in x X) ≡ X
-  taken-back x X e = go (below_or x.table (length X))
+  taken-back x X e = go (cases_lt x.table (length X))
     where
       go : (x.table < length X) ⊎ (length X ≤ x.table) → put_in (before_of x X) (put_in x X) ≡ X
       go (inr h) = ap (put_in (before_of x X)) (put-past x X h) ∙ put-past (before_of x X) X h
@@ -97,7 +87,7 @@ module _ {A : Type 0} where
           let back : changed x.key (row_at X x.table x.key) (rows_of (slice_set X x.table (changed x.key x.fields (rows_of X x.table))) x.table) ≡ rows_of X x.table =
           ap (changed x.key (row_at X x.table x.key)) there ∙ changed-back x.key x.fields (rows_of X x.table) (subst T (sym e) tt) in
           ap (λ rows. slice_set (slice_set X x.table (changed x.key x.fields (rows_of X x.table))) x.table rows) back
-          ∙ set-twice X x.table (changed x.key x.fields (rows_of X x.table)) (rows_of X x.table) ∙ set-same X x.table (rows_of X x.table) (get-within X x.table [] h)
+          ∙ set-twice X x.table (changed x.key x.fields (rows_of X x.table)) (rows_of X x.table) ∙ set-same X x.table (rows_of X x.table) (slice_get-get_or X x.table [] h)
 
   -- ---- changes one after the other
 
@@ -109,7 +99,7 @@ module _ {A : Type 0} where
   ordered-from X o = record { each = λ t. subst T (sym (o t)) tt }
 
   pub ordered-put : (x : Change A) (X : Tables A) → AreOrdered X → AreOrdered (put_in x X)
-  ordered-put x X o = λ t. true-of (is_sorted value_cmp (rows_of (put_in x X) t)) ((put_in-ordered x X (ordered-from X o)).each t)
+  ordered-put x X o = λ t. true_from_T (is_sorted value_cmp (rows_of (put_in x X) t)) ((put_in-ordered x X (ordered-from X o)).each t)
 
   pub ordered-sound : (c : Catalog) (X : Tables A) → is_sound c X ≡ true → AreOrdered X
   ordered-sound c X s = λ t. (held_table c X t (held_sound c X s)).0

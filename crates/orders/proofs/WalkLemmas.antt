@@ -1,7 +1,9 @@
 -- Steps of a search: what it knows stays true as it goes on, passes over and takes back.
 use Rattle.std.proofs.Common.{◌≡◌, ◌⊎◌, refl, sym, ap, ◌∙◌, subst, ℕ, zero, suc, ◌+◌, ◌-◌, ◌^◌, ◌<◌, ◌≤◌, min, Bool, true, false, true≢false, ◌&&◌, ◌||◌, not, cond, zip, replicate, inl, inr, List, [], ◌∷◌, ◌++◌, map, length, slice_get, slice_set, Option, Some, None, is_some, arith}
+use Rattle.std.proofs.lemmas.Bool.{and_parts, not-true, cases_eq, cases_lt}
 use Rattle.std.specs.List.{list_all}
 use Rattle.std.proofs.lemmas.List.{length-replicate}
+use Rattle.std.proofs.lemmas.Option.{same_Some}
 use Rattle.schema.specs.Definition.{Catalog}
 use Rattle.schema.specs.declared.changes.Change.{Change}
 use Rattle.schema.specs.declared.tables.Tables.{Tables}
@@ -18,16 +20,8 @@ use Rattle.orders.specs.Walks.{Passing, Standing, AllDone, Goes, IsDead, AreTrie
 use Rattle.orders.specs.Found.{HasGone, progress_of}
 use Rattle.orders.specs.declared.search.Progress.{Progress}
 use Rattle.orders.specs.declared.search.Progress.TheVariants.{More, Found, Exhausted}
-use Rattle.orders.proofs.PlaceLemmas.{some-injective, get-set, set-back, decide, below_or}
+use Rattle.orders.proofs.PlaceLemmas.{get-set, set-back}
 use Rattle.orders.proofs.OrderLemmas.{explained-goes, goes-explained}
-
-is-false : (b : Bool) → not b ≡ true → b ≡ false
-is-false true e = absurd (true≢false (sym e))
-is-false false e = refl
-
-two : (a b : Bool) → (a && b) ≡ true → (a ≡ true) × (b ≡ true)
-two true b e = (refl, e)
-two false b e = absurd (true≢false (sym e))
 
 within-behind : (k i : ℕ) → k < behind i → (k ≡ i → ⊥) → k < i
 within-behind k i l n = omega (arith, l, n)
@@ -67,11 +61,11 @@ module _ {A : Type 0} (ts : List (Trace A)) where
   free-at t [] done h j a g l = cc
   free-at t (u ∷ us) [] h j a g l = cc
   free-at t (u ∷ us) (d ∷ ds) h zero a g l =
-      let e : u ≡ a = some-injective u a g in
-      let f : d ≡ false = some-injective d false l in
-      let p = two (d || not (precedes u t)) (list_all (λ p. p.1 || not (precedes p.0 t)) (zip us ds)) h in
-      is-false (precedes a t) (ap (λ b. b || not (precedes a t)) (sym f) ∙ ap (λ v. d || not (precedes v t)) (sym e) ∙ p.0)
-  free-at t (u ∷ us) (d ∷ ds) h (suc j) a g l = free-at t us ds (two (d || not (precedes u t)) (list_all (λ p. p.1 || not (precedes p.0 t)) (zip us ds)) h).1 j a g l
+      let e : u ≡ a = same_Some u a g in
+      let f : d ≡ false = same_Some d false l in
+      let p = and_parts (d || not (precedes u t)) (list_all (λ p. p.1 || not (precedes p.0 t)) (zip us ds)) h in
+      not-true (precedes a t) (ap (λ b. b || not (precedes a t)) (sym f) ∙ ap (λ v. d || not (precedes v t)) (sym e) ∙ p.0)
+  free-at t (u ∷ us) (d ∷ ds) h (suc j) a g l = free-at t us ds (and_parts (d || not (precedes u t)) (list_all (λ p. p.1 || not (precedes p.0 t)) (zip us ds)) h).1 j a g l
 
   pub free-from : (t : Trace A) (us : List (Trace A)) (done : List Bool) → ((j : ℕ) (a : Trace A) → slice_get us j ≡ Some a → slice_get done j ≡ Some false → precedes a t ≡ false) → list_all (λ p. p.1 || not (precedes p.0 t)) (zip us done) ≡ true
   free-from t [] done h = refl
@@ -100,7 +94,7 @@ module _ {A : Type 0} (ts : List (Trace A)) where
       none-at i t g = cc
   done-at (u ∷ us) [] n h = absurd (omega (arith, n))
   done-at (u ∷ us) (d ∷ ds) n h =
-      let p = two (d || not (is_some u.end)) (are_done us ds) h in
+      let p = and_parts (d || not (is_some u.end)) (are_done us ds) h in
       go p.0 (done-at us ds (omega (arith, n)) p.1)
     where
       first : (e b : Bool) → e ≡ true → (b || not e) ≡ true → b ≡ true
@@ -108,7 +102,7 @@ module _ {A : Type 0} (ts : List (Trace A)) where
       first e false q f = absurd (true≢false (sym f ∙ ap not q))
 
       go : (d || not (is_some u.end)) ≡ true → AllDone us ds → (i : ℕ) (t : Trace A) → slice_get (u ∷ us) i ≡ Some t → is_some t.end ≡ true → slice_get (d ∷ ds) i ≡ Some true
-      go f more zero t g e = ap Some (first (is_some u.end) d (ap (λ (v : Trace A). is_some v.end) (some-injective u t g) ∙ e) f)
+      go f more zero t g e = ap Some (first (is_some u.end) d (ap (λ (v : Trace A). is_some v.end) (same_Some u t g) ∙ e) f)
       go f more (suc i) t g e = more i t g e
 
   done-all : (us : List (Trace A)) (done : List Bool) → AllDone us done → are_done us done ≡ true
@@ -118,7 +112,7 @@ module _ {A : Type 0} (ts : List (Trace A)) where
   done-all (u ∷ us) (false ∷ ds) h = go (is_some u.end) refl (done-all us ds (λ i t g f. h (suc i) t g f))
     where
       go : (b : Bool) → is_some u.end ≡ b → are_done us ds ≡ true → (not (is_some u.end) && are_done us ds) ≡ true
-      go true e r = absurd (true≢false (some-injective true false (sym (h 0 u refl e))))
+      go true e r = absurd (true≢false (same_Some true false (sym (h 0 u refl e))))
       go false e r = ap (λ b. not b && are_done us ds) e ∙ r
 
   complete-done : (done : List Bool) → length done ≡ length ts → are_done ts done ≡ true → AllDone ts done
@@ -135,9 +129,9 @@ module _ {A : Type 0} (c : Catalog) (ts : List (Trace A)) where
   -- ---- sound tables stay so
 
   alone-sound : (qs : List (Statement A × Reply A)) (X Y : Tables A) → are_fit c qs ≡ true → is_sound c X ≡ true → alone c qs X ≡ Some Y → is_sound c Y ≡ true
-  alone-sound [] X Y f s e = subst (λ Z. is_sound c Z ≡ true) (some-injective X Y e) s
+  alone-sound [] X Y f s e = subst (λ Z. is_sound c Z ≡ true) (same_Some X Y e) s
   alone-sound (q ∷ qs) X Y f s e =
-      let p = two (fits c q.0) (are_fit c qs) f in
+      let p = and_parts (fits c q.0) (are_fit c qs) f in
       go (agrees (outcome c q.0 X).reply q.1) (λ h. alone-sound qs (after c q.0 X) Y p.1 (sound_after c q.0 X p.0 s) h) e
     where
       go : (b : Bool) → (alone c qs (after c q.0 X) ≡ Some Y → is_sound c Y ≡ true) → cond b (alone c qs (after c q.0 X)) None ≡ Some Y → is_sound c Y ≡ true
@@ -146,8 +140,8 @@ module _ {A : Type 0} (c : Catalog) (ts : List (Trace A)) where
 
   pub fit-at : (us : List (Trace A)) (i : ℕ) (t : Trace A) → all_fit c us ≡ true → slice_get us i ≡ Some t → are_fit c t.statements ≡ true
   fit-at [] i t f e = cc
-  fit-at (u ∷ us) zero t f e = subst (λ v. are_fit c v.statements ≡ true) (some-injective u t e) (two (are_fit c u.statements) (all_fit c us) f).0
-  fit-at (u ∷ us) (suc i) t f e = fit-at us i t (two (are_fit c u.statements) (all_fit c us) f).1 e
+  fit-at (u ∷ us) zero t f e = subst (λ v. are_fit c v.statements ≡ true) (same_Some u t e) (and_parts (are_fit c u.statements) (all_fit c us) f).0
+  fit-at (u ∷ us) (suc i) t f e = fit-at us i t (and_parts (are_fit c u.statements) (all_fit c us) f).1 e
 
   -- ---- the path
 
@@ -213,28 +207,28 @@ module _ {A : Type 0} (c : Catalog) (ts : List (Trace A)) where
     where
       go : (order : List ℕ) → Goes c ts done X order → ⊥
       go [] g = u g
-      go (i ∷ later) g = at (below_or i from)
+      go (i ∷ later) g = at (cases_lt i from)
         where
           at : (i < from) ⊎ (from ≤ i) → ⊥
           at (inl l) = tr i later l g
           at (inr l) = comes-not ts done i g.0 (skip i l) g.2
 
   skipped-tried : (done : List Bool) (X : Tables A) (from i : ℕ) → AreTried c ts done X from → ((j : ℕ) → from ≤ j → j < i → comes ts done j ≡ false) → AreTried c ts done X i
-  skipped-tried done X from i tr skip = λ k later l g. at k later l g (below_or k from)
+  skipped-tried done X from i tr skip = λ k later l g. at k later l g (cases_lt k from)
     where
       at : (k : ℕ) (later : List ℕ) → k < i → Goes c ts done X (k ∷ later) → (k < from) ⊎ (from ≤ k) → ⊥
       at k later l g (inl b) = tr k later b g
       at k later l g (inr b) = comes-not ts done k g.0 (skip k b l) g.2
 
   tried-behind : (done : List Bool) (X : Tables A) (i : ℕ) → AreTried c ts done X i → ((later : List ℕ) → Goes c ts done X (i ∷ later) → ⊥) → AreTried c ts done X (behind i)
-  tried-behind done X i tr skip = λ k later l g. at k later l g (decide k i)
+  tried-behind done X i tr skip = λ k later l g. at k later l g (cases_eq k i)
     where
       at : (k : ℕ) (later : List ℕ) → k < behind i → Goes c ts done X (k ∷ later) → (k ≡ i) ⊎ (k ≡ i → ⊥) → ⊥
       at k later l g (inl e) = skip later (subst (λ j. Goes c ts done X (j ∷ later)) e g)
       at k later l g (inr n) = tr k later (within-behind k i l n) g
 
   same-turn : (i : ℕ) (t u : Trace A) → slice_get ts i ≡ Some t → slice_get ts i ≡ Some u → t ≡ u
-  same-turn i t u e f = some-injective t u (sym e ∙ f)
+  same-turn i t u e f = same_Some t u (sym e ∙ f)
 
   no-turn : (done : List Bool) (X : Tables A) (i : ℕ) (t : Trace A) → slice_get ts i ≡ Some t → alone c t.statements X ≡ None → (later : List ℕ) → Goes c ts done X (i ∷ later) → ⊥
   no-turn done X i t e none = λ later g. let h : alone c g.0.statements X ≡ None = ap (λ (u : Trace A). alone c u.statements X) (same-turn i g.0 t g.2.stands e) ∙ none in none-some (sym h ∙ g.3)
@@ -244,7 +238,7 @@ module _ {A : Type 0} (c : Catalog) (ts : List (Trace A)) where
 
   dead-turn : (done : List Bool) (X Y : Tables A) (i : ℕ) (t : Trace A) → slice_get ts i ≡ Some t → alone c t.statements X ≡ Some Y → IsDead c ts (slice_set done i true) Y → (later : List ℕ) → Goes c ts done X (i ∷ later) → ⊥
   dead-turn done X Y i t e a dead = λ later g.
-      let y : g.1 ≡ Y = some-injective g.1 Y (sym g.3 ∙ ap (λ (u : Trace A). alone c u.statements X) (same-turn i g.0 t g.2.stands e) ∙ a) in
+      let y : g.1 ≡ Y = same_Some g.1 Y (sym g.3 ∙ ap (λ (u : Trace A). alone c u.statements X) (same-turn i g.0 t g.2.stands e) ∙ a) in
       dead later (subst (λ V. Goes c ts (slice_set done i true) V later) y g.4)
 
 module _ {A : Type 0} (c : Catalog) (X : Tables A) (ts : List (Trace A)) where

@@ -2,6 +2,7 @@
 use Rattle.std.proofs.Common.{◌≡◌, ◌≢◌, ◌⊎◌, ℕ, zero, suc, ◌+◌, ◌%◌, ◌^◌, ◌<◌, Bool, true, false, true≢false, List, [], ◌∷◌, ◌++◌, length, set, refl, ap, sym, ◌∙◌, subst, inl, inr, ⊎_elim, arith, length-append}
 use Rattle.std.specs.Prelude.{◌==◌, slice_index, slice_set}
 use Rattle.std.proofs.lemmas.Bool.Decides.{nat_tests}
+use Rattle.value.proofs.Basics.{one_word, word_next}
 use mathlib.Core.Option.{some, some-ne-none, some-injective}
 use mathlib.Core.List.{IsPrefix}
 use lib.ListN.{get_elem?}
@@ -20,17 +21,9 @@ use Rattle.pass.proofs.Prefixes.{prefix_self, prefix_more, prefix_shorter, of_se
 off : false ≡ true → ⊥
 off e = true≢false (sym e)
 
--- a word read, or one more
-one_word : (ws : List ℕ) (n : ℕ) → ws ≡ n ∷ [] → slice_index ws 0 ≡ n
-one_word ws n e = subst (λ (l : List ℕ). slice_index l 0 ≡ n) (sym e) refl
-
+-- a word that stays
 word_same : (ws : List ℕ) (n : ℕ) → ws ≡ n ∷ [] → slice_set ws 0 (slice_index ws 0) ≡ n ∷ []
 word_same ws n e = subst (λ (l : List ℕ). slice_set l 0 (slice_index l 0) ≡ n ∷ []) (sym e) refl
-
-word_next : (ws : List ℕ) (n : ℕ) → ws ≡ n ∷ [] → n + 1 < 2 ^ 64 → slice_set ws 0 ((slice_index ws 0 + 1) % 2 ^ 64) ≡ (n + 1) ∷ []
-word_next ws n e small =
-    let m : (n + 1) % 2 ^ 64 ≡ n + 1 = omega arith in
-    subst (λ (l : List ℕ). slice_set l 0 ((slice_index l 0 + 1) % 2 ^ 64) ≡ (n + 1) ∷ []) (sym e) (ap (λ (k : ℕ). k ∷ []) m)
 
 stays : (n : ℕ) → either (n == 0) 0 n ≡ n
 stays n = go (n == 0) refl

@@ -124,11 +124,6 @@ among_next {A} m n k ls i l lt at le least all is =
 pub written_back : {X : Type 0} (n : ℕ) (xs ys : List X) → length ys ≡ n → take n (ys ++ drop (length ys) xs) ≡ ys
 written_back n xs ys e = ap (λ k. take k (ys ++ drop (length ys) xs)) (sym e) ∙ take-append_seam ys (drop (length ys) xs)
 
--- of one fact of what was answered another
-pub if_more : {T E : Type 0} (r : Result T E) (P Q : T → Type 0) → ((x : T) → P x → Q x) → IfOk r P → IfOk r Q
-if_more (Ok x) P Q f p = f x p
-if_more (Err e) P Q f p = p
-
 module _ {A : Type 0} where
   -- what sessions have printed of a script
   pub sessions_have_run : {T E : Type 0} (r : Result T E) (writes : Writing) (held : List ℕ → Option (List ℕ)) (way : FreeWay) (s : Said A) (c : Catalog) (X : Tables A) (text shown : List ℕ) (p q : Printed)

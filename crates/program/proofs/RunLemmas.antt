@@ -17,10 +17,6 @@ use Rattle.script.specs.Scripts.{Said}
 use Rattle.program.proofs.PrintLemmas.{added_is_printed, adds_no_more, adds_twice, prints_no_more}
 use Rattle.program.proofs.StepsLemmas.{done_more}
 
-pub on_ok : {T E : Type 0} (r : Result T E) (P Q : Type 0) → (P → Q) → OnOk r P → OnOk r Q
-on_ok (Ok x) P Q f p = f p
-on_ok (Err e) P Q f p = tt
-
 -- of an error two facts give a third
 pub if_err_of : {T E : Type 0} (r : Result T E) (P : Type 0) (Q R : E → Type 0) → ((e : E) → P → Q e → R e) → OnErr r P → IfErr r Q → IfErr r R
 if_err_of (Ok x) P Q R f p q = tt

@@ -1,5 +1,5 @@
 -- What an answered statement, and what one more record, make of what was told before.
-use Rattle.std.proofs.Common.{◌≡◌, refl, sym, ap, ◌∙◌, ℕ, zero, suc, ◌+◌, ◌<◌, List, [], ◌∷◌, length, drop, get_or, drop-cons, Option, Result, Ok, Err, OnOk, arith}
+use Rattle.std.proofs.Common.{◌≡◌, refl, sym, ap, ◌∙◌, ℕ, zero, suc, ◌+◌, ◌<◌, List, [], ◌∷◌, length, drop, get_or, drop-cons, Option, arith}
 use Rattle.std.proofs.Math.ListN.{set}
 use Rattle.std.specs.Option.{option_map}
 use Rattle.schema.specs.declared.changes.Change.{Change}
@@ -15,10 +15,6 @@ use Rattle.retrace.specs.declared.past.Lent.{Lent}
 use Rattle.retrace.specs.declared.run.When.{When}
 use Rattle.retrace.specs.Runs.{Going, answered, changes_of, grown, marks_of, reads_of, turned}
 use Rattle.retrace.specs.Past.{Bygone, after_all, at_place, commits_after, followed, lent_after, owned, tables_after, turned_at}
-
-pub on_ok_map : {T E : Type 0} (P Q : Type 0) (r : Result T E) → (P → Q) → OnOk r P → OnOk r Q
-on_ok_map P Q (Ok v) f h = f h
-on_ok_map P Q (Err v) f h = h
 
 module _ {A : Type 0} where
   -- a statement that was answered

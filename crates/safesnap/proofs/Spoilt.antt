@@ -1,12 +1,14 @@
 -- A snapshot can't become safe where the key of a commit above it stands at or before it, and only there.
 use Rattle.std.proofs.Common.{◌≡◌, refl, sym, ap, ◌∙◌, ℕ, ◌+◌, ◌<◌, ◌≤◌, Bool, true, false, cond, ◌&&◌, ◌⊎◌, inl, inr, List, [], ◌∷◌, length, nat_lt, nat_le, arith}
-use Rattle.std.proofs.lemmas.Bool.Decides.{nat_tests}
+use Rattle.std.proofs.lemmas.Bool.{le-leb, lt-ltb, leb-true, ltb-true, and_parts, and_from, or_right, false_from_ne_true}
+use Rattle.std.specs.Cmp.{both_ways}
 use Rattle.std.specs.List.{list_any}
 use Rattle.value.specs.Isolation.{write_key}
 use Rattle.value.proofs.IsolationLemmas.{In, Out, f, first_part-cases, first_part-edge}
 use Rattle.value.proofs.SerialLemmas.{NumberedFrom}
 use Rattle.value.proofs.SortLemmas.{In-sorted, sorted-In}
-use Rattle.conflict.proofs.Lists.{In-any, In-filter, In-map, and_true, any-In, both_true, clash, filter-In, is_false, map-In, or_right}
+use Rattle.value.proofs.Basics.{cases_le, filter-In, any-In, In-any, In-mapped, In-map}
+use Rattle.conflict.proofs.Lists.{In-filter, clash}
 use Rattle.history.specs.Transactions.{Txn, World, commits, edge, is_done, is_open, is_read_write, is_spoilt, node, was_active}
 use Rattle.history.specs.Transactions as history
 use Rattle.history.specs.Serial.{committed, in_commit_order, key, keys_by_commit}
@@ -14,26 +16,6 @@ use Rattle.serial.proofs.legal.EndsSeen.{EndsSeen}
 use Rattle.serial.proofs.safe.Readers.{active_above}
 use Rattle.serial.proofs.order.SerialTheorem.{IsGood, edge_parts, isolated_world}
 use Rattle.safesnap.specs.Unspoilt.{is_spoilt_by, spoils}
-
-is_less : (a b : ℕ) → nat_lt a b ≡ true → a < b
-is_less a b e = grind (arith, nat_tests)
-
-is_least : (a b : ℕ) → nat_le a b ≡ true → a ≤ b
-is_least a b e = grind (arith, nat_tests)
-
-less_so : (a b : ℕ) → a < b → nat_lt a b ≡ true
-less_so a b h = grind (arith, nat_tests)
-
-least_so : (a b : ℕ) → a ≤ b → nat_le a b ≡ true
-least_so a b h = grind (arith, nat_tests)
-
-compared : (a b : ℕ) → (a ≤ b) ⊎ (b < a)
-compared a b = grind arith
-
-same_test : (a b : Bool) → (a ≡ true → b ≡ true) → (b ≡ true → a ≡ true) → a ≡ b
-same_test true b f g = sym (f refl)
-same_test false true f g = g refl
-same_test false false f g = refl
 
 module _ {A : Type 0} where
   upto : (n : ℕ) (ts : List (Txn A)) (u : Txn A) → NumberedFrom (λ (t : Txn A). t.commit) n ts → In u ts → u.commit ≤ n + length ts
@@ -57,7 +39,7 @@ module _ {A : Type 0} where
 
   module _ (w : World A) (g : IsGood w) where
     key-In : (u : Txn A) → In u (committed w) → In (entry w u) (keys_by_commit w)
-    key-In u i = map-In (entry w) u (in_commit_order w) (sorted-In by_end u (committed w) i)
+    key-In u i = In-mapped (entry w) u (in_commit_order w) (sorted-In by_end u (committed w) i)
 
     In-key : (x : ℕ × (ℕ × ℕ × ℕ)) → In x (keys_by_commit w) → (u : Txn A) × In u (committed w) × (x ≡ entry w u)
     In-key x i = let p = In-map (entry w) x (in_commit_order w) i in (p.0, In-sorted by_end p.0 (committed w) p.1, p.2)
@@ -89,8 +71,8 @@ module _ {A : Type 0} where
 
             by_mode : (b : Bool) → is_read_write u.mode ≡ b → (v : Txn A) × Spoiler w n v
             by_mode true r =
-                let q = both_true (nat_le (f node edge u (committed w)) n) (nat_lt n u.commit) (sym (writes_key n u r) ∙ e') in
-                (u, record { among = p.1; writes = r; first = is_least (f node edge u (committed w)) n q.0; above = is_less n u.commit q.1 })
+                let q = and_parts (nat_le (f node edge u (committed w)) n) (nat_lt n u.commit) (sym (writes_key n u r) ∙ e') in
+                (u, record { among = p.1; writes = r; first = leb-true (f node edge u (committed w)) n q.0; above = ltb-true n u.commit q.1 })
             by_mode false r = clash (spoils n (key w u)) e' (reads_key n u r)
 
     logged : (n : ℕ) (u : Txn A) → Spoiler w n u → In u w.log
@@ -98,7 +80,7 @@ module _ {A : Type 0} where
 
     -- no commit is above all commits
     pub none_above : (n : ℕ) → commits w ≤ n → is_spoilt_by (keys_by_commit w) n ≡ false
-    none_above n l = is_false (is_spoilt_by (keys_by_commit w) n) (λ e. let s = spoiler n e in let m = upto w.base.commits w.log s.0 g.numbered.in_order (logged n s.0 s.1) in let a = s.1.above in omega (arith, l, m, a))
+    none_above n l = false_from_ne_true (is_spoilt_by (keys_by_commit w) n) (λ e. let s = spoiler n e in let m = upto w.base.commits w.log s.0 g.numbered.in_order (logged n s.0 s.1) in let a = s.1.above in omega (arith, l, m, a))
 
     module _ (ends : EndsSeen w) (t : Txn A) (i : In t w.txns) where
       abbrev n : ℕ
@@ -118,10 +100,10 @@ module _ {A : Type 0} where
           of u = last (any-In (λ v. edge u.0 v && nat_le v.commit n) w.txns q.1)
             where
               p : (was_active t u.0 ≡ true) × (history.spoils w.txns t u.0 ≡ true)
-              p = both_true (was_active t u.0) (history.spoils w.txns t u.0) u.2
+              p = and_parts (was_active t u.0) (history.spoils w.txns t u.0) u.2
 
               q : (is_done u.0.standing ≡ true) × (list_any (λ v. edge u.0 v && nat_le v.commit n) w.txns ≡ true)
-              q = both_true (is_done u.0.standing) (list_any (λ v. edge u.0 v && nat_le v.commit n) w.txns) p.1
+              q = and_parts (is_done u.0.standing) (list_any (λ v. edge u.0 v && nat_le v.commit n) w.txns) p.1
 
               above : In u.0 w.log × (is_read_write u.0.mode ≡ true) × (n < u.0.commit)
               above = active_above w g t i ends u.0 u.1 p.0 q.0
@@ -131,11 +113,11 @@ module _ {A : Type 0} where
 
               last : (v : Txn A) × In v w.txns × ((edge u.0 v && nat_le v.commit n) ≡ true) → is_spoilt_by (keys_by_commit w) n ≡ true
               last v =
-                  let r = both_true (edge u.0 v.0) (nat_le v.0.commit n) v.2 in
+                  let r = and_parts (edge u.0 v.0) (nat_le v.0.commit n) v.2 in
                   let l = first_part-edge node edge u.0 v.0 (committed w) (committed_too u.0 v.0 v.1 r.0) r.0 in
-                  let m = is_least v.0.commit n r.1 in
+                  let m = leb-true v.0.commit n r.1 in
                   In-any (λ (k : ℕ × (ℕ × ℕ × ℕ)). spoils n k.1) (keys_by_commit w) (entry w u.0) (key-In u.0 among)
-                  (writes_key n u.0 above.1 ∙ and_true _ _ (least_so (f node edge u.0 (committed w)) n (omega (arith, l, m))) (less_so n u.0.commit above.2))
+                  (writes_key n u.0 above.1 ∙ and_from _ _ (le-leb (f node edge u.0 (committed w)) n (omega (arith, l, m))) (lt-ltb n u.0.commit above.2))
 
       tells : is_spoilt_by (keys_by_commit w) n ≡ true → is_spoilt w.txns t ≡ true
       tells e = of (spoiler n e)
@@ -151,7 +133,7 @@ module _ {A : Type 0} where
 
               out : (f node edge u.0 (committed w) ≡ u.0.commit) ⊎ Out node edge u.0 (committed w) (f node edge u.0 (committed w)) → is_spoilt w.txns t ≡ true
               out (inl p) = absurd (let a = s.first in let b = s.above in omega (arith, p, a, b))
-              out (inr o) = In-any (λ y. was_active t y && history.spoils w.txns t y) w.txns u.0 inside.0 (and_true _ _ active spoils_it)
+              out (inr o) = In-any (λ y. was_active t y && history.spoils w.txns t y) w.txns u.0 inside.0 (and_from _ _ active spoils_it)
                 where
                   v : Txn A
                   v = o.to
@@ -160,7 +142,7 @@ module _ {A : Type 0} where
                   shown = let a = s.first in let b = o.least in omega (arith, a, b)
 
                   begun : u.0.begin < t.taken
-                  begun = side (compared t.taken u.0.begin)
+                  begun = side (cases_le t.taken u.0.begin)
                     where
                       side : (t.taken ≤ u.0.begin) ⊎ (u.0.begin < t.taken) → u.0.begin < t.taken
                       side (inl l) = absurd (let a = (g.stands.txns t i).behind u.0 inside.0 s.writes l in let b = (edge_parts u.0 v o.is_edge).1 in omega (arith, a, b, shown))
@@ -170,11 +152,11 @@ module _ {A : Type 0} where
                   ended = (g.stands.txns t i).ahead u.0 (logged n u.0 s) s.above
 
                   active : was_active t u.0 ≡ true
-                  active = and_true _ _ (and_true _ _ s.writes (less_so u.0.begin t.taken begun)) (or_right (is_open u.0.standing) _ (less_so t.taken u.0.end ended))
+                  active = and_from _ _ (and_from _ _ s.writes (lt-ltb u.0.begin t.taken begun)) (or_right (is_open u.0.standing) _ (lt-ltb t.taken u.0.end ended))
 
                   spoils_it : history.spoils w.txns t u.0 ≡ true
-                  spoils_it = and_true _ _ inside.1 (In-any (λ y. edge u.0 y && nat_le y.commit n) w.txns v (In-filter (λ (y : Txn A). is_done y.standing) v w.txns o.in_list).0 (and_true _ _ o.is_edge (least_so v.commit n shown)))
+                  spoils_it = and_from _ _ inside.1 (In-any (λ y. edge u.0 y && nat_le y.commit n) w.txns v (In-filter (λ (y : Txn A). is_done y.standing) v w.txns o.in_list).0 (and_from _ _ o.is_edge (le-leb v.commit n shown)))
 
       -- a snapshot can't become safe where one of the keys tells so
       pub spoilt_is : is_spoilt w.txns t ≡ is_spoilt_by (keys_by_commit w) n
-      spoilt_is = same_test (is_spoilt w.txns t) (is_spoilt_by (keys_by_commit w) n) told tells
+      spoilt_is = both_ways (is_spoilt w.txns t) (is_spoilt_by (keys_by_commit w) n) told tells

@@ -1,10 +1,11 @@
 -- Rows read from pages one after another, up to so many.
 use Rattle.std.proofs.Common.{zero, suc, ◌≡◌, refl, sym, ap, ◌∙◌, ℕ, ◌+◌, ◌<◌, ◌≤◌, true, false, List, [], ◌∷◌, ◌++◌, take, drop, length, Bor, get_or, arith, append_assoc}
 use Rattle.std.specs.List.{AllByRecursion}
-use Rattle.std.proofs.lemmas.List.{drop_more, length-map, take-append-drop}
+use Rattle.std.proofs.lemmas.List.{length-map, take-append-drop}
 use Rattle.std.proofs.lemmas.List.Concat.{flat_map-append}
 use Rattle.std.proofs.lemmas.List.Elements.{filter-append}
 use Rattle.value.specs.declared.key.Key.{Key}
+use Rattle.value.proofs.Basics.{drop_next}
 use Rattle.schema.specs.declared.row.Row.{Row}
 use Rattle.schema.specs.declared.reader.Bound.{Bound}
 use Rattle.schema.specs.Paged.{joined, is_before}
@@ -23,10 +24,6 @@ pub taken_few : {X : Type 0} (n : ℕ) (xs : List X) → length (take n xs) ≤ 
 taken_few zero xs = omega arith
 taken_few (suc n) [] = omega arith
 taken_few (suc n) (x ∷ xs) = let rest = taken_few n xs in omega arith
-
--- an element of a list, as a read of it gives it
-drop-item : {X : Type 0} (xs : List X) (i : ℕ) (x : X) → i < length xs → x ≡ get_or xs i x → drop i xs ≡ x ∷ drop (i + 1) xs
-drop-item xs i x lt is = drop_more xs i x lt ∙ ap (λ y. y ∷ drop (i + 1) xs) (sym is)
 
 module _ {A : Type 0} where
   -- ---- the rows within a bound
@@ -66,7 +63,7 @@ module _ {A : Type 0} where
       let here : Rows A = rows_within page bound in
       let rest : Rows A = rows_within (joined (drop (i + 1) pages)) bound in
       let split : rows_within (joined (drop i pages)) bound ≡ here ++ rest =
-      ap (λ ps. rows_within (joined ps) bound) (drop-item pages i page lt at) ∙ within_append bound page (joined (drop (i + 1) pages)) in
+      ap (λ ps. rows_within (joined ps) bound) (drop_next pages i page lt at) ∙ within_append bound page (joined (drop (i + 1) pages)) in
       let same : length (lent new) ≡ length new = length-map new (λ row. row.now) in
       let few : length (take most (lent old ++ here)) ≤ most = taken_few most (lent old ++ here) in
       let counted : length (lent new) ≡ length (take most (lent old ++ here)) = ap length made in (

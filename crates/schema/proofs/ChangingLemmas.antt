@@ -18,6 +18,7 @@ use Rattle.std.specs.declared.ops.Bound.TheVariants as range
 use Rattle.value.specs.declared.key.Key.{Key}
 use Rattle.value.specs.declared.value.Value.{Value}
 use Rattle.value.specs.Order.{value_cmp, value_cmp-exact, value_cmp-total}
+use Rattle.value.proofs.Basics.{nat_cmp-self, eqb-self}
 use Rattle.schema.specs.declared.row.Row.{Row}
 use Rattle.schema.specs.declared.reader.Bound.{Bound}
 use Rattle.schema.specs.declared.changes.Change.{Change}
@@ -26,12 +27,6 @@ use Rattle.schema.specs.Rows.{is_within}
 use Rattle.schema.proofs.KeyedLemmas.{within_is}
 use Rattle.schema.specs.KeyedChange.{KeyedChange, shown_changes, own_rows}
 use Rattle.schema.specs.Changing.{change_cmp, put_change, new_row, change_of, next_change, changes_at, IsByKey, put_keyed, own_row, keyed_change, next_keyed, changes_in, changes_from}
-
-same_place : (t : ℕ) → (t == t) ≡ true
-same_place t = grind (arith, nat_tests)
-
-same_number : (n : ℕ) → nat_cmp n n ≡ Equal
-same_number n = sym (nat_cmp_is n n Equal refl)
 
 below_number : (n m : ℕ) → n < m → nat_cmp n m ≡ Less
 below_number n m below = sym (nat_cmp_is n m Less below)
@@ -149,7 +144,7 @@ module _ {A : Type 0} where
   among : (n : ℕ) (cs : List (KeyedChange A)) (rest : List (Change A)) (k : Value A) (fields : Option (List (Value A))) → put_change rest (record { table = n; key = k; fields = fields }) ≡ record { table = n; key = k; fields = fields } ∷ rest
       → put_change (changes_in n cs ++ rest) (record { table = n; key = k; fields = fields }) ≡ changes_in n (put_keyed cs k fields) ++ rest
   among n [] rest k fields first = first
-  among n (c ∷ cs) rest k fields first = rw (same_number n) (by_cases (value_cmp k c.0) (among n cs rest k fields first))
+  among n (c ∷ cs) rest k fields first = rw (nat_cmp-self n) (by_cases (value_cmp k c.0) (among n cs rest k fields first))
     where
       x : Change A
       x = record { table = n; key = k; fields = fields }
@@ -209,7 +204,7 @@ module _ {A : Type 0} where
 
     first_here : (cs : List (KeyedChange A)) (rest : List (Change A)) → first_of rest ≡ None → first_of (changes_in t cs ++ rest) ≡ option_map change_at (find (λ c. test c.0) cs)
     first_here [] rest none = none
-    first_here (c ∷ cs) rest none = rw (same_place t) (by_test (test c.0) (first_here cs rest none))
+    first_here (c ∷ cs) rest none = rw (eqb-self t) (by_test (test c.0) (first_here cs rest none))
       where
         by_test : (b : Bool) → first_of (changes_in t cs ++ rest) ≡ option_map change_at (find (λ c. test c.0) cs) → cond b (Some (change_at c)) (first_of (changes_in t cs ++ rest)) ≡ option_map change_at (cond b (Some c) (find (λ c. test c.0) cs))
         by_test true more = refl
@@ -246,7 +241,7 @@ module _ {A : Type 0} where
   above_key : (x y : Change A) → y.table ≡ x.table → value_cmp y.key x.key ≡ Less → change_cmp x y ≡ Greater
   above_key x y same_table below =
       ap (λ t. ordering_then (nat_cmp x.table t) (value_cmp x.key y.key)) same_table
-      ∙ ap (λ o. ordering_then o (value_cmp x.key y.key)) (same_number x.table)
+      ∙ ap (λ o. ordering_then o (value_cmp x.key y.key)) (nat_cmp-self x.table)
       ∙ value_cmp-total.antisymm x.key y.key ∙ ap ordering_reverse below
 
   above_keys : (xs : List (Change A)) (x : Change A) → AllByRecursion (λ y. (y.table ≡ x.table) × (value_cmp y.key x.key ≡ Less)) xs → AllByRecursion (λ y. change_cmp x y ≡ Greater) xs
@@ -273,7 +268,7 @@ module _ {A : Type 0} where
 
   at_own : (t : ℕ) (cs : List (KeyedChange A)) → changes_at (changes_in t cs) t ≡ changes_in t cs
   at_own t [] = refl
-  at_own t (c ∷ cs) = rw (same_place t) (ap (λ xs. record { table = t; key = c.0; fields = c.1 } ∷ xs) (at_own t cs))
+  at_own t (c ∷ cs) = rw (eqb-self t) (ap (λ xs. record { table = t; key = c.0; fields = c.1 } ∷ xs) (at_own t cs))
 
   at_later : (t n : ℕ) (tables : List (List (KeyedChange A))) → t < n → changes_at (changes_from n tables) t ≡ []
   at_later t n [] before = refl

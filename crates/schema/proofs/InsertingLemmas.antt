@@ -1,5 +1,5 @@
 -- A row against which nothing stands may stand in its table, and sound tables stay sound with it.
-use Rattle.std.proofs.Common.{◌≡◌, ℕ, zero, suc, ◌+◌, ◌<◌, ◌≤◌, ◌⊎◌, inl, inr, Bool, true, false, true≢false, T, cond, not, ◌&&◌, ◌||◌, List, [], ◌∷◌, map, length, Option, Some, None, is_some, slice_get, set, get_or, drop, add-one, if◌then◌else◌, eqb, Result, Ok, Err, OnOk, OnErr, refl, sym, ap, ◌∙◌, arith}
+use Rattle.std.proofs.Common.{◌≡◌, ℕ, zero, suc, ◌+◌, ◌<◌, ◌≤◌, ◌⊎◌, inl, inr, Bool, true, false, true≢false, T, cond, not, ◌&&◌, List, [], ◌∷◌, map, length, Option, Some, None, is_some, slice_get, set, get_or, drop, add-one, if◌then◌else◌, eqb, Result, Ok, Err, OnOk, OnErr, refl, sym, ap, ◌∙◌, arith}
 use Rattle.std.specs.List.{list_any, list_all}
 use Rattle.std.specs.List.Sorted.{IsStrictlySortedBy}
 use Rattle.std.specs.List.{AllByRecursion}
@@ -8,7 +8,8 @@ use Rattle.std.specs.FinMap.Entries.{below_all, by_order}
 use Rattle.std.specs.Ordering.{match_ordering}
 use Rattle.std.specs.declared.cmp.Ordering.{Ordering}
 use Rattle.std.specs.declared.cmp.Ordering.TheVariants.{Less, Equal, Greater}
-use Rattle.std.proofs.lemmas.Bool.{eqb-true}
+use Rattle.std.proofs.lemmas.Bool.{eqb-true, not-false, or_parts, and_parts}
+use Rattle.std.proofs.lemmas.Float.{T_from_true}
 use Rattle.std.proofs.lemmas.List.{drop_all}
 use Rattle.value.specs.declared.kind.Kind.{Kind}
 use Rattle.value.specs.declared.kind.Kind.TheVariants as kind
@@ -16,6 +17,7 @@ use Rattle.value.specs.declared.refusal.Code.{Code}
 use Rattle.value.specs.declared.value.Value.{Value}
 use Rattle.value.specs.declared.value.Value.TheVariants.{Null, Int, Text, Bytes}
 use Rattle.value.specs.Order.{value_cmp, value_cmp-exact}
+use Rattle.value.proofs.Basics.{cases_le}
 use Rattle.schema.specs.Definition.{Column, TableSchema, Catalog, columns_of}
 use Rattle.schema.specs.declared.row.Row.{Row}
 use Rattle.schema.specs.declared.changes.Change.{Change}
@@ -27,24 +29,8 @@ use Rattle.schema.proofs.NamedLemmas.{columns_of-get}
 use Rattle.schema.proofs.PlainLemmas.{same_value, IsOrdered, touches, left_by, rows_of-past}
 use Rattle.schema.proofs.SoundLemmas.{sound_from, sound_to, sound_changes, sound_at, sound_count, row_ok}
 
-two_of : (a b : Bool) → (a && b) ≡ true → (a ≡ true) × (b ≡ true)
-two_of true b e = (refl, e)
-two_of false b e = absurd (true≢false (sym e))
-
-neither : (a b : Bool) → (a || b) ≡ false → (a ≡ false) × (b ≡ false)
-neither true b e = absurd (true≢false e)
-neither false b e = (refl, e)
-
-pub not_so : (b : Bool) → not b ≡ false → b ≡ true
-not_so true e = refl
-not_so false e = absurd (true≢false e)
-
 all_three : (a b c : Bool) → a ≡ true → b ≡ false → c ≡ true → (a && not b && c) ≡ true
 all_three a b c p q r = rw (p, q, r) refl
-
-T_of : (b : Bool) → b ≡ true → T b
-T_of true e = tt
-T_of false e = absurd (true≢false (sym e))
 
 -- no fault: none of the five
 none_of : (a b c d e : Bool) (v w x y z : Code) → (if a then Some v else (if b then Some w else (if c then Some x else (if d then Some y else (if e then Some z else None))))) ≡ None
@@ -60,9 +46,6 @@ some_table : (c : Catalog) (t : ℕ) → t < length c → (d : TableSchema) × (
 some_table [] t within = absurd (omega arith)
 some_table (d ∷ c) zero within = (d, refl)
 some_table (d ∷ c) (suc t) within = some_table c t (omega arith)
-
-two_places : (n t : ℕ) → (n ≤ t) ⊎ (t < n)
-two_places n t = grind arith
 
 -- a put that was done, or not
 put_or_not : {X U E : Type 0} (r : Result U E) (old new made : X) → OnOk r (new ≡ made) → OnErr r (new ≡ old) → (new ≡ made) ⊎ (new ≡ old)
@@ -88,18 +71,18 @@ module _ {A : Type 0} where
   fits_from X [] (v ∷ vs) is made clear full there = absurd (true≢false (sym is))
   fits_from X (d ∷ ds) [] is made clear full there = absurd (true≢false (sym is))
   fits_from X (d ∷ ds) (v ∷ vs) is made clear full there =
-      let p = two_of (is_of_kind d.kind v) (are_of_kinds ds vs) is in
-      let q = two_of (is_made v) (list_all is_made vs) made in
-      let r = neither (has_zero_byte v) (list_any has_zero_byte vs) clear in
-      let s = neither (d.not_null && is_null v) (lacks_value ds vs) full in
-      let t = neither (not (is_there X d v)) (dangles X ds vs) there in
-      rw (all_three (has_kind d.kind v) (d.not_null && is_null v) (is_there X d v) (kind_from d.kind v p.0 q.0 r.0) s.0 (not_so (is_there X d v) t.0)) (fits_from X ds vs p.1 q.1 r.1 s.1 t.1)
+      let p = and_parts (is_of_kind d.kind v) (are_of_kinds ds vs) is in
+      let q = and_parts (is_made v) (list_all is_made vs) made in
+      let r = or_parts (has_zero_byte v) (list_any has_zero_byte vs) clear in
+      let s = or_parts (d.not_null && is_null v) (lacks_value ds vs) full in
+      let t = or_parts (not (is_there X d v)) (dangles X ds vs) there in
+      rw (all_three (has_kind d.kind v) (d.not_null && is_null v) (is_there X d v) (kind_from d.kind v p.0 q.0 r.0) s.0 (not-false (is_there X d v) t.0)) (fits_from X ds vs p.1 q.1 r.1 s.1 t.1)
 
   -- a row against which nothing stands
   row_from : (c : Catalog) (X : Tables A) (t : ℕ) (row : Row A) → inserting_fault c X t row ≡ None → list_all is_made (cells row) ≡ true → fits_columns X (columns_of c t) (cells row) ≡ true
   row_from c X t row none made =
       let n = none_of (not (are_of_kinds (columns_of c t) (cells row))) (list_any has_zero_byte (cells row)) (lacks_value (columns_of c t) (cells row)) (is_some (row_at X t row.0)) (dangles X (columns_of c t) (cells row)) _ _ _ _ _ none in
-      fits_from X (columns_of c t) (cells row) (not_so _ n.0) made n.1 n.2 n.4
+      fits_from X (columns_of c t) (cells row) (not-false _ n.0) made n.1 n.2 n.4
 
   -- the two ways to put in a row are one
   pub put_row-put : (rows : List (Row A)) (row : Row A) → put value_cmp row.0 row.1 rows ≡ put_row rows row
@@ -133,13 +116,13 @@ module _ {A : Type 0} where
 
   -- sound tables are in order
   ordered_from : (c : Catalog) (X : Tables A) → length X ≡ length c → is_sound c X ≡ true → IsOrdered X
-  ordered_from c X count sound = record { each = λ t. go t (two_places (length X) t) }
+  ordered_from c X count sound = record { each = λ t. go t (cases_le (length X) t) }
     where
       go : (t : ℕ) → (length X ≤ t) ⊎ (t < length X) → T (is_sorted value_cmp (rows_of X t))
       go t (inl past) = rw (rows_of-past X t past) tt
       go t (inr within) =
           let d = some_table c t (omega arith) in
-          T_of (is_sorted value_cmp (rows_of X t)) (two_of (is_sorted value_cmp (rows_of X t)) _ (sound_at X c X t d.0 sound d.1)).0
+          T_from_true (is_sorted value_cmp (rows_of X t)) (and_parts (is_sorted value_cmp (rows_of X t)) _ (sound_at X c X t d.0 sound d.1)).0
 
   -- Sound tables stay sound with a row against which nothing stands.
   pub inserted_sound : (c : Catalog) (X : Tables A) (t : ℕ) (row : Row A) → length X ≡ length c → is_null row.0 ≡ false → inserting_fault c X t row ≡ None → list_all is_made (cells row) ≡ true
@@ -163,7 +146,7 @@ module _ {A : Type 0} where
           go : (b : Bool) → touches u k x ≡ b → cond b (Some (Some row.1)) None ≡ Some (Some fields) → row_ok X d k fields ≡ true
           go false q e = cc
           go true q e =
-              let p = two_of (eqb t u) (same k row.0) q in
+              let p = and_parts (eqb t u) (same k row.0) q in
               let table : t ≡ u = eqb-true t u p.0 in
               let same_key : k ≡ row.0 = same_value k row.0 p.1 in
               let same_fields : row.1 ≡ fields = cc in

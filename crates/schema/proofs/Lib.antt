@@ -7,7 +7,7 @@ mod LevelsLemmas
 pub mod LiteralLemmas
 mod MadeLemmas
 mod NamedLemmas
-mod PageLemmas
+pub mod PageLemmas
 mod PagedLemmas
 pub mod RowsInOrder
 pub mod PlainLemmas

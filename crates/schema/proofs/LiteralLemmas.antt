@@ -7,6 +7,7 @@ use Rattle.std.specs.Str.Parse.{starts_with_minus, without_leading_sign, digits_
 use Rattle.std.proofs.lemmas.Bool.{cases_lt}
 use Rattle.std.proofs.lemmas.Bool.Decides.{nat_tests}
 use Rattle.std.proofs.lemmas.Int.{ints}
+use Rattle.std.specs.Cmp.Derive.{both_true}
 use Rattle.hex.specs.declared.error.FromHexError.{FromHexError}
 use Rattle.hex.specs.declared.error.FromHexError.TheVariants.{OddLength}
 use Rattle.hex.specs.Hex as hex
@@ -30,9 +31,6 @@ done_same x y e = cc
 
 not_done : {A E : Type 0} (e : E) (y : A) → failed {A = A} {E = E} e ≡ Ok y → ⊥
 not_done e y h = cc
-
-both : {a b : Bool} → a ≡ true → b ≡ true → (a && b) ≡ true
-both p q = rw (p, q) refl
 
 -- ---- numbers
 
@@ -112,7 +110,7 @@ pairs_below i (high ∷ low ∷ rest) bytes h =
     let a = hex_bind (hex.pair_value high low i) (λ byte. hex_then (hex.decode_pairs (i + 2) rest) (λ more. Ok (byte ∷ more))) bytes h in
     let b = hex_bind (hex.decode_pairs (i + 2) rest) (λ more. Ok (a.0 ∷ more)) bytes a.2 in
     subst (λ (bs : List ℕ). list_all (λ b. nat_lt b 256) bs ≡ true) (done_same {E = FromHexError} (a.0 ∷ b.0) bytes b.2)
-    (both (pair_below high low i a.0 a.1) (pairs_below (i + 2) rest b.0 b.1))
+    (both_true (pair_below high low i a.0 a.1) (pairs_below (i + 2) rest b.0 b.1))
 
 -- ---- values
 

@@ -1,7 +1,6 @@
 -- Tables beside their names: a look-up by name is a search through the tables.
-use Rattle.std.proofs.Common.{◌≡◌, ℕ, zero, suc, ◌+◌, ◌<◌, Bool, true, false, nat_lt, cond, not, ◌||◌, List, [], ◌∷◌, ◌++◌, map, take, add-one, length, Option, Some, None, is_some, slice_get, refl, sym, ap, subst, ◌∙◌, arith}
+use Rattle.std.proofs.Common.{◌≡◌, ℕ, zero, suc, ◌+◌, ◌<◌, Bool, true, false, nat_lt, cond, not, ◌||◌, List, [], ◌∷◌, ◌++◌, map, take, add-one, length, Some, None, is_some, slice_get, refl, sym, ap, subst, ◌∙◌, arith}
 use Rattle.std.specs.List.{position, prefix_len, list_any}
-use Rattle.std.proofs.lemmas.Bool.Decides.{nat_tests}
 use Rattle.std.proofs.lemmas.List.{length-map, map-append}
 use Rattle.std.proofs.lemmas.Map.Made.{is_some-lookup}
 use Rattle.std.specs.Map.{lookup, keys_of, values_of}
@@ -10,6 +9,7 @@ use Rattle.std.proofs.lemmas.Str.{IsUtf8-string_bytes}
 use Rattle.std.specs.Str.{bytes_eq, IsUtf8}
 use Rattle.std.specs.String.{string_bytes}
 use Rattle.std.specs.declared.string.String.{String}
+use Rattle.value.proofs.Basics.{None-from_some, nat_lt-suc, nat_lt-zero}
 use Rattle.schema.specs.Definition.{TableSchema, Catalog, columns_of, table_named}
 use Rattle.schema.specs.Named.{IsByName}
 
@@ -39,30 +39,20 @@ is_some-cond : {X : Type 0} (b : Bool) (x : X) → is_some (cond b (Some x) None
 is_some-cond true x = refl
 is_some-cond false x = refl
 
-first_place : (l : ℕ) → nat_lt 0 (suc l) ≡ true
-first_place l = grind (arith, nat_tests)
-
-next_place : (n l : ℕ) → nat_lt (1 + n) (suc l) ≡ nat_lt n l
-next_place n l = grind (arith, nat_tests)
-
 -- a place is found where an element passes
 is_some-position : {X : Type 0} (p : X → Bool) (xs : List X) → is_some (position p xs) ≡ list_any p xs
 is_some-position p [] = refl
 is_some-position p (x ∷ xs) = is_some-cond _ (prefix_len (λ y. not (p y)) (x ∷ xs)) ∙ by_test (p x) (sym (is_some-cond _ (prefix_len (λ y. not (p y)) xs)) ∙ is_some-position p xs)
   where
     by_test : (b : Bool) → nat_lt (prefix_len (λ y. not (p y)) xs) (length xs) ≡ list_any p xs → nat_lt (cond (not b) (1 + prefix_len (λ y. not (p y)) xs) 0) (suc (length xs)) ≡ (b || list_any p xs)
-    by_test true rest = first_place (length xs)
-    by_test false rest = next_place (prefix_len (λ y. not (p y)) xs) (length xs) ∙ rest
-
-none_is : {X : Type 0} (o : Option X) → is_some o ≡ false → o ≡ None
-none_is None e = refl
-none_is (Some x) e = cc
+    by_test true rest = nat_lt-zero (length xs)
+    by_test false rest = nat_lt-suc (prefix_len (λ y. not (p y)) xs) (length xs) ∙ rest
 
 module _ {A : Type 0} where
   -- a name that no table has isn't found
   pub lookup-absent : (name : List ℕ) (entries : List (String A × TableSchema)) → IsByName entries → is_some (table_named (values_of entries) name) ≡ false → lookup (λ k. bytes_eq name (string_bytes k)) entries ≡ None
   lookup-absent name entries by_name absent =
-      none_is _ (is_some-lookup (λ k. bytes_eq name (string_bytes k)) entries ∙ sym (is_some-position (λ k. bytes_eq name (string_bytes k)) (keys_of entries)) ∙ ap is_some (position-named name entries by_name) ∙ absent)
+      None-from_some _ (is_some-lookup (λ k. bytes_eq name (string_bytes k)) entries ∙ sym (is_some-position (λ k. bytes_eq name (string_bytes k)) (keys_of entries)) ∙ ap is_some (position-named name entries by_name) ∙ absent)
 
   -- a table that is put last
   pub values_of-push : (entries : List (String A × TableSchema)) (e : String A × TableSchema) → values_of (entries ++ e ∷ []) ≡ values_of entries ++ e.1 ∷ []
@@ -99,4 +89,4 @@ no_text name (k ∷ keys) invalid = by_test (bytes_eq name (string_bytes k)) ref
 -- what isn't UTF-8 names no table
 pub nothing_named : {A : Type 0} (name : List ℕ) (entries : List (String A × TableSchema)) → IsByName entries → ¬ (IsUtf8 name) → table_named (values_of entries) name ≡ None
 nothing_named name entries by_name invalid =
-    none_is _ (ap is_some (sym (position-named name entries by_name)) ∙ is_some-position (λ k. bytes_eq name (string_bytes k)) (keys_of entries) ∙ no_text name (keys_of entries) invalid)
+    None-from_some _ (ap is_some (sym (position-named name entries by_name)) ∙ is_some-position (λ k. bytes_eq name (string_bytes k)) (keys_of entries) ∙ no_text name (keys_of entries) invalid)

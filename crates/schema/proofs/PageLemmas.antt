@@ -1,16 +1,20 @@
 -- Rows in key order: where a key stands, and what is put in or taken away there.
-use Rattle.std.proofs.Common.{suc, zero, ◌≡◌, refl, sym, ap, subst, ◌∙◌, ℕ, ◌+◌, ◌-◌, ◌<◌, ◌≤◌, Bool, true, false, true≢false, not, ◌&&◌, cond, List, [], ◌∷◌, ◌++◌, take, drop, map, length, Option, Some, None, get_or, set, arith, Bor}
+use Rattle.std.proofs.Common.{suc, zero, ◌≡◌, refl, sym, ap, subst, ◌∙◌, ℕ, ◌-◌, ◌<◌, ◌≤◌, Bool, true, false, true≢false, not, ◌&&◌, cond, List, [], ◌∷◌, ◌++◌, take, drop, map, length, Option, Some, None, get_or, set, arith, Bor}
+use Rattle.std.proofs.Math.Bool.{and-true}
+use Rattle.std.proofs.lemmas.Bool.{not-false, not-true}
 use Rattle.std.specs.Prelude.{slice_get, Result, Ok, Err, OnOk, OnErr}
-use Rattle.std.specs.List.{AllByRecursion, AllWithin}
+use Rattle.std.specs.List.{AllByRecursion}
 use Rattle.std.specs.List.Sorted.{IsStrictlySortedBy, IsPartitionedBy, IsPartitionPoint}
 use Rattle.std.specs.Option.{option_map_or}
-use Rattle.std.specs.Ordering.{is_eq, is_le, match_ordering, ordering_reverse}
+use Rattle.std.specs.Ordering.{is_le, match_ordering, ordering_reverse}
 use Rattle.std.specs.declared.cmp.Ordering.{Ordering}
 use Rattle.std.specs.declared.cmp.Ordering.TheVariants.{Less, Equal, Greater}
-use Rattle.std.proofs.lemmas.List.{set_split, take_more}
+use Rattle.std.proofs.lemmas.List.{set_split, take-append-drop}
+use Rattle.std.proofs.lemmas.Option.{slice_get_within}
 use Rattle.value.specs.Order.{value_cmp, value_cmp-total, value_cmp-exact}
 use Rattle.value.specs.declared.key.Key.{Key}
 use Rattle.value.specs.declared.value.Value.{Value}
+use Rattle.value.proofs.Basics.{Equal-from_eq, Less-from_le, Greater-from_le, slice_get-none, slice_get-drop, all-weaker, all-drop, all-take, all-at}
 use Rattle.schema.specs.declared.row.Row.{Row}
 use Rattle.schema.specs.declared.reader.Bound.{Bound}
 use Rattle.schema.specs.Paged.{is_before, has_rows}
@@ -24,11 +28,6 @@ abbrev pub Pairwise : {X : Type 0} → (X → X → Type 0) → List X → Type 
 Pairwise R [] = Unit {0}
 Pairwise R (x ∷ xs) = AllByRecursion (R x) xs × Pairwise R xs
 
-all-at : {X : Type 0} (P : X → Type 0) (xs : List X) (i : ℕ) (d : X) → i < length xs → AllByRecursion P xs → P (get_or xs i d)
-all-at P [] i d lt all = absurd (omega arith)
-all-at P (x ∷ xs) zero d lt all = all.0
-all-at P (x ∷ xs) (suc i) d lt all = all-at P xs i d (omega arith) all.1
-
 pub partitioned-pairwise : {X : Type 0} (p : X → Bool) (R : X → X → Type 0) → ((x y : X) → R x y → p y ≡ true → p x ≡ true) → (xs : List X) → Pairwise R xs → IsPartitionedBy p xs
 partitioned-pairwise p R step [] pairs = λ i j d le lt yes. absurd (omega arith)
 partitioned-pairwise {X} p R step (x ∷ xs) pairs = go (partitioned-pairwise p R step xs pairs.1)
@@ -39,74 +38,6 @@ partitioned-pairwise {X} p R step (x ∷ xs) pairs = go (partitioned-pairwise p 
     go rest (suc i) zero d le lt passes = absurd (omega arith)
     go rest (suc i) (suc j) d le lt passes = rest i j d (omega arith) (omega arith) passes
 
-pub all-take : {X : Type 0} (P : X → Type 0) (i : ℕ) (xs : List X) → i ≤ length xs → AllWithin P xs 0 i → AllByRecursion P (take i xs)
-all-take P zero xs le h = tt
-all-take P (suc i) [] le h = tt
-all-take P (suc i) (x ∷ xs) le h = (h 0 x (omega arith) (omega arith), all-take P i xs (omega arith) (λ k d low high. h (suc k) d (omega arith) (omega arith)))
-
-pub all-drop : {X : Type 0} (P : X → Type 0) (i : ℕ) (xs : List X) → AllWithin P xs i (length xs) → AllByRecursion P (drop i xs)
-all-drop P zero [] h = tt
-all-drop P zero (x ∷ xs) h = (h 0 x (omega arith) (omega arith), all-drop P zero xs (λ k d low high. h (suc k) d (omega arith) (omega arith)))
-all-drop P (suc i) [] h = tt
-all-drop P (suc i) (x ∷ xs) h = all-drop P i xs (λ k d low high. h (suc k) d (omega arith) (omega arith))
-
-all-weaker : {X : Type 0} (P Q : X → Type 0) → ((x : X) → P x → Q x) → (xs : List X) → AllByRecursion P xs → AllByRecursion Q xs
-all-weaker P Q step [] all = tt
-all-weaker P Q step (x ∷ xs) all = (step x all.0, all-weaker P Q step xs all.1)
-
-pub not-true : (b : Bool) → not b ≡ true → b ≡ false
-not-true true e = sym e
-not-true false e = refl
-
-not-false : (b : Bool) → not b ≡ false → b ≡ true
-not-false true e = refl
-not-false false e = sym e
-
-pub slice_get-drop : {X : Type 0} (xs : List X) (i : ℕ) (x : X) → slice_get xs i ≡ Some x → drop i xs ≡ x ∷ drop (suc i) xs
-slice_get-drop [] i x e = cc
-slice_get-drop (y ∷ ys) zero x e = let same : y ≡ x = cc in ap (λ z. z ∷ ys) same
-slice_get-drop (y ∷ ys) (suc i) x e = slice_get-drop ys i x e
-
-pub slice_get-none : {X : Type 0} (xs : List X) (i : ℕ) → slice_get xs i ≡ None → drop i xs ≡ []
-slice_get-none [] zero e = refl
-slice_get-none [] (suc i) e = refl
-slice_get-none (y ∷ ys) zero e = cc
-slice_get-none (y ∷ ys) (suc i) e = slice_get-none ys i e
-
-pub slice_get-below : {X : Type 0} (xs : List X) (i : ℕ) (x : X) → slice_get xs i ≡ Some x → i < length xs
-slice_get-below [] i x e = cc
-slice_get-below (y ∷ ys) zero x e = omega arith
-slice_get-below (y ∷ ys) (suc i) x e = let lt : i < length ys = slice_get-below ys i x e in omega arith
-
-pub greater : (o : Ordering) → is_le o ≡ false → o ≡ Greater
-greater Less e = cc
-greater Equal e = cc
-greater Greater e = refl
-
-pub less : (o : Ordering) → is_le o ≡ true → is_eq o ≡ false → o ≡ Less
-less Less e f = refl
-less Equal e f = cc
-less Greater e f = cc
-
-pub equal : (o : Ordering) → is_eq o ≡ true → o ≡ Equal
-equal Less e = cc
-equal Equal e = refl
-equal Greater e = cc
-
--- an element of a list, as a read of it gives it
-pub take-item : {X : Type 0} (xs : List X) (i : ℕ) (x : X) → i < length xs → x ≡ get_or xs i x → take (i + 1) xs ≡ take i xs ++ x ∷ []
-take-item xs i x lt is = take_more xs i x lt ∙ ap (λ y. take i xs ++ y ∷ []) (sym is)
-
--- a test that holds of what stands at a place
-pub below-passed : {X : Type 0} (p : X → Bool) (xs : List X) (i : ℕ) → option_map_or p (slice_get xs i) false ≡ true → i < length xs
-below-passed p [] i e = cc
-below-passed p (y ∷ ys) zero e = omega arith
-below-passed p (y ∷ ys) (suc i) e = let lt : i < length ys = below-passed p ys i e in omega arith
-
-and_true : (b : Bool) → (b && true) ≡ b
-and_true true = refl
-and_true false = refl
-
 pub last_none : {X : Type 0} (xs : List X) → slice_get xs (length xs - 1) ≡ None → xs ≡ []
 last_none [] at = refl
 last_none (x ∷ xs) at = absurd (none (x ∷ xs) (length (x ∷ xs) - 1) (omega arith) at)
@@ -115,11 +46,6 @@ last_none (x ∷ xs) at = absurd (none (x ∷ xs) (length (x ∷ xs) - 1) (omega
     none [] j lt e = absurd (omega arith)
     none (y ∷ ys) zero lt e = cc
     none (y ∷ ys) (suc j) lt e = none ys j (omega arith) e
-
-parted : {X : Type 0} (i : ℕ) (xs : List X) → take i xs ++ drop i xs ≡ xs
-parted zero xs = refl
-parted (suc i) [] = refl
-parted (suc i) (x ∷ xs) = ap (λ rest. x ∷ rest) (parted i xs)
 
 module _ {A : Type 0} where
   -- ---- the order of keys
@@ -185,12 +111,12 @@ module _ {A : Type 0} where
   -- a row whose key is above all of a first run
   pub put-behind : (row : Row A) (xs ys : Rows A) → IsBehind row.0 xs → put_row (xs ++ ys) row ≡ xs ++ put_row ys row
   put-behind row [] ys behind = refl
-  put-behind row (x ∷ xs) ys behind = rw (greater (value_cmp row.0 x.0) behind.0) (ap (λ rest. x ∷ rest) (put-behind row xs ys behind.1))
+  put-behind row (x ∷ xs) ys behind = rw (Greater-from_le (value_cmp row.0 x.0) behind.0) (ap (λ rest. x ∷ rest) (put-behind row xs ys behind.1))
 
   -- above all
   pub put-last : (row : Row A) (xs : Rows A) → IsBehind row.0 xs → put_row xs row ≡ xs ++ row ∷ []
   put-last row [] behind = refl
-  put-last row (x ∷ xs) behind = rw (greater (value_cmp row.0 x.0) behind.0) (ap (λ rest. x ∷ rest) (put-last row xs behind.1))
+  put-last row (x ∷ xs) behind = rw (Greater-from_le (value_cmp row.0 x.0) behind.0) (ap (λ rest. x ∷ rest) (put-last row xs behind.1))
 
   put-first : (row : Row A) (ys : Rows A) → IsLeast row.0 ys → put_row ys row ≡ row ∷ ys
   put-first row [] least = refl
@@ -208,7 +134,7 @@ module _ {A : Type 0} where
 
   pub gone-behind : (k : Value A) (xs ys : Rows A) → IsBehind k xs → changed k None (xs ++ ys) ≡ xs ++ changed k None ys
   gone-behind k [] ys behind = refl
-  gone-behind k (x ∷ xs) ys behind = rw (greater (value_cmp k x.0) behind.0) (ap (λ rest. x ∷ rest) (gone-behind k xs ys behind.1))
+  gone-behind k (x ∷ xs) ys behind = rw (Greater-from_le (value_cmp k x.0) behind.0) (ap (λ rest. x ∷ rest) (gone-behind k xs ys behind.1))
 
   -- rows of greater keys stay
   pub gone-none : (k : Value A) (rows : Rows A) → IsLeast k rows → changed k None rows ≡ rows
@@ -264,7 +190,7 @@ module _ {A : Type 0} where
   last-tells : (bound : Bound (Bor (Key A))) (rows : Rows A) (i : ℕ) (row : Row A) → IsInKeyOrder rows → slice_get rows i ≡ Some row → length rows ≡ suc i → not (is_within bound row.0) ≡ is_before bound rows
   unfolding IsStrictlySortedBy
   last-tells bound [] i row sorted at len = cc
-  last-tells bound (r ∷ []) zero row sorted at len = let same : r ≡ row = cc in ap (λ x. not (is_within bound x.0)) (sym same) ∙ sym (and_true (not (is_within bound r.0)))
+  last-tells bound (r ∷ []) zero row sorted at len = let same : r ≡ row = cc in ap (λ x. not (is_within bound x.0)) (sym same) ∙ sym (and-true (not (is_within bound r.0)))
   last-tells bound (r ∷ s ∷ rs) zero row sorted at len = absurd (omega (arith, len))
   last-tells bound (r ∷ rs) (suc i) row sorted at len = go (is_within bound r.0) refl (last-tells bound rs i row sorted.1 at (omega (arith, len)))
     where
@@ -273,7 +199,7 @@ module _ {A : Type 0} where
       go true e rest = ap not (later_within bound r.0 row.0 (least-at r.0 rs i row sorted.0 at) e)
 
   pub before-last : (bound : Bound (Bor (Key A))) (rows : Rows A) (row : Row A) → IsInKeyOrder rows → slice_get rows (length rows - 1) ≡ Some row → not (is_within bound row.0) ≡ is_before bound rows
-  before-last bound rows row sorted at = let lt = slice_get-below rows (length rows - 1) row at in last-tells bound rows (length rows - 1) row sorted at (omega (arith, lt))
+  before-last bound rows row sorted at = let lt = slice_get_within rows (length rows - 1) row at in last-tells bound rows (length rows - 1) row sorted at (omega (arith, lt))
 
   pub before-none : (bound : Bound (Bor (Key A))) (rows : Rows A) → slice_get rows (length rows - 1) ≡ None → true ≡ is_before bound rows
   before-none bound rows at = ap (is_before bound) (sym (last_none rows at))
@@ -332,21 +258,21 @@ module _ {A : Type 0} where
   -- ---- what is put in or taken away at a place
 
   put-parted : (row : Row A) (i : ℕ) (rows : Rows A) → IsBehind row.0 (take i rows) → put_row rows row ≡ take i rows ++ put_row (drop i rows) row
-  put-parted row i rows early = ap (λ rs. put_row rs row) (sym (parted i rows)) ∙ put-behind row (take i rows) (drop i rows) early
+  put-parted row i rows early = ap (λ rs. put_row rs row) (sym (take-append-drop i rows)) ∙ put-behind row (take i rows) (drop i rows) early
 
   gone-parted : (k : Value A) (i : ℕ) (rows : Rows A) → IsBehind k (take i rows) → changed k None rows ≡ take i rows ++ changed k None (drop i rows)
-  gone-parted k i rows early = ap (changed k None) (sym (parted i rows)) ∙ gone-behind k (take i rows) (drop i rows) early
+  gone-parted k i rows early = ap (changed k None) (sym (take-append-drop i rows)) ∙ gone-behind k (take i rows) (drop i rows) early
 
   -- what stands at a place is the row of a key, or not
   there : (k : Value A) (i : ℕ) (rows : Rows A) (o : Option (Row A)) → slice_get rows i ≡ o → option_map_or (λ r. same k r.0) o false ≡ true → (r : Row A) × (slice_get rows i ≡ Some r) × (value_cmp k r.0 ≡ Equal)
   there k i rows None at is = cc
-  there k i rows (Some r) at is = (r, at, equal (value_cmp k r.0) is)
+  there k i rows (Some r) at is = (r, at, Equal-from_eq (value_cmp k r.0) is)
 
   pub put-over : (row : Row A) (i : ℕ) (rows : Rows A) → IsBehind row.0 (take i rows) → option_map_or (λ r. same row.0 r.0) (slice_get rows i) false ≡ true → set rows i row ≡ put_row rows row
   put-over row i rows early is =
       let found = there row.0 i rows (slice_get rows i) refl is in
       let e : put_row (found.0 ∷ drop (suc i) rows) row ≡ row ∷ drop (suc i) rows = rw found.2 refl in
-      set_split rows i row (slice_get-below rows i found.0 found.1)
+      set_split rows i row (slice_get_within rows i found.0 found.1)
       ∙ sym (put-parted row i rows early ∙ ap (λ rs. take i rows ++ put_row rs row) (slice_get-drop rows i found.0 found.1) ∙ ap (λ rs. take i rows ++ rs) e)
 
   pub put-new : (row : Row A) (i : ℕ) (rows : Rows A) → IsBehind row.0 (take i rows) → AllByRecursion (λ r. is_le (value_cmp row.0 r.0) ≡ true) (drop i rows) → option_map_or (λ r. same row.0 r.0) (slice_get rows i) false ≡ false
@@ -358,7 +284,7 @@ module _ {A : Type 0} where
       go (Some r) at e =
           let cut = slice_get-drop rows i r at in
           let late_here = subst (AllByRecursion (λ (r : Row A). is_le (value_cmp row.0 r.0) ≡ true)) cut late in
-          let below : value_cmp row.0 r.0 ≡ Less = less (value_cmp row.0 r.0) late_here.0 e in
+          let below : value_cmp row.0 r.0 ≡ Less = Less-from_le (value_cmp row.0 r.0) late_here.0 e in
           let f : put_row (r ∷ drop (suc i) rows) row ≡ row ∷ r ∷ drop (suc i) rows = rw below refl in
           ap (λ rs. take i rows ++ row ∷ rs) cut
           ∙ sym (put-parted row i rows early ∙ ap (λ rs. take i rows ++ put_row rs row) cut ∙ ap (λ rs. take i rows ++ rs) f)
@@ -380,11 +306,11 @@ module _ {A : Type 0} where
   gone-missing k i rows sorted early late isnt = go (slice_get rows i) refl isnt
     where
       go : (o : Option (Row A)) → slice_get rows i ≡ o → option_map_or (λ r. same k r.0) o false ≡ false → rows ≡ changed k None rows
-      go None at e = sym (gone-parted k i rows early ∙ ap (λ rs. take i rows ++ changed k None rs) (slice_get-none rows i at) ∙ ap (λ rs. take i rows ++ rs) (sym (slice_get-none rows i at)) ∙ parted i rows)
+      go None at e = sym (gone-parted k i rows early ∙ ap (λ rs. take i rows ++ changed k None rs) (slice_get-none rows i at) ∙ ap (λ rs. take i rows ++ rs) (sym (slice_get-none rows i at)) ∙ take-append-drop i rows)
       go (Some r) at e =
           let cut = slice_get-drop rows i r at in
           let late_here = subst (AllByRecursion (λ (r : Row A). is_le (value_cmp k r.0) ≡ true)) cut late in
-          let below : value_cmp k r.0 ≡ Less = less (value_cmp k r.0) late_here.0 e in
+          let below : value_cmp k r.0 ≡ Less = Less-from_le (value_cmp k r.0) late_here.0 e in
           let sorted_here = subst IsInKeyOrder cut (in_order-drop i rows sorted) in
           let least : IsLeast k (r ∷ drop (suc i) rows) = (below, least-trans k r.0 (drop (suc i) rows) below sorted_here.0) in
-          sym (gone-parted k i rows early ∙ ap (λ rs. take i rows ++ changed k None rs) cut ∙ ap (λ rs. take i rows ++ rs) (gone-none k (r ∷ drop (suc i) rows) least ∙ sym cut) ∙ parted i rows)
+          sym (gone-parted k i rows early ∙ ap (λ rs. take i rows ++ changed k None rs) cut ∙ ap (λ rs. take i rows ++ rs) (gone-none k (r ∷ drop (suc i) rows) least ∙ sym cut) ∙ take-append-drop i rows)

@@ -1,5 +1,6 @@
 -- The rows of pages, one page after another: where a key belongs, and what a change of one page is to all.
 use Rattle.std.proofs.Common.{suc, zero, ◌≡◌, refl, sym, ap, subst, ◌∙◌, ℕ, ◌+◌, ◌-◌, ◌<◌, ◌≤◌, Bool, true, false, true≢false, not, ◌&&◌, cond, List, [], ◌∷◌, ◌++◌, take, drop, length, Option, Some, None, is_some, get_or, set, arith, Bor, add-one}
+use Rattle.std.proofs.lemmas.Bool.{and_parts, not-true}
 use Rattle.std.specs.Prelude.{slice_get, Result, Ok, Err, OnOk, OnErr, IfOk}
 use Rattle.std.specs.FinMap as finmap
 use Rattle.std.specs.List.{AllByRecursion, flat_map, list_all}
@@ -8,11 +9,13 @@ use Rattle.std.specs.Option.{option_copied, option_map, option_or}
 use Rattle.std.specs.Ordering.{is_eq, is_le, match_ordering}
 use Rattle.std.specs.declared.cmp.Ordering.{Ordering}
 use Rattle.std.specs.declared.cmp.Ordering.TheVariants.{Less, Equal, Greater}
-use Rattle.std.proofs.lemmas.List.{drop_all}
+use Rattle.std.proofs.lemmas.List.{drop_all, append-nil, append_assoc}
 use Rattle.std.proofs.lemmas.List.Folds.{find-append}
+use Rattle.std.proofs.lemmas.Option.{slice_get_within}
 use Rattle.value.specs.Order.{value_cmp, value_cmp-exact}
 use Rattle.value.specs.declared.key.Key.{Key}
 use Rattle.value.specs.declared.value.Value.{Value}
+use Rattle.value.proofs.Basics.{all-take_less, all-get, all-set, all-parts, all-append, all-take, all-drop, slice_get-drop, slice_get-none, Greater-from_le}
 use Rattle.schema.specs.declared.row.Row.{Row}
 use Rattle.schema.specs.declared.reader.Bound.{Bound}
 use Rattle.schema.specs.declared.reader.Bound.TheVariants.{From}
@@ -20,60 +23,24 @@ use Rattle.schema.specs.Paged.{joined, has_rows, AreLaidOut, is_before}
 use Rattle.schema.specs.Plain.{same, changed}
 use Rattle.schema.specs.Rows.{Rows, is_within, next_row, row_of, put_row, IsInKeyOrder}
 use Rattle.schema.proofs.RowsInOrder.{later_within}
-use Rattle.schema.proofs.PageLemmas.{Pairwise, partitioned-pairwise, all-take, all-drop, not-true, greater, IsLeast, IsBehind, least-trans, put_row-in_order, gone-in_order, put-behind, put-ahead, put-last, gone-behind, gone-ahead, gone-none, slice_get-drop, slice_get-below, slice_get-none, last_none}
+use Rattle.schema.proofs.PageLemmas.{Pairwise, partitioned-pairwise, IsLeast, IsBehind, least-trans, put_row-in_order, gone-in_order, put-behind, put-ahead, put-last, gone-behind, gone-ahead, gone-none, last_none}
 
 -- ---- lists
-
-append-assoc : {X : Type 0} (xs ys zs : List X) → (xs ++ ys) ++ zs ≡ xs ++ (ys ++ zs)
-append-assoc [] ys zs = refl
-append-assoc (x ∷ xs) ys zs = ap (λ rest. x ∷ rest) (append-assoc xs ys zs)
-
-append-none : {X : Type 0} (xs : List X) → xs ++ [] ≡ xs
-append-none [] = refl
-append-none (x ∷ xs) = ap (λ rest. x ∷ rest) (append-none xs)
-
-all-join : {X : Type 0} (P : X → Type 0) (xs ys : List X) → AllByRecursion P xs → AllByRecursion P ys → AllByRecursion P (xs ++ ys)
-all-join P [] ys first second = second
-all-join P (x ∷ xs) ys first second = (first.0, all-join P xs ys first.1 second)
-
-all-cut : {X : Type 0} (P : X → Type 0) (xs ys : List X) → AllByRecursion P (xs ++ ys) → AllByRecursion P xs × AllByRecursion P ys
-all-cut P [] ys all = (tt, all)
-all-cut P (x ∷ xs) ys all = let rest = all-cut P xs ys all.1 in ((all.0, rest.0), rest.1)
-
-all-set : {X : Type 0} (P : X → Type 0) (xs : List X) (i : ℕ) (y : X) → P y → AllByRecursion P xs → AllByRecursion P (set xs i y)
-all-set P [] i y p all = all
-all-set P (x ∷ xs) zero y p all = (p, all.1)
-all-set P (x ∷ xs) (suc i) y p all = (all.0, all-set P xs i y p all.1)
-
-all-get : {X : Type 0} (P : X → Type 0) (xs : List X) (i : ℕ) (x : X) → i < length xs → x ≡ get_or xs i x → AllByRecursion P xs → P x
-all-get P [] i x lt at all = absurd (omega arith)
-all-get P (y ∷ ys) zero x lt at all = subst P (sym at) all.0
-all-get P (y ∷ ys) (suc i) x lt at all = all-get P ys i x (omega arith) at all.1
 
 -- one page, and what stands before and after it
 flat-split_suc : {X : Type 0} (xs : List (List X)) (i : ℕ) (x : List X) → i < length xs → x ≡ get_or xs i x → flat_map (λ p. p) xs ≡ flat_map (λ p. p) (take i xs) ++ (x ++ flat_map (λ p. p) (drop (suc i) xs))
 flat-split_suc [] i x lt at = absurd (omega arith)
 flat-split_suc (y ∷ ys) zero x lt at = ap (λ z. z ++ flat_map (λ p. p) ys) (sym at)
-flat-split_suc (y ∷ ys) (suc i) x lt at = ap (λ rest. y ++ rest) (flat-split_suc ys i x (omega arith) at) ∙ sym (append-assoc y (flat_map (λ p. p) (take i ys)) (x ++ flat_map (λ p. p) (drop (suc i) ys)))
+flat-split_suc (y ∷ ys) (suc i) x lt at = ap (λ rest. y ++ rest) (flat-split_suc ys i x (omega arith) at) ∙ sym (append_assoc y (flat_map (λ p. p) (take i ys)) (x ++ flat_map (λ p. p) (drop (suc i) ys)))
 
 flat-set_suc : {X : Type 0} (xs : List (List X)) (i : ℕ) (x : List X) → i < length xs → flat_map (λ p. p) (set xs i x) ≡ flat_map (λ p. p) (take i xs) ++ (x ++ flat_map (λ p. p) (drop (suc i) xs))
 flat-set_suc [] i x lt = absurd (omega arith)
 flat-set_suc (y ∷ ys) zero x lt = refl
-flat-set_suc (y ∷ ys) (suc i) x lt = ap (λ rest. y ++ rest) (flat-set_suc ys i x (omega arith)) ∙ sym (append-assoc y (flat_map (λ p. p) (take i ys)) (x ++ flat_map (λ p. p) (drop (suc i) ys)))
+flat-set_suc (y ∷ ys) (suc i) x lt = ap (λ rest. y ++ rest) (flat-set_suc ys i x (omega arith)) ∙ sym (append_assoc y (flat_map (λ p. p) (take i ys)) (x ++ flat_map (λ p. p) (drop (suc i) ys)))
 
 flat-join : {X : Type 0} (xs ys : List (List X)) → flat_map (λ p. p) (xs ++ ys) ≡ flat_map (λ p. p) xs ++ flat_map (λ p. p) ys
 flat-join [] ys = refl
-flat-join (x ∷ xs) ys = ap (λ rest. x ++ rest) (flat-join xs ys) ∙ sym (append-assoc x (flat_map (λ p. p) xs) (flat_map (λ p. p) ys))
-
-and-parts : (b d : Bool) → (b && d) ≡ true → (b ≡ true) × (d ≡ true)
-and-parts true d e = (refl, e)
-and-parts false d e = absurd (true≢false (sym e))
-
-all-take_less : {X : Type 0} (P : X → Type 0) (i j : ℕ) (xs : List X) → i ≤ j → AllByRecursion P (take j xs) → AllByRecursion P (take i xs)
-all-take_less P zero j xs le all = tt
-all-take_less P (suc i) zero xs le all = absurd (omega arith)
-all-take_less P (suc i) (suc j) [] le all = tt
-all-take_less P (suc i) (suc j) (x ∷ xs) le all = (all.0, all-take_less P i j xs (omega arith) all.1)
+flat-join (x ∷ xs) ys = ap (λ rest. x ++ rest) (flat-join xs ys) ∙ sym (append_assoc x (flat_map (λ p. p) xs) (flat_map (λ p. p) ys))
 
 pub list_all-joined : {X : Type 0} (p : X → Bool) (pages : List (List X)) → list_all (λ page. list_all p page) pages ≡ list_all p (flat_map (λ page. page) pages)
 list_all-joined p [] = refl
@@ -139,7 +106,7 @@ module _ {A : Type 0} where
   before-later bound xs (y ∷ ys) below keys early = go xs below
     where
       first : is_within bound y.0 ≡ false
-      first = not-true (is_within bound y.0) (and-parts (not (is_within bound y.0)) (is_before bound ys) early).0
+      first = not-true (is_within bound y.0) (and_parts (not (is_within bound y.0)) (is_before bound ys) early).0
 
       go : (rows : Rows A) → Below rows (y ∷ ys) → is_before bound rows ≡ true
       go [] small = refl
@@ -148,12 +115,12 @@ module _ {A : Type 0} where
   page_before : (bound : Bound (Bor (Key A))) (page : Rows A) → is_before bound page ≡ true → AllByRecursion (λ r. is_within bound r.0 ≡ false) page
   page_before bound [] early = tt
   page_before bound (r ∷ rs) early =
-      let parts = and-parts (not (is_within bound r.0)) (is_before bound rs) early in
+      let parts = and_parts (not (is_within bound r.0)) (is_before bound rs) early in
       (not-true (is_within bound r.0) parts.0, page_before bound rs parts.1)
 
   pub pages_before : (bound : Bound (Bor (Key A))) (pages : List (Rows A)) → AllByRecursion (λ page. is_before bound page ≡ true) pages → AllByRecursion (λ r. is_within bound r.0 ≡ false) (joined pages)
   pages_before bound [] early = tt
-  pages_before bound (page ∷ pages) early = all-join (λ r. is_within bound r.0 ≡ false) page (joined pages) (page_before bound page early.0) (pages_before bound pages early.1)
+  pages_before bound (page ∷ pages) early = all-append (λ r. is_within bound r.0 ≡ false) page (joined pages) (page_before bound page early.0) (pages_before bound pages early.1)
 
   rest_laid_out : (page : Rows A) (pages : List (Rows A)) → AreLaidOut (page ∷ pages) → AreLaidOut pages
   rest_laid_out page pages laid = ((in_order-cut page (joined pages) laid.0).second, laid.1.1)
@@ -218,7 +185,7 @@ module _ {A : Type 0} where
 
   pub last-behind : (key : Bor (Key A)) (pages : List (Rows A)) (page : Rows A) → AreLaidOut pages → slice_get pages (length pages - 1) ≡ Some page → is_before (From key) page ≡ true → IsBehind key.now (joined pages)
   last-behind key pages page laid at early =
-      let lt = slice_get-below pages (length pages - 1) page at in
+      let lt = slice_get_within pages (length pages - 1) page at in
       pages_before (From key) pages (last-behind_suc key pages (length pages - 1) page laid at (omega (arith, lt)) early)
 
   pub none-behind : (key : Value A) (pages : List (Rows A)) → slice_get pages (length pages - 1) ≡ None → IsBehind key (joined pages)
@@ -281,26 +248,26 @@ module _ {A : Type 0} where
   -- behind all others, into a page of its own
   pub pushed : (row : Row A) (pages new : List (Rows A)) (page : Rows A) → IsBehind row.0 (joined pages) → page ≡ row ∷ [] → new ≡ pages ++ page ∷ [] → joined new ≡ put_row (joined pages) row
   pushed row pages new page behind is push =
-      ap joined push ∙ flat-join pages (page ∷ []) ∙ ap (λ rs. joined pages ++ rs) (append-none page ∙ is) ∙ sym (put-last row (joined pages) behind)
+      ap joined push ∙ flat-join pages (page ∷ []) ∙ ap (λ rs. joined pages ++ rs) (append-nil page ∙ is) ∙ sym (put-last row (joined pages) behind)
 
   pub pushed-laid_out : (row : Row A) (pages new : List (Rows A)) (page : Rows A) → IsBehind row.0 (joined pages) → page ≡ row ∷ [] → new ≡ pages ++ page ∷ [] → AreLaidOut pages → AreLaidOut new
   pushed-laid_out row pages new page behind is push laid = (
     subst IsInKeyOrder (sym (pushed row pages new page behind is push)) (put_row-in_order row (joined pages) laid.0),
-    subst (AllByRecursion (λ page. has_rows page ≡ true)) (sym push) (all-join (λ page. has_rows page ≡ true) pages (page ∷ []) laid.1 (ap has_rows is, tt)),
+    subst (AllByRecursion (λ page. has_rows page ≡ true)) (sym push) (all-append (λ page. has_rows page ≡ true) pages (page ∷ []) laid.1 (ap has_rows is, tt)),
   )
 
   -- behind all others: of the last page, and of those before
   pub behind-parts : (k : Value A) (pages : List (Rows A)) (i : ℕ) (page : Rows A) → i < length pages → page ≡ get_or pages i page → IsBehind k (joined pages) → IsBehind k (joined (take i pages)) × IsBehind k page
   behind-parts k pages i page lt at behind =
-      let parts = all-cut (λ r. is_le (value_cmp k r.0) ≡ false) (joined (take i pages)) (page ++ joined (drop (i + 1) pages)) (subst (IsBehind k) (split pages i page lt at) behind) in
-      (parts.0, (all-cut (λ r. is_le (value_cmp k r.0) ≡ false) page (joined (drop (i + 1) pages)) parts.1).0)
+      let parts = all-parts (λ r. is_le (value_cmp k r.0) ≡ false) (joined (take i pages)) (page ++ joined (drop (i + 1) pages)) (subst (IsBehind k) (split pages i page lt at) behind) in
+      (parts.0, (all-parts (λ r. is_le (value_cmp k r.0) ≡ false) page (joined (drop (i + 1) pages)) parts.1).0)
 
   -- ---- a page that is cut
 
   insert-parts : (pages : List (Rows A)) (i : ℕ) (low upper : Rows A) → i < length pages → joined (take (suc i) (set pages i low) ++ upper ∷ drop (suc i) (set pages i low)) ≡ joined (take i pages) ++ ((low ++ upper) ++ joined (drop (suc i) pages))
   insert-parts [] i low upper lt = absurd (omega arith)
-  insert-parts (p ∷ ps) zero low upper lt = sym (append-assoc low upper (joined ps))
-  insert-parts (p ∷ ps) (suc i) low upper lt = ap (λ rest. p ++ rest) (insert-parts ps i low upper (omega arith)) ∙ sym (append-assoc p (joined (take i ps)) ((low ++ upper) ++ joined (drop (suc i) ps)))
+  insert-parts (p ∷ ps) zero low upper lt = sym (append_assoc low upper (joined ps))
+  insert-parts (p ∷ ps) (suc i) low upper lt = ap (λ rest. p ++ rest) (insert-parts ps i low upper (omega arith)) ∙ sym (append_assoc p (joined (take i ps)) ((low ++ upper) ++ joined (drop (suc i) ps)))
 
   all-inserted : (P : Rows A → Type 0) (pages : List (Rows A)) (i : ℕ) (low upper : Rows A) → P low → P upper → AllByRecursion P pages → AllByRecursion P (take (suc i) (set pages i low) ++ upper ∷ drop (suc i) (set pages i low))
   all-inserted P [] i low upper l u all = (u, tt)
@@ -385,7 +352,7 @@ module _ {A : Type 0} where
   joined-cut : (pages : List (Rows A)) (i : ℕ) → joined pages ≡ joined (take i pages) ++ joined (drop i pages)
   joined-cut pages zero = refl
   joined-cut [] (suc i) = refl
-  joined-cut (page ∷ pages) (suc i) = ap (λ rest. page ++ rest) (joined-cut pages i) ∙ sym (append-assoc page (joined (take i pages)) (joined (drop i pages)))
+  joined-cut (page ∷ pages) (suc i) = ap (λ rest. page ++ rest) (joined-cut pages i) ∙ sym (append_assoc page (joined (take i pages)) (joined (drop i pages)))
 
   next-from : (bound : Bound (Bor (Key A))) (pages : List (Rows A)) (i : ℕ) → AllByRecursion (λ page. is_before bound page ≡ true) (take i pages) → next_row (joined pages) bound ≡ next_row (joined (drop i pages)) bound
   next-from bound pages i early =
@@ -486,7 +453,7 @@ module _ {A : Type 0} where
   count-behind row (r ∷ rs) behind =
       let e : length (put_row rs row) ≡ length rs + 1 = count-behind row rs behind.1 in
       let f : length (r ∷ put_row rs row) ≡ length (r ∷ rs) + 1 = omega (arith, e) in
-      rw (greater (value_cmp row.0 r.0) behind.0) f
+      rw (Greater-from_le (value_cmp row.0 r.0) behind.0) f
 
   gone_count : (k : Value A) (rows : Rows A) → is_some (row_of rows k) ≡ true → IsInKeyOrder rows → length (changed k None rows) + 1 ≡ length rows
   unfolding IsStrictlySortedBy

@@ -1,5 +1,6 @@
 -- Catalogs are well formed: a table that is added may stand after those before it.
 use Rattle.std.proofs.Common.{◌≡◌, ℕ, zero, suc, ◌+◌, ◌≤◌, nat_le, nat_lt, Bool, true, false, true≢false, not, ◌&&◌, ◌||◌, List, [], ◌∷◌, ◌++◌, length, map, take, Option, Some, None, is_some, option_and_then, slice_get, refl, sym, ap, ◌∙◌, arith, append_assoc, append-nil, add-one}
+use Rattle.std.proofs.lemmas.Bool.{and_parts}
 use Rattle.std.proofs.lemmas.Bool.Decides.{nat_tests}
 use Rattle.std.proofs.lemmas.List.{length-map}
 use Rattle.std.specs.List.{list_any, list_all}
@@ -10,10 +11,6 @@ use Rattle.schema.specs.Definition.{ColumnDef, TableDef, TableSchema, Catalog, t
 use Rattle.schema.specs.Names.{is_name}
 use Rattle.schema.specs.WellFormed.{are_new, are_named, is_key_unmarked, references_key, is_table_after, are_tables_after, is_catalog}
 use Rattle.schema.proofs.AddingLemmas.{no_fault}
-
-two_of : (a b : Bool) → (a && b) ≡ true → (a ≡ true) × (b ≡ true)
-two_of true b e = (refl, e)
-two_of false b e = absurd (true≢false (sym e))
 
 all_seven : (a b c d e f g : Bool) → a ≡ true → b ≡ false → c ≡ true → d ≡ true → e ≡ true → f ≡ true → g ≡ true → (a && not b && (c && d) && e && f && g) ≡ true
 all_seven a b c d e f g p q r s t u v = rw (p, q, r, s, t, u, v) refl
@@ -33,8 +30,8 @@ made_unmarked name (d ∷ ds) made = made
 are_names : (columns : List ColumnDef) (c : Catalog) → list_all is_well_named columns ≡ true → list_all (λ d. is_name d.name) (map (resolved_column c) columns) ≡ true
 are_names [] c all = refl
 are_names (d ∷ ds) c all =
-    let p = two_of (is_well_named d) (list_all is_well_named ds) all in
-    rw ((two_of (is_name d.name) (option_map_or is_name d.references true) p.0).0) (are_names ds c p.1)
+    let p = and_parts (is_well_named d) (list_all is_well_named ds) all in
+    rw ((and_parts (is_name d.name) (option_map_or is_name d.references true) p.0).0) (are_names ds c p.1)
 
 same_words : (c : Catalog) (words : List (List ℕ)) (columns : List ColumnDef) → are_new words (map (λ d. d.name) (map (resolved_column c) columns)) ≡ have_new_names words columns
 same_words c words [] = refl
@@ -62,9 +59,9 @@ few_columns n m e = grind (arith, nat_tests)
 pub resolved_table : (c : Catalog) (d : TableDef) → adding_fault c d ≡ None → is_well_made d.name d.columns ≡ true → without_key_mark d.columns ≡ d.columns → is_table_after c (resolved c d) ≡ true
 resolved_table c d none made same =
     let n = no_fault (is_some (table_named c d.name)) (list_all (finds_table c) d.columns) (list_all (matches_key c) d.columns) (is_over_limit c d) _ _ _ _ none in
-    let p = two_of (is_name d.name && nat_lt 0 (length d.columns) && list_all is_well_named d.columns) (have_new_names [] d.columns) made in
-    let q = two_of (is_name d.name && nat_lt 0 (length d.columns)) (list_all is_well_named d.columns) p.0 in
-    let r = two_of (is_name d.name) (nat_lt 0 (length d.columns)) q.0 in
+    let p = and_parts (is_name d.name && nat_lt 0 (length d.columns) && list_all is_well_named d.columns) (have_new_names [] d.columns) made in
+    let q = and_parts (is_name d.name && nat_lt 0 (length d.columns)) (list_all is_well_named d.columns) p.0 in
+    let r = and_parts (is_name d.name) (nat_lt 0 (length d.columns)) q.0 in
     let count = length-map d.columns (resolved_column c) in
     all_seven (is_name d.name) (is_some (table_named c d.name)) _ _ _ _ _ r.0 n.0
     (ap (nat_lt 0) count ∙ r.1)
@@ -98,9 +95,9 @@ table_from : (before c : Catalog) (i : ℕ) (d : TableSchema) → are_tables_aft
 table_from before [] i d all is = cc
 table_from before (e ∷ c) zero d all is =
     let same : e ≡ d = cc in
-    ap (λ b. is_table_after b d) (append-nil before) ∙ ap (is_table_after before) (sym same) ∙ (two_of (is_table_after before e) (are_tables_after (before ++ e ∷ []) c) all).0
+    ap (λ b. is_table_after b d) (append-nil before) ∙ ap (is_table_after before) (sym same) ∙ (and_parts (is_table_after before e) (are_tables_after (before ++ e ∷ []) c) all).0
 table_from before (e ∷ c) (suc i) d all is =
-    ap (λ b. is_table_after b d) (sym (append_assoc before (e ∷ []) (take i c))) ∙ table_from (before ++ e ∷ []) c i d (two_of (is_table_after before e) (are_tables_after (before ++ e ∷ []) c) all).1 is
+    ap (λ b. is_table_after b d) (sym (append_assoc before (e ∷ []) (take i c))) ∙ table_from (before ++ e ∷ []) c i d (and_parts (is_table_after before e) (are_tables_after (before ++ e ∷ []) c) all).1 is
 
 catalog_of : (n : ℕ) (b : Bool) → n ≤ 256 → b ≡ true → (nat_le n 256 && b) ≡ true
 catalog_of n b few all = rw all (grind (arith, nat_tests))
@@ -110,7 +107,7 @@ catalog_from c few all = catalog_of (length c) (are_tables_after [] c) few all
 
 -- each table of a catalog may stand after those before it
 pub table_at : (c : Catalog) (i : ℕ) (d : TableSchema) → is_catalog c ≡ true → slice_get c i ≡ Some d → is_table_after (take i c) d ≡ true
-table_at c i d well is = table_from [] c i d (two_of (nat_le (length c) 256) (are_tables_after [] c) well).1 is
+table_at c i d well is = table_from [] c i d (and_parts (nat_le (length c) 256) (are_tables_after [] c) well).1 is
 
 second_of : (a b c d e f : Bool) → (a && not b && c && d && e && f) ≡ true → b ≡ false
 second_of true true c d e f h = absurd (true≢false (sym h))

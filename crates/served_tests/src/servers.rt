@@ -349,7 +349,7 @@ fn play_script<J: Naming<Global> + Send + Sync, R: Threads + Wait + Abort + Sync
 }
 
 #[test]
-#[tactic(auto, using(server::proofs::Grows::nil))]
+#[tactic(auto, using(std::proofs::lemmas::List::nil_from_length))]
 fn a_checkpoint_is_gone_on_from(rt: HostRuntime) -> Result<(), Refusal> {
     let alloc = rt.alloc();
     let (catalog, tables) = opening(alloc, &["a"])?;

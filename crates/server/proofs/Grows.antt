@@ -1,5 +1,5 @@
 -- Lists that grow by one, and the polls of a session that waits.
-use Rattle.std.proofs.Common.{◌≡◌, ◌⊎◌, ℕ, zero, suc, true, List, [], ◌∷◌, ◌++◌, length, replicate, slice_get, Some, refl, sym, ap, ◌∙◌, inl, inr, ⊎_elim, append_assoc, All, arith}
+use Rattle.std.proofs.Common.{◌≡◌, ◌⊎◌, ℕ, zero, suc, true, List, [], ◌∷◌, ◌++◌, length, replicate, slice_get, Some, refl, sym, ap, ◌∙◌, inl, inr, ⊎_elim, append_assoc, All}
 use Rattle.std.proofs.lemmas.List.{append-nil}
 use Rattle.std.proofs.lemmas.List.Elements.{All-append, All-nil, All-cons}
 use mathlib.Core.List.{IsPrefix}
@@ -25,11 +25,6 @@ get_push [] x y zero e = inr (refl, cc e)
 get_push [] x y (suc k) e = absurd (cc e)
 get_push (z ∷ zs) x y zero e = inl e
 get_push (z ∷ zs) x y (suc k) e = ⊎_elim (λ t. inl t) (λ (t : (k ≡ length zs) × (x ≡ y)). inr (ap suc t.0, t.1)) (get_push zs x y k e)
-
--- a list of no length has nothing
-pub nil : {T : Type 0} (xs : List T) → length xs ≡ 0 → xs ≡ []
-nil [] e = refl
-nil (x ∷ xs) e = absurd (omega arith)
 
 module _ {A : Type 0} where
   pub fresh_push : (xs : List (Known A)) (p : Known A) → AreFresh xs → p ≡ record { session = suc (length xs); seen = []; mine = [] } → AreFresh (xs ++ p ∷ [])

@@ -1,6 +1,6 @@
 -- What one event makes of what is kept, beside what it makes of the world.
 use Rattle.std.proofs.Common.{◌≡◌, refl, sym, ap, ◌∙◌, ℕ, ◌+◌, Bool, true, cond, List, [], ◌∷◌, ◌++◌, length, length-append, map, Option, Some, None, arith}
-use Rattle.std.proofs.lemmas.List.{append-nil}
+use Rattle.std.proofs.lemmas.List.{append-nil, map-append}
 use Rattle.std.proofs.lemmas.List.Elements.{filter-append}
 use Rattle.std.specs.Option.{option_map}
 use Rattle.value.specs.declared.refusal.Mode.{Mode}
@@ -92,7 +92,7 @@ module _ {A : Type 0} where
 
     alone : (s : ℕ) (a : Action A) (g : Reply A) → keep (now.base.transactions + length now.txns + 1) ≡ true → Becomes keep now (without_transaction now s a g) l (kept_after v s a g None)
     alone s (Begin m) Begun new = record {
-      txns = ap (λ x. map kept (kept_of keep now.txns) ++ x ∷ []) (same_begun s m) ∙ sym (Rattle.session.proofs.Kept.map_append kept (kept_of keep now.txns) (begun now s m ∷ [])) ∙ ap (map kept) (sym (kept_push keep now.txns (begun now s m) new));
+      txns = ap (λ x. map kept (kept_of keep now.txns) ++ x ∷ []) (same_begun s m) ∙ sym (map-append kept (kept_of keep now.txns) (begun now s m ∷ [])) ∙ ap (map kept) (sym (kept_push keep now.txns (begun now s m) new));
       more = [];
       exports = sym (append-nil l.exports);
       world_exports = sym (append-nil now.exports);

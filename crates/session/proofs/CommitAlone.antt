@@ -2,7 +2,7 @@
 use Rattle.std.proofs.Common.{◌≡◌, ◌==◌, refl, sym, ap, ◌∙◌, ℕ, ◌+◌, Bool, true, false, true≢false, cond, not, ◌&&◌, ◌⊎◌, inl, inr, List, [], ◌∷◌, ◌++◌, Option, Some, None, arith}
 use Rattle.std.specs.List.{find}
 use Rattle.std.specs.Option.{option_map}
-use Rattle.std.proofs.lemmas.Bool.{eqb-true}
+use Rattle.std.proofs.lemmas.Bool.{eqb-true, and_parts, false_from_ne_true}
 use Rattle.value.proofs.IsolationLemmas.{In}
 use Rattle.value.proofs.SerialLemmas.{In-append}
 use Rattle.statement.specs.declared.reply.Reply.{Reply}
@@ -19,17 +19,9 @@ use Rattle.serial.proofs.structures.Dooms.{Fate, Spared, Over, In-doomed}
 use Rattle.serial.proofs.legal.Numbers.{In-replaced}
 use Rattle.serial.proofs.order.SerialTheorem.{IsGood}
 
-not_so : (b : Bool) → (b ≡ true → ⊥) → b ≡ false
-not_so true f = absurd (f refl)
-not_so false f = refl
-
-two_of : (a b : Bool) → (a && b) ≡ true → (a ≡ true) × (b ≡ true)
-two_of true b e = (refl, e)
-two_of false b e = absurd (true≢false (sym e))
-
 none_by : {T : Type 0} (p : T → Bool) (xs : List T) → ((x : T) → In x xs → p x ≡ true → ⊥) → find p xs ≡ None
 none_by p [] f = refl
-none_by p (x ∷ xs) f = ap (λ b. cond b (Some x) (find p xs)) (not_so (p x) (f x (inl refl))) ∙ none_by p xs (λ y i. f y (inr i))
+none_by p (x ∷ xs) f = ap (λ b. cond b (Some x) (find p xs)) (false_from_ne_true (p x) (f x (inl refl))) ∙ none_by p xs (λ y i. f y (inr i))
 
 module _ {A : Type 0} where
   moved_not : (w : World A) (a : Action A) (r : Reply A) (t : Txn A) → is_commit a ≡ false → is_done t.standing ≡ false → is_done (moved w a r t).standing ≡ false
@@ -87,10 +79,10 @@ module _ {A : Type 0} where
     is_next t = is_done t.standing && t.end == w.place + 1
 
     undone : (x : Txn A) → is_done x.standing ≡ false → is_next x ≡ true → ⊥
-    undone x d q = true≢false (sym (two_of (is_done x.standing) (x.end == w.place + 1) q).0 ∙ d)
+    undone x d q = true≢false (sym (and_parts (is_done x.standing) (x.end == w.place + 1) q).0 ∙ d)
 
     old : (x : Txn A) → In x w.txns → is_next x ≡ true → ⊥
-    old x i q = let e : x.end ≡ w.place + 1 = eqb-true x.end (w.place + 1) (two_of (is_done x.standing) (x.end == w.place + 1) q).1 in let h = good.time.ended_by x i in omega arith
+    old x i q = let e : x.end ≡ w.place + 1 = eqb-true x.end (w.place + 1) (and_parts (is_done x.standing) (x.end == w.place + 1) q).1 in let h = good.time.ended_by x i in omega arith
 
     without : (s : ℕ) (a : Action A) (r : Reply A) → find is_next (without_transaction w s a r).txns ≡ None
     without s (Begin m) Begun = none_by is_next (w.txns ++ begun w s m ∷ []) (λ x i q. side x (In-append (λ (_ : Txn A). (0, 0, 0)) x w.txns (begun w s m ∷ []) i) q)
@@ -105,7 +97,7 @@ module _ {A : Type 0} where
     with_own s t c a r e = none_by is_next (txns_after w a r t) (λ x i q. let y = In-doomed (w.place + 1) (causes w a r t) x (replaced (turned w a r t) w.txns) i in side y.0 x (In-replaced y.0 (turned w a r t) w.txns y.1) y.2 q)
       where
         owed : is_owed t.standing ≡ true
-        owed = (two_of (t.session == s) (is_owed t.standing) (current_in w s t c).1).1
+        owed = (and_parts (t.session == s) (is_owed t.standing) (current_in w s t c).1).1
 
         side : (y x : Txn A) → (y ≡ turned w a r t) ⊎ In y w.txns × ((y.number == (turned w a r t).number) ≡ false) → Fate (w.place + 1) y x → is_next x ≡ true → ⊥
         side y x (inl p) Spared q = undone y (ap (λ (z : Txn A). is_done z.standing) p ∙ turned_not w a r t t.standing refl owed e) q

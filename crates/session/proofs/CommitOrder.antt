@@ -2,12 +2,12 @@
 use Rattle.std.proofs.Common.{◌≡◌, ◌==◌, refl, sym, ap, subst, ◌∙◌, ℕ, ◌+◌, ◌<◌, ◌≤◌, Bool, true, false, true≢false, cond, ◌&&◌, ◌⊎◌, inl, inr, List, [], ◌∷◌, ◌++◌, map, Option, Some, None, nat_le, eq-eqb, arith}
 use Rattle.std.specs.List.{find}
 use Rattle.std.specs.Option.{option_map, option_to_list}
-use Rattle.std.proofs.lemmas.Bool.{eqb-true}
-use Rattle.std.proofs.lemmas.Bool.Decides.{nat_tests}
-use Rattle.std.proofs.lemmas.List.{map-append}
+use Rattle.std.proofs.lemmas.Bool.{eqb-true, and_parts, and_from, le-leb, leb-true}
+use Rattle.std.proofs.lemmas.List.{map-append, append-nil}
 use Rattle.value.proofs.IsolationLemmas.{In, Below}
 use Rattle.value.proofs.SortLemmas.{Apart, InOrder, Tied, In-sorted, same_order, sorted-In, sorted-InOrder}
 use Rattle.value.proofs.SerialLemmas.{In-append, In-left, In-right}
+use Rattle.value.proofs.Basics.{find-In}
 use Rattle.history.specs.declared.event.Record.{Record}
 use Rattle.history.specs.Opening.{Opening}
 use Rattle.history.specs.Transactions.{Txn, World, is_done}
@@ -16,27 +16,9 @@ use Rattle.history.specs.Serial.{Stays, committed, in_commit_order, key, keys_by
 use Rattle.history.specs.Answer.{Legal}
 use Rattle.history.proofs.Alone.{In-filter, filter-In}
 use Rattle.transactions.specs.Keys.{committed_at}
-use Rattle.serial.proofs.legal.Legal.{found}
 use Rattle.serial.proofs.legal.Later.{legal_begins, legal_stays}
 use Rattle.serial.proofs.safe.Prefix.{by_all}
 use Rattle.serial.proofs.order.SerialTheorem.{IsGood, good_world, isolated_world}
-
-is_least : (a b : ℕ) → nat_le a b ≡ true → a ≤ b
-is_least a b e = grind (arith, nat_tests)
-
-least_so : (a b : ℕ) → a ≤ b → nat_le a b ≡ true
-least_so a b h = grind (arith, nat_tests)
-
-both_so : (a b : Bool) → a ≡ true → b ≡ true → (a && b) ≡ true
-both_so a b p q = cc
-
-two_of : (a b : Bool) → (a && b) ≡ true → (a ≡ true) × (b ≡ true)
-two_of true b e = (refl, e)
-two_of false b e = absurd (true≢false (sym e))
-
-nil_right : {T : Type 0} (xs : List T) → xs ++ [] ≡ xs
-nil_right [] = refl
-nil_right (y ∷ ys) = ap (λ zs. y ∷ zs) (nil_right ys)
 
 list_of : {T U : Type 0} (f : T → U) (o : Option T) → map f (option_to_list o) ≡ option_to_list (option_map f o)
 list_of f None = refl
@@ -98,13 +80,13 @@ module _ {A : Type 0} where
   -- v is what one more event has made of w
   module _ (w v : World A) (gw : IsGood w) (gv : IsGood v) (stays : Stays w v) (next : v.place ≡ w.place + 1) where
     was : (t : Txn A) → In t (committed w) → In t (committed v) × (t.end ≤ w.place)
-    was t i = (In-sorted (key v) t (committed v) both.0, is_least t.end w.place both.1)
+    was t i = (In-sorted (key v) t (committed v) both.0, leb-true t.end w.place both.1)
       where
         both : In t (serial_order v) × (nat_le t.end w.place ≡ true)
         both = In-filter (λ y. nat_le y.end w.place) (serial_order v) t (subst (In t) stays.order (sorted-In (key w) t (committed w) i))
 
     still : (t : Txn A) → In t (committed v) → t.end ≤ w.place → In t (committed w)
-    still t i h = In-sorted (key w) t (committed w) (subst (In t) (sym stays.order) (filter-In (λ y. nat_le y.end w.place) (serial_order v) t (sorted-In (key v) t (committed v) i) (least_so t.end w.place h)))
+    still t i h = In-sorted (key w) t (committed w) (subst (In t) (sym stays.order) (filter-In (λ y. nat_le y.end w.place) (serial_order v) t (sorted-In (key v) t (committed v) i) (le-leb t.end w.place h)))
 
     two : (m n : ℕ) → m ≤ n + 1 → (m ≤ n) ⊎ (m ≡ n + 1)
     two m n h = grind arith
@@ -118,13 +100,13 @@ module _ {A : Type 0} where
 
         go : (t.end ≤ w.place) ⊎ (t.end ≡ w.place + 1) → In t (committed w) ⊎ (is_at v.place t ≡ true)
         go (inl h) = inl (still t i h)
-        go (inr e) = inr (both_so (done t) (t.end == v.place) m.1 (eq-eqb t.end v.place (e ∙ sym next)))
+        go (inr e) = inr (and_from (done t) (t.end == v.place) m.1 (eq-eqb t.end v.place (e ∙ sym next)))
 
     old : (t : Txn A) → In t (in_commit_order w) → In t (committed w)
     old t i = In-sorted by_end t (committed w) i
 
     pushed : (o : Option (Txn A)) → find (is_at v.place) v.txns ≡ o → in_commit_order v ≡ in_commit_order w ++ option_to_list o
-    pushed None e = same_order by_end (in_commit_order v) (in_commit_order w) (ordered v gv) (ordered w gw) there (λ t i. sorted-In by_end t (committed v) (was t (old t i)).0) ∙ sym (nil_right (in_commit_order w))
+    pushed None e = same_order by_end (in_commit_order v) (in_commit_order w) (ordered v gv) (ordered w gw) there (λ t i. sorted-In by_end t (committed v) (was t (old t i)).0) ∙ sym (append-nil (in_commit_order w))
       where
         there : (t : Txn A) → In t (in_commit_order v) → In t (in_commit_order w)
         there t i = go (split t j)
@@ -140,10 +122,10 @@ module _ {A : Type 0} where
         (InOrder-push (in_commit_order w) x (ordered w gw) (λ y i. let l = (was y (old y i)).1 in omega (arith, l, next, x_end))) there back
       where
         x_in : In x v.txns × (is_at v.place x ≡ true)
-        x_in = found (is_at v.place) v.txns x e
+        x_in = find-In (is_at v.place) v.txns x e
 
         x_parts : (done x ≡ true) × ((x.end == v.place) ≡ true)
-        x_parts = two_of (done x) (x.end == v.place) x_in.1
+        x_parts = and_parts (done x) (x.end == v.place) x_in.1
 
         x_end : x.end ≡ v.place
         x_end = eqb-true x.end v.place x_parts.1
@@ -157,7 +139,7 @@ module _ {A : Type 0} where
             go : In t (committed w) ⊎ (is_at v.place t ≡ true) → In t (in_commit_order w ++ x ∷ [])
             go (inl k) = In-left by_end t (in_commit_order w) (x ∷ []) (sorted-In by_end t (committed w) k)
             go (inr q) =
-                let p = two_of (done t) (t.end == v.place) q in
+                let p = and_parts (done t) (t.end == v.place) q in
                 In-right by_end t (in_commit_order w) (x ∷ []) (inl (gv.time.ends_apart t x (members v t j).0 x_in.0 p.0 x_parts.0 (eqb-true t.end v.place p.1 ∙ sym x_end)))
 
         back : (t : Txn A) → In t (in_commit_order w ++ x ∷ []) → In t (in_commit_order v)

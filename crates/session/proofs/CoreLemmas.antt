@@ -3,7 +3,7 @@ use Rattle.std.proofs.Common.{◌≡◌, ◌==◌, refl, sym, ap, subst, ◌∙�
 use Rattle.std.specs.List.{filter, list_all}
 use Rattle.std.specs.Option.{option_to_list}
 use Rattle.std.proofs.lemmas.List.Folds.{list_all-map}
-use Rattle.std.proofs.lemmas.Bool.{le-leb}
+use Rattle.std.proofs.lemmas.Bool.{le-leb, and_parts, false_from_ne_true}
 use Rattle.std.proofs.lemmas.Bool.Decides.{nat_tests}
 use Rattle.std.proofs.lemmas.List.{length_push}
 use Rattle.value.specs.declared.refusal.Refusal.{Refusal}
@@ -11,7 +11,7 @@ use Rattle.value.specs.declared.refusal.TxnNo.{TxnNo}
 use Rattle.value.specs.declared.refusal.Code.TheVariants as code
 use Rattle.value.specs.Refusals.{AnswersOrNoMemory, of_code}
 use Rattle.value.proofs.IsolationLemmas.{In}
-use Rattle.conflict.proofs.Lists.{both_true, clash, is_false}
+use Rattle.conflict.proofs.Lists.{clash}
 use Rattle.schema.specs.Plain.{is_sound}
 use Rattle.schema.specs.Definition.{Catalog}
 use Rattle.schema.specs.declared.tables.Tables.{Tables}
@@ -56,10 +56,6 @@ pub counts_so : (a : Bool) (p m : ℕ) → (a || nat_le (2 ^ 64) (p + m)) ≡ fa
 counts_so true p m e = absurd (true≢false e)
 counts_so false p m e = grind (arith, nat_tests)
 
-pub first_false : (a b : Bool) → (a || b) ≡ false → a ≡ false
-first_false true b e = e
-first_false false b e = refl
-
 all_kept : {X : Type 0} (p q : X → Bool) (xs : List X) → ((x : X) → In x xs → q x ≡ false → p x ≡ true) → list_all p (filter q xs) ≡ list_all p xs
 all_kept p q [] h = refl
 all_kept p q (x ∷ xs) h = go (q x) refl (all_kept p q xs (λ y i. h y (inr i)))
@@ -74,7 +70,7 @@ module _ {A : Type 0} where
   lengths [] [] e = refl
   lengths [] (rows ∷ X) e = absurd (true≢false (sym e))
   lengths (d ∷ c) [] e = absurd (true≢false (sym e))
-  lengths (d ∷ c) (rows ∷ X) e = ap suc (lengths c X (both_true _ (are_of c X) e).1)
+  lengths (d ∷ c) (rows ∷ X) e = ap suc (lengths c X (and_parts _ (are_of c X) e).1)
 
   run_place : (w : World A) (es : List (Record A)) → (run w es).place ≡ w.place + length es
   run_place w [] = omega arith
@@ -164,7 +160,7 @@ module _ {A : Type 0} where
     quiet_is =
         ap are_quiet (r h l k).txns ∙ list_all-map (λ (t : Txn A). not (is_owed t.standing)) kept (kept_of (r h l k).keep (w h l k).txns)
         ∙ all_kept (λ (t : Txn A). not (is_owed t.standing)) (λ u. (r h l k).keep u.number) (w h l k).txns
-        (λ t i e. ap not (is_false (is_owed t.standing) (λ o. clash ((r h l k).keep t.number) (owed_stays (w h l k) (r h l k).oldest (r h l k).keep (r h l k).keeps t i o) e)))
+        (λ t i e. ap not (false_from_ne_true (is_owed t.standing) (λ o. clash ((r h l k).keep t.number) (owed_stays (w h l k) (r h l k).oldest (r h l k).keep (r h l k).keeps t i o) e)))
 
     counted_is : record { transactions = l.base.transactions + length l.txns; commits = l.base.commits; identifiers = l.base.identifiers + length l.exports; events = l.place } ≡ base_after (w h l k)
     counted_is =

@@ -1,11 +1,11 @@
 -- What is kept after an event represents the world after it.
 use Rattle.std.proofs.Common.{◌≡◌, refl, sym, ap, subst, ◌∙◌, ℕ, ◌+◌, ◌≤◌, Bool, true, false, ◌||◌, inl, inr, ◌⊎◌, ◌++◌, length, length-append, map, eqb, Option, Some, None, arith}
-use Rattle.std.proofs.lemmas.Bool.{eqb-true, eq-eqb}
+use Rattle.std.proofs.lemmas.Bool.{eqb-true, eq-eqb, or_left, or_right, false_from_ne_true}
 use Rattle.std.proofs.lemmas.List.Elements.{filter-append}
 use Rattle.std.specs.List.{filter}
 use Rattle.std.specs.Option.{option_map}
 use Rattle.value.proofs.IsolationLemmas.{In}
-use Rattle.conflict.proofs.Lists.{In-append, filter-kept, filter_alike, is_false, or_left, or_right}
+use Rattle.conflict.proofs.Lists.{In-append, filter-kept, filter_alike}
 use Rattle.schema.specs.Definition.{Catalog}
 use Rattle.schema.specs.declared.tables.Tables.{Tables}
 use Rattle.schema.specs.Plain.{put_all}
@@ -59,7 +59,7 @@ module _ {A : Type 0} where
 
     same_kept : kept_of more (w h l k).txns ≡ kept_of (r h l k).keep (w h l k).txns
     same_kept = filter_alike (λ u. more u.number) (λ u. (r h l k).keep u.number) (w h l k).txns (λ u i. same_or ((r h l k).keep u.number) (eqb u.number next)
-        (is_false (eqb u.number next) (λ q. absurd (let b = (good h l k).numbered.bounded u i in let e : u.number ≡ next = eqb-true u.number next q in omega (arith, b, e)))))
+        (false_from_ne_true (eqb u.number next) (λ q. absurd (let b = (good h l k).numbered.bounded u i in let e : u.number ≡ next = eqb-true u.number next q in omega (arith, b, e)))))
 
     -- The same, with the number of the next transaction among those that are kept.
     pub widened : IsKept h l

@@ -7,6 +7,7 @@ use Rattle.value.specs.declared.refusal.Cause.{Cause}
 use Rattle.value.specs.declared.refusal.Code.TheVariants as code
 use Rattle.value.proofs.IsolationLemmas.{In}
 use Rattle.value.specs.Isolation.{is_dangerous, earliest, earlier, caused, first_some, first_cause, dooms, with_doom, doom_of, is_live, is_first, cause_from}
+use Rattle.value.proofs.Basics.{any-same, filter-map, find-map, first_some-map}
 use Rattle.schema.specs.declared.changes.Change.{Change}
 use Rattle.schema.specs.declared.tables.Tables.{Tables}
 use Rattle.schema.specs.Plain.{put_all}
@@ -28,43 +29,15 @@ module _ {T U : Type 0} (f : T → U) where
   any_map p [] = refl
   any_map p (t ∷ ts) = ap (λ b. p (f t) || b) (any_map p ts)
 
-  find_map : (p : U → Bool) (ts : List T) → find p (map f ts) ≡ option_map f (find (λ t. p (f t)) ts)
-  find_map p [] = refl
-  find_map p (t ∷ ts) = go (p (f t)) (find_map p ts)
-    where
-      go : (b : Bool) → find p (map f ts) ≡ option_map f (find (λ t. p (f t)) ts) → cond b (Some (f t)) (find p (map f ts)) ≡ option_map f (cond b (Some t) (find (λ t. p (f t)) ts))
-      go true e = refl
-      go false e = e
-
-  pub filter_map : (p : U → Bool) (ts : List T) → filter p (map f ts) ≡ map f (filter (λ t. p (f t)) ts)
-  filter_map p [] = refl
-  filter_map p (t ∷ ts) = go (p (f t)) (filter_map p ts)
-    where
-      go : (b : Bool) → filter p (map f ts) ≡ map f (filter (λ t. p (f t)) ts) → cond b (f t ∷ filter p (map f ts)) (filter p (map f ts)) ≡ map f (cond b (t ∷ filter (λ t. p (f t)) ts) (filter (λ t. p (f t)) ts))
-      go true e = ap (λ us. f t ∷ us) e
-      go false e = e
-
-  first_map : {B : Type 0} (g : U → Option B) (ts : List T) → first_some g (map f ts) ≡ first_some (λ t. g (f t)) ts
-  first_map g [] = refl
-  first_map g (t ∷ ts) = ap (λ o. cond (is_some (g (f t))) (g (f t)) o) (first_map g ts)
-
   fold_map : {B : Type 0} (g : B → U → B) (b : B) (ts : List T) → fold g b (map f ts) ≡ fold (λ c t. g c (f t)) b ts
   fold_map g b [] = refl
   fold_map g b (t ∷ ts) = fold_map g (g b (f t)) ts
-
-  pub map_append : (ts us : List T) → map f (ts ++ us) ≡ map f ts ++ map f us
-  map_append [] us = refl
-  map_append (t ∷ ts) us = ap (λ ys. f t ∷ ys) (map_append ts us)
 
   pub length_map : (ts : List T) → length (map f ts) ≡ length ts
   length_map [] = refl
   length_map (t ∷ ts) = ap suc (length_map ts)
 
 module _ {T : Type 0} where
-  pub any_same : (p q : T → Bool) → ((t : T) → p t ≡ q t) → (ts : List T) → list_any p ts ≡ list_any q ts
-  any_same p q h [] = refl
-  any_same p q h (t ∷ ts) = ap (λ b. b || list_any p ts) (h t) ∙ ap (λ b. q t || b) (any_same p q h ts)
-
   pub find_same : (p q : T → Bool) → ((t : T) → p t ≡ q t) → (ts : List T) → find p ts ≡ find q ts
   find_same p q h [] = refl
   find_same p q h (t ∷ ts) = ap (λ b. cond b (Some t) (find p ts)) (h t) ∙ ap (λ o. cond (q t) (Some t) o) (find_same p q h ts)
@@ -101,11 +74,11 @@ module _ {A : Type 0} where
 
   first_kept : (ts : List (Txn A)) → first_cause node edge (all_kept ts) ≡ first_cause node edge ts
   first_kept ts =
-      first_map kept (λ a. first_some (λ b. caused node edge a b (earliest node edge (filter (is_dangerous node edge a b) (all_kept ts)))) (all_kept ts)) ts
+      first_some-map kept (λ a. first_some (λ b. caused node edge a b (earliest node edge (filter (is_dangerous node edge a b) (all_kept ts)))) (all_kept ts)) ts
       ∙ first_same _ _ (λ a.
-      first_map kept (λ b. caused node edge (kept a) b (earliest node edge (filter (is_dangerous node edge (kept a) b) (all_kept ts)))) ts
+      first_some-map kept (λ b. caused node edge (kept a) b (earliest node edge (filter (is_dangerous node edge (kept a) b) (all_kept ts)))) ts
       ∙ first_same _ _ (λ b.
-      ap (λ us. caused node edge (kept a) (kept b) (earliest node edge us)) (filter_map kept (is_dangerous node edge (kept a) (kept b)) ts)
+      ap (λ us. caused node edge (kept a) (kept b) (earliest node edge us)) (filter-map kept (is_dangerous node edge (kept a) (kept b)) ts)
       ∙ ap (caused node edge (kept a) (kept b)) (earliest_kept (filter (is_dangerous node edge a b) ts))
       ∙ caused_kept a b (earliest node edge (filter (is_dangerous node edge a b) ts))) ts) ts
 
@@ -120,14 +93,14 @@ module _ {A : Type 0} where
     where
       doom : (cs : List Cause) (b : Txn A) → doom_of node reads_from (all_kept ts) (kept c) cs (kept b) ≡ doom_of node reads_from ts c cs b
       doom cs b = ap (λ o. cond (is_live node reads_from c b && reads_from b c) o None)
-          (ap (cause_from node reads_from (kept b) (kept c)) (find_map kept (is_first node reads_from (kept c) cs (kept b)) ts) ∙ from_kept b c (find (is_first node reads_from c cs b) ts))
+          (ap (cause_from node reads_from (kept b) (kept c)) (find-map kept (is_first node reads_from (kept c) cs (kept b)) ts) ∙ from_kept b c (find (is_first node reads_from c cs b) ts))
 
   -- ---- snapshots of what is kept
 
   pub spoilt_kept : (ts : List (Txn A)) (t : Txn A) → is_spoilt (all_kept ts) t ≡ is_spoilt ts t
   spoilt_kept ts t =
       any_map kept (λ u. was_active t u && spoils (all_kept ts) t u) ts
-      ∙ any_same _ _ (λ u. ap (λ b. was_active t u && (is_done u.standing && b)) (any_map kept (λ v. edge (kept u) v && nat_le v.commit t.snapshot) ts)) ts
+      ∙ any-same _ _ (λ u. ap (λ b. was_active t u && (is_done u.standing && b)) (any_map kept (λ v. edge (kept u) v && nat_le v.commit t.snapshot) ts)) ts
 
   pending_kept : (ts : List (Txn A)) (t : Txn A) → is_pending (all_kept ts) t ≡ is_pending ts t
   pending_kept ts t = any_map kept (λ u. was_active t u && is_open u.standing) ts
@@ -181,10 +154,10 @@ module _ {A : Type 0} where
     v = on w X b xs
 
     pub same_current : (s : ℕ) → current v s ≡ option_map kept (current w s)
-    same_current s = find_map kept (is_of s) w.txns
+    same_current s = find-map kept (is_of s) w.txns
 
     same_meets : (t : Txn A) (ys : List (Change A)) → meets_another v t ys ≡ meets_another w t ys
-    same_meets t ys = any_same _ _ (λ x. any_map kept (λ u. is_taken t u x) w.txns) ys
+    same_meets t ys = any-same _ _ (λ x. any_map kept (λ u. is_taken t u x) w.txns) ys
 
     pub same_numbered : (t : Txn A) → numbered v (kept t) ≡ kept (numbered w t)
     same_numbered t = ap (λ n. cond (is_read_write t.mode) (record (ended w Done (kept t)) { commit = n + 1 }) (ended w Done (kept t))) like.commits ∙ go (is_read_write t.mode)

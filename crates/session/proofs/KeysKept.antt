@@ -1,11 +1,12 @@
 -- The key of what an event commits, from what is kept.
 use Rattle.std.proofs.Common.{◌≡◌, refl, sym, ap, ◌∙◌, ℕ, ◌≤◌, ◌&&◌, ◌==◌, Bool, true, false, cond, List, [], ◌∷◌, map, min, nat_lt, Option, Some, None}
-use Rattle.std.proofs.lemmas.Bool.{eqb-true}
+use Rattle.std.proofs.lemmas.Bool.{eqb-true, and_parts, false_from_ne_true}
 use Rattle.std.specs.List.{filter, find}
 use Rattle.std.specs.Option.{option_map}
 use Rattle.value.specs.Isolation.{first_part, serial_key, write_key}
 use Rattle.value.proofs.IsolationLemmas.{In}
-use Rattle.conflict.proofs.Lists.{both_true, clash, find-alike, find-In, is_false}
+use Rattle.value.proofs.Basics.{find-In}
+use Rattle.conflict.proofs.Lists.{clash, find-alike}
 use Rattle.history.specs.Transactions.{Txn, World, edge, is_done, is_read_write, node}
 use Rattle.history.specs.Needed.{Keeps, kept_of}
 use Rattle.serial.proofs.order.SerialTheorem.{IsGood}
@@ -71,10 +72,10 @@ module _ {A : Type 0} where
       is_last x = is_done x.standing && x.end == v.place
 
       stays : (x : Txn A) → In x v.txns → is_last x ≡ true → (keep x.number ≡ true) × (is_read_write x.mode ≡ true → n ≤ x.snapshot)
-      stays x i e = let p = both_true (is_done x.standing) (x.end == v.place) e in new x i p.0 (eqb-true x.end v.place p.1)
+      stays x i e = let p = and_parts (is_done x.standing) (x.end == v.place) e in new x i p.0 (eqb-true x.end v.place p.1)
 
       same : find is_last (kept_of keep v.txns) ≡ find is_last v.txns
-      same = find-alike is_last (λ u. keep u.number) v.txns (λ x i e. is_false (is_last x) (λ q. clash (keep x.number) (stays x i q).0 e))
+      same = find-alike is_last (λ u. keep u.number) v.txns (λ x i e. false_from_ne_true (is_last x) (λ q. clash (keep x.number) (stays x i q).0 e))
 
       keyed_by : List (Txn A) → Txn A → ℕ × (ℕ × ℕ × ℕ)
       keyed_by ts t = entry t.number (serial_key node edge (filter (λ u. is_done u.standing) ts) t)

@@ -1,5 +1,6 @@
 -- What is kept of a legal history's world answers as the world does.
-use Rattle.std.proofs.Common.{◌≡◌, refl, sym, ap, subst, ◌∙◌, ℕ, ◌+◌, Bool, true, false, true≢false, cond, ◌&&◌, ◌⊎◌, inl, inr, Result, Ok, Err, List, [], ◌∷◌, map, eqb, Option, Some, None, arith}
+use Rattle.std.proofs.Common.{◌≡◌, refl, sym, ap, subst, ◌∙◌, ℕ, ◌+◌, true, false, true≢false, cond, ◌&&◌, ◌⊎◌, inl, inr, Result, Ok, Err, List, [], map, eqb, Option, Some, None, arith}
+use Rattle.std.proofs.lemmas.Bool.{and_right, and_parts, or_right}
 use Rattle.std.specs.List.{filter, find}
 use Rattle.std.specs.Option.{option_map}
 use Rattle.value.specs.declared.refusal.Code.TheVariants as code
@@ -7,7 +8,8 @@ use Rattle.value.specs.declared.refusal.Refusal.{Refusal}
 use Rattle.value.specs.Refusals.{AnswersOrNoMemory, of_code}
 use Rattle.value.specs.Isolation.{is_dangerous}
 use Rattle.value.proofs.IsolationLemmas.{In}
-use Rattle.conflict.proofs.Lists.{In-filter, both_true, filter-In, find-alike, or_right}
+use Rattle.value.proofs.Basics.{filter-In, In-mapped, In-map}
+use Rattle.conflict.proofs.Lists.{In-filter, find-alike}
 use Rattle.schema.specs.Definition.{Catalog}
 use Rattle.schema.specs.declared.tables.Tables.{Tables}
 use Rattle.schema.specs.Plain.{put_all}
@@ -39,21 +41,6 @@ use Rattle.transactions.specs.Views.{reader_on, view_at, view_on}
 use Rattle.session.specs.Core.{HoldsRows, IsFoundReply, IsKept}
 use Rattle.session.specs.Kept.{Represents}
 use Rattle.session.proofs.Kept.{IsLike, find_same, living_kept, on, replaced_kept, same_current, same_numbered, same_ready, same_reply}
-
-nothing_and : (a b : Bool) → b ≡ false → (a && b) ≡ false
-nothing_and true b e = e
-nothing_and false b e = refl
-
-module _ {T U : Type 0} (f : T → U) where
-  pub map-In : (ts : List T) (u : U) → In u (map f ts) → (t : T) × In t ts × (u ≡ f t)
-  map-In [] u i = absurd i
-  map-In (t ∷ ts) u (inl p) = (t, inl refl, p)
-  map-In (t ∷ ts) u (inr i) = let r = map-In ts u i in (r.0, inr r.1, r.2)
-
-  pub In-map : (ts : List T) (t : T) → In t ts → In (f t) (map f ts)
-  In-map [] t i = absurd i
-  In-map (u ∷ ts) t (inl p) = inl (ap f p)
-  In-map (u ∷ ts) t (inr i) = inr (In-map ts t i)
 
 module _ {A : Type 0} where
   -- its statements don't matter for what it reads
@@ -103,7 +90,7 @@ module _ {A : Type 0} where
 
     -- only those that live are found
     sought : (n : ℕ) (xs : List Exported_snapshot) → find (λ x. eqb x.id n && is_living w.txns x) (filter (is_living w.txns) xs) ≡ find (λ x. eqb x.id n && is_living w.txns x) xs
-    sought n xs = find-alike (λ x. eqb x.id n && is_living w.txns x) (is_living w.txns) xs (λ x i e. nothing_and (eqb x.id n) (is_living w.txns x) e)
+    sought n xs = find-alike (λ x. eqb x.id n && is_living w.txns x) (is_living w.txns) xs (λ x i e. and_right (eqb x.id n) (is_living w.txns x) e)
 
     pub like : (X : Tables A) → IsLike thinned (lent X)
     like X = record {
@@ -123,10 +110,10 @@ module _ {A : Type 0} where
 
     -- whose session has still to end it is kept
     pub owed_in : (t : Txn A) → In t w.txns → is_owed t.standing ≡ true → In (kept t) l.txns
-    owed_in t i o = subst (In (kept t)) (sym r.txns) (In-map kept (kept_of r.keep w.txns) t (filter-In (λ u. r.keep u.number) t w.txns i (owed_stays w r.oldest r.keep r.keeps t i o)))
+    owed_in t i o = subst (In (kept t)) (sym r.txns) (In-mapped kept t (kept_of r.keep w.txns) (filter-In (λ u. r.keep u.number) t w.txns i (owed_stays w r.oldest r.keep r.keeps t i o)))
 
     pub owed_of : (s : ℕ) (t : Txn A) → current w s ≡ Some t → In t w.txns × (is_owed t.standing ≡ true)
-    owed_of s t e = let i = current_in w s t e in (i.0, (both_true (eqb t.session s) (is_owed t.standing) i.1).1)
+    owed_of s t e = let i = current_in w s t e in (i.0, (and_parts (eqb t.session s) (is_owed t.standing) i.1).1)
 
     module _ (rows : List (VersionedRows A)) (held : HoldsRows h l rows) where
       pub at_snapshot : (s : ℕ) (t : Txn A) → current w s ≡ Some t → shown t.snapshot rows ≡ tables_at w t.snapshot
@@ -210,7 +197,7 @@ module _ {A : Type 0} where
 
         from : (a : Txn A) → In a cs → Whole a
         from a i =
-            let m = map-In kept (kept_of r.keep (committing w t)) a (subst (In a) (committed_all X t) i) in
+            let m = In-map kept a (kept_of r.keep (committing w t)) (subst (In a) (committed_all X t) i) in
             (m.0, (In-filter (λ u. r.keep u.number) m.0 (committing w t) m.1).0, m.2)
 
         is_it : (a u : Txn A) → a ≡ kept u → u ≡ numbered w t → a ≡ numbered (lent X) (kept t)

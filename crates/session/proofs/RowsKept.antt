@@ -1,5 +1,6 @@
 -- The versions that a core keeps beside its history.
-use Rattle.std.proofs.Common.{◌≡◌, refl, sym, ap, subst, ◌∙◌, ℕ, suc, ◌+◌, ◌-◌, Bool, true, false, true≢false, ◌&&◌, Result, Ok, Err, List, [], ◌∷◌, map, take, arith}
+use Rattle.std.proofs.Common.{◌≡◌, refl, sym, ap, subst, ◌∙◌, ℕ, suc, ◌+◌, ◌-◌, true, true≢false, Result, Ok, Err, List, [], ◌∷◌, map, take, arith}
+use Rattle.std.proofs.lemmas.Bool.{and_parts}
 use Rattle.std.specs.List.{AllByRecursion}
 use Rattle.std.specs.Result.{OnErr, OnOk}
 use Rattle.value.specs.declared.refusal.Refusal.{Refusal}
@@ -7,10 +8,10 @@ use Rattle.std.specs.List.Sorted.{IsStrictlySortedBy}
 use Rattle.std.specs.FinMap.{is_sorted}
 use Rattle.std.specs.FinMap.Entries.{below_all}
 use Rattle.std.specs.Ordering.{is_lt}
-use Rattle.std.specs.declared.cmp.Ordering.{Ordering}
-use Rattle.std.specs.declared.cmp.Ordering.TheVariants.{Less, Equal, Greater}
+use Rattle.std.specs.declared.cmp.Ordering.TheVariants.{Less}
 use Rattle.value.specs.declared.value.Value.{Value}
 use Rattle.value.specs.Order.{value_cmp}
+use Rattle.value.proofs.Basics.{Less-from_lt}
 use Rattle.schema.specs.Definition.{Catalog}
 use Rattle.schema.specs.declared.tables.Tables.{Tables}
 use Rattle.schema.specs.Plain.{is_sound, is_sound_table, sound_tables}
@@ -30,37 +31,28 @@ use Rattle.transactions.specs.Versions.{lowest, next_commit}
 use Rattle.transactions.proofs.InstallLemmas.{lowest-read}
 use Rattle.session.specs.Core.{HoldsRows}
 
-both_of : (a b : Bool) → (a && b) ≡ true → (a ≡ true) × (b ≡ true)
-both_of true b e = (refl, e)
-both_of false b e = absurd (true≢false (sym e))
-
-less_of : (o : Ordering) → is_lt o ≡ true → o ≡ Less
-less_of Less e = refl
-less_of Equal e = absurd (true≢false (sym e))
-less_of Greater e = absurd (true≢false (sym e))
-
 module _ {A : Type 0} where
   -- ---- sound tables are in key order
 
   below_from : (k : Value A) (rows : Rows A) → below_all value_cmp k rows ≡ true → AllByRecursion (λ l. value_cmp k l ≡ Less) (map (λ row. row.0) rows)
   below_from k [] below = tt
   below_from k (row ∷ rows) below =
-      let p = both_of (is_lt (value_cmp k row.0)) (below_all value_cmp k rows) below in
-      (less_of (value_cmp k row.0) p.0, below_from k rows p.1)
+      let p = and_parts (is_lt (value_cmp k row.0)) (below_all value_cmp k rows) below in
+      (Less-from_lt (value_cmp k row.0) p.0, below_from k rows p.1)
 
   in_order_from : (rows : Rows A) → is_sorted value_cmp rows ≡ true → IsInKeyOrder rows
   unfolding IsStrictlySortedBy
   in_order_from [] sorted = tt
   in_order_from (row ∷ rows) sorted =
-      let p = both_of (below_all value_cmp row.0 rows) (is_sorted value_cmp rows) sorted in
+      let p = and_parts (below_all value_cmp row.0 rows) (is_sorted value_cmp rows) sorted in
       (below_from row.0 rows p.0, in_order_from rows p.1)
 
   sound_in_order : (X : Tables A) (c : Catalog) (Y : Tables A) → sound_tables X c Y ≡ true → AreInKeyOrder Y
   sound_in_order X c [] sound = tt
   sound_in_order X [] (rows ∷ Y) sound = absurd (true≢false (sym sound))
   sound_in_order X (d ∷ ds) (rows ∷ Y) sound =
-      let p = both_of (is_sound_table X d rows) (sound_tables X ds Y) sound in
-      (in_order_from rows (both_of (is_sorted value_cmp rows) _ p.0).0, sound_in_order X ds Y p.1)
+      let p = and_parts (is_sound_table X d rows) (sound_tables X ds Y) sound in
+      (in_order_from rows (and_parts (is_sorted value_cmp rows) _ p.0).0, sound_in_order X ds Y p.1)
 
   -- ---- an opening
 

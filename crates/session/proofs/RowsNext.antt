@@ -1,10 +1,11 @@
 -- The tables after an event: those before it, and from the number of a commit on with its changes put in.
 use Rattle.std.proofs.Common.{◌≡◌, refl, sym, ap, subst, ◌∙◌, ℕ, ◌+◌, ◌-◌, ◌≤◌, nat_le, Bool, true, false, cond, ◌||◌, ◌⊎◌, inl, inr, List, [], ◌∷◌, ◌++◌, length, length-append, take, Option, Some, None, arith}
-use Rattle.std.proofs.lemmas.Bool.{le-leb, leb-true}
+use Rattle.std.proofs.lemmas.Bool.{le-leb, leb-true, or_right}
 use Rattle.std.proofs.lemmas.List.{append-nil, take-append-le, take_all}
 use Rattle.std.specs.Option.{option_map}
 use Rattle.value.proofs.IsolationLemmas.{In}
-use Rattle.conflict.proofs.Lists.{In-filter, or_right}
+use Rattle.value.proofs.Basics.{In-map}
+use Rattle.conflict.proofs.Lists.{In-filter}
 use Rattle.schema.specs.Definition.{Catalog}
 use Rattle.schema.specs.declared.changes.Change.{Change}
 use Rattle.schema.specs.declared.tables.Tables.{Tables}
@@ -26,7 +27,7 @@ use Rattle.transactions.specs.Versions.{StayShown, is_owed_at, may_be_read}
 use Rattle.transactions.proofs.InstallLemmas.{owed-is_read, read-is_owed}
 use Rattle.session.specs.Core.{HoldsRows, IsKept}
 use Rattle.session.specs.Kept.{Represents}
-use Rattle.session.proofs.Lent.{catalog_is, lent_current, lent_is, map-In, owed_in, r, w}
+use Rattle.session.proofs.Lent.{catalog_is, lent_current, lent_is, owed_in, r, w}
 
 compared : (a b : ℕ) → (a ≤ b) ⊎ (b + 1 ≤ a)
 compared a b = grind arith
@@ -119,7 +120,7 @@ module _ {A : Type 0} where
     read_before m rep n read = go (nat_le m.base.commits n) refl read
       where
         from : (u : Txn A) → In u m.txns → is_owed u.standing ≡ true → Read u.snapshot
-        from u i o = of_one (map-In kept (kept_of rep.keep next_world.txns) u (subst (In u) rep.txns i))
+        from u i o = of_one (In-map kept u (kept_of rep.keep next_world.txns) (subst (In u) rep.txns i))
           where
             of_one : (y : Txn A) × In y (kept_of rep.keep next_world.txns) × (u ≡ kept y) → Read u.snapshot
             of_one y =

@@ -1,11 +1,13 @@
 -- What is left after forgetting represents the same world.
 use Rattle.std.proofs.Common.{◌≡◌, sym, ap, subst, refl, ◌∙◌, ℕ, ◌+◌, ◌≤◌, max, Bool, true, false, cond, not, ◌&&◌, ◌||◌, ◌⊎◌, inl, inr, List, [], ◌∷◌, length, map, eqb, nat_le, arith}
+use Rattle.std.proofs.Math.Nat.{le-max_left, le-max_right}
 use Rattle.std.specs.List.{filter, list_any}
-use Rattle.std.proofs.lemmas.Bool.{eqb-true, eq-eqb}
-use Rattle.std.proofs.lemmas.Bool.Decides.{nat_tests}
+use Rattle.std.proofs.lemmas.Bool.{eqb-true, eq-eqb, leb-true, and_parts, and_from, or_cases, or_left, or_right}
+use Rattle.std.specs.Cmp.{both_ways}
 use Rattle.value.specs.declared.refusal.TxnNo.{TxnNo}
 use Rattle.value.proofs.IsolationLemmas.{In}
-use Rattle.conflict.proofs.Lists.{In-any, In-filter, and_true, any-In, both_true, clash, either, filter-In, filter-kept, filter_alike, or_left, or_right}
+use Rattle.value.proofs.Basics.{filter-In, any-In, In-any, filter-map}
+use Rattle.conflict.proofs.Lists.{In-filter, clash, filter-kept, filter_alike}
 use Rattle.history.specs.declared.key.SerialKey.{SerialKey}
 use Rattle.history.specs.Opening.{Recorded}
 use Rattle.history.specs.Transactions.{Txn, World, Exported_snapshot, edge, is_done, is_living, is_open, is_owed, is_pending, is_read_write, is_spoilt}
@@ -27,15 +29,10 @@ use Rattle.safesnap.specs.Unspoilt.{AreUnspoilt}
 use Rattle.safesnap.proofs.UnspoiltLemmas.{one_unspoilt}
 use Rattle.session.specs.Core.{HoldsKeys, HoldsRows, IsKept}
 use Rattle.session.specs.Kept.{Represents}
-use Rattle.session.proofs.Kept.{any_map, filter_map}
+use Rattle.session.proofs.Kept.{any_map}
 use Rattle.session.proofs.Least.{least_most, least_of}
 use Rattle.session.proofs.Lent.{living_is, owed_in, r, w}
 use Rattle.session.proofs.Polls.{by_keys}
-
-same_test : (a b : Bool) → (a ≡ true → b ≡ true) → (b ≡ true → a ≡ true) → a ≡ b
-same_test true b f g = sym (f refl)
-same_test false true f g = g refl
-same_test false false f g = refl
 
 -- those that pass one test, and of these those that pass another
 filter-both : {X : Type 0} (p q : X → Bool) (xs : List X) → filter q (filter p xs) ≡ filter (λ x. p x && q x) xs
@@ -45,15 +42,6 @@ filter-both {X} p q (x ∷ xs) = go (p x) (filter-both p q xs)
     go : (b : Bool) → filter q (filter p xs) ≡ filter (λ y. p y && q y) xs → filter q (cond b (x ∷ filter p xs) (filter p xs)) ≡ cond (b && q x) (x ∷ filter (λ y. p y && q y) xs) (filter (λ y. p y && q y) xs)
     go true e = ap (λ ys. cond (q x) (x ∷ ys) ys) e
     go false e = e
-
-is_least : (a b : ℕ) → nat_le a b ≡ true → a ≤ b
-is_least a b e = grind (arith, nat_tests)
-
-max_left : (a b : ℕ) → a ≤ max a b
-max_left a b = grind arith
-
-max_right : (a b : ℕ) → b ≤ max a b
-max_right a b = grind arith
 
 max_below : (a b c : ℕ) → a ≤ c → b ≤ c → max a b ≤ c
 max_below a b c l m = grind arith
@@ -75,24 +63,24 @@ module _ {A : Type 0} where
 
     -- whose snapshot no commit has spoilt, and was taken before the first of the open ones began that may write, is a safe reader
     settled : (u : Txn A) → In u old.txns → (nat_le u.taken (first_active l.txns) && list_any (λ i. eqb i u.snapshot) ns) ≡ true → is_settled old.txns u ≡ true
-    settled u i e = and_true _ _ (ap not pending) (ap not spoilt)
+    settled u i e = and_from _ _ (ap not pending) (ap not spoilt)
       where
         p : (nat_le u.taken (first_active l.txns) ≡ true) × (list_any (λ i. eqb i u.snapshot) ns ≡ true)
-        p = both_true (nat_le u.taken (first_active l.txns)) (list_any (λ i. eqb i u.snapshot) ns) e
+        p = and_parts (nat_le u.taken (first_active l.txns)) (list_any (λ i. eqb i u.snapshot) ns) e
 
         pending : is_pending old.txns u ≡ false
         pending =
             sym (pending_of_kept old (r h l k).oldest (r h l k).keep (r h l k).keeps u) ∙ sym (any_map kept (is_awaited u.taken) ts) ∙ sym (ap (λ us. is_pending_at us u.taken) (r h l k).txns)
-            ∙ none_pending l.txns u.taken (is_least u.taken (first_active l.txns) p.0)
+            ∙ none_pending l.txns u.taken (leb-true u.taken (first_active l.txns) p.0)
 
         spoilt : is_spoilt old.txns u ≡ false
         spoilt = by_keys h l k ks room keys u i ∙ one_unspoilt (map keyed ks) u.snapshot ns unspoilt p.1
 
     safe_from : (u : Txn A) → In u old.txns → is_safe_from ns (first_active l.txns) u ≡ true → is_safe_reader old.txns u ≡ true
-    safe_from u i e = and_true _ _ p.0 (safe (either u.known (nat_le u.taken (first_active l.txns) && list_any (λ i. eqb i u.snapshot) ns) p.1))
+    safe_from u i e = and_from _ _ p.0 (safe (or_cases u.known (nat_le u.taken (first_active l.txns) && list_any (λ i. eqb i u.snapshot) ns) p.1))
       where
         p : (not (is_read_write u.mode) ≡ true) × ((u.known || nat_le u.taken (first_active l.txns) && list_any (λ i. eqb i u.snapshot) ns) ≡ true)
-        p = both_true (not (is_read_write u.mode)) (u.known || nat_le u.taken (first_active l.txns) && list_any (λ i. eqb i u.snapshot) ns) e
+        p = and_parts (not (is_read_write u.mode)) (u.known || nat_le u.taken (first_active l.txns) && list_any (λ i. eqb i u.snapshot) ns) e
 
         safe : (u.known ≡ true) ⊎ ((nat_le u.taken (first_active l.txns) && list_any (λ i. eqb i u.snapshot) ns) ≡ true) → (u.known || is_settled old.txns u) ≡ true
         safe (inl q) = or_left u.known _ q
@@ -103,7 +91,7 @@ module _ {A : Type 0} where
     from_computed u i o s = by_test (is_safe_from ns (first_active l.txns) u) refl
       where
         by_test : (b : Bool) → is_safe_from ns (first_active l.txns) u ≡ b → n ≤ u.snapshot
-        by_test false e = least_of (holds_back ns (first_active l.txns)) l.base.commits l.txns (kept u) (owed_in h l k u i (open_owed u.standing o)) (and_true (is_open u.standing) (not (is_safe_from ns (first_active l.txns) u)) o (ap not e))
+        by_test false e = least_of (holds_back ns (first_active l.txns)) l.base.commits l.txns (kept u) (owed_in h l k u i (open_owed u.standing o)) (and_from (is_open u.standing) (not (is_safe_from ns (first_active l.txns) u)) o (ap not e))
         by_test true e = clash (is_safe_reader old.txns u) (safe_from u i e) s
 
     -- the oldest snapshot never falls
@@ -115,7 +103,7 @@ module _ {A : Type 0} where
         (oldest_is old (good_world h.opening h.records k.legal) u i o (r h l k).oldest (r h l k).keep (r h l k).keeps s) (from_computed u i o s))
 
     still : Keeps old top (r h l k).keep
-    still = raised old (r h l k).oldest top (r h l k).keep (r h l k).keeps (max_left (r h l k).oldest n) is_oldest
+    still = raised old (r h l k).oldest top (r h l k).keep (r h l k).keeps (le-max_left (r h l k).oldest n) is_oldest
 
     -- ---- those that are left: of those that were kept the ones that matter, and some from the front
 
@@ -132,27 +120,27 @@ module _ {A : Type 0} where
     kept_in u i = (In-filter (λ (x : Txn A). (r h l k).keep x.number) u old.txns i).0
 
     matters : (u : Txn A) → In u ts → is_needed n ts u ≡ true → needed_numbers n ts u.number ≡ true
-    matters u j e = In-any (λ v. eqb v.number u.number && is_needed n ts v) ts u j (and_true _ _ (eq-eqb u.number u.number refl) e)
+    matters u j e = In-any (λ v. eqb v.number u.number && is_needed n ts v) ts u j (and_from _ _ (eq-eqb u.number u.number refl) e)
 
     told : (u : Txn A) → In u ts → needed_numbers n ts u.number ≡ is_needed n ts u
-    told u j = same_test _ _ (λ e. found (any-In (λ v. eqb v.number u.number && is_needed n ts v) ts e)) (matters u j)
+    told u j = both_ways _ _ (λ e. found (any-In (λ v. eqb v.number u.number && is_needed n ts v) ts e)) (matters u j)
       where
         found : (y : Txn A) × In y ts × ((eqb y.number u.number && is_needed n ts y) ≡ true) → is_needed n ts u ≡ true
-        found y = let q = both_true (eqb y.0.number u.number) (is_needed n ts y.0) y.2 in
+        found y = let q = and_parts (eqb y.0.number u.number) (is_needed n ts y.0) y.2 in
             ap (is_needed n ts) ((good_world h.opening h.records k.legal).numbered.unique u y.0 (kept_in u j) (kept_in y.0 y.1) (sym (eqb-true y.0.number u.number q.0))) ∙ q.1
 
     -- what matters can be told from what is kept
     met : (u : Txn A) → list_any (λ v. is_recent top v && edge v u) ts ≡ list_any (λ v. is_recent top v && edge v u) old.txns
     met u = any-kept (λ v. is_recent top v && edge v u) (λ v. (r h l k).keep v.number) old.txns
         (λ v j e. by_all (λ x. is_needed top old.txns x ≡ true → (r h l k).keep x.number ≡ true) old.txns v still.needed j
-        (or_left _ _ (or_left _ _ (or_right (is_owed v.standing) _ (both_true (is_recent top v) (edge v u) e).0))))
+        (or_left _ _ (or_left _ _ (or_right (is_owed v.standing) _ (and_parts (is_recent top v) (edge v u) e).0))))
 
     alike : (u : Txn A) → In u ts → is_left t.passed n (map kept ts) (kept u) ≡ left u.number
     alike u i = ap (λ b. nat_le u.number last || b) (needed_kept n ts u ∙ sym (told u i))
 
     -- and what matters from the oldest snapshot on matters among what is kept, from the one that was computed on
     needed_among : (u : Txn A) → is_needed top old.txns u ≡ true → is_needed n ts u ≡ true
-    needed_among u e = needed_too n top ts u (max_right (r h l k).oldest n)
+    needed_among u e = needed_too n top ts u (le-max_right (r h l k).oldest n)
         (ap (λ b. is_owed u.standing || is_recent top u || is_late_reader top u || (is_done u.standing && b)) (met u) ∙ e)
 
     keeps_left : Keeps old top stays
@@ -160,7 +148,7 @@ module _ {A : Type 0} where
       oldest = is_oldest;
       needed = all_by _ old.txns (λ u j e.
           let q = by_all (λ x. is_needed top old.txns x ≡ true → (r h l k).keep x.number ≡ true) old.txns u still.needed j e in
-          and_true _ _ q (or_right (nat_le u.number last) _ (matters u (filter-In (λ (x : Txn A). (r h l k).keep x.number) u old.txns j q) (needed_among u e))));
+          and_from _ _ q (or_right (nat_le u.number last) _ (matters u (filter-In (λ (x : Txn A). (r h l k).keep x.number) u old.txns j q) (needed_among u e))));
     }
 
     pub represents_thinned : Represents old m
@@ -170,7 +158,7 @@ module _ {A : Type 0} where
       keeps = keeps_left;
       seen = max_below (r h l k).oldest n _ (r h l k).seen (let p = least_most (holds_back ns (first_active l.txns)) l.base.commits l.txns in let q = (r h l k).commits in omega (arith, p, q));
       txns =
-          t.txns ∙ ap (λ us. filter (is_left t.passed n us) us) (r h l k).txns ∙ filter_map kept (is_left t.passed n (map kept ts)) ts
+          t.txns ∙ ap (λ us. filter (is_left t.passed n us) us) (r h l k).txns ∙ filter-map kept (is_left t.passed n (map kept ts)) ts
           ∙ ap (map kept) (filter_alike (λ u. is_left t.passed n (map kept ts) (kept u)) (λ u. left u.number) ts alike ∙ filter-both (λ (u : Txn A). (r h l k).keep u.number) (λ u. left u.number) old.txns);
       exports =
           ap (filter (is_living old.txns)) (t.exports ∙ filter_alike (is_living l.txns) (is_living old.txns) l.exports (λ x i. lives x))

@@ -10,11 +10,6 @@ pub both : {T E : Type 0} (P Q : T → Type 0) (r : Result T E) → IfOk r P →
 both P Q (Ok x) p q = (p, q)
 both P Q (Err e) p q = p
 
--- what is so of what a call gave, so is what follows
-pub if-ok : {T E : Type 0} {P Q : T → Type 0} (r : Result T E) → IfOk r P → ((x : T) → P x → Q x) → IfOk r Q
-if-ok (Ok x) h f = f x h
-if-ok (Err e) h f = h
-
 -- a script that opens no dump, by its parts
 pub opens-by : {A : Type 0} (created whole : List ℕ) (most : ℕ) (line : List ℕ) (s : Said A) (q : Held A) (text : List ℕ) (b : Bool) (c : Catalog) (steps : List (Line A)) → is_some s.opens ≡ false → c ≡ s.catalog → steps ≡ s.lines → b ≡ (length steps == 0) → Begins b whole most line c steps q text → Opens created whole most line (Ok s) q text
 opens-by created whole most line s q text b c steps none tables lines way told =

@@ -1,7 +1,8 @@
 -- Readings that cover the same, also with more read after them.
 use Rattle.std.proofs.Common.{◌≡◌, refl, sym, ap, ◌∙◌, ℕ, ◌+◌, suc, Bool, true, false, true≢false, cond, ◌&&◌, ◌||◌, ◌⊎◌, inl, inr, List, [], ◌∷◌, ◌++◌, length, take, drop, eqb, ltb, arith, zero, append_assoc, append-nil}
+use Rattle.std.proofs.Math.Bool.{or_comm}
 use Rattle.std.proofs.Math.Seq.{take-nil}
-use Rattle.std.proofs.lemmas.Bool.{eqb-true, eq-eqb}
+use Rattle.std.proofs.lemmas.Bool.{eqb-true, eq-eqb, or_parts, or_cases, and_parts, or_left, or_right, and_from}
 use Rattle.std.proofs.lemmas.Bool.Decides.{nat_tests}
 use Rattle.std.proofs.lemmas.List.Folds.{list_any-append}
 use Rattle.std.specs.List.{list_any}
@@ -10,14 +11,14 @@ use Rattle.std.specs.declared.cmp.Ordering.TheVariants.{Less, Equal, Greater}
 use Rattle.std.specs.Ordering.{is_le, is_ge, ordering_reverse}
 use Rattle.value.specs.declared.value.Value.{Value}
 use Rattle.value.specs.Order.{value_cmp, value_cmp-total, value_cmp-exact}
+use Rattle.value.proofs.Basics.{any-weaker}
 use Rattle.schema.specs.Plain.{same}
 use Rattle.statement.specs.declared.reading.Extent.{Extent}
 use Rattle.statement.specs.declared.reading.Extent.TheVariants.{Whole, One, Range, Referencing}
 use Rattle.statement.specs.declared.reading.Reading.{Reading}
 use Rattle.statement.specs.Cover.{has_key, has_reference, same_extent, distinct, extents_in, is_whole, keys_of, ranges_of, references_read, has_many_keys, has_many_ranges, has_many_references, covers_whole, among, covers_key, covers_reference, covers, covers_value}
 use Rattle.statement.specs.Laws.{same_reading, HasSameReadings}
-use Rattle.statement.proofs.CoverLemmas.{and_both, or_left, or_right, any_weaker, same_extent_is}
-use Rattle.statement.proofs.RowsLemmas.{both}
+use Rattle.statement.proofs.CoverLemmas.{same_extent_is}
 use Rattle.statement.proofs.CoverSet.{covers_by_set, covers_value_by_set}
 use Rattle.siread.specs.Adding.{is_between, is_told, adds_nothing}
 use Rattle.siread.specs.Extents.{is_read, read_in, IsEachOnce}
@@ -26,14 +27,6 @@ use Rattle.siread.proofs.TallyLemmas.{once, is_found}
 
 -- ---- tests
 
-either : (a b : Bool) → (a || b) ≡ true → (a ≡ true) ⊎ (b ≡ true)
-either true b e = inl refl
-either false b e = inr e
-
-pub or_falls : (a b : Bool) → (a || b) ≡ false → (a ≡ false) × (b ≡ false)
-or_falls true b e = absurd (true≢false e)
-or_falls false b e = (refl, e)
-
 or_map : (a b c d : Bool) → (a ≡ true → c ≡ true) → (b ≡ true → d ≡ true) → (a || b) ≡ true → (c || d) ≡ true
 or_map true b c d f g e = or_left c d (f refl)
 or_map false b c d f g e = or_right c d (g e)
@@ -41,12 +34,6 @@ or_map false b c d f g e = or_right c d (g e)
 pub and_map : (a b c d : Bool) → (a ≡ true → c ≡ true) → (b ≡ true → d ≡ true) → (a && b) ≡ true → (c && d) ≡ true
 and_map true b c d f g e = ap (λ x. x && d) (f refl) ∙ g e
 and_map false b c d f g e = absurd (true≢false (sym e))
-
-or_comm : (a b : Bool) → (a || b) ≡ (b || a)
-or_comm true true = refl
-or_comm true false = refl
-or_comm false true = refl
-or_comm false false = refl
 
 moved : (a x m : Bool) → ((a || (x || false)) || m) ≡ (x || (m || a))
 moved true true m = refl
@@ -166,8 +153,8 @@ module _ {A : Type 0} where
   among-between : (v : Value A) (keys : List (Value A)) (k : Value A) → is_between keys (One v) ≡ true → among (v ∷ keys) k ≡ among keys k
   among-between v keys k h =
       ap (λ b. cond b ((is_le (value_cmp v k) || below) && (is_ge (value_cmp v k) || above)) (same v k || list_any (λ w. same w k) keys)) (more_than_eight (length keys) many)
-      ∙ ap (λ b. b && (is_ge (value_cmp v k) || above)) (told_or (is_le (value_cmp v k)) below (λ e. any_weaker (λ w. is_le (value_cmp w v)) (λ w. is_le (value_cmp w k)) (λ w l. le_trans w v k l e) keys least))
-      ∙ ap (λ b. below && b) (told_or (is_ge (value_cmp v k)) above (λ e. any_weaker (λ w. is_ge (value_cmp w v)) (λ w. is_ge (value_cmp w k)) (λ w l. ge_trans w v k l e) keys greatest))
+      ∙ ap (λ b. b && (is_ge (value_cmp v k) || above)) (told_or (is_le (value_cmp v k)) below (λ e. any-weaker (λ w. is_le (value_cmp w v)) (λ w. is_le (value_cmp w k)) (λ w l. le_trans w v k l e) keys least))
+      ∙ ap (λ b. below && b) (told_or (is_ge (value_cmp v k)) above (λ e. any-weaker (λ w. is_ge (value_cmp w v)) (λ w. is_ge (value_cmp w k)) (λ w l. ge_trans w v k l e) keys greatest))
       ∙ sym (ap (λ b. cond b (below && above) (list_any (λ w. same w k) keys)) many)
     where
       below : Bool
@@ -177,23 +164,23 @@ module _ {A : Type 0} where
       above = list_any (λ w. is_ge (value_cmp w k)) keys
 
       parts : ((has_many_keys keys && list_any (λ w. is_le (value_cmp w v)) keys) ≡ true) × (list_any (λ w. is_ge (value_cmp w v)) keys ≡ true)
-      parts = and_both (has_many_keys keys && list_any (λ w. is_le (value_cmp w v)) keys) (list_any (λ w. is_ge (value_cmp w v)) keys) h
+      parts = and_parts (has_many_keys keys && list_any (λ w. is_le (value_cmp w v)) keys) (list_any (λ w. is_ge (value_cmp w v)) keys) h
 
       greatest : list_any (λ w. is_ge (value_cmp w v)) keys ≡ true
       greatest = parts.1
 
       many : has_many_keys keys ≡ true
-      many = (and_both (has_many_keys keys) (list_any (λ w. is_le (value_cmp w v)) keys) parts.0).0
+      many = (and_parts (has_many_keys keys) (list_any (λ w. is_le (value_cmp w v)) keys) parts.0).0
 
       least : list_any (λ w. is_le (value_cmp w v)) keys ≡ true
-      least = (and_both (has_many_keys keys) (list_any (λ w. is_le (value_cmp w v)) keys) parts.0).1
+      least = (and_parts (has_many_keys keys) (list_any (λ w. is_le (value_cmp w v)) keys) parts.0).1
 
   whole-between : (v : Value A) (es : List (Extent A)) → is_between (keys_of es) (One v) ≡ true → covers_whole (One v ∷ es) ≡ covers_whole es
   whole-between v es h =
       ap (λ b. list_any is_whole es || ltb 4 (length (ranges_of es) + cond b 1 0) || has_many_references es) (more_than_eight (length (keys_of es)) many ∙ sym many)
     where
       many : has_many_keys (keys_of es) ≡ true
-      many = (and_both (has_many_keys (keys_of es)) _ (and_both (has_many_keys (keys_of es) && list_any (λ w. is_le (value_cmp w v)) (keys_of es)) _ h).0).0
+      many = (and_parts (has_many_keys (keys_of es)) _ (and_parts (has_many_keys (keys_of es) && list_any (λ w. is_le (value_cmp w v)) (keys_of es)) _ h).0).0
 
   -- of a table that is covered whole
   key-whole : (m : Extent A) (es : List (Extent A)) (k : Value A) → covers_whole es ≡ true → covers_key (m ∷ es) k ≡ covers_key es k
@@ -222,14 +209,14 @@ module _ {A : Type 0} where
 
   -- an extent that isn't there, and is told
   told-otherwise : (es : List (Extent A)) (e : Extent A) → list_any (same_extent e) es ≡ false → is_told (distinct es) e ≡ true → (covers_whole (distinct es) ≡ true) ⊎ (is_between (keys_of (distinct es)) e ≡ true)
-  told-otherwise es e absent h = go (either (covers_whole (distinct es) || list_any (same_extent e) (distinct es)) (is_between (keys_of (distinct es)) e) h)
+  told-otherwise es e absent h = go (or_cases (covers_whole (distinct es) || list_any (same_extent e) (distinct es)) (is_between (keys_of (distinct es)) e) h)
     where
       here : (covers_whole (distinct es) ≡ true) ⊎ (list_any (same_extent e) (distinct es) ≡ true) → (covers_whole (distinct es) ≡ true) ⊎ (is_between (keys_of (distinct es)) e ≡ true)
       here (inl w) = inl w
       here (inr s) = absurd (true≢false (sym s ∙ sym (once (same_extent e) es) ∙ absent))
 
       go : ((covers_whole (distinct es) || list_any (same_extent e) (distinct es)) ≡ true) ⊎ (is_between (keys_of (distinct es)) e ≡ true) → (covers_whole (distinct es) ≡ true) ⊎ (is_between (keys_of (distinct es)) e ≡ true)
-      go (inl q) = here (either (covers_whole (distinct es)) (list_any (same_extent e) (distinct es)) q)
+      go (inl q) = here (or_cases (covers_whole (distinct es)) (list_any (same_extent e) (distinct es)) q)
       go (inr q) = inr q
 
   key-told : (es : List (Extent A)) (e : Extent A) (k : Value A) → is_told (distinct es) e ≡ true → covers_key (distinct (e ∷ es)) k ≡ covers_key (distinct es) k
@@ -329,8 +316,8 @@ module _ {A : Type 0} where
     where
       back : is_read q.table (same_extent q.extent) r ≡ true → is_read r.table (same_extent r.extent) q ≡ true
       back e =
-          let p = and_both (eqb r.table q.table) (same_extent q.extent r.extent) e in
-          both (eqb q.table r.table) (same_extent r.extent q.extent) (eq-eqb q.table r.table (sym (eqb-true r.table q.table p.0))) (same_extent-turned q.extent r.extent p.1)
+          let p = and_parts (eqb r.table q.table) (same_extent q.extent r.extent) e in
+          and_from (eqb q.table r.table) (same_extent r.extent q.extent) (eq-eqb q.table r.table (sym (eqb-true r.table q.table p.0))) (same_extent-turned q.extent r.extent p.1)
 
       go : (b : Bool) → is_read q.table (same_extent q.extent) r ≡ b → b ≡ false
       go false e = refl
@@ -339,19 +326,19 @@ module _ {A : Type 0} where
   pub once-push : (rs : List (Reading A)) (r : Reading A) → IsEachOnce rs → list_any (is_read r.table (same_extent r.extent)) rs ≡ false → IsEachOnce (rs ++ r ∷ [])
   once-push [] r o h = (refl, tt)
   once-push (q ∷ rs) r o h =
-      let p = or_falls (is_read r.table (same_extent r.extent) q) (list_any (is_read r.table (same_extent r.extent)) rs) h in
+      let p = or_parts (is_read r.table (same_extent r.extent) q) (list_any (is_read r.table (same_extent r.extent)) rs) h in
       (list_any-append (is_read q.table (same_extent q.extent)) rs (r ∷ []) ∙ ap (λ b. b || (is_read q.table (same_extent q.extent) r || false)) o.0 ∙ ap (λ b. b || false) (same_reading-turned r q p.0), once-push rs r o.1 p.1)
 
   -- one that isn't told isn't there
   pub not_there : (rs : List (Reading A)) (r : Reading A) → adds_nothing rs r ≡ false → list_any (is_read r.table (same_extent r.extent)) rs ≡ false
   not_there rs r h =
       is_found (same_extent r.extent) r.table rs
-      ∙ (or_falls (covers_whole (read_in r.table rs)) (list_any (same_extent r.extent) (read_in r.table rs)) (or_falls (covers_whole (read_in r.table rs) || list_any (same_extent r.extent) (read_in r.table rs)) (is_between (keys_of (read_in r.table rs)) r.extent) h).0).1
+      ∙ (or_parts (covers_whole (read_in r.table rs)) (list_any (same_extent r.extent) (read_in r.table rs)) (or_parts (covers_whole (read_in r.table rs) || list_any (same_extent r.extent) (read_in r.table rs)) (is_between (keys_of (read_in r.table rs)) r.extent) h).0).1
 
   absent-take : (p : Reading A → Bool) (n : ℕ) (rs : List (Reading A)) → list_any p rs ≡ false → list_any p (take n rs) ≡ false
   absent-take p n [] h = ap (list_any p) (take-nil n)
   absent-take p zero (r ∷ rs) h = refl
-  absent-take p (suc n) (r ∷ rs) h = let q = or_falls (p r) (list_any p rs) h in ap (λ b. b || list_any p (take n rs)) q.0 ∙ absent-take p n rs q.1
+  absent-take p (suc n) (r ∷ rs) h = let q = or_parts (p r) (list_any p rs) h in ap (λ b. b || list_any p (take n rs)) q.0 ∙ absent-take p n rs q.1
 
   pub once-take : (n : ℕ) (rs : List (Reading A)) → IsEachOnce rs → IsEachOnce (take n rs)
   once-take zero rs o = tt

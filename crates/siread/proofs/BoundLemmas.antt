@@ -1,6 +1,6 @@
 -- How many readings are kept of each table.
 use Rattle.std.proofs.Common.{◌≡◌, refl, sym, ap, subst, ◌∙◌, ℕ, ◌+◌, ◌<◌, ◌≤◌, suc, Bool, true, false, true≢false, cond, not, ◌&&◌, ◌||◌, List, [], ◌∷◌, ◌++◌, length, take, drop, eqb, ltb, arith}
-use Rattle.std.proofs.lemmas.Bool.{eqb-true, ltb-false}
+use Rattle.std.proofs.lemmas.Bool.{eqb-true, ltb-false, or_parts, and_parts, or_left, or_right, and_from}
 use Rattle.std.proofs.lemmas.List.{take-append-drop}
 use Rattle.std.proofs.lemmas.List.Folds.{list_any-append}
 use Rattle.std.proofs.lemmas.List.Sums.{sum_by-append}
@@ -16,15 +16,12 @@ use Rattle.statement.specs.declared.reading.Extent.{Extent}
 use Rattle.statement.specs.declared.reading.Extent.TheVariants.{Whole, One, Range, Referencing}
 use Rattle.statement.specs.declared.reading.Reading.{Reading}
 use Rattle.statement.specs.Cover.{covers_whole, has_many_keys, has_many_ranges, has_many_references, is_whole, keys_of, ranges_of, same_extent}
-use Rattle.statement.proofs.CoverLemmas.{and_both, or_left, or_right}
-use Rattle.statement.proofs.RowsLemmas.{both}
 use Rattle.siread.specs.declared.extent.Form.{Form}
 use Rattle.siread.specs.declared.extent.Form.TheVariants as form
 use Rattle.siread.specs.declared.extent.Sought.TheVariants as sought
 use Rattle.siread.specs.Adding.{adds_nothing, is_between, is_inner, is_inside}
 use Rattle.siread.specs.Bounds.{count_in, HasFewKeys, HasFewOthers}
 use Rattle.siread.specs.Extents.{has_form, is_read, is_sought, read_in, IsEachOnce}
-use Rattle.siread.proofs.AlikeLemmas.{or_falls}
 use Rattle.siread.proofs.TallyLemmas.{count-ranges, finds_whole, many_references}
 
 -- ---- numbers
@@ -76,7 +73,7 @@ module _ {A : Type 0} where
   none_counted : (p : Reading A → Bool) (rs : List (Reading A)) → list_any p rs ≡ false → count_by p rs ≡ 0
   none_counted p [] e = refl
   none_counted p (r ∷ rs) e =
-      let q = or_falls (p r) (list_any p rs) e in
+      let q = or_parts (p r) (list_any p rs) e in
       let back : count_by p (r ∷ rs) ≡ count_by p (r ∷ []) + count_by p rs = counted p (r ∷ []) rs in
       let that : count_by p (r ∷ []) ≡ 0 = one p r false q.0 in
       let rest = none_counted p rs q.1 in
@@ -143,7 +140,7 @@ module _ {A : Type 0} where
   -- what isn't covered whole has fewer
   uncovered : (rs : List (Reading A)) (r : Reading A) → adds_nothing rs r ≡ false → covers_whole (read_in r.table rs) ≡ false
   uncovered rs r h =
-      (or_falls (covers_whole (read_in r.table rs)) (list_any (same_extent r.extent) (read_in r.table rs)) (or_falls (covers_whole (read_in r.table rs) || list_any (same_extent r.extent) (read_in r.table rs)) (is_between (keys_of (read_in r.table rs)) r.extent) h).0).0
+      (or_parts (covers_whole (read_in r.table rs)) (list_any (same_extent r.extent) (read_in r.table rs)) (or_parts (covers_whole (read_in r.table rs) || list_any (same_extent r.extent) (read_in r.table rs)) (is_between (keys_of (read_in r.table rs)) r.extent) h).0).0
 
   -- one more of a form, where its table has fewer than so many
   within_one : (t n : ℕ) (f : Form) (rs : List (Reading A)) (r : Reading A) → count_in t f rs ≤ n + 1 → (r.table ≡ t → count_in t f rs ≤ n) → count_in t f (rs ++ r ∷ []) ≤ n + 1
@@ -161,10 +158,10 @@ module _ {A : Type 0} where
   }
     where
       parts : ((list_any is_whole (read_in r.table rs) || has_many_ranges (read_in r.table rs)) ≡ false) × (has_many_references (read_in r.table rs) ≡ false)
-      parts = or_falls (list_any is_whole (read_in r.table rs) || has_many_ranges (read_in r.table rs)) (has_many_references (read_in r.table rs)) (uncovered rs r h)
+      parts = or_parts (list_any is_whole (read_in r.table rs) || has_many_ranges (read_in r.table rs)) (has_many_references (read_in r.table rs)) (uncovered rs r h)
 
       first : (list_any is_whole (read_in r.table rs) ≡ false) × (has_many_ranges (read_in r.table rs) ≡ false)
-      first = or_falls (list_any is_whole (read_in r.table rs)) (has_many_ranges (read_in r.table rs)) parts.0
+      first = or_parts (list_any is_whole (read_in r.table rs)) (has_many_ranges (read_in r.table rs)) parts.0
 
       no_whole : (t : ℕ) → r.table ≡ t → count_in t form.Whole rs ≡ 0
       no_whole t e = none_counted (is_read t (has_form form.Whole)) rs (finds_whole t rs ∙ ap (λ u. list_any is_whole (read_in u rs)) (sym e) ∙ first.0)
@@ -192,19 +189,19 @@ module _ {A : Type 0} where
     among : IsOf rs that
 
   is_inner_key : (rs : List (Reading A)) (t : ℕ) (low mid high : Value A) → IsKeyOf rs t low → IsKeyOf rs t mid → IsKeyOf rs t high → value_cmp low mid ≡ Less → value_cmp mid high ≡ Less → list_any (is_inner rs t) rs ≡ true
-  is_inner_key rs t low mid high a b c below above = b.among (is_inner rs t) (both (eqb b.that.table t) (is_inside rs t b.that.extent) (at_table b.that b.table) (ap (is_inside rs t) b.key ∙ inside))
+  is_inner_key rs t low mid high a b c below above = b.among (is_inner rs t) (and_from (eqb b.that.table t) (is_inside rs t b.that.extent) (at_table b.that b.table) (ap (is_inside rs t) b.key ∙ inside))
     where
       at_table : (r : Reading A) → r.table ≡ t → eqb r.table t ≡ true
       at_table r e = grind (arith)
 
       has_below : list_any (is_read t (is_sought sought.KeyBelow mid)) rs ≡ true
-      has_below = a.among (is_read t (is_sought sought.KeyBelow mid)) (both (eqb a.that.table t) (is_sought sought.KeyBelow mid a.that.extent) (at_table a.that a.table) (ap (is_sought sought.KeyBelow mid) a.key ∙ ap is_lt below))
+      has_below = a.among (is_read t (is_sought sought.KeyBelow mid)) (and_from (eqb a.that.table t) (is_sought sought.KeyBelow mid a.that.extent) (at_table a.that a.table) (ap (is_sought sought.KeyBelow mid) a.key ∙ ap is_lt below))
 
       has_above : list_any (is_read t (is_sought sought.KeyAbove mid)) rs ≡ true
-      has_above = c.among (is_read t (is_sought sought.KeyAbove mid)) (both (eqb c.that.table t) (is_sought sought.KeyAbove mid c.that.extent) (at_table c.that c.table) (ap (is_sought sought.KeyAbove mid) c.key ∙ ap is_gt (value_cmp-total.antisymm high mid ∙ ap ordering_reverse above)))
+      has_above = c.among (is_read t (is_sought sought.KeyAbove mid)) (and_from (eqb c.that.table t) (is_sought sought.KeyAbove mid c.that.extent) (at_table c.that c.table) (ap (is_sought sought.KeyAbove mid) c.key ∙ ap is_gt (value_cmp-total.antisymm high mid ∙ ap ordering_reverse above)))
 
       inside : is_inside rs t (One mid) ≡ true
-      inside = both (list_any (is_read t (is_sought sought.KeyBelow mid)) rs) (list_any (is_read t (is_sought sought.KeyAbove mid)) rs) has_below has_above
+      inside = and_from (list_any (is_read t (is_sought sought.KeyBelow mid)) rs) (list_any (is_read t (is_sought sought.KeyAbove mid)) rs) has_below has_above
 
   one_of_three : (rs : List (Reading A)) (t : ℕ) (x y z : Value A) → IsKeyOf rs t x → IsKeyOf rs t y → IsKeyOf rs t z → same x y ≡ false → same y z ≡ false → same x z ≡ false → list_any (is_inner rs t) rs ≡ true
   one_of_three rs t x y z a b c xy yz xz = go (value_cmp x y) (value_cmp y z) (value_cmp x z) refl refl refl
@@ -282,7 +279,7 @@ module _ {A : Type 0} where
   single t r h = go r.extent refl parts.1
     where
       parts : (eqb r.table t ≡ true) × (has_form form.Key r.extent ≡ true)
-      parts = and_both (eqb r.table t) (has_form form.Key r.extent) h
+      parts = and_parts (eqb r.table t) (has_form form.Key r.extent) h
 
       go : (e : Extent A) → r.extent ≡ e → has_form form.Key e ≡ true → IsSingle t r
       go (One v) e k = record { value = v; table = eqb-true r.table t parts.0; key = e }

@@ -1,7 +1,7 @@
 -- One key less, where it lies between two others of many.
 use Rattle.std.proofs.Common.{◌≡◌, refl, sym, ap, ◌∙◌, ℕ, ◌+◌, ◌-◌, ◌<◌, ◌≤◌, suc, Bool, true, false, true≢false, cond, ◌&&◌, ◌||◌, List, [], ◌∷◌, ◌++◌, length, take, drop, get_or, eqb, ltb, arith, subst, Option, Some, None, length-append, append_assoc, drop-cons}
 use Rattle.std.proofs.Math.Seq.{take-append_seam, drop-append_seam}
-use Rattle.std.proofs.lemmas.Bool.{eqb-true, lt-ltb, ltb-true}
+use Rattle.std.proofs.lemmas.Bool.{eqb-true, lt-ltb, ltb-true, and_right, or_parts, and_parts, or_right, and_from}
 use Rattle.std.proofs.lemmas.Bool.Decides.{nat_tests}
 use Rattle.std.proofs.lemmas.Cmp.{tied_itself}
 use Rattle.std.proofs.lemmas.List.{take-append-drop, take-append-le, drop-append-le, drop-drop, length-drop, length-take-le, take_more}
@@ -17,21 +17,20 @@ use Rattle.std.specs.declared.cmp.Ordering.TheVariants.{Less, Equal, Greater}
 use Rattle.std.specs.Ordering.{is_lt, is_le, is_gt, is_ge}
 use Rattle.value.specs.declared.value.Value.{Value}
 use Rattle.value.specs.Order.{value_cmp, value_cmp-total}
+use Rattle.value.proofs.Basics.{le_from_lt, any-weaker}
 use Rattle.statement.specs.declared.reading.Extent.{Extent}
 use Rattle.statement.specs.declared.reading.Extent.TheVariants.{Whole, One, Range, Referencing}
 use Rattle.statement.specs.declared.reading.Reading.{Reading}
 use Rattle.statement.specs.Cover.{covers_whole, has_many_keys, keys_of, same_extent}
 use Rattle.statement.specs.Laws.{same_reading, HasSameReadings}
-use Rattle.statement.proofs.CoverLemmas.{and_both, any_weaker, or_right}
 use Rattle.statement.proofs.CoverSet.{covers_by_set, covers_value_by_set}
-use Rattle.statement.proofs.RowsLemmas.{both}
 use Rattle.siread.specs.declared.extent.Form.TheVariants as form
 use Rattle.siread.specs.declared.extent.Sought.TheVariants as sought
 use Rattle.siread.specs.Adding.{is_between, is_inner, is_inside, IsSpare, Settles}
 use Rattle.siread.specs.Bounds.{count_in, HasFewKeys, HasFewOthers}
 use Rattle.siread.specs.Extents.{has_form, is_read, is_sought, read_in, IsEachOnce}
 use Rattle.siread.specs.Reads.{CoverAlike}
-use Rattle.siread.proofs.AlikeLemmas.{alike-nothing, alike_equal, alike_itself, alike_more, alike_then, and_map, or_falls}
+use Rattle.siread.proofs.AlikeLemmas.{alike-nothing, alike_equal, alike_itself, alike_more, alike_then, and_map}
 use Rattle.siread.proofs.BoundLemmas.{few_with, few_without, inner_is_there, one_without, others_without, stands}
 use Rattle.siread.proofs.TallyLemmas.{finds_at_least, finds_at_most, many_keys}
 
@@ -48,17 +47,8 @@ swapped true false c = refl
 swapped false true c = refl
 swapped false false c = refl
 
-and_false : (a b : Bool) → b ≡ false → (a && b) ≡ false
-and_false true b e = e
-and_false false b e = refl
-
 fewer : (a b c m n : ℕ) → m ≡ a + b → n ≡ a + c → b ≤ suc c → ltb 9 m ≡ true → ltb 8 n ≡ true
 fewer a b c m n e f h g = grind (arith, nat_tests)
-
-lt_is_le : (o : Ordering) → is_lt o ≡ true → is_le o ≡ true
-lt_is_le Less e = refl
-lt_is_le Equal e = absurd (true≢false (sym e))
-lt_is_le Greater e = absurd (true≢false (sym e))
 
 gt_is_ge : (o : Ordering) → is_gt o ≡ true → is_ge o ≡ true
 gt_is_ge Less e = absurd (true≢false (sym e))
@@ -116,8 +106,8 @@ module _ {A : Type 0} where
 
   any-fewer : (p : Reading A → Bool) (xs ys : List (Reading A)) (r : Reading A) → list_any p (xs ++ r ∷ ys) ≡ false → list_any p (xs ++ ys) ≡ false
   any-fewer p xs ys r h =
-      let q = or_falls (list_any p xs) (p r || list_any p ys) (sym (list_any-append p xs (r ∷ ys)) ∙ h) in
-      list_any-append p xs ys ∙ ap (λ b. b || list_any p ys) q.0 ∙ (or_falls (p r) (list_any p ys) q.1).1
+      let q = or_parts (list_any p xs) (p r || list_any p ys) (sym (list_any-append p xs (r ∷ ys)) ∙ h) in
+      list_any-append p xs ys ∙ ap (λ b. b || list_any p ys) q.0 ∙ (or_parts (p r) (list_any p ys) q.1).1
 
   pub once-without : (xs ys : List (Reading A)) (r : Reading A) → IsEachOnce (xs ++ r ∷ ys) → IsEachOnce (xs ++ ys)
   once-without [] ys r o = o.1
@@ -138,7 +128,7 @@ module _ {A : Type 0} where
   -- ---- between two others
 
   below_weaker : (v : Value A) (e : Extent A) → is_sought sought.KeyBelow v e ≡ true → is_sought sought.KeyAtMost v e ≡ true
-  below_weaker v (One w) h = lt_is_le (value_cmp w v) h
+  below_weaker v (One w) h = le_from_lt (value_cmp w v) h
   below_weaker v Whole h = h
   below_weaker v (Range a b) h = h
   below_weaker v (Referencing j w) h = h
@@ -150,35 +140,35 @@ module _ {A : Type 0} where
   above_weaker v (Referencing j w) h = h
 
   not_below : (v : Value A) (r : Reading A) → One v ≡ r.extent → is_read r.table (is_sought sought.KeyBelow v) r ≡ false
-  not_below v r e = and_false (eqb r.table r.table) (is_sought sought.KeyBelow v r.extent) (sym (ap (is_sought sought.KeyBelow v) e) ∙ ap is_lt (tied_itself value_cmp-total v))
+  not_below v r e = and_right (eqb r.table r.table) (is_sought sought.KeyBelow v r.extent) (sym (ap (is_sought sought.KeyBelow v) e) ∙ ap is_lt (tied_itself value_cmp-total v))
 
   not_above : (v : Value A) (r : Reading A) → One v ≡ r.extent → is_read r.table (is_sought sought.KeyAbove v) r ≡ false
-  not_above v r e = and_false (eqb r.table r.table) (is_sought sought.KeyAbove v r.extent) (sym (ap (is_sought sought.KeyAbove v) e) ∙ ap is_gt (tied_itself value_cmp-total v))
+  not_above v r e = and_right (eqb r.table r.table) (is_sought sought.KeyAbove v r.extent) (sym (ap (is_sought sought.KeyAbove v) e) ∙ ap is_gt (tied_itself value_cmp-total v))
 
   between_others : (xs ys : List (Reading A)) (r : Reading A) (e : Extent A) → e ≡ r.extent → IsEachOnce (xs ++ ys) → ltb 8 (count_by (is_read r.table (has_form form.Key)) (xs ++ ys)) ≡ true
       → is_inside (xs ++ r ∷ ys) r.table e ≡ true → is_between (keys_of (read_in r.table (xs ++ ys))) e ≡ true
   between_others xs ys r (One v) e o many h =
-      both (has_many_keys keys && list_any (λ w. is_le (value_cmp w v)) keys) (list_any (λ w. is_ge (value_cmp w v)) keys)
-      (both (has_many_keys keys) (list_any (λ w. is_le (value_cmp w v)) keys) (sym (many_keys r.table (xs ++ ys) o) ∙ many) least)
+      and_from (has_many_keys keys && list_any (λ w. is_le (value_cmp w v)) keys) (list_any (λ w. is_ge (value_cmp w v)) keys)
+      (and_from (has_many_keys keys) (list_any (λ w. is_le (value_cmp w v)) keys) (sym (many_keys r.table (xs ++ ys) o) ∙ many) least)
       greatest
     where
       keys : List (Value A)
       keys = keys_of (read_in r.table (xs ++ ys))
 
       parts : (list_any (is_read r.table (is_sought sought.KeyBelow v)) (xs ++ r ∷ ys) ≡ true) × (list_any (is_read r.table (is_sought sought.KeyAbove v)) (xs ++ r ∷ ys) ≡ true)
-      parts = and_both (list_any (is_read r.table (is_sought sought.KeyBelow v)) (xs ++ r ∷ ys)) (list_any (is_read r.table (is_sought sought.KeyAbove v)) (xs ++ r ∷ ys)) h
+      parts = and_parts (list_any (is_read r.table (is_sought sought.KeyBelow v)) (xs ++ r ∷ ys)) (list_any (is_read r.table (is_sought sought.KeyAbove v)) (xs ++ r ∷ ys)) h
 
       least : list_any (λ w. is_le (value_cmp w v)) keys ≡ true
       least =
           sym (finds_at_most r.table v (xs ++ ys))
-          ∙ any_weaker (is_read r.table (is_sought sought.KeyBelow v)) (is_read r.table (is_sought sought.KeyAtMost v))
+          ∙ any-weaker (is_read r.table (is_sought sought.KeyBelow v)) (is_read r.table (is_sought sought.KeyAtMost v))
           (λ q. and_map (eqb q.table r.table) (is_sought sought.KeyBelow v q.extent) (eqb q.table r.table) (is_sought sought.KeyAtMost v q.extent) (λ s. s) (below_weaker v q.extent))
           (xs ++ ys) (sym (any-without (is_read r.table (is_sought sought.KeyBelow v)) xs ys r (not_below v r e)) ∙ parts.0)
 
       greatest : list_any (λ w. is_ge (value_cmp w v)) keys ≡ true
       greatest =
           sym (finds_at_least r.table v (xs ++ ys))
-          ∙ any_weaker (is_read r.table (is_sought sought.KeyAbove v)) (is_read r.table (is_sought sought.KeyAtLeast v))
+          ∙ any-weaker (is_read r.table (is_sought sought.KeyAbove v)) (is_read r.table (is_sought sought.KeyAtLeast v))
           (λ q. and_map (eqb q.table r.table) (is_sought sought.KeyAbove v q.extent) (eqb q.table r.table) (is_sought sought.KeyAtLeast v q.extent) (λ s. s) (above_weaker v q.extent))
           (xs ++ ys) (sym (any-without (is_read r.table (is_sought sought.KeyAbove v)) xs ys r (not_above v r e)) ∙ parts.1)
   between_others xs ys r Whole e o many h = absurd (true≢false (sym h))
@@ -204,10 +194,10 @@ module _ {A : Type 0} where
   inner_is_key rs t r h = go r.extent refl parts.1
     where
       parts : (eqb r.table t ≡ true) × (is_inside rs t r.extent ≡ true)
-      parts = and_both (eqb r.table t) (is_inside rs t r.extent) h
+      parts = and_parts (eqb r.table t) (is_inside rs t r.extent) h
 
       go : (e : Extent A) → r.extent ≡ e → is_inside rs t e ≡ true → is_read t (has_form form.Key) r ≡ true
-      go (One v) e k = both (eqb r.table t) (has_form form.Key r.extent) parts.0 (ap (has_form form.Key) e)
+      go (One v) e k = and_from (eqb r.table t) (has_form form.Key r.extent) parts.0 (ap (has_form form.Key) e)
       go Whole e k = absurd (true≢false (sym k))
       go (Range a b) e k = absurd (true≢false (sym k))
       go (Referencing j v) e k = absurd (true≢false (sym k))
@@ -216,7 +206,7 @@ module _ {A : Type 0} where
   inner_split : (t : ℕ) (rs xs ys : List (Reading A)) (r : Reading A) → rs ≡ xs ++ r ∷ ys → IsEachOnce rs → ltb 9 (count_by (is_read t (has_form form.Key)) rs) ≡ true
       → is_inner rs t r ≡ true → CoverAlike (xs ++ ys) rs
   inner_split t rs xs ys r e o many h =
-      let p = and_both (eqb r.table t) (is_inside rs t r.extent) h in
+      let p = and_parts (eqb r.table t) (is_inside rs t r.extent) h in
       let q = eqb-true r.table t p.0 in
       alike_then (xs ++ ys) (xs ++ r ∷ ys) rs
       (alike-without xs ys r (subst (λ (ks : List (Reading A)). IsEachOnce ks) e o)

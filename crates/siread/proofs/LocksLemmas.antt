@@ -1,7 +1,7 @@
 -- Locks of one transaction, and of others.
 use Rattle.std.proofs.Common.{◌≡◌, refl, sym, ap, ℕ, Bool, true, false, cond, List, [], ◌++◌, eqb, ltb, Option, Some, Result, Ok, Err}
 use Rattle.std.proofs.lemmas.Bool.{ne_eqb}
-use Rattle.std.specs.Prelude.{◌≢◌, OnOk, OnErr}
+use Rattle.std.specs.Prelude.{◌≢◌, OnOk}
 use Rattle.std.specs.Option.{option_map_or}
 use Rattle.std.specs.declared.cmp.Ordering.TheVariants.{Less, Equal, Greater}
 use Rattle.std.specs.Ordering.{is_eq, nat_cmp}
@@ -16,14 +16,6 @@ apart-tie n m apart = go (ltb n m) (eqb n m) (ne_eqb n m (λ e. apart (sym e)))
     go : (a b : Bool) → b ≡ false → is_eq (cond a Less (cond b Equal Greater)) ≡ false
     go true b e = refl
     go false b e = ap (λ c. is_eq (cond c Equal Greater)) e
-
-pub on_ok_map : {T E : Type 0} (P Q : Type 0) (r : Result T E) → (P → Q) → OnOk r P → OnOk r Q
-on_ok_map P Q (Ok v) f h = f h
-on_ok_map P Q (Err v) f h = h
-
-pub on_err_map : {T E : Type 0} (P Q : Type 0) (r : Result T E) → (P → Q) → OnErr r P → OnErr r Q
-on_err_map P Q (Ok v) f h = h
-on_err_map P Q (Err v) f h = f h
 
 pub on_ok_of : {T E : Type 0} (P : Type 0) (r : Result T E) → P → OnOk r P
 on_ok_of P (Ok v) p = p

@@ -8,12 +8,13 @@ use Rattle.std.specs.List.{list_any, filter}
 use Rattle.std.specs.Ordering.{is_le, is_ge}
 use Rattle.value.specs.declared.value.Value.{Value}
 use Rattle.value.specs.Order.{value_cmp}
+use Rattle.value.proofs.Basics.{any-weaker}
 use Rattle.schema.specs.Plain.{same}
 use Rattle.statement.specs.declared.reading.Extent.{Extent}
 use Rattle.statement.specs.declared.reading.Extent.TheVariants.{Whole, One, Range, Referencing}
 use Rattle.statement.specs.declared.reading.Reading.{Reading}
 use Rattle.statement.specs.Cover.{has_key, has_reference, same_extent, distinct, extents_in, is_whole, keys_of, ranges_of, references_read, has_many_keys, has_many_ranges, has_many_references}
-use Rattle.statement.proofs.CoverLemmas.{any_weaker, same_extent_is}
+use Rattle.statement.proofs.CoverLemmas.{same_extent_is}
 use Rattle.siread.specs.declared.extent.Form.{Form}
 use Rattle.siread.specs.declared.extent.Form.TheVariants as form
 use Rattle.siread.specs.declared.extent.Sought.TheVariants as sought
@@ -42,7 +43,7 @@ module _ {A : Type 0} where
   once p (x ∷ es) = go (list_any (same_extent x) es) refl (p x) refl (once p es)
     where
       go : (b : Bool) → list_any (same_extent x) es ≡ b → (h : Bool) → p x ≡ h → list_any p es ≡ list_any p (distinct es) → (h || list_any p es) ≡ list_any p (cond b (distinct es) (x ∷ distinct es))
-      go true s true q rest = sym (any_weaker (same_extent x) p (λ y e. ap p (sym (same_extent_is x y e)) ∙ q) es s) ∙ rest
+      go true s true q rest = sym (any-weaker (same_extent x) p (λ y e. ap p (sym (same_extent_is x y e)) ∙ q) es s) ∙ rest
       go true s false q rest = rest
       go false s true q rest = sym (ap (λ b. b || list_any p (distinct es)) q)
       go false s false q rest = rest ∙ sym (ap (λ b. b || list_any p (distinct es)) q)

@@ -4,12 +4,13 @@ use Rattle.std.proofs.lemmas.Cmp.{tied_itself}
 use Rattle.std.specs.FinMap.{find}
 use Rattle.std.specs.List.{AllByRecursion}
 use Rattle.std.specs.List.Sorted.{IsStrictlySortedBy}
-use Rattle.std.specs.Ordering.{is_eq, is_lt, ordering_reverse}
+use Rattle.std.specs.Ordering.{is_eq, ordering_reverse}
 use Rattle.std.specs.declared.cmp.Ordering.{Ordering}
 use Rattle.std.specs.declared.cmp.Ordering.TheVariants.{Less, Equal, Greater}
 use Rattle.value.specs.Order.{value_cmp, value_cmp-exact, value_cmp-total}
 use Rattle.value.specs.declared.key.Key.{Key}
 use Rattle.value.specs.declared.value.Value.{Value}
+use Rattle.value.proofs.Basics.{Less-from_lt}
 use Rattle.schema.specs.declared.reader.Bound.{Bound}
 use Rattle.schema.specs.declared.reader.Bound.TheVariants.{After}
 use Rattle.schema.specs.declared.row.Row.{Row}
@@ -17,11 +18,6 @@ use Rattle.schema.specs.Plain.{same}
 use Rattle.schema.specs.Rows.{Rows, IsInKeyOrder, is_within, next_row}
 use Rattle.schema.proofs.PlainLemmas.{same_value}
 use Rattle.schema.proofs.RowsInOrder.{later_within}
-
-pub less_of : (o : Ordering) → is_lt o ≡ true → o ≡ Less
-less_of Less e = refl
-less_of Equal e = absurd (true≢false (sym e))
-less_of Greater e = absurd (true≢false (sym e))
 
 module _ {A : Type 0} where
   -- a key within a bound is none that isn't
@@ -117,7 +113,7 @@ module _ {A : Type 0} where
       go None is = is_none rows bound sorted (λ q within. beyond q within (λ e. none_of rows (After key) is q e) (is_within (After key) q) refl)
       go (Some s) is =
           let f = first_of rows (After key) s sorted is in
-          is_first rows bound s sorted (f.0, later_within bound key.now s.0 (less_of (value_cmp key.now s.0) f.1) inside, λ q within below. beyond q within (λ e. f.2 q e below) (is_within (After key) q) refl)
+          is_first rows bound s sorted (f.0, later_within bound key.now s.0 (Less-from_lt (value_cmp key.now s.0) f.1) inside, λ q within below. beyond q within (λ e. f.2 q e below) (is_within (After key) q) refl)
 
   -- rows with the same at each key within a bound have the same first
   pub same_next : (rows others : Rows A) (bound : Bound (Bor (Key A))) → IsInKeyOrder rows → IsInKeyOrder others → ((q : Value A) → is_within bound q ≡ true → find value_cmp q rows ≡ find value_cmp q others) → next_row rows bound ≡ next_row others bound

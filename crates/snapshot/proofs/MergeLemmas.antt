@@ -1,5 +1,6 @@
 -- Own changes and the lent rows, walked side by side: a step of that walk is the next row of both together.
 use Rattle.std.proofs.Common.{◌≡◌, ℕ, ◌+◌, ◌-◌, ◌<◌, ◌≤◌, ◌==◌, ◌&&◌, suc, Bool, true, false, true≢false, cond, List, [], ◌∷◌, ◌++◌, map, length, drop, Option, Some, None, Bor, refl, sym, ap, subst, ◌∙◌, append_assoc, arith, take, zero}
+use Rattle.std.proofs.lemmas.Bool.{and_parts}
 use Rattle.std.proofs.lemmas.List.{append-nil, length-append}
 use Rattle.std.specs.List.{find, slice_get}
 use Rattle.std.specs.Option.{option_map, option_map_or}
@@ -9,6 +10,7 @@ use Rattle.std.specs.declared.cmp.Ordering.TheVariants.{Less, Equal, Greater}
 use Rattle.value.specs.Order.{value_cmp, value_cmp-exact, value_cmp-total}
 use Rattle.value.specs.declared.key.Key.{Key}
 use Rattle.value.specs.declared.value.Value.{Value}
+use Rattle.value.proofs.Basics.{Less-from_lt}
 use Rattle.schema.specs.declared.changes.Change.{Change}
 use Rattle.schema.specs.declared.reader.Bound.{Bound}
 use Rattle.schema.specs.declared.reader.Bound.TheVariants.{After}
@@ -20,8 +22,8 @@ use Rattle.schema.specs.Rows.{Rows, IsInKeyOrder, is_within, next_row, rows_with
 use Rattle.schema.proofs.RowsInOrder.{later_within, next_row-rest, next_row-none}
 use Rattle.snapshot.specs.Merging.{last_is_before, past_key, listed, unless_before}
 use Rattle.snapshot.specs.Overlaid.{is_before, changes_after}
-use Rattle.snapshot.proofs.FirstLemmas.{less_of, first_of, none_of, is_first, is_none}
-use Rattle.snapshot.proofs.OverlayLemmas.{two_of, said, put_all-in_order, lent_alone, lent_first, own_first, gone_past, fewer_past}
+use Rattle.snapshot.proofs.FirstLemmas.{first_of, none_of, is_first, is_none}
+use Rattle.snapshot.proofs.OverlayLemmas.{said, put_all-in_order, lent_alone, lent_first, own_first, gone_past, fewer_past}
 
 module _ {X : Type 0} (p q : X → Bool) (less : (x : X) → q x ≡ true → p x ≡ true) where
   -- what is found by a test is found by a stricter one that it passes
@@ -71,7 +73,7 @@ module _ {A : Type 0} where
   passed rows bound key sorted inside none_before = go (next_row rows bound) refl none_before
     where
       later : (q : Value A) → is_within (After key) q ≡ true → is_within bound q ≡ true
-      later q past = later_within bound key.now q (less_of (value_cmp key.now q) past) inside
+      later q past = later_within bound key.now q (Less-from_lt (value_cmp key.now q) past) inside
 
       by_order : (row : Row A) (o : Ordering) → value_cmp key.now row.0 ≡ o → next_row rows bound ≡ Some row → is_lt (value_cmp row.0 key.now) ≡ false → past_key key.now (rows_within rows bound) ≡ rows_within rows (After key)
       by_order row Less cmp is e =
@@ -95,15 +97,15 @@ module _ {A : Type 0} where
     where
       less : (x : Change A) → (x.table == t && is_within (After key) x.key) ≡ true → (x.table == t && is_within bound x.key) ≡ true
       less x passes =
-          let p = two_of (x.table == t) (is_within (After key) x.key) passes in
-          rw (p.0, later_within bound key.now x.key (less_of (value_cmp key.now x.key) p.1) inside) refl
+          let p = and_parts (x.table == t) (is_within (After key) x.key) passes in
+          rw (p.0, later_within bound key.now x.key (Less-from_lt (value_cmp key.now x.key) p.1) inside) refl
 
       table : (x : Change A) (ys : List (Change A)) → find (λ y. y.table == t && is_within bound y.key) ys ≡ Some x → (x.table == t) ≡ true
       table x [] found = cc
       table x (y ∷ ys) found = by_test (y.table == t && is_within bound y.key) refl found (table x ys)
         where
           by_test : (b : Bool) → (y.table == t && is_within bound y.key) ≡ b → cond b (Some y) (find (λ z. z.table == t && is_within bound z.key) ys) ≡ Some x → (find (λ z. z.table == t && is_within bound z.key) ys ≡ Some x → (x.table == t) ≡ true) → (x.table == t) ≡ true
-          by_test true e is rest = let same : y ≡ x = cc in subst (λ (z : Change A). (z.table == t) ≡ true) same (two_of (y.table == t) (is_within bound y.key) e).0
+          by_test true e is rest = let same : y ≡ x = cc in subst (λ (z : Change A). (z.table == t) ≡ true) same (and_parts (y.table == t) (is_within bound y.key) e).0
           by_test false e is rest = rest is
 
       shown : Option (Change A) → Option (Value A × Option (Row A))
@@ -122,7 +124,7 @@ module _ {A : Type 0} where
 
   -- where the last of the first rows within a bound comes before a key, the first does
   first_before : (n : ℕ) (rows : Rows A) (bound : Bound (Bor (Key A))) (k : Key A) (row : Row A) → IsInKeyOrder rows → next_row rows bound ≡ Some row → last_is_before (take (suc n) (rows_within rows bound)) k ≡ true → length (take (suc n) (rows_within rows bound)) ≡ suc n → value_cmp row.0 k ≡ Less
-  first_before zero rows bound k row sorted is before many = less_of (value_cmp row.0 k) (sym (ap (λ (zs : Rows A). last_is_before (take 1 zs) k) (next_row-rest rows bound row (at row.0) sorted refl is)) ∙ before)
+  first_before zero rows bound k row sorted is before many = Less-from_lt (value_cmp row.0 k) (sym (ap (λ (zs : Rows A). last_is_before (take 1 zs) k) (next_row-rest rows bound row (at row.0) sorted refl is)) ∙ before)
   first_before (suc n) rows bound k row sorted is before many = go (next_row rows (After (at row.0))) refl (λ s e. first_before n rows (After (at row.0)) k s sorted e)
     where
       whole : rows_within rows bound ≡ row ∷ rows_within rows (After (at row.0))
@@ -135,7 +137,7 @@ module _ {A : Type 0} where
       go (Some s) e more =
           let counted : suc (length (take (suc n) (rows_within rows (After (at row.0))))) ≡ suc (suc n) = sym (ap (λ (zs : Rows A). length (take (suc (suc n)) zs)) whole) ∙ many in
           let last = last_of_rest row (take (suc n) (rows_within rows (After (at row.0)))) k (omega (arith, counted)) (sym (ap (λ (zs : Rows A). last_is_before (take (suc (suc n)) zs) k) whole) ∙ before) in
-          value_cmp-total.trans row.0 s.0 k (less_of (value_cmp row.0 s.0) (first_of rows (After (at row.0)) s sorted e).1) (more s e last (omega (arith, counted)))
+          value_cmp-total.trans row.0 s.0 k (Less-from_lt (value_cmp row.0 s.0) (first_of rows (After (at row.0)) s sorted e).1) (more s e last (omega (arith, counted)))
 
   -- where a walk of both stands: the rows that are done, the lent rows ahead, and the first change to come
   pub record StandsAt (xs : List (Change A)) (X : Tables A) (t : ℕ) (after : Bound (Bor (Key A))) (done ahead : Rows A) (change : Option (Value A × Option (Row A))) : Type 0 where
@@ -240,7 +242,7 @@ module _ {A : Type 0} where
         behind None none e p next = cc
         behind (Some c) some e p next =
             let same : c ≡ p = cc in
-            less_of (value_cmp row.0 p.0) (subst (λ (z : Value A × Option (Row A)). is_before (Some row) z.0 ≡ true) same (earlier c e))
+            Less-from_lt (value_cmp row.0 p.0) (subst (λ (z : Value A × Option (Row A)). is_before (Some row) z.0 ≡ true) same (earlier c e))
 
     pub lent_stands : (done ahead : Rows A) (change : Option (Value A × Option (Row A))) (row : Row A) (more left : Rows A) → StandsAt xs X t after done ahead change → unless_before (slice_get ahead 0) change ≡ None → slice_get ahead 0 ≡ Some row
         → more ≡ done ++ row ∷ [] → left ≡ drop 1 ahead → StandsAt xs X t after more left change

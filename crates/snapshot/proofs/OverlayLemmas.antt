@@ -1,7 +1,9 @@
 -- Tables with changes put in, read row by row: what is read is the lent reader's row or the changes' own.
 use Rattle.std.proofs.Common.{◌≡◌, ℕ, ◌<◌, ◌≤◌, ◌==◌, ◌&&◌, eqb, Bool, true, false, true≢false, T, cond, List, [], ◌∷◌, map, filter, length, set, Option, Some, None, is_some, unwrap_or, Bor, refl, sym, ap, subst, ◌∙◌, arith}
-use Rattle.std.proofs.lemmas.Bool.{eqb-true, eqb-false}
+use Rattle.std.proofs.Math.Bool.{and-false}
+use Rattle.std.proofs.lemmas.Bool.{eqb-true, eqb-false, and_parts}
 use Rattle.std.proofs.lemmas.Cmp.{tied_itself}
+use Rattle.std.proofs.lemmas.Float.{T_from_true}
 use Rattle.std.proofs.lemmas.List.{get_or-set_same, get_or-set_other}
 use Rattle.std.specs.FinMap as finmap
 use Rattle.std.specs.FinMap.{is_sorted}
@@ -15,6 +17,7 @@ use Rattle.std.specs.declared.cmp.Ordering.TheVariants.{Less, Equal, Greater}
 use Rattle.value.specs.Order.{value_cmp, value_cmp-exact, value_cmp-total}
 use Rattle.value.specs.declared.key.Key.{Key}
 use Rattle.value.specs.declared.value.Value.{Value}
+use Rattle.value.proofs.Basics.{true_from_T, Less-from_lt}
 use Rattle.schema.specs.declared.changes.Change.{Change}
 use Rattle.schema.specs.declared.reader.Bound.{Bound}
 use Rattle.schema.specs.declared.reader.Bound.TheVariants.{After}
@@ -26,23 +29,7 @@ use Rattle.schema.specs.Rows.{Rows, IsInKeyOrder, is_within, next_row, row_of}
 use Rattle.schema.proofs.PlainLemmas.{same_value, left_by, length-put_in, row_at-put_all, changed_sorted}
 use Rattle.schema.proofs.RowsInOrder.{later_within}
 use Rattle.snapshot.specs.Overlaid.{is_before, changes_within}
-use Rattle.snapshot.proofs.FirstLemmas.{less_of, apart, first_of, none_of, is_first, next_past, same_next}
-
-pub two_of : (a b : Bool) → (a && b) ≡ true → (a ≡ true) × (b ≡ true)
-two_of true b e = (refl, e)
-two_of false b e = absurd (true≢false (sym e))
-
-T_of : (b : Bool) → b ≡ true → T b
-T_of true e = tt
-T_of false e = absurd (true≢false (sym e))
-
-of_T : (b : Bool) → T b → b ≡ true
-of_T true t = refl
-of_T false t = absurd t
-
-and_false : (b : Bool) → (b && false) ≡ false
-and_false true = refl
-and_false false = refl
+use Rattle.snapshot.proofs.FirstLemmas.{apart, first_of, none_of, is_first, next_past, same_next}
 
 module _ {X : Type 0} (p q : X → Bool) (less : (x : X) → q x ≡ true → p x ≡ true) where
   -- what passes the stricter test is no more
@@ -81,7 +68,7 @@ module _ {A : Type 0} where
   skip_key : (t : ℕ) (y : Change A) (ys : List (Change A)) (q : Value A) → same q y.key ≡ false → left_by t q (y ∷ ys) ≡ left_by t q ys
   skip_key t y ys q other =
       ap (λ b. cond (is_some (left_by t q ys)) (left_by t q ys) (cond (eqb y.table t && b) (Some y.fields) None)) other
-      ∙ ap (λ b. cond (is_some (left_by t q ys)) (left_by t q ys) (cond b (Some y.fields) None)) (and_false (eqb y.table t))
+      ∙ ap (λ b. cond (is_some (left_by t q ys)) (left_by t q ys) (cond b (Some y.fields) None)) (and-false (eqb y.table t))
       ∙ kept (left_by t q ys)
 
   -- nothing is left at a key below all
@@ -176,14 +163,14 @@ module _ {A : Type 0} where
   below_from : (k : Value A) (rows : Rows A) → below_all value_cmp k rows ≡ true → AllByRecursion (λ l. value_cmp k l ≡ Less) (map (λ row. row.0) rows)
   below_from k [] below = tt
   below_from k (row ∷ rows) below =
-      let p = two_of (is_lt (value_cmp k row.0)) (below_all value_cmp k rows) below in
-      (less_of (value_cmp k row.0) p.0, below_from k rows p.1)
+      let p = and_parts (is_lt (value_cmp k row.0)) (below_all value_cmp k rows) below in
+      (Less-from_lt (value_cmp k row.0) p.0, below_from k rows p.1)
 
   in_order_from : (rows : Rows A) → is_sorted value_cmp rows ≡ true → IsInKeyOrder rows
   unfolding IsStrictlySortedBy
   in_order_from [] sorted = tt
   in_order_from (row ∷ rows) sorted =
-      let p = two_of (below_all value_cmp row.0 rows) (is_sorted value_cmp rows) sorted in
+      let p = and_parts (below_all value_cmp row.0 rows) (is_sorted value_cmp rows) sorted in
       (below_from row.0 rows p.0, in_order_from rows p.1)
 
   below_is : (k : Value A) (rows : Rows A) → AllByRecursion (λ l. value_cmp k l ≡ Less) (map (λ row. row.0) rows) → below_all value_cmp k rows ≡ true
@@ -214,7 +201,7 @@ module _ {A : Type 0} where
 
   pub put_all-in_order : (xs : List (Change A)) (X : Tables A) (t : ℕ) → t < length X → IsInKeyOrder (rows_of X t) → IsInKeyOrder (rows_of (put_all xs X) t)
   put_all-in_order xs X t within sorted =
-      in_order_from (rows_of (put_all xs X) t) (of_T (is_sorted value_cmp (rows_of (put_all xs X) t)) (put_all-sorted xs X t within (T_of (is_sorted value_cmp (rows_of X t)) (sorted_from (rows_of X t) sorted))))
+      in_order_from (rows_of (put_all xs X) t) (true_from_T (is_sorted value_cmp (rows_of (put_all xs X) t)) (put_all-sorted xs X t within (T_from_true (is_sorted value_cmp (rows_of X t)) (sorted_from (rows_of X t) sorted))))
 
   -- ---- one step of a reading
 
@@ -253,7 +240,7 @@ module _ {A : Type 0} where
     lent_first (Some r) p read change before =
         let f = first_of (rows_of X t) bound r sorted read in
         let s = said xs t bound p by_key change in
-        let less = less_of (value_cmp r.0 p.0) before in
+        let less = Less-from_lt (value_cmp r.0 p.0) before in
         is_first overlaid bound r overlaid_sorted
         (at_unchanged r.0 (s.3 r.0 f.1 less) ∙ f.0, f.1, λ q inside below. at_unchanged q (s.3 q inside (value_cmp-total.trans q r.0 p.0 below less)) ∙ f.2 q inside below)
 
@@ -291,8 +278,8 @@ module _ {A : Type 0} where
 
       less : (x : Change A) → (x.table == t && is_within (After key) x.key) ≡ true → (x.table == t && is_within bound x.key) ≡ true
       less x passes =
-          let p = two_of (x.table == t) (is_within (After key) x.key) passes in
-          rw (p.0, later_within bound key.now x.key (less_of (value_cmp key.now x.key) p.1) inside) refl
+          let p = and_parts (x.table == t) (is_within (After key) x.key) passes in
+          rw (p.0, later_within bound key.now x.key (Less-from_lt (value_cmp key.now x.key) p.1) inside) refl
 
       go : (f : Option (Change A)) → find (λ y. y.table == t && is_within bound y.key) xs ≡ f → option_map {T = Change A} {U = Value A × Option (Row A)} (λ x. (x.key, new_row x)) f ≡ Some (key.now, o) → length (changes_within xs t (After key)) < length (changes_within xs t bound)
       go None found e = cc
@@ -300,7 +287,7 @@ module _ {A : Type 0} where
           let same_pair : (x.key, new_row x) ≡ (key.now, o) = cc in
           let same_key : x.key ≡ key.now = ap (λ (p : Value A × Option (Row A)). p.0) same_pair in
           let tied : is_within (After key) x.key ≡ false = ap (λ k. is_lt (value_cmp key.now k)) same_key ∙ ap is_lt (tied_itself value_cmp-total key.now) in
-          filter-fewer (λ y. y.table == t && is_within bound y.key) (λ y. y.table == t && is_within (After key) y.key) less xs x found (ap (λ b. x.table == t && b) tied ∙ and_false (x.table == t))
+          filter-fewer (λ y. y.table == t && is_within bound y.key) (λ y. y.table == t && is_within (After key) y.key) less xs x found (ap (λ b. x.table == t && b) tied ∙ and-false (x.table == t))
 
   -- ---- the row of a key
 

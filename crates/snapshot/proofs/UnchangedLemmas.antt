@@ -4,6 +4,7 @@ use Rattle.std.specs.FinMap.{find}
 use Rattle.value.specs.Order.{value_cmp}
 use Rattle.value.specs.declared.key.Key.{Key}
 use Rattle.value.specs.declared.value.Value.{Value}
+use Rattle.value.proofs.Basics.{Less-from_lt}
 use Rattle.schema.specs.declared.changes.Change.{Change}
 use Rattle.schema.specs.declared.reader.Bound.{Bound}
 use Rattle.schema.specs.declared.reader.Bound.TheVariants.{After}
@@ -14,7 +15,7 @@ use Rattle.schema.specs.Plain.{rows_of, row_at, put_all}
 use Rattle.schema.specs.Rows.{Rows, IsInKeyOrder, is_within, next_row, rows_within}
 use Rattle.schema.proofs.PlainLemmas.{row_at-put_all}
 use Rattle.schema.proofs.RowsInOrder.{later_within, next_row-rest, next_row-none}
-use Rattle.snapshot.proofs.FirstLemmas.{less_of, first_of, same_next}
+use Rattle.snapshot.proofs.FirstLemmas.{first_of, same_next}
 use Rattle.snapshot.proofs.OverlayLemmas.{put_all-in_order, unsaid}
 
 module _ {A : Type 0} where
@@ -45,7 +46,7 @@ module _ {A : Type 0} where
             let whole = next_row-rest others bound row (at row.0) others_sorted refl is in
             let within : is_within bound row.0 ≡ true = (first_of others bound row others_sorted is).1 in
             next_row-rest rows bound row (at row.0) sorted refl (same_next rows others bound sorted others_sorted alike ∙ is)
-            ∙ ap (λ more. row ∷ more) (rest (After (at row.0)) (omega (arith, few, ap length whole)) (λ q after. alike q (later_within bound row.0 q (less_of (value_cmp row.0 q) after) within)))
+            ∙ ap (λ more. row ∷ more) (rest (After (at row.0)) (omega (arith, few, ap length whole)) (λ q after. alike q (later_within bound row.0 q (Less-from_lt (value_cmp row.0 q) after) within)))
             ∙ sym whole
 
   -- without a change within the bound the rows are the lent ones

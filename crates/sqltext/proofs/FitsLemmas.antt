@@ -7,6 +7,7 @@ use Rattle.std.proofs.lemmas.Bool.{eqb-true, true≢false}
 use Rattle.std.proofs.lemmas.Bool.Decides.{nat_tests}
 use Rattle.std.proofs.lemmas.List.Folds.{list_any-append}
 use Rattle.std.proofs.lemmas.List.Quantifiers.{position-Some}
+use Rattle.std.specs.Cmp.Derive.{both_true}
 use Rattle.value.specs.declared.kind.Kind.{Kind}
 use Rattle.value.specs.declared.kind.Kind.TheVariants as of
 use Rattle.value.specs.declared.refusal.Refusal.{Refusal}
@@ -19,6 +20,7 @@ use Rattle.schema.specs.Definition.{Column, Catalog, TableSchema, columns_of, co
 use Rattle.schema.specs.Plain.{has_kind}
 use Rattle.schema.proofs.LiteralLemmas.{literal_fits}
 use Rattle.value.specs.Refusals.{of_code}
+use Rattle.value.proofs.Basics.{eqb-self}
 use Rattle.statement.specs.declared.condition.Condition.{Condition}
 use Rattle.statement.specs.declared.condition.Condition.TheVariants as c
 use Rattle.statement.specs.declared.statement.Projection.{Projection}
@@ -66,9 +68,6 @@ not_done e y h = cc
 pub bind_ok : {A B : Type 0} (r : Result A Refusal) (f : A → Result B Refusal) (y : B) → (r >>= f) ≡ Ok y → (x : A) × (r ≡ Ok x) × (f x ≡ Ok y)
 bind_ok (Ok x) f y e = (x, refl, e)
 bind_ok (Err r) f y e = absurd (not_done r y e)
-
-pub both : {a b : Bool} → a ≡ true → b ≡ true → (a && b) ≡ true
-both p q = rw (p, q) refl
 
 -- ---- values
 
@@ -153,7 +152,7 @@ module _ {A : Type 0} where
       let d = bind_ok (value text a.0.1 high) (λ w. Ok (c.Between a.0.0 b.0 w)) x b.2 in
       let col = column_found columns text name a.0 a.1 in
       subst (λ (y : Condition A). condition_fits columns y ≡ true) (done_same {E = Refusal} (c.Between a.0.0 b.0 d.0) x d.2)
-      (passes columns a.0 (λ e. takes b.0 e && takes d.0 e) col (both (taken columns a.0 col text low b.0 b.1) (taken columns a.0 col text high d.0 d.1)))
+      (passes columns a.0 (λ e. takes b.0 e && takes d.0 e) col (both_true (taken columns a.0 col text low b.0 b.1) (taken columns a.0 col text high d.0 d.1)))
   condition_is_fit columns text (test.IsNull name) x h =
       let a = bind_ok (column columns text name) (λ found. Ok (c.IsNull found.0)) x h in
       subst (λ (y : Condition A). condition_fits columns y ≡ true) (done_same {E = Refusal} (c.IsNull a.0.0) x a.2)
@@ -172,7 +171,7 @@ each_passes {Y = Y} step test good (x ∷ xs) ys h =
     let a = bind_ok (step x) (λ y. each step xs >>= λ more. Ok (y ∷ more)) ys h in
     let b = bind_ok (each step xs) (λ more. Ok (a.0 ∷ more)) ys a.2 in
     subst (λ (zs : List Y). list_all test zs ≡ true) (done_same {E = Refusal} (a.0 ∷ b.0) ys b.2)
-    (both (good x a.0 a.1) (each_passes step test good xs b.0 b.1))
+    (both_true (good x a.0 a.1) (each_passes step test good xs b.0 b.1))
 
 place_is_fit : (columns : List Column) (text : List ℕ) (name : Name) (n : ℕ) → place_of columns text name ≡ Ok n → column_passes (λ d. true) columns n ≡ true
 unfolding place_of
@@ -188,9 +187,6 @@ bigint_is of.Bytea name u h = absurd (not_done {A = Unit {0}} (refused DatatypeM
 
 not_zero : (n : ℕ) → (n == 0) ≡ false → nat_lt 0 n ≡ true
 not_zero n h = grind (arith, nat_tests)
-
-eqb_same : (n : ℕ) → (n == n) ≡ true
-eqb_same n = grind (arith, nat_tests)
 
 found_table : (catalog : Catalog) (o : Option ℕ) (t : ℕ) (r : Refusal) → option_map_or (λ n. done n) o (failed r) ≡ Ok t → o ≡ Some t
 found_table catalog (Some n) t r h = ap (λ (m : ℕ). Some m) (done_same {E = Refusal} n t h)
@@ -229,7 +225,7 @@ module _ {A : Type 0} where
       let a = bind_ok (value text d.kind x) (λ v. values text columns literals >>= λ more. Ok (v ∷ more)) vs h in
       let b = bind_ok (values text columns literals) (λ more. Ok (a.0 ∷ more)) vs a.2 in
       subst (λ (ws : List (Value A)). literals_fit (d ∷ columns) ws ≡ true) (done_same {E = Refusal} (a.0 ∷ b.0) vs b.2)
-      (both (value_fits text d.kind x a.0 a.1) (values_are_fit text columns literals b.0 (omega arith) b.1))
+      (both_true (value_fits text d.kind x a.0 a.1) (values_are_fit text columns literals b.0 (omega arith) b.1))
 
   inserted_fits : (columns : List Column) (text : List ℕ) (word : Token) (literals : List Literal) (vs : List (Value A))
       → inserted columns text word literals ≡ Ok vs → literals_fit columns vs ≡ true
@@ -272,7 +268,7 @@ module _ {A : Type 0} where
       let col = column_found columns text operand a.0 a.1 in
       let big : is_bigint col.column.kind ≡ true = rw col.kind (bigint_is a.0.1 operand b.0 b.1) in
       subst (λ (y : Source A). source_fits columns y d ≡ true) (done_same {E = Refusal} (s.Sum a.0.0 e.0) x e.2)
-      (both number (passes columns a.0 (λ f. is_bigint f.kind) col big))
+      (both_true number (passes columns a.0 (λ f. is_bigint f.kind) col big))
 
   record IsAssignment (columns : List Column) (before : List (Assignment A)) (x : Assignment A) : Type 0 where
     fits : assignment_fits columns x ≡ true
@@ -287,7 +283,7 @@ module _ {A : Type 0} where
       let t = target_is columns text before name a.0 a.1 in
       let made : Assignment A = record { column = a.0.0; source = s.Literal b.0 } in
       subst (λ (y : Assignment A). IsAssignment columns before y) (done_same {E = Refusal} made x b.2) (record {
-        fits = both (not_zero a.0.0 t.not_key) (passes columns a.0 (source_fits columns (s.Literal b.0)) t.column (taken columns a.0 t.column text literal b.0 b.1));
+        fits = both_true (not_zero a.0.0 t.not_key) (passes columns a.0 (source_fits columns (s.Literal b.0)) t.column (taken columns a.0 t.column text literal b.0 b.1));
         first = t.first;
       })
   assignment_is columns text before (set.Sum name operand sign digits) x h =
@@ -298,7 +294,7 @@ module _ {A : Type 0} where
       let made : Assignment A = record { column = a.0.0; source = e.0 } in
       let big : is_bigint t.column.column.kind ≡ true = rw t.column.kind (bigint_is a.0.1 name b.0 b.1) in
       subst (λ (y : Assignment A). IsAssignment columns before y) (done_same {E = Refusal} made x e.2) (record {
-        fits = both (not_zero a.0.0 t.not_key) (passes columns a.0 (source_fits columns e.0) t.column (sum_is columns text operand sign digits e.0 e.1 t.column.column big));
+        fits = both_true (not_zero a.0.0 t.not_key) (passes columns a.0 (source_fits columns e.0) t.column (sum_is columns text operand sign digits e.0 e.1 t.column.column big));
         first = t.first;
       })
 
@@ -330,10 +326,10 @@ module _ {A : Type 0} where
       let b = bind_ok (assignments columns text (before ++ a.0 ∷ []) ts) (λ more. Ok (a.0 ∷ more)) xs a.2 in
       let i = assignment_is columns text before t a.0 a.1 in
       let rest = assignments_are_fit columns text (before ++ a.0 ∷ []) ts b.0 b.1 in
-      let itself : is_assigned (before ++ a.0 ∷ []) a.0.column ≡ true = list_any-append (λ y. y.column == a.0.column) before (a.0 ∷ []) ∙ rw (eqb_same a.0.column) (or_true (is_assigned before a.0.column)) in
+      let itself : is_assigned (before ++ a.0 ∷ []) a.0.column ≡ true = list_any-append (λ y. y.column == a.0.column) before (a.0 ∷ []) ∙ rw (eqb-self a.0.column) (or_true (is_assigned before a.0.column)) in
       let once : is_assigned b.0 a.0.column ≡ false = avoided columns text (before ++ a.0 ∷ []) ts b.0 a.0.column b.1 itself in
       subst (λ (ys : List (Assignment A)). (list_all (assignment_fits columns) ys ≡ true) × (assigns_once ys ≡ true)) (done_same {E = Refusal} (a.0 ∷ b.0) xs b.2)
-      (both i.fits rest.0, both (rw once refl) rest.1)
+      (both_true i.fits rest.0, both_true (rw once refl) rest.1)
     where
       or_true : (x : Bool) → (x || true) ≡ true
       or_true true = refl
@@ -349,13 +345,13 @@ module _ {A : Type 0} where
       let b = bind_ok (projection columns text what) (λ shown. each (condition columns text) tests >>= λ conditions. Ok (q.Select a.0 shown conditions)) x a.2 in
       let e = bind_ok (each (condition columns text) tests) (λ conditions. Ok (q.Select a.0 b.0 conditions)) x b.2 in
       subst (λ (y : Statement A). fits catalog y ≡ true) (done_same {E = Refusal} (q.Select a.0 b.0 e.0) x e.2)
-      (both (both (table_is_there catalog text name a.0 a.1) (projection_is_fit columns text what b.0 b.1)) (each_passes (condition columns text) (condition_fits columns) (condition_is_fit columns text) tests e.0 e.1))
+      (both_true (both_true (table_is_there catalog text name a.0 a.1) (projection_is_fit columns text what b.0 b.1)) (each_passes (condition columns text) (condition_fits columns) (condition_is_fit columns text) tests e.0 e.1))
   resolved_fits catalog text (tree.Insert name word literals) x h =
       let a = bind_ok (table catalog text name) (λ t. inserted (columns_of catalog t) text word literals >>= λ vs. Ok (q.Insert t vs)) x h in
       let columns = columns_of catalog a.0 in
       let b = bind_ok (inserted columns text word literals) (λ vs. Ok (q.Insert a.0 vs)) x a.2 in
       subst (λ (y : Statement A). fits catalog y ≡ true) (done_same {E = Refusal} (q.Insert a.0 b.0) x b.2)
-      (both (table_is_there catalog text name a.0 a.1) (inserted_fits columns text word literals b.0 b.1))
+      (both_true (table_is_there catalog text name a.0 a.1) (inserted_fits columns text word literals b.0 b.1))
   resolved_fits catalog text (tree.Update name settings tests) x h =
       let a = bind_ok (table catalog text name) (λ t. assignments (columns_of catalog t) text [] settings >>= λ more. each (condition (columns_of catalog t) text) tests >>= λ conditions. Ok (q.Update t more conditions)) x h in
       let columns = columns_of catalog a.0 in
@@ -363,13 +359,13 @@ module _ {A : Type 0} where
       let e = bind_ok (each (condition columns text) tests) (λ conditions. Ok (q.Update a.0 b.0 conditions)) x b.2 in
       let set = assignments_are_fit columns text [] settings b.0 b.1 in
       subst (λ (y : Statement A). fits catalog y ≡ true) (done_same {E = Refusal} (q.Update a.0 b.0 e.0) x e.2)
-      (both (both (both (table_is_there catalog text name a.0 a.1) set.0) set.1) (each_passes (condition columns text) (condition_fits columns) (condition_is_fit columns text) tests e.0 e.1))
+      (both_true (both_true (both_true (table_is_there catalog text name a.0 a.1) set.0) set.1) (each_passes (condition columns text) (condition_fits columns) (condition_is_fit columns text) tests e.0 e.1))
   resolved_fits catalog text (tree.Delete name tests) x h =
       let a = bind_ok (table catalog text name) (λ t. each (condition (columns_of catalog t) text) tests >>= λ conditions. Ok (q.Delete t conditions)) x h in
       let columns = columns_of catalog a.0 in
       let b = bind_ok (each (condition columns text) tests) (λ conditions. Ok (q.Delete a.0 conditions)) x a.2 in
       subst (λ (y : Statement A). fits catalog y ≡ true) (done_same {E = Refusal} (q.Delete a.0 b.0) x b.2)
-      (both (table_is_there catalog text name a.0 a.1) (each_passes (condition columns text) (condition_fits columns) (condition_is_fit columns text) tests b.0 b.1))
+      (both_true (table_is_there catalog text name a.0 a.1) (each_passes (condition columns text) (condition_fits columns) (condition_is_fit columns text) tests b.0 b.1))
 
   pub parsed_fits : (catalog : Catalog) (text : List ℕ) (q : Statement A) → parsed catalog text ≡ Ok q → fits catalog q ≡ true
   unfolding parsed parsed_small

@@ -1,5 +1,6 @@
 -- Each rule of the grammar reads the phrases that it is said to: the parts of a statement.
 use Rattle.std.proofs.Common.{◌≡◌, Bool, true, false, cond, List, [], ◌∷◌, ◌++◌, inl, inr, Some, None, is_some, Ok, Err, refl, sym, ap, subst, ◌∙◌}
+use Rattle.std.proofs.lemmas.Option.{same_Some}
 use Rattle.statement.specs.declared.condition.Comparison.{Comparison}
 use Rattle.statement.specs.declared.condition.Comparison.TheVariants as how
 use Rattle.sqltext.specs.declared.token.TokenKind.{TokenKind}
@@ -141,16 +142,13 @@ literal_avoids_name (Signed s n) = then_avoids kind.Name (sign s) (this kind.Num
 
 -- ---- conditions
 
-some_same : {A : Type 0} (x y : A) → Some x ≡ Some y → x ≡ y
-some_same x y e = cc
-
 sign_of : (k : TokenKind) (c : Comparison) → comparison_of k ≡ Some c → k ≡ comparison_sign c
-sign_of kind.Equal c e = ap comparison_sign (some_same how.Equal c e)
-sign_of kind.NotEqual c e = ap comparison_sign (some_same how.NotEqual c e)
-sign_of kind.Less c e = ap comparison_sign (some_same how.Less c e)
-sign_of kind.LessOrEqual c e = ap comparison_sign (some_same how.LessOrEqual c e)
-sign_of kind.Greater c e = ap comparison_sign (some_same how.Greater c e)
-sign_of kind.GreaterOrEqual c e = ap comparison_sign (some_same how.GreaterOrEqual c e)
+sign_of kind.Equal c e = ap comparison_sign (same_Some how.Equal c e)
+sign_of kind.NotEqual c e = ap comparison_sign (same_Some how.NotEqual c e)
+sign_of kind.Less c e = ap comparison_sign (same_Some how.Less c e)
+sign_of kind.LessOrEqual c e = ap comparison_sign (same_Some how.LessOrEqual c e)
+sign_of kind.Greater c e = ap comparison_sign (same_Some how.Greater c e)
+sign_of kind.GreaterOrEqual c e = ap comparison_sign (same_Some how.GreaterOrEqual c e)
 sign_of _ c e = absurd (cc)
 
 of_sign : (c : Comparison) → comparison_of (comparison_sign c) ≡ Some c

@@ -1,6 +1,6 @@
 -- What was read is covered.
-use Rattle.std.proofs.Common.{◌≡◌, refl, sym, ap, ◌∙◌, ℕ, Bool, true, false, true≢false, cond, ◌&&◌, ◌||◌, ◌⊎◌, inl, inr, List, [], ◌∷◌, ◌++◌, eqb}
-use Rattle.std.proofs.lemmas.Bool.{eqb-true}
+use Rattle.std.proofs.Common.{◌≡◌, refl, sym, ap, ◌∙◌, ℕ, Bool, true, false, true≢false, cond, ◌&&◌, ◌||◌, ◌⊎◌, inl, inr, List, [], ◌∷◌, eqb}
+use Rattle.std.proofs.lemmas.Bool.{eqb-true, or_right, or_left, and_parts}
 use Rattle.std.specs.List.{list_any, list_all}
 use Rattle.std.specs.declared.cmp.Ordering.{Ordering}
 use Rattle.std.specs.declared.cmp.Ordering.TheVariants.{Less, Equal, Greater}
@@ -8,6 +8,7 @@ use Rattle.std.specs.Ordering.{is_eq, is_le, is_ge}
 use Rattle.value.specs.declared.value.Value.{Value}
 use Rattle.value.specs.Order.{value_cmp}
 use Rattle.value.proofs.IsolationLemmas.{In}
+use Rattle.value.proofs.Basics.{any-weaker}
 use Rattle.schema.specs.Plain.{same}
 use Rattle.schema.proofs.PlainLemmas.{same_value}
 use Rattle.statement.specs.declared.reading.End.{End}
@@ -18,47 +19,10 @@ use Rattle.statement.specs.declared.reading.Reading.{Reading}
 use Rattle.statement.specs.Cover.{has_key, has_reference, same_end, same_extent, distinct, extents_in, is_whole, keys_of, ranges_of, has_many_keys, has_many_ranges, has_many_references, covers_whole, among, covers_key, covers, covers_value, is_from, is_to}
 use Rattle.statement.specs.Agreement.{reads_key, reads_value}
 
-pub and_both : (a b : Bool) → (a && b) ≡ true → (a ≡ true) × (b ≡ true)
-and_both true b e = (refl, e)
-and_both false b e = absurd (true≢false (sym e))
-
-pub or_left : (a b : Bool) → a ≡ true → (a || b) ≡ true
-or_left true b e = refl
-or_left false b e = absurd (true≢false (sym e))
-
-pub or_right : (a b : Bool) → b ≡ true → (a || b) ≡ true
-or_right true b e = refl
-or_right false b e = e
-
-pub any_weaker : {A : Type 0} (p q : A → Bool) → ((x : A) → p x ≡ true → q x ≡ true) → (xs : List A) → list_any p xs ≡ true → list_any q xs ≡ true
-any_weaker p q f [] e = e
-any_weaker p q f (x ∷ xs) e = go (p x) refl (any_weaker p q f xs) e
-  where
-    go : (b : Bool) → p x ≡ b → (list_any p xs ≡ true → list_any q xs ≡ true) → (b || list_any p xs) ≡ true → (q x || list_any q xs) ≡ true
-    go true h rest g = or_left (q x) _ (f x h)
-    go false h rest g = or_right (q x) _ (rest g)
-
-pub any_front : {A : Type 0} (p : A → Bool) (xs ys : List A) → list_any p xs ≡ true → list_any p (xs ++ ys) ≡ true
-any_front p [] ys h = absurd (true≢false (sym h))
-any_front p (x ∷ xs) ys h = go (p x) (any_front p xs ys) h
-  where
-    go : (b : Bool) → (list_any p xs ≡ true → list_any p (xs ++ ys) ≡ true) → (b || list_any p xs) ≡ true → (b || list_any p (xs ++ ys)) ≡ true
-    go true rest e = refl
-    go false rest e = rest e
-
-pub any_back : {A : Type 0} (p : A → Bool) (xs ys : List A) → list_any p ys ≡ true → list_any p (xs ++ ys) ≡ true
-any_back p [] ys h = h
-any_back p (x ∷ xs) ys h = or_right (p x) (list_any p (xs ++ ys)) (any_back p xs ys h)
-
 pub all_in : {B : Type 0} (p : B → Bool) (xs : List B) (x : B) → list_all p xs ≡ true → In x xs → p x ≡ true
 all_in p [] x h i = absurd i
-all_in p (y ∷ xs) x h (inl q) = ap p q ∙ (and_both (p y) (list_all p xs) h).0
-all_in p (y ∷ xs) x h (inr i) = all_in p xs x (and_both (p y) (list_all p xs) h).1 i
-
-pub any_of : {B : Type 0} (p : B → Bool) (xs : List B) (x : B) → In x xs → p x ≡ true → list_any p xs ≡ true
-any_of p [] x i e = absurd i
-any_of p (y ∷ xs) x (inl q) e = or_left (p y) (list_any p xs) (sym (ap p q) ∙ e)
-any_of p (y ∷ xs) x (inr i) e = or_right (p y) (list_any p xs) (any_of p xs x i e)
+all_in p (y ∷ xs) x h (inl q) = ap p q ∙ (and_parts (p y) (list_all p xs) h).0
+all_in p (y ∷ xs) x h (inr i) = all_in p xs x (and_parts (p y) (list_all p xs) h).1 i
 
 first_of_three : (a b c : Bool) → a ≡ true → (a || b || c) ≡ true
 first_of_three a b c e = or_left (a || b) c (or_left a b e)
@@ -80,10 +44,10 @@ module _ {A : Type 0} where
   same_extent_is Whole Whole e = refl
   same_extent_is (One v) (One w) e = ap One (same_value v w e)
   same_extent_is (Range a b) (Range c d) e =
-      let p = and_both (same_end a c) (same_end b d) e in
+      let p = and_parts (same_end a c) (same_end b d) e in
       ap (λ x. Range x b) (same_end_is a c p.0) ∙ ap (Range c) (same_end_is b d p.1)
   same_extent_is (Referencing i v) (Referencing j w) e =
-      let p = and_both (eqb i j) (same v w) e in
+      let p = and_parts (eqb i j) (same v w) e in
       ap (λ x. Referencing x v) (eqb-true i j p.0) ∙ ap (Referencing j) (same_value v w p.1)
   same_extent_is _ _ e = absurd (true≢false (sym e))
 
@@ -92,7 +56,7 @@ module _ {A : Type 0} where
   distinct_any p (x ∷ es) e = go (list_any (same_extent x) es) refl (p x) refl (distinct_any p es) e
     where
       go : (b : Bool) → list_any (same_extent x) es ≡ b → (h : Bool) → p x ≡ h → (list_any p es ≡ true → list_any p (distinct es) ≡ true) → (h || list_any p es) ≡ true → list_any p (cond b (distinct es) (x ∷ distinct es)) ≡ true
-      go true s true q rest g = rest (any_weaker (same_extent x) p (λ y t. ap p (sym (same_extent_is x y t)) ∙ q) es s)
+      go true s true q rest g = rest (any-weaker (same_extent x) p (λ y t. ap p (sym (same_extent_is x y t)) ∙ q) es s)
       go true s false q rest g = rest g
       go false s true q rest g = or_left (p x) _ q
       go false s false q rest g = or_right (p x) _ (rest g)
@@ -132,7 +96,7 @@ module _ {A : Type 0} where
       both false b p q = absurd (true≢false (sym p))
 
       go : (b : Bool) → cond b (list_any (λ v. is_le (value_cmp v k)) keys && list_any (λ v. is_ge (value_cmp v k)) keys) (list_any (λ v. same v k) keys) ≡ true
-      go true = both _ _ (any_weaker (λ v. same v k) (λ v. is_le (value_cmp v k)) (λ v h. le (value_cmp v k) h) keys e) (any_weaker (λ v. same v k) (λ v. is_ge (value_cmp v k)) (λ v h. ge (value_cmp v k) h) keys e)
+      go true = both _ _ (any-weaker (λ v. same v k) (λ v. is_le (value_cmp v k)) (λ v h. le (value_cmp v k) h) keys e) (any-weaker (λ v. same v k) (λ v. is_ge (value_cmp v k)) (λ v h. ge (value_cmp v k) h) keys e)
       go false = e
 
   covers_extents : (k : Value A) (es : List (Extent A)) → list_any (has_key k) es ≡ true → covers_key es k ≡ true

@@ -1,11 +1,13 @@
 -- The cover is a function of the set of what was read.
 use Rattle.std.proofs.Common.{◌≡◌, refl, sym, ap, ◌∙◌, ℕ, suc, ◌+◌, ◌≤◌, Bool, true, false, true≢false, cond, not, ◌&&◌, ◌||◌, List, [], ◌∷◌, length, eqb, nat_lt, arith}
-use Rattle.std.proofs.lemmas.Bool.{eq-eqb}
+use Rattle.std.proofs.lemmas.Bool.{eq-eqb, or_left, or_right, and_from}
 use Rattle.std.proofs.lemmas.Cmp.{tied_itself}
+use Rattle.std.specs.Cmp.{both_ways}
 use Rattle.std.specs.Ordering.{is_eq, is_le, is_ge}
 use Rattle.std.specs.List.{filter, list_any}
 use Rattle.value.specs.declared.value.Value.{Value}
 use Rattle.value.specs.Order.{value_cmp, value_cmp-total}
+use Rattle.value.proofs.Basics.{any-weaker}
 use Rattle.schema.specs.Plain.{same}
 use Rattle.statement.specs.declared.reading.End.{End}
 use Rattle.statement.specs.declared.reading.End.TheVariants.{Open, Closed, Without}
@@ -14,14 +16,7 @@ use Rattle.statement.specs.declared.reading.Extent.TheVariants.{Whole, One, Rang
 use Rattle.statement.specs.declared.reading.Reading.{Reading}
 use Rattle.statement.specs.Cover.{has_key, has_reference, same_end, same_extent, distinct, extents_in, is_whole, keys_of, ranges_of, references_read, has_many_keys, has_many_ranges, has_many_references, covers_whole, among, covers_key, covers_reference, covers, covers_value}
 use Rattle.statement.specs.Laws.{same_reading, HasSameReadings}
-use Rattle.statement.proofs.CoverLemmas.{or_left, or_right, any_weaker, distinct_any, same_extent_is}
-use Rattle.statement.proofs.RowsLemmas.{both}
-
--- tests that hold of the same are the same
-same_test : (a b : Bool) → (a ≡ true → b ≡ true) → (b ≡ true → a ≡ true) → a ≡ b
-same_test true b f g = sym (f refl)
-same_test false true f g = g refl
-same_test false false f g = refl
+use Rattle.statement.proofs.CoverLemmas.{distinct_any, same_extent_is}
 
 module _ {A : Type 0} where
   same_itself : (v : Value A) → same v v ≡ true
@@ -35,8 +30,8 @@ module _ {A : Type 0} where
   same_extent_itself : (e : Extent A) → same_extent e e ≡ true
   same_extent_itself Whole = refl
   same_extent_itself (One v) = same_itself v
-  same_extent_itself (Range a b) = both (same_end a a) (same_end b b) (same_end_itself a) (same_end_itself b)
-  same_extent_itself (Referencing j v) = both (eqb j j) (same v v) (eq-eqb j j refl) (same_itself v)
+  same_extent_itself (Range a b) = and_from (same_end a a) (same_end b b) (same_end_itself a) (same_end_itself b)
+  same_extent_itself (Referencing j v) = and_from (eqb j j) (same v v) (eq-eqb j j refl) (same_itself v)
 
   -- ---- extents that have the same members
 
@@ -53,7 +48,7 @@ module _ {A : Type 0} where
   any_within p (x ∷ xs) ys w e = go (p x) refl e (any_within p xs ys (λ y h. w y (or_right (same_extent y x) (has y xs) h)))
     where
       go : (b : Bool) → p x ≡ b → (b || list_any p xs) ≡ true → (list_any p xs ≡ true → list_any p ys ≡ true) → list_any p ys ≡ true
-      go true q g rest = any_weaker (same_extent x) p (λ y h. ap p (sym (same_extent_is x y h)) ∙ q) ys (w x (or_left (same_extent x x) (has x xs) (same_extent_itself x)))
+      go true q g rest = any-weaker (same_extent x) p (λ y h. ap p (sym (same_extent_is x y h)) ∙ q) ys (w x (or_left (same_extent x x) (has x xs) (same_extent_itself x)))
       go false q g rest = rest g
 
   -- ---- members that pass a test
@@ -140,7 +135,7 @@ module _ {A : Type 0} where
       go false rest = rest
 
   any-distinct : (p : Extent A → Bool) (es : List (Extent A)) → list_any p (distinct es) ≡ list_any p es
-  any-distinct p es = same_test (list_any p (distinct es)) (list_any p es) (back es) (distinct_any p es)
+  any-distinct p es = both_ways (list_any p (distinct es)) (list_any p es) (back es) (distinct_any p es)
     where
       back : (xs : List (Extent A)) → list_any p (distinct xs) ≡ true → list_any p xs ≡ true
       back [] h = h
@@ -225,7 +220,7 @@ module _ {A : Type 0} where
     once_too : IsEachOnce ys
 
   any_alike : (p : Extent A → Bool) (xs ys : List (Extent A)) → Alike xs ys → list_any p xs ≡ list_any p ys
-  any_alike p xs ys a = same_test (list_any p xs) (list_any p ys) (any_within p xs ys a.there) (any_within p ys xs a.back)
+  any_alike p xs ys a = both_ways (list_any p xs) (list_any p ys) (any_within p xs ys a.there) (any_within p ys xs a.back)
 
   count_alike : (p : Extent A → Bool) (xs ys : List (Extent A)) → Alike xs ys → length (filter p xs) ≡ length (filter p ys)
   count_alike p xs ys a = between (length (filter p xs)) (length (filter p ys))

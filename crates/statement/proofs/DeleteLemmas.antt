@@ -1,6 +1,6 @@
 -- Rows that go, and the rows that reference them.
-use Rattle.std.proofs.Common.{◌≡◌, refl, sym, ap, subst, ◌∙◌, ℕ, zero, suc, ◌+◌, ◌<◌, ◌≤◌, Bool, true, false, true≢false, cond, not, ◌&&◌, ◌||◌, ◌⊎◌, inl, inr, List, [], ◌∷◌, ◌++◌, map, take, drop, length, get_or, Some, None, Result, Ok, Err, Bor, is_ok, nat_lt, append_assoc, arith}
-use Rattle.std.proofs.lemmas.Bool.Decides.{nat_tests}
+use Rattle.std.proofs.Common.{◌≡◌, refl, sym, ap, subst, ◌∙◌, ℕ, zero, suc, ◌+◌, ◌<◌, ◌≤◌, Bool, true, false, true≢false, cond, not, ◌&&◌, ◌||◌, ◌⊎◌, inl, inr, List, [], ◌∷◌, ◌++◌, map, take, drop, length, get_or, Some, None, Result, Ok, Err, Bor, is_ok, append_assoc, arith}
+use Rattle.std.proofs.lemmas.Bool.{ltb-true, and_parts}
 use Rattle.std.proofs.lemmas.List.{append-nil}
 use Rattle.std.proofs.lemmas.List.Sorted.{searchable_from_sorted}
 use Rattle.std.specs.FinMap.{is_sorted}
@@ -31,17 +31,13 @@ use Rattle.statement.specs.Marks.{marks_of, references_of}
 use Rattle.statement.specs.Fits.{Fits, condition_fits, has_table}
 use Rattle.statement.specs.Walk.{AreReadable, are_of}
 use Rattle.statement.specs.Writing.{AreRowsOf, references_of_rows}
-use Rattle.statement.proofs.CoverLemmas.{and_both}
 use Rattle.statement.proofs.HeldLemmas.{held_length, held_readable}
-
-has_below : (n m : ℕ) → nat_lt n m ≡ true → n < m
-has_below n m e = grind (arith, nat_tests)
 
 module _ {A : Type 0} where
   -- ---- the rows that go, by a binary search
 
   below_here : (k : Value A) (r : Bor (Row A)) (rows : List (Bor (Row A))) → below_all value_cmp k (map (λ x. x.now) (r ∷ rows)) ≡ true → is_lt (value_cmp r.now.0 k) ≡ false
-  below_here k r rows below = go (value_cmp k r.now.0) (and_both (is_lt (value_cmp k r.now.0)) (below_all value_cmp k (map (λ x. x.now) rows)) below).0 (value_cmp-total.antisymm r.now.0 k)
+  below_here k r rows below = go (value_cmp k r.now.0) (and_parts (is_lt (value_cmp k r.now.0)) (below_all value_cmp k (map (λ x. x.now) rows)) below).0 (value_cmp-total.antisymm r.now.0 k)
     where
       go : (o : Ordering) → is_lt o ≡ true → value_cmp r.now.0 k ≡ ordering_reverse o → is_lt (value_cmp r.now.0 k) ≡ false
       go Less e q = ap is_lt q
@@ -51,8 +47,8 @@ module _ {A : Type 0} where
   neighbours : (rows : List (Bor (Row A))) → is_sorted value_cmp (map (λ x. x.now) rows) ≡ true → (k : ℕ) (d : Bor (Row A)) → suc k < length rows → is_lt (value_cmp (get_or rows (suc k) d).now.0 (get_or rows k d).now.0) ≡ false
   neighbours [] sorted k d lt = absurd (omega arith)
   neighbours (r ∷ []) sorted k d lt = absurd (omega arith)
-  neighbours (r ∷ s ∷ rows) sorted zero d lt = below_here r.now.0 s rows (and_both (below_all value_cmp r.now.0 (map (λ x. x.now) (s ∷ rows))) (is_sorted value_cmp (map (λ x. x.now) (s ∷ rows))) sorted).0
-  neighbours (r ∷ s ∷ rows) sorted (suc k) d lt = neighbours (s ∷ rows) (and_both (below_all value_cmp r.now.0 (map (λ x. x.now) (s ∷ rows))) (is_sorted value_cmp (map (λ x. x.now) (s ∷ rows))) sorted).1 k d (omega arith)
+  neighbours (r ∷ s ∷ rows) sorted zero d lt = below_here r.now.0 s rows (and_parts (below_all value_cmp r.now.0 (map (λ x. x.now) (s ∷ rows))) (is_sorted value_cmp (map (λ x. x.now) (s ∷ rows))) sorted).0
+  neighbours (r ∷ s ∷ rows) sorted (suc k) d lt = neighbours (s ∷ rows) (and_parts (below_all value_cmp r.now.0 (map (λ x. x.now) (s ∷ rows))) (is_sorted value_cmp (map (λ x. x.now) (s ∷ rows))) sorted).1 k d (omega arith)
 
   neighbours_more : (rows : List (Bor (Row A))) → is_sorted value_cmp (map (λ x. x.now) rows) ≡ true → (k n : ℕ) (d : Bor (Row A)) → suc k ≡ n → n < length rows → is_lt (value_cmp (get_or rows n d).now.0 (get_or rows k d).now.0) ≡ false
   neighbours_more rows sorted k n d next lt = subst (λ m. is_lt (value_cmp (get_or rows m d).now.0 (get_or rows k d).now.0) ≡ false) next (neighbours rows sorted k d (omega arith))
@@ -166,10 +162,10 @@ module _ {A : Type 0} where
   -- ---- what a DELETE that fits has
 
   pub delete_has : (c : Catalog) (X : Tables A) (t : ℕ) (cs : List (Condition A)) → are_of c X ≡ true → Fits c (Delete t cs) → t < length X
-  delete_has c X t cs held fits = let p = and_both (has_table c t) (list_all (condition_fits (columns_of c t)) cs) fits in subst (λ n. t < n) (sym (held_length c X held)) (has_below t (length c) p.0)
+  delete_has c X t cs held fits = let p = and_parts (has_table c t) (list_all (condition_fits (columns_of c t)) cs) fits in subst (λ n. t < n) (sym (held_length c X held)) (ltb-true t (length c) p.0)
 
   pub delete_readable : (c : Catalog) (X : Tables A) (t : ℕ) (cs : List (Condition A)) → are_of c X ≡ true → Fits c (Delete t cs) → AreReadable cs (rows_of X t)
-  delete_readable c X t cs held fits = held_readable c X t cs held (and_both (has_table c t) (list_all (condition_fits (columns_of c t)) cs) fits).1
+  delete_readable c X t cs held fits = held_readable c X t cs held (and_parts (has_table c t) (list_all (condition_fits (columns_of c t)) cs) fits).1
 
   -- where no row references a key that goes, a DELETE takes the rows away
   pub deleted_none : (c : Catalog) (X : Tables A) (t : ℕ) (gone : List (Row A)) (n : ℕ) (changes : List (Change A)) (marks : List (Mark A)) (o : Outcome A) → AreRowsOf X t gone → None ≡ least_table t gone 0 c X → o ≡ record { reply = Deleted n; changes = changes; marks = marks }

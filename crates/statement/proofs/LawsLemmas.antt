@@ -1,6 +1,7 @@
 -- The laws of statements, over tables in key order.
 use Rattle.std.proofs.Common.{◌≡◌, refl, sym, ap, subst, ◌∙◌, ℕ, zero, suc, ◌<◌, ◌≤◌, Bool, true, false, true≢false, T, cond, not, ◌&&◌, ◌||◌, ◌⊎◌, inl, inr, List, [], ◌∷◌, length, Option, Some, None, is_some, unwrap_or, eqb, arith}
-use Rattle.std.proofs.lemmas.Bool.{eqb-true}
+use Rattle.std.proofs.lemmas.Bool.{eqb-true, not-true, and_parts}
+use Rattle.std.proofs.lemmas.Float.{T_from_true}
 use Rattle.std.specs.List.{list_any, list_all}
 use Rattle.std.specs.FinMap.{find, is_sorted}
 use Rattle.value.specs.declared.value.Value.{Value}
@@ -19,20 +20,12 @@ use Rattle.statement.specs.Fits.{Fits}
 use Rattle.statement.specs.Footprint.{footprint}
 use Rattle.statement.specs.Laws.{AgreeFor, is_keyed, names_reference, refers, writes_key}
 use Rattle.statement.specs.Marks.{marks_reference}
-use Rattle.statement.proofs.CoverLemmas.{and_both, all_in}
+use Rattle.statement.proofs.CoverLemmas.{all_in}
 use Rattle.statement.proofs.RowsLemmas.{HasKeys}
 use Rattle.schema.proofs.SoundLemmas.{Sound, sound_from, sound_to}
 use Rattle.statement.proofs.SoundSteps.{outcome_sound}
 use Rattle.statement.proofs.Suffices.{suffices}
 use Rattle.statement.proofs.WritesLemmas as writes
-
-T_of : (b : Bool) → b ≡ true → T b
-T_of true e = tt
-T_of false e = absurd (true≢false (sym e))
-
-flip : (b : Bool) → not b ≡ true → b ≡ false
-flip true h = absurd (true≢false (sym h))
-flip false h = refl
 
 module _ {A : Type 0} where
   -- ---- what sound tables are
@@ -41,23 +34,23 @@ module _ {A : Type 0} where
   table_sorted X [] [] t h = tt
   table_sorted X [] (rows ∷ Y) t h = absurd (true≢false (sym h))
   table_sorted X (d ∷ c) [] t h = tt
-  table_sorted X (d ∷ c) (rows ∷ Y) zero h = T_of _ (and_both (is_sorted value_cmp rows) _ (and_both (is_sound_table X d rows) (sound_tables X c Y) h).0).0
-  table_sorted X (d ∷ c) (rows ∷ Y) (suc t) h = table_sorted X c Y t (and_both (is_sound_table X d rows) (sound_tables X c Y) h).1
+  table_sorted X (d ∷ c) (rows ∷ Y) zero h = T_from_true _ (and_parts (is_sorted value_cmp rows) _ (and_parts (is_sound_table X d rows) (sound_tables X c Y) h).0).0
+  table_sorted X (d ∷ c) (rows ∷ Y) (suc t) h = table_sorted X c Y t (and_parts (is_sound_table X d rows) (sound_tables X c Y) h).1
 
   keys_given : (X : Tables A) (d : TableSchema) (rows : List (Row A)) → list_all (λ r. not (is_null r.0) && fits_columns X d.columns (cells r)) rows ≡ true → list_all (λ row. not (is_null row.0)) rows ≡ true
   keys_given X d [] h = refl
-  keys_given X d (r ∷ rows) h = go (and_both (not (is_null r.0) && fits_columns X d.columns (cells r)) (list_all (λ r. not (is_null r.0) && fits_columns X d.columns (cells r)) rows) h) (keys_given X d rows)
+  keys_given X d (r ∷ rows) h = go (and_parts (not (is_null r.0) && fits_columns X d.columns (cells r)) (list_all (λ r. not (is_null r.0) && fits_columns X d.columns (cells r)) rows) h) (keys_given X d rows)
     where
       go : ((not (is_null r.0) && fits_columns X d.columns (cells r)) ≡ true) × (list_all (λ r. not (is_null r.0) && fits_columns X d.columns (cells r)) rows ≡ true)
           → (list_all (λ r. not (is_null r.0) && fits_columns X d.columns (cells r)) rows ≡ true → list_all (λ row. not (is_null row.0)) rows ≡ true) → (not (is_null r.0) && list_all (λ row. not (is_null row.0)) rows) ≡ true
-      go p rest = ap (λ b. b && list_all (λ row. not (is_null row.0)) rows) (and_both (not (is_null r.0)) (fits_columns X d.columns (cells r)) p.0).0 ∙ rest p.1
+      go p rest = ap (λ b. b && list_all (λ row. not (is_null row.0)) rows) (and_parts (not (is_null r.0)) (fits_columns X d.columns (cells r)) p.0).0 ∙ rest p.1
 
   table_keys : (X : Tables A) (c : Catalog) (Y : Tables A) (t : ℕ) → sound_tables X c Y ≡ true → list_all (λ row. not (is_null row.0)) (rows_of Y t) ≡ true
   table_keys X [] [] t h = refl
   table_keys X [] (rows ∷ Y) t h = absurd (true≢false (sym h))
   table_keys X (d ∷ c) [] t h = refl
-  table_keys X (d ∷ c) (rows ∷ Y) zero h = keys_given X d rows (and_both (is_sorted value_cmp rows) _ (and_both (is_sound_table X d rows) (sound_tables X c Y) h).0).1
-  table_keys X (d ∷ c) (rows ∷ Y) (suc t) h = table_keys X c Y t (and_both (is_sound_table X d rows) (sound_tables X c Y) h).1
+  table_keys X (d ∷ c) (rows ∷ Y) zero h = keys_given X d rows (and_parts (is_sorted value_cmp rows) _ (and_parts (is_sound_table X d rows) (sound_tables X c Y) h).0).1
+  table_keys X (d ∷ c) (rows ∷ Y) (suc t) h = table_keys X c Y t (and_parts (is_sound_table X d rows) (sound_tables X c Y) h).1
 
   pub sound_ordered : (c : Catalog) (X : Tables A) → is_sound c X ≡ true → IsOrdered X
   sound_ordered c X h = record { each = λ t. table_sorted X c X t h }
@@ -72,13 +65,13 @@ module _ {A : Type 0} where
 
   keyed_sorted : (X : Tables A) (t : ℕ) → list_all is_keyed X ≡ true → T (is_sorted value_cmp (rows_of X t))
   keyed_sorted [] t h = tt
-  keyed_sorted (rows ∷ X) zero h = T_of _ (and_both (is_sorted value_cmp rows) _ (and_both (is_keyed rows) (list_all is_keyed X) h).0).0
-  keyed_sorted (rows ∷ X) (suc t) h = keyed_sorted X t (and_both (is_keyed rows) (list_all is_keyed X) h).1
+  keyed_sorted (rows ∷ X) zero h = T_from_true _ (and_parts (is_sorted value_cmp rows) _ (and_parts (is_keyed rows) (list_all is_keyed X) h).0).0
+  keyed_sorted (rows ∷ X) (suc t) h = keyed_sorted X t (and_parts (is_keyed rows) (list_all is_keyed X) h).1
 
   keyed_given : (X : Tables A) (t : ℕ) → list_all is_keyed X ≡ true → list_all (λ row. not (is_null row.0)) (rows_of X t) ≡ true
   keyed_given [] t h = refl
-  keyed_given (rows ∷ X) zero h = (and_both (is_sorted value_cmp rows) _ (and_both (is_keyed rows) (list_all is_keyed X) h).0).1
-  keyed_given (rows ∷ X) (suc t) h = keyed_given X t (and_both (is_keyed rows) (list_all is_keyed X) h).1
+  keyed_given (rows ∷ X) zero h = (and_parts (is_sorted value_cmp rows) _ (and_parts (is_keyed rows) (list_all is_keyed X) h).0).1
+  keyed_given (rows ∷ X) (suc t) h = keyed_given X t (and_parts (is_keyed rows) (list_all is_keyed X) h).1
 
   keyed_ordered : (X : Tables A) → list_all is_keyed X ≡ true → IsOrdered X
   keyed_ordered X h = record { each = λ t. keyed_sorted X t h }
@@ -133,7 +126,7 @@ module _ {A : Type 0} where
     where
       go : (b : Bool) → touches t k x ≡ b → (b || writes_key xs t k) ≡ true → (writes_key xs t k ≡ true → P t k ≡ true) → P t k ≡ true
       go true q g rest =
-          let p = and_both (eqb x.table t) (same k x.key) q in
+          let p = and_parts (eqb x.table t) (same k x.key) q in
           subst (λ u. P u k ≡ true) (eqb-true x.table t p.0) (subst (λ v. P x.table v ≡ true) (sym (same_value k x.key p.1)) (f x (inl refl)))
       go false q g rest = rest g
 
@@ -142,12 +135,12 @@ module _ {A : Type 0} where
 
   pub marked_before : (c : Catalog) (q : Statement A) (X : Tables A) (t j : ℕ) (k p : Value A) → writes_key (outcome c q X).changes t p ≡ true → names_reference c X t j k p ≡ true → marks_reference (outcome c q X).marks t j k ≡ true
   marked_before c q X t j k p w n =
-      let a = and_both (refers c t j && not (is_null k)) (is_some (row_naming X t j k p)) n in
-      let b = and_both (refers c t j) (not (is_null k)) a.0 in
-      writes.marks_before c q X t j k p w b.0 (flip (is_null k) b.1) a.1
+      let a = and_parts (refers c t j && not (is_null k)) (is_some (row_naming X t j k p)) n in
+      let b = and_parts (refers c t j) (not (is_null k)) a.0 in
+      writes.marks_before c q X t j k p w b.0 (not-true (is_null k) b.1) a.1
 
   pub marked_after : (c : Catalog) (q : Statement A) (X : Tables A) (t j : ℕ) (k p : Value A) → writes_key (outcome c q X).changes t p ≡ true → names_reference c (after c q X) t j k p ≡ true → marks_reference (outcome c q X).marks t j k ≡ true
   marked_after c q X t j k p w n =
-      let a = and_both (refers c t j && not (is_null k)) (is_some (row_naming (after c q X) t j k p)) n in
-      let b = and_both (refers c t j) (not (is_null k)) a.0 in
-      writes.marks_after c q X t j k p w b.0 (flip (is_null k) b.1) a.1
+      let a = and_parts (refers c t j && not (is_null k)) (is_some (row_naming (after c q X) t j k p)) n in
+      let b = and_parts (refers c t j) (not (is_null k)) a.0 in
+      writes.marks_after c q X t j k p w b.0 (not-true (is_null k) b.1) a.1

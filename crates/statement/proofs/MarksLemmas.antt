@@ -1,6 +1,6 @@
 -- What a statement marks: the references of each row that it writes, before and after.
 use Rattle.std.proofs.Common.{◌≡◌, refl, sym, ap, subst, ◌∙◌, ℕ, zero, suc, ◌+◌, ◌<◌, ◌≤◌, Bool, true, false, true≢false, cond, not, ◌&&◌, ◌||◌, ◌⊎◌, inl, inr, List, [], ◌∷◌, ◌++◌, map, length, slice_get, slice_index_or, Option, Some, None, is_some, unwrap_or, eqb, arith}
-use Rattle.std.proofs.lemmas.Bool.{eqb-true, eq-eqb}
+use Rattle.std.proofs.lemmas.Bool.{eqb-true, eq-eqb, and_from, and_parts, or_left, or_right}
 use Rattle.std.proofs.lemmas.Cmp.{tied_itself}
 use Rattle.std.specs.Ordering.{is_eq}
 use Rattle.std.specs.List.{list_any}
@@ -9,6 +9,7 @@ use Rattle.value.specs.declared.value.Value.{Value}
 use Rattle.value.specs.declared.value.Value.TheVariants.{Null}
 use Rattle.value.specs.Order.{value_cmp, value_cmp-total}
 use Rattle.value.proofs.IsolationLemmas.{In}
+use Rattle.value.proofs.Basics.{any-front, any-back}
 use Rattle.schema.specs.Definition.{Column, Catalog}
 use Rattle.schema.specs.declared.row.Row.{Row}
 use Rattle.schema.specs.declared.changes.Change.{Change}
@@ -19,11 +20,6 @@ use Rattle.statement.specs.declared.outcome.Mark.{Mark}
 pub use Rattle.statement.specs.Laws.{refers, refers_at}
 use Rattle.statement.specs.Marks.{is_reference, references_among, references_of, marks_of_change, marks_of, is_mark, marks_reference}
 use Rattle.statement.specs.Agreement.{if_naming, row_naming}
-use Rattle.statement.proofs.CoverLemmas.{and_both, or_left, or_right, any_front, any_back}
-
-both : (a b : Bool) → a ≡ true → b ≡ true → (a && b) ≡ true
-both true b p q = q
-both false b p q = absurd (true≢false (sym p))
 
 module _ {A : Type 0} where
   same_itself : (v : Value A) → same v v ≡ true
@@ -40,8 +36,8 @@ module _ {A : Type 0} where
   among_marks u n (b ∷ ds) [] i v e f h = cc
   among_marks u n (b ∷ ds) (w ∷ vs) zero v e f h =
       let q : w ≡ v = cc in
-      ap (λ t. list_any (is_mark u (n + 0) v) (cond t (record { table = u; column = n; key = w } ∷ references_among u (suc n) ds vs) (references_among u (suc n) ds vs))) (both (is_some b.references) (not (is_null w)) e (ap not (ap is_null q ∙ h)))
-      ∙ or_left (is_mark u (n + 0) v (record { table = u; column = n; key = w })) _ (both (eqb u u && eqb n (n + 0)) (same w v) (both (eqb u u) (eqb n (n + 0)) (eq-eqb u u refl) (eq-eqb n (n + 0) (omega arith))) (ap (same w) (sym q) ∙ same_itself w))
+      ap (λ t. list_any (is_mark u (n + 0) v) (cond t (record { table = u; column = n; key = w } ∷ references_among u (suc n) ds vs) (references_among u (suc n) ds vs))) (and_from (is_some b.references) (not (is_null w)) e (ap not (ap is_null q ∙ h)))
+      ∙ or_left (is_mark u (n + 0) v (record { table = u; column = n; key = w })) _ (and_from (eqb u u && eqb n (n + 0)) (same w v) (and_from (eqb u u) (eqb n (n + 0)) (eq-eqb u u refl) (eq-eqb n (n + 0) (omega arith))) (ap (same w) (sym q) ∙ same_itself w))
   among_marks u n (b ∷ ds) (w ∷ vs) (suc i) v e f h = go (is_reference b w) (subst (λ m. marks_reference (references_among u (suc n) ds vs) u m v ≡ true) (plus_suc n i) (among_marks u (suc n) ds vs i v e f h))
     where
       plus_suc : (m j : ℕ) → suc m + j ≡ m + suc j
@@ -75,13 +71,13 @@ module _ {A : Type 0} where
   before_list c X (x ∷ xs) t j k p w e n h = go (touches t p x) refl w (before_list c X xs t j k p)
     where
       go : (b : Bool) → touches t p x ≡ b → (b || list_any (touches t p) xs) ≡ true → (list_any (touches t p) xs ≡ true → refers c t j ≡ true → is_null k ≡ false → is_some (row_naming X t j k p) ≡ true → marks_reference (marks_of c X xs) t j k ≡ true) → marks_reference (marks_of c X (x ∷ xs)) t j k ≡ true
-      go false m g rest = any_back (is_mark t j k) (marks_of_change c X x) (marks_of c X xs) (rest g e n h)
+      go false m g rest = any-back (is_mark t j k) (marks_of_change c X x) (marks_of c X xs) (rest g e n h)
       go true m g rest =
-          let l = and_both (eqb x.table t) (same p x.key) m in
+          let l = and_parts (eqb x.table t) (same p x.key) m in
           let here : marks_reference (part c t p (row_at X t p)) t j k ≡ true = naming_marks t (columns_of c t) p j k (row_at X t p) e n h in
           let there : marks_reference (part c x.table p (row_at X x.table p)) t j k ≡ true = subst (λ u. marks_reference (part c u p (row_at X u p)) t j k ≡ true) (sym (eqb-true x.table t l.0)) here in
           let at : marks_reference (part c x.table x.key (row_at X x.table x.key)) t j k ≡ true = subst (λ q. marks_reference (part c x.table q (row_at X x.table q)) t j k ≡ true) (same_value p x.key l.1) there in
-          any_front (is_mark t j k) (marks_of_change c X x) (marks_of c X xs) (any_front (is_mark t j k) (part c x.table x.key (row_at X x.table x.key)) (part c x.table x.key x.fields) at)
+          any-front (is_mark t j k) (marks_of_change c X x) (marks_of c X xs) (any-front (is_mark t j k) (part c x.table x.key (row_at X x.table x.key)) (part c x.table x.key x.fields) at)
 
   after_list : (c : Catalog) (X : Tables A) (xs : List (Change A)) (t j : ℕ) (k p : Value A) (fields : List (Value A)) → left_by t p xs ≡ Some (Some fields) → refers c t j ≡ true → is_null k ≡ false → is_some (if_naming j k p (Some fields)) ≡ true → marks_reference (marks_of c X xs) t j k ≡ true
   after_list c X [] t j k p fields w e n h = cc
@@ -89,16 +85,16 @@ module _ {A : Type 0} where
     where
       go : (o : Option (Option (List (Value A)))) → left_by t p xs ≡ o → (b : Bool) → touches t p x ≡ b → cond (is_some o) o (cond b (Some x.fields) None) ≡ Some (Some fields)
           → (left_by t p xs ≡ Some (Some fields) → refers c t j ≡ true → is_null k ≡ false → is_some (if_naming j k p (Some fields)) ≡ true → marks_reference (marks_of c X xs) t j k ≡ true) → marks_reference (marks_of c X (x ∷ xs)) t j k ≡ true
-      go (Some z) q b m g rest = any_back (is_mark t j k) (marks_of_change c X x) (marks_of c X xs) (rest (q ∙ g) e n h)
+      go (Some z) q b m g rest = any-back (is_mark t j k) (marks_of_change c X x) (marks_of c X xs) (rest (q ∙ g) e n h)
       go None q false m g rest = cc
       go None q true m g rest =
-          let l = and_both (eqb x.table t) (same p x.key) m in
+          let l = and_parts (eqb x.table t) (same p x.key) m in
           let f : x.fields ≡ Some fields = cc in
           let here : marks_reference (part c t p (Some fields)) t j k ≡ true = naming_marks t (columns_of c t) p j k (Some fields) e n h in
           let there : marks_reference (part c x.table p (Some fields)) t j k ≡ true = subst (λ u. marks_reference (part c u p (Some fields)) t j k ≡ true) (sym (eqb-true x.table t l.0)) here in
           let at : marks_reference (part c x.table x.key (Some fields)) t j k ≡ true = subst (λ q. marks_reference (part c x.table q (Some fields)) t j k ≡ true) (same_value p x.key l.1) there in
           let last : marks_reference (part c x.table x.key x.fields) t j k ≡ true = subst (λ o. marks_reference (part c x.table x.key o) t j k ≡ true) (sym f) at in
-          any_front (is_mark t j k) (marks_of_change c X x) (marks_of c X xs) (any_back (is_mark t j k) (part c x.table x.key (row_at X x.table x.key)) (part c x.table x.key x.fields) last)
+          any-front (is_mark t j k) (marks_of_change c X x) (marks_of c X xs) (any-back (is_mark t j k) (part c x.table x.key (row_at X x.table x.key)) (part c x.table x.key x.fields) last)
 
   -- a written row with k in column j before the changes is marked for it
   pub marks_of-before : (c : Catalog) (X : Tables A) (xs : List (Change A)) (t j : ℕ) (k p : Value A) → list_any (touches t p) xs ≡ true → refers c t j ≡ true → is_null k ≡ false → is_some (row_naming X t j k p) ≡ true → marks_reference (marks_of c X xs) t j k ≡ true

@@ -1,5 +1,6 @@
 -- References that are looked up by key.
 use Rattle.std.proofs.Common.{◌≡◌, ℕ, ℤ, pos, negsuc, ◌<◌, ◌≤◌, ◌^◌, Bool, true, false, true≢false, not, cond, List, [], ◌∷◌, length, Option, Some, None, is_some, Bor, refl, sym, ap, ◌∙◌, arith, w64}
+use Rattle.std.proofs.lemmas.Bool.{and_parts}
 use Rattle.std.specs.Prelude.{FitsSigned}
 use Rattle.std.proofs.lemmas.Bool.Decides.{nat_tests}
 use Rattle.std.proofs.lemmas.Int.{ints}
@@ -20,7 +21,6 @@ use Rattle.schema.specs.Rows.{row_of}
 use Rattle.schema.proofs.PlainLemmas.{same_value, rows_of-past}
 use Rattle.statement.specs.Fits.{literals_fit, takes}
 use Rattle.statement.specs.Walk.{is_row_of, are_of}
-use Rattle.statement.proofs.CoverLemmas.{and_both}
 use Rattle.statement.proofs.HeldLemmas.{held_length, held_table}
 
 -- a number that 64 bits don't hold isn't in range
@@ -63,8 +63,8 @@ module _ {A : Type 0} where
   no_number : (ds : List Column) (rows : List (Row A)) (n : ℤ) → list_all (is_row_of ds) rows ≡ true → in_range n ≡ false → is_some (find value_cmp (Int n) rows) ≡ false
   no_number ds [] n held out = refl
   no_number ds (r ∷ rows) n held out =
-      let p = and_both (is_row_of ds r) (list_all (is_row_of ds) rows) held in
-      let q = and_both (not (is_null r.0)) (literals_fit ds (cells r)) p.0 in
+      let p = and_parts (is_row_of ds r) (list_all (is_row_of ds) rows) held in
+      let q = and_parts (not (is_null r.0)) (literals_fit ds (cells r)) p.0 in
       ap (λ b. is_some (cond b (Some r.1) (find value_cmp (Int n) rows))) (apart ds q.1) ∙ no_number ds rows n p.1 out
     where
       of_kind : (k : Kind) → has_kind {A = A} k (Int n) ≡ false
@@ -78,7 +78,7 @@ module _ {A : Type 0} where
         where
           by_test : (b : Bool) → same (Int n) r.0 ≡ b → same (Int n) r.0 ≡ false
           by_test false s = s
-          by_test true s = absurd (true≢false (sym (and_both (takes r.0 d) (literals_fit cs r.1) e).0 ∙ ap (has_kind d.kind) (sym (same_value (Int n) r.0 s)) ∙ of_kind d.kind))
+          by_test true s = absurd (true≢false (sym (and_parts (takes r.0 d) (literals_fit cs r.1) e).0 ∙ ap (has_kind d.kind) (sym (same_value (Int n) r.0 s)) ∙ of_kind d.kind))
 
   -- a number out of range references no row
   pub no_row : (c : Catalog) (X : Tables A) (n : ℤ) (references : Option ℕ) (none : Bool) → are_of c X ≡ true → in_range n ≡ false → not none ≡ is_some references → none ≡ option_map_or (λ t. is_some (row_at X t (Int n))) references true

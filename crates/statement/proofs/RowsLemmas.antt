@@ -1,6 +1,6 @@
 -- The rows that a statement chooses are the same on tables that agree where it reads.
 use Rattle.std.proofs.Common.{◌≡◌, refl, sym, ap, subst, ◌∙◌, ℕ, zero, suc, Bool, true, false, true≢false, T, cond, not, ◌&&◌, ◌||◌, ◌⊎◌, inl, inr, List, [], ◌∷◌, Option, Some, None, eqb}
-use Rattle.std.proofs.lemmas.Bool.{eq-eqb}
+use Rattle.std.proofs.lemmas.Bool.{eq-eqb, and_from, and_parts, or_left, or_right}
 use Rattle.std.specs.List.{filter, list_any, list_all}
 use Rattle.std.specs.declared.cmp.Ordering.{Ordering}
 use Rattle.std.specs.declared.cmp.Ordering.TheVariants.{Less, Equal, Greater}
@@ -10,6 +10,7 @@ use Rattle.std.specs.FinMap.Entries.{same_entries, below_all}
 use Rattle.value.specs.declared.value.Value.{Value}
 use Rattle.value.specs.Order.{value_cmp, value_cmp-total}
 use Rattle.value.proofs.IsolationLemmas.{In}
+use Rattle.value.proofs.Basics.{le_from_lt, Less-from_lt}
 use Rattle.schema.specs.declared.row.Row.{Row}
 use Rattle.schema.specs.declared.tables.Tables.{Tables}
 use Rattle.schema.specs.Plain.{same, is_null, rows_of}
@@ -26,7 +27,6 @@ use Rattle.statement.specs.Conditions.{compares, is_so, holds, satisfies, chosen
 use Rattle.statement.specs.Footprint.{Interval, Nothing, Span, at_value, by_comparison, interval, later, sooner, meet_both, intersection, extent_of, extents, extents_of, in_table}
 use Rattle.statement.specs.Cover.{has_key, is_from, is_to}
 use Rattle.statement.specs.Agreement.{reads_key, Agree}
-use Rattle.statement.proofs.CoverLemmas.{and_both, or_left, or_right}
 
 T_first : (a b : Bool) → T (a && b) → T a
 T_first true b h = tt
@@ -45,10 +45,6 @@ less_not_same Less h = refl
 less_not_same Equal h = absurd h
 less_not_same Greater h = refl
 
-pub both : (a b : Bool) → a ≡ true → b ≡ true → (a && b) ≡ true
-both true b p q = q
-both false b p q = absurd (true≢false (sym p))
-
 choose_either : {A : Type 0} (P : A → Bool) (b : Bool) (x y : A) → P x ≡ true → P y ≡ true → P (cond b x y) ≡ true
 choose_either P true x y p q = p
 choose_either P false x y p q = q
@@ -61,16 +57,6 @@ le_cases : (o : Ordering) → is_le o ≡ true → (o ≡ Less) ⊎ (o ≡ Equal
 le_cases Less e = inl refl
 le_cases Equal e = inr refl
 le_cases Greater e = absurd (true≢false (sym e))
-
-lt_case : (o : Ordering) → is_lt o ≡ true → o ≡ Less
-lt_case Less e = refl
-lt_case Equal e = absurd (true≢false (sym e))
-lt_case Greater e = absurd (true≢false (sym e))
-
-lt_is_le : (o : Ordering) → is_lt o ≡ true → is_le o ≡ true
-lt_is_le Less e = refl
-lt_is_le Equal e = refl
-lt_is_le Greater e = e
 
 module _ {A : Type 0} where
   -- ---- a filter of a table, at a key
@@ -166,16 +152,16 @@ module _ {A : Type 0} where
   in_both k (Some Nothing) (Some j) p q = p
   in_both k (Some (Span a b)) (Some Nothing) p q = q
   in_both k (Some (Span a b)) (Some (Span c d)) p q =
-      let f = and_both (is_from a k) (is_to b k) p in
-      let g = and_both (is_from c k) (is_to d k) q in
-      both _ _ (from_later k a c f.0 g.0) (to_sooner k b d f.1 g.1)
+      let f = and_parts (is_from a k) (is_to b k) p in
+      let g = and_parts (is_from c k) (is_to d k) q in
+      and_from _ _ (from_later k a c f.0 g.0) (to_sooner k b d f.1 g.1)
 
   -- ---- one condition on the key
 
   not_null : (v w : Value A) (b : Bool) → (not (is_null v) && not (is_null w) && b) ≡ true → (is_null w ≡ false) × (b ≡ true)
   not_null v w b e =
-      let p = and_both (not (is_null v) && not (is_null w)) b e in
-      (flip (is_null w) (and_both (not (is_null v)) (not (is_null w)) p.0).1, p.1)
+      let p = and_parts (not (is_null v) && not (is_null w)) b e in
+      (flip (is_null w) (and_parts (not (is_null v)) (not (is_null w)) p.0).1, p.1)
     where
       flip : (c : Bool) → not c ≡ true → c ≡ false
       flip true h = absurd (true≢false (sym h))
@@ -217,26 +203,26 @@ module _ {A : Type 0} where
       less_of Greater h = refl
 
       go : (c : Comparison) → (is_null v ≡ false) × (compares c (value_cmp k v) ≡ true) → in_interval k (by_comparison c v) ≡ true
-      go is.Equal n = at_value-in k v (Span (Closed v) (Closed v)) n.0 (both _ _ (ap is_le (turn v k) ∙ (le_of (value_cmp k v) n.1).0) (ap is_ge (turn v k) ∙ (le_of (value_cmp k v) n.1).1))
+      go is.Equal n = at_value-in k v (Span (Closed v) (Closed v)) n.0 (and_from _ _ (ap is_le (turn v k) ∙ (le_of (value_cmp k v) n.1).0) (ap is_ge (turn v k) ∙ (le_of (value_cmp k v) n.1).1))
       go is.NotEqual n = ap (λ b. in_interval k (cond b (Some Nothing) None)) n.0
       go is.Less n = at_value-in k v (Span Open (Without v)) n.0 (ap is_gt (turn v k) ∙ gt_of (value_cmp k v) n.1)
       go is.LessOrEqual n = at_value-in k v (Span Open (Closed v)) n.0 (ap is_ge (turn v k) ∙ ge_of (value_cmp k v) n.1)
-      go is.Greater n = at_value-in k v (Span (Without v) Open) n.0 (both _ _ (ap is_lt (turn v k) ∙ lt_of (value_cmp k v) n.1) refl)
-      go is.GreaterOrEqual n = at_value-in k v (Span (Closed v) Open) n.0 (both _ _ (ap is_le (turn v k) ∙ less_of (value_cmp k v) n.1) refl)
+      go is.Greater n = at_value-in k v (Span (Without v) Open) n.0 (and_from _ _ (ap is_lt (turn v k) ∙ lt_of (value_cmp k v) n.1) refl)
+      go is.GreaterOrEqual n = at_value-in k v (Span (Closed v) Open) n.0 (and_from _ _ (ap is_le (turn v k) ∙ less_of (value_cmp k v) n.1) refl)
 
   interval_in : (row : Row A) (c : Condition A) → is_null row.0 ≡ false → holds row c ≡ true → in_interval row.0 (interval c) ≡ true
   interval_in row (Compare zero how v) n e = comparison_in row.0 how v e
   interval_in row (Compare (suc m) how v) n e = refl
-  interval_in row (Between zero low high) n e = go (and_both (is_so row.0 is.GreaterOrEqual low) (is_so row.0 is.LessOrEqual high) e)
+  interval_in row (Between zero low high) n e = go (and_parts (is_so row.0 is.GreaterOrEqual low) (is_so row.0 is.LessOrEqual high) e)
     where
       go : (is_so row.0 is.GreaterOrEqual low ≡ true) × (is_so row.0 is.LessOrEqual high ≡ true) → in_interval row.0 (Some (at_value low (at_value high (Span (Closed low) (Closed high))))) ≡ true
       go p =
           let f = not_null row.0 low (is_ge (value_cmp row.0 low)) p.0 in
           let g = not_null row.0 high (is_le (value_cmp row.0 high)) p.1 in
-          at_value-in row.0 low _ f.0 (at_value-in row.0 high _ g.0 (both _ _ (lower (comparison_in row.0 is.GreaterOrEqual low p.0) f.0) (upper (comparison_in row.0 is.LessOrEqual high p.1) g.0)))
+          at_value-in row.0 low _ f.0 (at_value-in row.0 high _ g.0 (and_from _ _ (lower (comparison_in row.0 is.GreaterOrEqual low p.0) f.0) (upper (comparison_in row.0 is.LessOrEqual high p.1) g.0)))
         where
           lower : in_interval row.0 (by_comparison is.GreaterOrEqual low) ≡ true → is_null low ≡ false → is_le (value_cmp low row.0) ≡ true
-          lower h z = (and_both (is_le (value_cmp low row.0)) true (ap (λ b. in_interval row.0 (Some (cond b Nothing (Span (Closed low) Open)))) (sym z) ∙ h)).0
+          lower h z = (and_parts (is_le (value_cmp low row.0)) true (ap (λ b. in_interval row.0 (Some (cond b Nothing (Span (Closed low) Open)))) (sym z) ∙ h)).0
 
           upper : in_interval row.0 (by_comparison is.LessOrEqual high) ≡ true → is_null high ≡ false → is_ge (value_cmp high row.0) ≡ true
           upper h z = ap (λ b. in_interval row.0 (Some (cond b Nothing (Span Open (Closed high))))) (sym z) ∙ h
@@ -248,7 +234,7 @@ module _ {A : Type 0} where
   pub intersection_in : (row : Row A) (cs : List (Condition A)) → is_null row.0 ≡ false → satisfies cs row ≡ true → in_interval row.0 (intersection cs) ≡ true
   intersection_in row [] n e = refl
   intersection_in row (c ∷ cs) n e =
-      let p = and_both (holds row c) (list_all (holds row) cs) e in
+      let p = and_parts (holds row c) (list_all (holds row) cs) e in
       in_both row.0 (interval c) (intersection cs) (interval_in row c n p.0) (intersection_in row cs n p.1)
 
   -- ---- what an interval leaves
@@ -274,33 +260,33 @@ module _ {A : Type 0} where
   le_lt v k w p q = go (le_cases (value_cmp v k) p)
     where
       go : (value_cmp v k ≡ Less) ⊎ (value_cmp v k ≡ Equal) → value_cmp v w ≡ Less
-      go (inl e) = value_cmp-total.trans v k w e (lt_case (value_cmp k w) q)
-      go (inr e) = value_cmp-total.congr v k w e ∙ lt_case (value_cmp k w) q
+      go (inl e) = value_cmp-total.trans v k w e (Less-from_lt (value_cmp k w) q)
+      go (inr e) = value_cmp-total.congr v k w e ∙ Less-from_lt (value_cmp k w) q
 
   lt_le : (v k w : Value A) → is_lt (value_cmp v k) ≡ true → is_le (value_cmp k w) ≡ true → value_cmp v w ≡ Less
   lt_le v k w p q = go (le_cases (value_cmp k w) q)
     where
       go : (value_cmp k w ≡ Less) ⊎ (value_cmp k w ≡ Equal) → value_cmp v w ≡ Less
-      go (inl e) = value_cmp-total.trans v k w (lt_case (value_cmp v k) p) e
-      go (inr e) = ap (value_cmp v) (sym (value_exact k w e)) ∙ lt_case (value_cmp v k) p
+      go (inl e) = value_cmp-total.trans v k w (Less-from_lt (value_cmp v k) p) e
+      go (inr e) = ap (value_cmp v) (sym (value_exact k w e)) ∙ Less-from_lt (value_cmp v k) p
 
   extent_in : (k : Value A) (a b : End A) → is_from a k ≡ true → is_to b k ≡ true → list_any (has_key k) (extent_of a b) ≡ true
   extent_in k Open b p q = one_true (is_to b k) q
-  extent_in k (Closed v) Open p q = one_true (is_le (value_cmp v k) && true) (both _ _ p refl)
-  extent_in k (Without v) Open p q = one_true (is_lt (value_cmp v k) && true) (both _ _ p refl)
+  extent_in k (Closed v) Open p q = one_true (is_le (value_cmp v k) && true) (and_from _ _ p refl)
+  extent_in k (Without v) Open p q = one_true (is_lt (value_cmp v k) && true) (and_from _ _ p refl)
   extent_in k (Closed v) (Without w) p q =
-      ap (λ o. list_any (has_key k) (cond (is_lt o) (Range (Closed v) (Without w) ∷ []) [])) (le_lt v k w p (gt_turned w k q)) ∙ one_true _ (both _ _ p q)
+      ap (λ o. list_any (has_key k) (cond (is_lt o) (Range (Closed v) (Without w) ∷ []) [])) (le_lt v k w p (gt_turned w k q)) ∙ one_true _ (and_from _ _ p q)
   extent_in k (Without v) (Closed w) p q =
-      ap (λ o. list_any (has_key k) (cond (is_lt o) (Range (Without v) (Closed w) ∷ []) [])) (lt_le v k w p (ge_turned w k q)) ∙ one_true _ (both _ _ p q)
+      ap (λ o. list_any (has_key k) (cond (is_lt o) (Range (Without v) (Closed w) ∷ []) [])) (lt_le v k w p (ge_turned w k q)) ∙ one_true _ (and_from _ _ p q)
   extent_in k (Without v) (Without w) p q =
-      ap (λ o. list_any (has_key k) (cond (is_lt o) (Range (Without v) (Without w) ∷ []) [])) (lt_le v k w p (lt_is_le (value_cmp k w) (gt_turned w k q))) ∙ one_true _ (both _ _ p q)
+      ap (λ o. list_any (has_key k) (cond (is_lt o) (Range (Without v) (Without w) ∷ []) [])) (lt_le v k w p (le_from_lt (value_cmp k w) (gt_turned w k q))) ∙ one_true _ (and_from _ _ p q)
   extent_in k (Closed v) (Closed w) p q = go (le_cases (value_cmp v k) p) (le_cases (value_cmp k w) (ge_turned w k q))
     where
       Goal : Ordering → Type 0
       Goal o = list_any (has_key k) (cond (is_gt o) [] (cond (is_eq o) (One v ∷ []) (Range (Closed v) (Closed w) ∷ []))) ≡ true
 
       range : value_cmp v w ≡ Less → list_any (has_key k) (extent_of (Closed v) (Closed w)) ≡ true
-      range e = ap (λ o. list_any (has_key k) (cond (is_gt o) [] (cond (is_eq o) (One v ∷ []) (Range (Closed v) (Closed w) ∷ [])))) e ∙ one_true _ (both _ _ p q)
+      range e = ap (λ o. list_any (has_key k) (cond (is_gt o) [] (cond (is_eq o) (One v ∷ []) (Range (Closed v) (Closed w) ∷ [])))) e ∙ one_true _ (and_from _ _ p q)
 
       go : (value_cmp v k ≡ Less) ⊎ (value_cmp v k ≡ Equal) → (value_cmp k w ≡ Less) ⊎ (value_cmp k w ≡ Equal) → list_any (has_key k) (extent_of (Closed v) (Closed w)) ≡ true
       go (inl e) f = range (lt_le v k w (ap is_lt e) (ge_turned w k q))
@@ -312,7 +298,7 @@ module _ {A : Type 0} where
   extents_in_all : (k : Value A) (i : Option (Interval A)) → in_interval k i ≡ true → list_any (has_key k) (extents i) ≡ true
   extents_in_all k None e = refl
   extents_in_all k (Some Nothing) e = absurd (true≢false (sym e))
-  extents_in_all k (Some (Span a b)) e = let p = and_both (is_from a k) (is_to b k) e in extent_in k a b p.0 p.1
+  extents_in_all k (Some (Span a b)) e = let p = and_parts (is_from a k) (is_to b k) e in extent_in k a b p.0 p.1
 
   -- what extents of a table have, the readings of them have there
   pub there : (p : Extent A → Bool) (t : ℕ) (es : List (Extent A)) → list_any p es ≡ true → list_any (λ r. eqb r.table t && p r.extent) (in_table t es) ≡ true
@@ -320,7 +306,7 @@ module _ {A : Type 0} where
   there p t (x ∷ es) e = go (p x) (there p t es) e
     where
       go : (b : Bool) → (list_any p es ≡ true → list_any (λ r. eqb r.table t && p r.extent) (in_table t es) ≡ true) → (b || list_any p es) ≡ true → ((eqb t t && b) || list_any (λ r. eqb r.table t && p r.extent) (in_table t es)) ≡ true
-      go true rest g = or_left (eqb t t && true) _ (both _ _ (eq-eqb t t refl) refl)
+      go true rest g = or_left (eqb t t && true) _ (and_from _ _ (eq-eqb t t refl) refl)
       go false rest g = or_right (eqb t t && false) _ (rest g)
 
   pub read_there : (t : ℕ) (k : Value A) (es : List (Extent A)) → list_any (has_key k) es ≡ true → reads_key (in_table t es) t k ≡ true
@@ -356,11 +342,11 @@ module _ {A : Type 0} where
     where
       go : (rows : List (Row A)) → list_all (λ row. not (is_null row.0)) rows ≡ true → list_all (λ row. list_any (has_key row.0) (extents_of cs)) (filter (satisfies cs) rows) ≡ true
       go [] e = refl
-      go (r ∷ rows) e = by_test (satisfies cs r) refl (and_both (not (is_null r.0)) (list_all (λ row. not (is_null row.0)) rows) e) (go rows)
+      go (r ∷ rows) e = by_test (satisfies cs r) refl (and_parts (not (is_null r.0)) (list_all (λ row. not (is_null row.0)) rows) e) (go rows)
         where
           by_test : (b : Bool) → satisfies cs r ≡ b → (not (is_null r.0) ≡ true) × (list_all (λ row. not (is_null row.0)) rows ≡ true) → (list_all (λ row. not (is_null row.0)) rows ≡ true → list_all (λ row. list_any (has_key row.0) (extents_of cs)) (filter (satisfies cs) rows) ≡ true)
               → list_all (λ row. list_any (has_key row.0) (extents_of cs)) (cond b (r ∷ filter (satisfies cs) rows) (filter (satisfies cs) rows)) ≡ true
-          by_test true q p rest = both _ _ (satisfying_read r cs p.0 q) (rest p.1)
+          by_test true q p rest = and_from _ _ (satisfying_read r cs p.0 q) (rest p.1)
           by_test false q p rest = rest p.1
 
   -- The rows that a statement chooses are the same on tables that agree where it reads.
@@ -373,7 +359,7 @@ module _ {A : Type 0} where
 
       reads : (row : Row A) → proper row ≡ true → list_any (has_key row.0) (extents (intersection cs)) ≡ true
       reads row e =
-          let p = and_both (not (is_null row.0)) (satisfies cs row) e in
+          let p = and_parts (not (is_null row.0)) (satisfies cs row) e in
           extents_in_all row.0 (intersection cs) (intersection_in row cs (flip (is_null row.0) p.0) p.1)
         where
           flip : (c : Bool) → not c ≡ true → c ≡ false
@@ -383,7 +369,7 @@ module _ {A : Type 0} where
       keep : (rows : List (Row A)) → list_all (λ row. not (is_null row.0)) rows ≡ true → filter (satisfies cs) rows ≡ filter proper rows
       keep [] e = refl
       keep (r ∷ rows) e =
-          let p = and_both (not (is_null r.0)) (list_all (λ row. not (is_null row.0)) rows) e in
+          let p = and_parts (not (is_null r.0)) (list_all (λ row. not (is_null row.0)) rows) e in
           ap (λ zs. cond (satisfies cs r) (r ∷ zs) zs) (keep rows p.1) ∙ ap (λ b. cond (b && satisfies cs r) (r ∷ filter proper rows) (filter proper rows)) (sym p.0)
 
       at : (k : Value A) → list_any (has_key k) (extents (intersection cs)) ≡ true → find value_cmp k (rows_of X t) ≡ find value_cmp k (rows_of Y t)

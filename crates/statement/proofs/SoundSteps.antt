@@ -1,6 +1,6 @@
 -- Each statement that fits keeps tables sound.
-use Rattle.std.proofs.Common.{◌≡◌, refl, sym, ap, subst, ◌∙◌, ℕ, zero, suc, ◌+◌, ◌<◌, ◌≤◌, Bool, true, false, true≢false, T, ℤ, cond, not, ◌&&◌, ◌||◌, ◌⊎◌, inl, inr, List, [], ◌∷◌, map, length, slice_get, Option, Some, None, is_some, unwrap_or, eqb, nat_lt, arith}
-use Rattle.std.proofs.lemmas.Bool.{eqb-true, eq-eqb}
+use Rattle.std.proofs.Common.{◌≡◌, refl, sym, ap, subst, ◌∙◌, ℕ, zero, suc, ◌+◌, ◌<◌, ◌≤◌, Bool, true, false, true≢false, ℤ, cond, not, ◌&&◌, ◌||◌, ◌⊎◌, inl, inr, List, [], ◌∷◌, map, length, slice_get, Option, Some, None, is_some, unwrap_or, eqb, nat_lt, arith}
+use Rattle.std.proofs.lemmas.Bool.{eqb-true, eq-eqb, not-false, or_parts, and_from, and_parts}
 use Rattle.std.proofs.lemmas.Cmp.{tied_itself}
 use Rattle.std.proofs.lemmas.List.{length-set}
 use Rattle.std.specs.Ordering.{is_eq}
@@ -12,9 +12,9 @@ use Rattle.value.specs.declared.kind.Kind.TheVariants as kind
 use Rattle.value.specs.declared.value.Value.{Value}
 use Rattle.value.specs.declared.value.Value.TheVariants.{Null, Int, Text, Bytes}
 use Rattle.value.specs.declared.refusal.Code.TheVariants as code
-use Rattle.value.specs.Isolation.{first_some}
 use Rattle.value.specs.Order.{value_cmp, value_cmp-total}
 use Rattle.value.proofs.IsolationLemmas.{In}
+use Rattle.value.proofs.Basics.{true_from_T, first_some-In, In-any, In-mapped}
 use Rattle.schema.specs.Definition.{Column, TableSchema, Catalog}
 use Rattle.schema.specs.declared.row.Row.{Row}
 use Rattle.schema.specs.declared.changes.Change.{Change}
@@ -32,25 +32,10 @@ use Rattle.statement.specs.declared.outcome.Outcome.{Outcome}
 use Rattle.statement.specs.Conditions.{chosen, satisfies, is_so}
 use Rattle.statement.specs.Evaluation.{after, inserted, updated, deleted, lacks_value, lacks_row, least_column, first_bad, assigned_lacks_value, assigned_out_of_range, assigned_lacks_row, at_column, least_table, names_one, is_gone, references, is_assigned, assigned, set_field, given, added, updated_row, out_of_range, puts, removes, writes_rows, ◌or_else◌}
 use Rattle.statement.specs.Fits.{Fits, literals_fit, assignment_fits, assigns_once, has_table, column_passes, source_fits, condition_fits, takes, is_bigint}
-use Rattle.statement.proofs.CoverLemmas.{all_in, any_of}
+use Rattle.statement.proofs.CoverLemmas.{all_in}
 use Rattle.statement.proofs.RowsLemmas.{found_in}
 use Rattle.statement.proofs.Suffices.{assigned_at, Given, fault_or, table_or}
 use Rattle.schema.proofs.SoundLemmas.{Sound, is_ok, row_ok, found_row, fits_at, fits_count, fits_by, sound_changes}
-
-two_of : (a b : Bool) → (a && b) ≡ true → (a ≡ true) × (b ≡ true)
-two_of true b e = (refl, e)
-two_of false b e = absurd (true≢false (sym e))
-
-both_so : (a b : Bool) → a ≡ true → b ≡ true → (a && b) ≡ true
-both_so a b p q = cc
-
-either : (a b : Bool) → (a || b) ≡ false → (a ≡ false) × (b ≡ false)
-either true b e = absurd (true≢false e)
-either false b e = (refl, e)
-
-was_so : (b : Bool) → not b ≡ false → b ≡ true
-was_so true e = refl
-was_so false e = absurd (true≢false e)
 
 second_not : (a b : Bool) → a ≡ true → (a && b) ≡ false → b ≡ false
 second_not true b p e = e
@@ -70,24 +55,6 @@ columns_at : (c : Catalog) (t : ℕ) (d : TableSchema) → slice_get c t ≡ Som
 columns_at [] t d e = cc
 columns_at (x ∷ c) zero d e = let p : x ≡ d = cc in ap (λ (y : TableSchema). y.columns) p
 columns_at (x ∷ c) (suc t) d e = columns_at c t d e
-
-In-map : {B C : Type 0} (g : B → C) (xs : List B) (x : B) → In x xs → In (g x) (map g xs)
-In-map g [] x i = i
-In-map g (y ∷ xs) x (inl p) = inl (ap g p)
-In-map g (y ∷ xs) x (inr i) = inr (In-map g xs x i)
-
-first_none : {B C : Type 0} (g : B → Option C) (xs : List B) (x : B) → first_some g xs ≡ None → In x xs → g x ≡ None
-first_none g [] x e i = absurd i
-first_none {B} {C} g (y ∷ xs) x e i = go (g y) refl (first_none g xs x) e i
-  where
-    go : (o : Option C) → g y ≡ o → (first_some g xs ≡ None → In x xs → g x ≡ None) → cond (is_some o) o (first_some g xs) ≡ None → (x ≡ y) ⊎ In x xs → g x ≡ None
-    go None q rest f (inl p) = ap g p ∙ q
-    go None q rest f (inr j) = rest f j
-    go (Some z) q rest f j = cc
-
-of_T : (b : Bool) → T b → b ≡ true
-of_T true t = refl
-of_T false t = absurd t
 
 module _ {A : Type 0} where
   none_column : (bad : ℕ → Column → Value A → Bool) (n : ℕ) (ds : List Column) (vs : List (Value A)) (i : ℕ) (d : Column) (v : Value A) → least_column bad n ds vs ≡ None → slice_get ds i ≡ Some d → slice_get vs i ≡ Some v → bad (n + i) d v ≡ false
@@ -111,15 +78,15 @@ module _ {A : Type 0} where
 
   literals_count : (ds : List Column) (vs : List (Value A)) → literals_fit ds vs ≡ true → length vs ≡ length ds
   literals_count [] [] h = refl
-  literals_count (d ∷ ds) (v ∷ vs) h = ap suc (literals_count ds vs (two_of (takes v d) _ h).1)
+  literals_count (d ∷ ds) (v ∷ vs) h = ap suc (literals_count ds vs (and_parts (takes v d) _ h).1)
   literals_count [] (v ∷ vs) h = absurd (true≢false (sym h))
   literals_count (d ∷ ds) [] h = absurd (true≢false (sym h))
 
   literals_at : (ds : List Column) (vs : List (Value A)) (i : ℕ) (d : Column) (v : Value A) → literals_fit ds vs ≡ true → slice_get ds i ≡ Some d → slice_get vs i ≡ Some v → has_kind d.kind v ≡ true
   literals_at [] vs i d v h e f = cc
   literals_at (b ∷ ds) [] i d v h e f = cc
-  literals_at (b ∷ ds) (u ∷ vs) zero d v h e f = let p : b ≡ d = cc in let q : u ≡ v = cc in subst (λ (x : Column). has_kind x.kind v ≡ true) p (subst (λ x. has_kind b.kind x ≡ true) q (two_of (takes u b) (literals_fit ds vs) h).0)
-  literals_at (b ∷ ds) (u ∷ vs) (suc i) d v h e f = literals_at ds vs i d v (two_of (takes u b) (literals_fit ds vs) h).1 e f
+  literals_at (b ∷ ds) (u ∷ vs) zero d v h e f = let p : b ≡ d = cc in let q : u ≡ v = cc in subst (λ (x : Column). has_kind x.kind v ≡ true) p (subst (λ x. has_kind b.kind x ≡ true) q (and_parts (takes u b) (literals_fit ds vs) h).0)
+  literals_at (b ∷ ds) (u ∷ vs) (suc i) d v h e f = literals_at ds vs i d v (and_parts (takes u b) (literals_fit ds vs) h).1 e f
 
   inserted_sound : (c : Catalog) (t : ℕ) (values : List (Value A)) (X : Tables A) → Sound c X → literals_fit (columns_of c t) values ≡ true → Sound c (put_all (inserted c t values X).changes X)
   inserted_sound c t [] X s h = s
@@ -149,12 +116,12 @@ module _ {A : Type 0} where
           → (u : ℕ) (d : TableSchema) → slice_get c u ≡ Some d → (q : Value A) (fs : List (Value A)) → (b : Bool) → (eqb t u && same q k) ≡ b → cond b (Some (Some fields)) None ≡ Some (Some fs) → row_ok X d q fs ≡ true
       new full there u d e q fs false m f = cc
       new full there u d e q fs true m f =
-          let p = two_of (eqb t u) (same q k) m in
+          let p = and_parts (eqb t u) (same q k) m in
           let columns : columns_of c t ≡ d.columns = columns_at c t d (subst (λ n. slice_get c n ≡ Some d) (sym (eqb-true t u p.0)) e) in
           let g : fields ≡ fs = cc in
-          subst (λ y. row_ok X d y fs ≡ true) (sym (same_value q k p.1)) (subst (λ y. row_ok X d k y ≡ true) g (both_so _ _ (key_there d.columns columns) (subst (λ ds. fits_columns X ds (k ∷ fields) ≡ true) columns
-          (fits_by X (columns_of c t) (k ∷ fields) (literals_count (columns_of c t) (k ∷ fields) h) (λ i b v y z. both_so _ _ (both_so _ _ (literals_at (columns_of c t) (k ∷ fields) i b v h y z)
-          (has_value _ b.not_null (is_null v) (none_column lacks_value 0 (columns_of c t) (k ∷ fields) i b v full y z))) (was_so _ (none_column (lacks_row X) 0 (columns_of c t) (k ∷ fields) i b v there y z)))))))
+          subst (λ y. row_ok X d y fs ≡ true) (sym (same_value q k p.1)) (subst (λ y. row_ok X d k y ≡ true) g (and_from _ _ (key_there d.columns columns) (subst (λ ds. fits_columns X ds (k ∷ fields) ≡ true) columns
+          (fits_by X (columns_of c t) (k ∷ fields) (literals_count (columns_of c t) (k ∷ fields) h) (λ i b v y z. and_from _ _ (and_from _ _ (literals_at (columns_of c t) (k ∷ fields) i b v h y z)
+          (has_value _ b.not_null (is_null v) (none_column lacks_value 0 (columns_of c t) (k ∷ fields) i b v full y z))) (not-false _ (none_column (lacks_row X) 0 (columns_of c t) (k ∷ fields) i b v there y z)))))))
         where
           key_there : (ds : List Column) → columns_of c t ≡ ds → not (is_null k) ≡ true
           key_there [] w = absurd (let l : length (k ∷ fields) ≡ length (columns_of c t) = literals_count (columns_of c t) (k ∷ fields) h in let n : length (columns_of c t) ≡ 0 = ap length w in omega (arith, l, n))
@@ -199,7 +166,7 @@ module _ {A : Type 0} where
 
       go : (z : Option (Option (List (Value A)))) → left_by u k (map (λ row. record { table = t; key = row.0; fields = g row }) rows) ≡ z → (left_by u k (map (λ row. record { table = t; key = row.0; fields = g row }) rows) ≡ Some o → Found rows)
           → (b : Bool) → (eqb t u && same k r.0) ≡ b → cond (is_some z) z (cond b (Some (g r)) None) ≡ Some o → Found (r ∷ rows)
-      go None q rest true m f = let p = two_of (eqb t u) (same k r.0) m in (r, inl refl, eqb-true t u p.0, same_value k r.0 p.1, cc)
+      go None q rest true m f = let p = and_parts (eqb t u) (same k r.0) m in (r, inl refl, eqb-true t u p.0, same_value k r.0 p.1, cc)
       go None q rest false m f = cc
       go (Some z) q rest b m f = let w = rest (q ∙ f) in (w.0, inr w.1, w.2, w.3, w.4)
 
@@ -208,7 +175,7 @@ module _ {A : Type 0} where
   number_fits d (Int n) m b r = go d.kind b
     where
       go : (k : Kind) → is_bigint k ≡ true → has_kind {A = A} k (added {A = A} (Int n) m) ≡ true
-      go kind.Bigint e = was_so _ r
+      go kind.Bigint e = not-false _ r
       go kind.Text e = absurd (true≢false (sym e))
       go kind.Bytea e = absurd (true≢false (sym e))
   number_fits d Null m b r = refl
@@ -248,16 +215,16 @@ module _ {A : Type 0} where
       new full small there u d e q fs r i p k g =
           let columns : columns_of c t ≡ d.columns = columns_at c t d (subst (λ n. slice_get c n ≡ Some d) (sym p) e) in
           let same_fields : (updated_row more r).1 ≡ fs = cc in
-          subst (λ y. row_ok X d y fs ≡ true) (sym k) (subst (λ y. row_ok X d r.0 y ≡ true) same_fields (both_so _ _ before.0 (fits_by X d.columns (r.0 ∷ (updated_row more r).1)
+          subst (λ y. row_ok X d y fs ≡ true) (sym k) (subst (λ y. row_ok X d r.0 y ≡ true) same_fields (and_from _ _ before.0 (fits_by X d.columns (r.0 ∷ (updated_row more r).1)
           (ap suc (length-assigned r more r.1) ∙ fits_count X d.columns (r.0 ∷ r.1) before.1) (λ j b v y z. at columns j b v y z))))
         where
           before : (not (is_null r.0) ≡ true) × (fits_columns X d.columns (r.0 ∷ r.1) ≡ true)
-          before = two_of (not (is_null r.0)) (fits_columns X d.columns (r.0 ∷ r.1))
-              (s.rows u d e r.0 r.1 (subst (λ n. row_at X n r.0 ≡ Some r.1) p (found_row (rows_of X t) r (of_T (is_sorted value_cmp (rows_of X t)) (s.ordered.each t)) (sub r i))))
+          before = and_parts (not (is_null r.0)) (fits_columns X d.columns (r.0 ∷ r.1))
+              (s.rows u d e r.0 r.1 (subst (λ n. row_at X n r.0 ≡ Some r.1) p (found_row (rows_of X t) r (true_from_T (is_sorted value_cmp (rows_of X t)) (s.ordered.each t)) (sub r i))))
 
           not_bad : (bad : ℕ → Column → Value A → Bool) → abbreviated bad → (j : ℕ) (b : Column) (v : Value A) → slice_get (columns_of c t) j ≡ Some b → slice_get (r.0 ∷ (updated_row more r).1) j ≡ Some v → bad j b v ≡ false
           not_bad bad a j b v y z = subst (λ n. bad n b v ≡ false) (zero_plus j) (none_column bad 0 (columns_of c t) (r.0 ∷ (updated_row more r).1) j b v
-              (first_none (λ row. least_column bad 0 (columns_of c t) (cells row)) (map (updated_row more) rows) (updated_row more r) a (In-map (updated_row more) rows r i)) y z)
+              (first_some-In (λ row. least_column bad 0 (columns_of c t) (cells row)) (map (updated_row more) rows) (updated_row more r) a (In-mapped (updated_row more) r rows i)) y z)
             where
               zero_plus : (n : ℕ) → 0 + n ≡ n
               zero_plus n = omega arith
@@ -271,22 +238,22 @@ module _ {A : Type 0} where
 
               side : (is_assigned more (suc j) ≡ false) × (slice_get r.1 j ≡ Some v) ⊎ Given r more (suc j) v → is_ok X b v ≡ true
               side (inl w) = fits_at X d.columns (r.0 ∷ r.1) (suc j) b v before.1 y w.1
-              side (inr w) = both_so _ _ (both_so _ _ of_kind (has_value _ b.not_null (is_null v) (second_not (is_assigned more (suc j)) _ set (not_bad (assigned_lacks_value more) full (suc j) b v here z))))
-                  (was_so _ (second_not (is_assigned more (suc j)) _ set (not_bad (assigned_lacks_row X more) there (suc j) b v here z)))
+              side (inr w) = and_from _ _ (and_from _ _ of_kind (has_value _ b.not_null (is_null v) (second_not (is_assigned more (suc j)) _ set (not_bad (assigned_lacks_value more) full (suc j) b v here z))))
+                  (not-false _ (second_not (is_assigned more (suc j)) _ set (not_bad (assigned_lacks_row X more) there (suc j) b v here z)))
                 where
                   set : is_assigned more (suc j) ≡ true
                   set = is_assigned_by more w.0 (suc j) w.1 w.2
 
                   fitting : source_fits (columns_of c t) w.0.source b ≡ true
                   fitting = subst (λ o. option_map_or (source_fits (columns_of c t) w.0.source) o false ≡ true) (ap (slice_get (columns_of c t)) w.2 ∙ here)
-                      (two_of (nat_lt 0 w.0.column) (column_passes (source_fits (columns_of c t) w.0.source) (columns_of c t) w.0.column) (all_in (assignment_fits (columns_of c t)) more w.0 h w.1)).1
+                      (and_parts (nat_lt 0 w.0.column) (column_passes (source_fits (columns_of c t) w.0.source) (columns_of c t) w.0.column) (all_in (assignment_fits (columns_of c t)) more w.0 h w.1)).1
 
                   of_kind : has_kind b.kind v ≡ true
                   of_kind = by_source w.0.source fitting w.3
                     where
                       by_source : (o : Source A) → source_fits (columns_of c t) o b ≡ true → v ≡ given r o → has_kind b.kind v ≡ true
                       by_source (Literal l) q g' = subst (λ x. has_kind b.kind x ≡ true) (sym g') q
-                      by_source (Sum n m) q g' = subst (λ x. has_kind b.kind x ≡ true) (sym g') (number_fits b (field r n) m (two_of (is_bigint b.kind) _ q).0
+                      by_source (Sum n m) q g' = subst (λ x. has_kind b.kind x ≡ true) (sym g') (number_fits b (field r n) m (and_parts (is_bigint b.kind) _ q).0
                           (subst (λ x. out_of_range x ≡ false) g' (second_not (is_assigned more (suc j)) _ set (not_bad (assigned_out_of_range more) small (suc j) b v here z))))
 
   -- ---- DELETE
@@ -301,8 +268,8 @@ module _ {A : Type 0} where
     where
       none_in : (rs : List (Row A)) → list_any (λ row. names_one t gone b.columns (cells row)) rs ≡ false → In r rs → names_one t gone b.columns (cells r) ≡ false
       none_in [] f k = absurd k
-      none_in (y ∷ rs) f (inl p) = ap (λ (z : Row A). names_one t gone b.columns (cells z)) p ∙ (either (names_one t gone b.columns (cells y)) _ f).0
-      none_in (y ∷ rs) f (inr k) = none_in rs (either (names_one t gone b.columns (cells y)) _ f).1 k
+      none_in (y ∷ rs) f (inl p) = ap (λ (z : Row A). names_one t gone b.columns (cells z)) p ∙ (or_parts (names_one t gone b.columns (cells y)) _ f).0
+      none_in (y ∷ rs) f (inr k) = none_in rs (or_parts (names_one t gone b.columns (cells y)) _ f).1 k
 
       go : (z : Bool) → list_any (λ row. names_one t gone b.columns (cells row)) rows ≡ z → cond z (Some u) (least_table t gone (suc u) c X) ≡ None → (n : ℕ) → slice_get (b ∷ c) n ≡ Some d → In r (rows_of (rows ∷ X) n)
           → ((n : ℕ) (d : TableSchema) (r : Row A) → least_table t gone (suc u) c X ≡ None → slice_get c n ≡ Some d → In r (rows_of X n) → names_one t gone d.columns (cells r) ≡ false) → names_one t gone d.columns (cells r) ≡ false
@@ -315,8 +282,8 @@ module _ {A : Type 0} where
   names_none_at t gone [] vs i d v h e f = cc
   names_none_at t gone (b ∷ ds) [] i d v h e f = cc
   names_none_at t gone (b ∷ ds) (u ∷ vs) zero d v h e f = let p : b ≡ d = cc in let q : u ≡ v = cc in
-      subst (λ x. (references t x && is_gone gone v) ≡ false) p (subst (λ x. (references t b && is_gone gone x) ≡ false) q (either (references t b && is_gone gone u) (names_one t gone ds vs) h).0)
-  names_none_at t gone (b ∷ ds) (u ∷ vs) (suc i) d v h e f = names_none_at t gone ds vs i d v (either (references t b && is_gone gone u) (names_one t gone ds vs) h).1 e f
+      subst (λ x. (references t x && is_gone gone v) ≡ false) p (subst (λ x. (references t b && is_gone gone x) ≡ false) q (or_parts (references t b && is_gone gone u) (names_one t gone ds vs) h).0)
+  names_none_at t gone (b ∷ ds) (u ∷ vs) (suc i) d v h e f = names_none_at t gone ds vs i d v (or_parts (references t b && is_gone gone u) (names_one t gone ds vs) h).1 e f
 
   deleted_sound : (c : Catalog) (t : ℕ) (rows : List (Row A)) (X : Tables A) → Sound c X → ((r : Row A) → In r rows → not (is_null r.0) ≡ true) → Sound c (put_all (deleted c t rows X).changes X)
   deleted_sound c t rows X s keys = table_or (λ xs. Sound c (put_all xs X)) code.ForeignKeyViolation (least_table t rows 0 c X) (writes_rows c X (Deleted (length rows)) (map (removes t) rows)) s kept
@@ -362,19 +329,19 @@ module _ {A : Type 0} where
                 where
                   apart : None ≡ Some fields → ⊥
                   apart q = cc
-              side (inl p) = both_so _ _ old.0 (fits_by (put_all gone X) d.columns (k ∷ fields) (fits_count X d.columns (k ∷ fields) old.1) (λ i b v y z. one i b v y z (fits_at X d.columns (k ∷ fields) i b v old.1 y z)))
+              side (inl p) = and_from _ _ old.0 (fits_by (put_all gone X) d.columns (k ∷ fields) (fits_count X d.columns (k ∷ fields) old.1) (λ i b v y z. one i b v y z (fits_at X d.columns (k ∷ fields) i b v old.1 y z)))
                 where
                   had : row_at X u k ≡ Some fields
                   had = sym p ∙ f
 
                   old : (not (is_null k) ≡ true) × (fits_columns X d.columns (k ∷ fields) ≡ true)
-                  old = two_of (not (is_null k)) (fits_columns X d.columns (k ∷ fields)) (s.rows u d e k fields had)
+                  old = and_parts (not (is_null k)) (fits_columns X d.columns (k ∷ fields)) (s.rows u d e k fields had)
 
                   unnamed : names_one t rows d.columns (k ∷ fields) ≡ false
                   unnamed = none_table t rows 0 c X u d (k, fields) none e (found_in (rows_of X u) k fields had)
 
                   one : (i : ℕ) (b : Column) (v : Value A) → slice_get d.columns i ≡ Some b → slice_get (k ∷ fields) i ≡ Some v → is_ok X b v ≡ true → is_ok (put_all gone X) b v ≡ true
-                  one i b v y z h = let q = two_of (has_kind b.kind v && not (b.not_null && is_null v)) (is_there X b v) h in both_so _ _ q.0 (there (is_null v) refl b.references refl q.1)
+                  one i b v y z h = let q = and_parts (has_kind b.kind v && not (b.not_null && is_null v)) (is_there X b v) h in and_from _ _ q.0 (there (is_null v) refl b.references refl q.1)
                     where
                       there : (n : Bool) → is_null v ≡ n → (o : Option ℕ) → b.references ≡ o → is_there X b v ≡ true → is_there (put_all gone X) b v ≡ true
                       there true m o r g = ap (λ w. w || option_map_or (λ a. is_some (row_at (put_all gone X) a v)) b.references true) m
@@ -390,21 +357,21 @@ module _ {A : Type 0} where
                             where
                               still : (row_at (put_all gone X) a v ≡ row_at X a v) ⊎ (row_at (put_all gone X) a v ≡ None) × Left a v → is_some (row_at (put_all gone X) a v) ≡ true
                               still (inl x) = ap is_some x ∙ held
-                              still (inr x) = absurd (true≢false (sym (both_so (references t b) (list_any (λ row. is_so row.0 is.Equal v) rows) refers (any_of (λ row. is_so row.0 is.Equal v) rows x.1.0 x.1.1 equal)) ∙ names_none_at t rows d.columns (k ∷ fields) i b v unnamed y z))
+                              still (inr x) = absurd (true≢false (sym (and_from (references t b) (list_any (λ row. is_so row.0 is.Equal v) rows) refers (In-any (λ row. is_so row.0 is.Equal v) rows x.1.0 x.1.1 equal)) ∙ names_none_at t rows d.columns (k ∷ fields) i b v unnamed y z))
                                 where
                                   refers : references t b ≡ true
                                   refers = ap (λ w. option_map_or (λ n. eqb n t) w false) r ∙ eq-eqb a t (sym x.1.2)
 
                                   equal : is_so x.1.0.0 is.Equal v ≡ true
-                                  equal = both_so _ _ (both_so _ _ (keys x.1.0 x.1.1) (ap not m)) (subst (λ w. is_eq (value_cmp w v) ≡ true) x.1.3 (ap is_eq (tied_itself value_cmp-total v)))
+                                  equal = and_from _ _ (and_from _ _ (keys x.1.0 x.1.1) (ap not m)) (subst (λ w. is_eq (value_cmp w v) ≡ true) x.1.3 (ap is_eq (tied_itself value_cmp-total v)))
 
   -- ---- any statement
 
   pub outcome_sound : (c : Catalog) (q : Statement A) (X : Tables A) → Fits c q → Sound c X → ((r : Row A) (t : ℕ) → In r (rows_of X t) → not (is_null r.0) ≡ true) → Sound c (after c q X)
   outcome_sound c (Select t p conditions) X f s keys = s
-  outcome_sound c (Insert t values) X f s keys = inserted_sound c t values X s (two_of (has_table c t) _ f).1
+  outcome_sound c (Insert t values) X f s keys = inserted_sound c t values X s (and_parts (has_table c t) _ f).1
   outcome_sound c (Update t more conditions) X f s keys =
-      let p = two_of (has_table c t && list_all (assignment_fits (columns_of c t)) more && assigns_once more) (list_all (condition_fits (columns_of c t)) conditions) f in
-      let q = two_of (has_table c t && list_all (assignment_fits (columns_of c t)) more) (assigns_once more) p.0 in
-      updated_sound c t more (chosen X t conditions) X s (λ r i. filter-in (satisfies conditions) (rows_of X t) r i) (two_of (has_table c t) _ q.0).1
+      let p = and_parts (has_table c t && list_all (assignment_fits (columns_of c t)) more && assigns_once more) (list_all (condition_fits (columns_of c t)) conditions) f in
+      let q = and_parts (has_table c t && list_all (assignment_fits (columns_of c t)) more) (assigns_once more) p.0 in
+      updated_sound c t more (chosen X t conditions) X s (λ r i. filter-in (satisfies conditions) (rows_of X t) r i) (and_parts (has_table c t) _ q.0).1
   outcome_sound c (Delete t conditions) X f s keys = deleted_sound c t (chosen X t conditions) X s (λ r i. keys r t (filter-in (satisfies conditions) (rows_of X t) r i))

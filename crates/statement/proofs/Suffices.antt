@@ -1,6 +1,6 @@
 -- The footprint suffices: a statement has one outcome on tables that agree where it reads.
 use Rattle.std.proofs.Common.{◌≡◌, refl, sym, ap, subst, ◌∙◌, ℕ, zero, suc, ◌+◌, ◌<◌, Bool, true, false, true≢false, ◌≢◌, ◌≤◌, cond, not, ◌&&◌, ◌||◌, ◌⊎◌, inl, inr, List, [], ◌∷◌, ◌++◌, map, length, slice_get, slice_set, slice_index_or, Option, Some, None, is_some, eqb, nat_lt, T, arith}
-use Rattle.std.proofs.lemmas.Bool.{eq-eqb}
+use Rattle.std.proofs.lemmas.Bool.{eq-eqb, and_parts, or_left, or_right, and_from}
 use Rattle.std.proofs.Math.Dec.{eqb-zero-suc, eqb-suc-zero, eqb-suc-suc}
 use Rattle.std.specs.Ordering.{is_eq}
 use Rattle.std.proofs.lemmas.Cmp.{tied_itself}
@@ -15,6 +15,7 @@ use Rattle.value.specs.declared.refusal.Code.TheVariants as code
 use Rattle.value.specs.Isolation.{first_some}
 use Rattle.value.specs.Order.{value_cmp, value_cmp-total}
 use Rattle.value.proofs.IsolationLemmas.{In}
+use Rattle.value.proofs.Basics.{any-front, any-back, In-any}
 use Rattle.schema.specs.Definition.{Column}
 use Rattle.schema.specs.Definition.{TableSchema}
 use Rattle.schema.specs.Definition.{Catalog}
@@ -25,6 +26,7 @@ use Rattle.schema.specs.Plain.{same, is_null, cells, field, rows_of, row_at, col
 use Rattle.schema.proofs.PlainLemmas.{same_value, IsOrdered, rows_of-past, length-put_in}
 use Rattle.std.proofs.lemmas.List.{get_or-set_same, get_or-set_other}
 use Rattle.std.proofs.lemmas.Bool.Decides.{eqb_tells}
+use Rattle.std.specs.Cmp.{both_ways}
 use Rattle.std.specs.declared.cmp.Ordering.{Ordering}
 use Rattle.std.specs.declared.cmp.Ordering.TheVariants.{Less, Equal, Greater}
 use Rattle.statement.specs.declared.condition.Comparison.TheVariants as is
@@ -47,16 +49,10 @@ use Rattle.statement.specs.Footprint.{footprint, in_table, extents_of, reads_nam
 use Rattle.statement.specs.Cover.{has_key, has_reference, is_whole}
 use Rattle.statement.specs.Agreement.{Agree, if_naming, row_naming}
 use Rattle.statement.specs.Fits.{Fits, literals_fit, assignment_fits, assigns_once, has_table, column_passes, source_fits, condition_fits, takes}
-use Rattle.statement.proofs.CoverLemmas.{and_both, or_left, or_right, any_front, any_back, all_in, any_of}
+use Rattle.statement.proofs.CoverLemmas.{all_in}
 use Rattle.statement.proofs.MarksLemmas.{SameAt, marks_of-same}
-use Rattle.statement.proofs.RowsLemmas.{HasKeys, same_chosen, there, read_there, chosen_in_extents, found_in, value_exact, both}
+use Rattle.statement.proofs.RowsLemmas.{HasKeys, same_chosen, there, read_there, chosen_in_extents, found_in, value_exact}
 use Rattle.schema.proofs.SoundLemmas.{found_row}
-
--- tests that hold of the same are the same
-same_test : (a b : Bool) → (a ≡ true → b ≡ true) → (b ≡ true → a ≡ true) → a ≡ b
-same_test true b f g = sym (f refl)
-same_test false true f g = g refl
-same_test false false f g = refl
 
 column_there : (ds : List Column) (n : ℕ) (d : Column) → slice_get ds n ≡ Some d → column_at ds n ≡ d ∷ []
 column_there [] n d e = cc
@@ -69,22 +65,22 @@ first_same g p q f (x ∷ xs) = ap (λ o. cond (is_some o) o (first_some p (map 
 
 all_map : {A B : Type 0} (f : A → B) (p : B → Bool) (q : A → Bool) → ((x : A) → p (f x) ≡ q x) → (xs : List A) → list_all q xs ≡ true → list_all p (map f xs) ≡ true
 all_map f p q e [] h = refl
-all_map f p q e (x ∷ xs) h = let r = and_both (q x) (list_all q xs) h in both _ _ (e x ∙ r.0) (all_map f p q e xs r.1)
+all_map f p q e (x ∷ xs) h = let r = and_parts (q x) (list_all q xs) h in and_from _ _ (e x ∙ r.0) (all_map f p q e xs r.1)
 
 all_filter : {A : Type 0} (p q : A → Bool) (xs : List A) → list_all q xs ≡ true → list_all q (filter p xs) ≡ true
 all_filter p q [] h = refl
-all_filter p q (x ∷ xs) h = go (p x) (and_both (q x) (list_all q xs) h) (all_filter p q xs)
+all_filter p q (x ∷ xs) h = go (p x) (and_parts (q x) (list_all q xs) h) (all_filter p q xs)
   where
     go : (b : Bool) → (q x ≡ true) × (list_all q xs ≡ true) → (list_all q xs ≡ true → list_all q (filter p xs) ≡ true) → list_all q (cond b (x ∷ filter p xs) (filter p xs)) ≡ true
-    go true r rest = both _ _ r.0 (rest r.1)
+    go true r rest = and_from _ _ r.0 (rest r.1)
     go false r rest = rest r.1
 
 module _ {A : Type 0} where
   front : (rs qs : List (Reading A)) (X Y : Tables A) → Agree (rs ++ qs) X Y → Agree rs X Y
-  front rs qs X Y a = record { at = λ t k h. a.at t k (any_front _ rs qs h); naming = λ t j k h. a.naming t j k (any_front _ rs qs h) }
+  front rs qs X Y a = record { at = λ t k h. a.at t k (any-front _ rs qs h); naming = λ t j k h. a.naming t j k (any-front _ rs qs h) }
 
   back : (rs qs : List (Reading A)) (X Y : Tables A) → Agree (rs ++ qs) X Y → Agree qs X Y
-  back rs qs X Y a = record { at = λ t k h. a.at t k (any_back _ rs qs h); naming = λ t j k h. a.naming t j k (any_back _ rs qs h) }
+  back rs qs X Y a = record { at = λ t k h. a.at t k (any-back _ rs qs h); naming = λ t j k h. a.naming t j k (any-back _ rs qs h) }
 
   pub same_itself : (v : Value A) → same v v ≡ true
   same_itself v = ap is_eq (tied_itself value_cmp-total v)
@@ -155,7 +151,7 @@ module _ {A : Type 0} where
       go : (rows : List (Row A)) → list_all (λ row. not (is_null row.0)) rows ≡ true → find value_cmp k rows ≡ None
       go [] g = refl
       go (r ∷ rows) g =
-          let p = and_both (not (is_null r.0)) (list_all (λ row. not (is_null row.0)) rows) g in
+          let p = and_parts (not (is_null r.0)) (list_all (λ row. not (is_null row.0)) rows) g in
           ap (λ b. cond b (Some r.1) (find value_cmp k rows)) (apart r (flip (is_null r.0) p.0)) ∙ go rows p.1
 
   inserted_same : (c : Catalog) (t : ℕ) (values : List (Value A)) (X Y : Tables A) → HasKeys X → HasKeys Y → Agree (reads_inserted t values ++ reads_fields (columns_of c t) values) X Y → inserted c t values X ≡ inserted c t values Y
@@ -303,7 +299,7 @@ module _ {A : Type 0} where
   gone_key (r ∷ gone) k v h e = go (is_so r.0 is.Equal v) refl (gone_key gone k v) e
     where
       p : (list_any (has_key r.0) (One k ∷ []) ≡ true) × (list_all (λ row. list_any (has_key row.0) (One k ∷ [])) gone ≡ true)
-      p = and_both _ _ h
+      p = and_parts _ _ h
 
       its_key : same k r.0 ≡ true
       its_key = front_true (same k r.0) p.0
@@ -313,7 +309,7 @@ module _ {A : Type 0} where
           front_true false e = e
 
       go : (b : Bool) → is_so r.0 is.Equal v ≡ b → (list_all (λ row. list_any (has_key row.0) (One k ∷ [])) gone ≡ true → is_gone gone v ≡ true → same k v ≡ true) → (b || is_gone gone v) ≡ true → same k v ≡ true
-      go true q rest g = subst (λ x. same x v ≡ true) (sym (same_value k r.0 its_key)) (and_both (not (is_null r.0) && not (is_null v)) (is_eq (value_cmp r.0 v)) q).1
+      go true q rest g = subst (λ x. same x v ≡ true) (sym (same_value k r.0 its_key)) (and_parts (not (is_null r.0) && not (is_null v)) (is_eq (value_cmp r.0 v)) q).1
       go false q rest g = rest p.1 g
 
   get_index : (vs : List (Value A)) (j : ℕ) (v : Value A) → slice_get vs j ≡ Some v → slice_index_or vs j Null ≡ v
@@ -327,7 +323,7 @@ module _ {A : Type 0} where
   rows_naming_has k t n (b ∷ ds) zero d e r =
       let p : b ≡ d = cc in
       ap (λ z. list_any (has_reference (n + 0) k) (cond z (Referencing n k ∷ rows_naming k t (suc n) ds) (rows_naming k t (suc n) ds))) (ap (references t) p ∙ r)
-      ∙ or_left (eqb n (n + 0) && same k k) _ (both _ _ (eq-eqb n (n + 0) (omega arith)) (same_itself k))
+      ∙ or_left (eqb n (n + 0) && same k k) _ (and_from _ _ (eq-eqb n (n + 0) (omega arith)) (same_itself k))
   rows_naming_has k t n (b ∷ ds) (suc j) d e r = go (references t b) (subst (λ m. list_any (has_reference m k) (rows_naming k t (suc n) ds) ≡ true) (plus_suc n j) (rows_naming_has k t (suc n) ds j d e r))
     where
       plus_suc : (m i : ℕ) → suc m + i ≡ m + suc i
@@ -342,13 +338,13 @@ module _ {A : Type 0} where
   referencing_read p es t u [] i d e h = cc
   referencing_read p es t u (x ∷ c) zero d e h =
       let q : x ≡ d = cc in
-      any_front _ (in_table u (reads_columns es t x.columns)) (reads_referencing es t (suc u) c)
+      any-front _ (in_table u (reads_columns es t x.columns)) (reads_referencing es t (suc u) c)
       (subst (λ n. list_any (λ r. eqb r.table n && p r.extent) (in_table u (reads_columns es t x.columns)) ≡ true) (plus_zero u) (there p u (reads_columns es t x.columns) (ap (λ (y : TableSchema). list_any p (reads_columns es t y.columns)) q ∙ h)))
     where
       plus_zero : (m : ℕ) → m ≡ m + 0
       plus_zero m = omega arith
   referencing_read p es t u (x ∷ c) (suc i) d e h =
-      any_back _ (in_table u (reads_columns es t x.columns)) (reads_referencing es t (suc u) c) (subst (λ n. list_any (λ r. eqb r.table n && p r.extent) (reads_referencing es t (suc u) c) ≡ true) (plus_suc u i) (referencing_read p es t (suc u) c i d e h))
+      any-back _ (in_table u (reads_columns es t x.columns)) (reads_referencing es t (suc u) c) (subst (λ n. list_any (λ r. eqb r.table n && p r.extent) (reads_referencing es t (suc u) c) ≡ true) (plus_suc u i) (referencing_read p es t (suc u) c i d e h))
     where
       plus_suc : (m n : ℕ) → suc m + n ≡ m + suc n
       plus_suc m n = omega arith
@@ -387,7 +383,7 @@ module _ {A : Type 0} where
       of_T false t = absurd t
 
       found : Some_row (rows_of X u) → list_any (λ row. names_one t gone ds (cells row)) (rows_of Y u) ≡ true
-      found w = any_of (λ row. names_one t gone ds (cells row)) (rows_of Y u) (w.0.0, w.0.1) (found_in (rows_of Y u) w.0.0 w.0.1 in_Y) w.2
+      found w = In-any (λ row. names_one t gone ds (cells row)) (rows_of Y u) (w.0.0, w.0.1) (found_in (rows_of Y u) w.0.0 w.0.1 in_Y) w.2
         where
           n : Naming t gone ds (cells w.0)
           n = naming_of t gone ds (cells w.0) w.2
@@ -437,7 +433,7 @@ module _ {A : Type 0} where
           let none : gone ≡ [] = nothing gone g in
           let clear : (rows : List (Row A)) → list_any (λ row. names_one t gone ds (cells row)) rows ≡ false = λ rows. none_of _ (λ r. ap (λ gs. names_one t gs ds (cells r)) none ∙ none_gone t ds (cells r)) rows in
           clear (rows_of X u) ∙ sym (clear (rows_of Y u))
-      by_extent (One k ∷ []) g w n = same_test _ _ (names_still k t gone u ds X Y ox g read) (names_still k t gone u ds Y X oy g (λ j d e r p. sym (read j d e r p)))
+      by_extent (One k ∷ []) g w n = both_ways _ _ (names_still k t gone u ds X Y ox g read) (names_still k t gone u ds Y X oy g (λ j d e r p. sym (read j d e r p)))
         where
           zero_plus : (m : ℕ) → 0 + m ≡ m
           zero_plus m = omega arith
@@ -486,15 +482,15 @@ module _ {A : Type 0} where
 
   literals_length : (ds : List Column) (vs : List (Value A)) → literals_fit ds vs ≡ true → length vs ≡ length ds
   literals_length [] [] h = refl
-  literals_length (d ∷ ds) (v ∷ vs) h = ap suc (literals_length ds vs (and_both (takes v d) _ h).1)
+  literals_length (d ∷ ds) (v ∷ vs) h = ap suc (literals_length ds vs (and_parts (takes v d) _ h).1)
   literals_length [] (v ∷ vs) h = absurd (true≢false (sym h))
   literals_length (d ∷ ds) [] h = absurd (true≢false (sym h))
 
   no_key : (ds : List Column) (more : List (Assignment A)) → list_all (assignment_fits ds) more ≡ true → is_assigned more 0 ≡ false
   no_key ds [] h = refl
   no_key ds (a ∷ more) h =
-      let p = and_both (assignment_fits ds a) (list_all (assignment_fits ds) more) h in
-      let q = and_both (nat_lt 0 a.column) (column_passes (source_fits ds a.source) ds a.column) p.0 in
+      let p = and_parts (assignment_fits ds a) (list_all (assignment_fits ds) more) h in
+      let q = and_parts (nat_lt 0 a.column) (column_passes (source_fits ds a.source) ds a.column) p.0 in
       ap (λ b. b || is_assigned more 0) (above a.column q.0) ∙ no_key ds more p.1
     where
       above : (n : ℕ) → nat_lt 0 n ≡ true → eqb n 0 ≡ false
@@ -503,11 +499,11 @@ module _ {A : Type 0} where
 
   pub needed : (c : Catalog) (q : Statement A) → Fits c q → Needed c q
   needed c (Select t p conditions) f = tt
-  needed c (Insert t values) f = literals_length (columns_of c t) values (and_both (has_table c t) _ f).1
+  needed c (Insert t values) f = literals_length (columns_of c t) values (and_parts (has_table c t) _ f).1
   needed c (Update t more conditions) f =
-      let p = and_both (has_table c t && list_all (assignment_fits (columns_of c t)) more && assigns_once more) (list_all (condition_fits (columns_of c t)) conditions) f in
-      let q = and_both (has_table c t && list_all (assignment_fits (columns_of c t)) more) (assigns_once more) p.0 in
-      no_key (columns_of c t) more (and_both (has_table c t) _ q.0).1
+      let p = and_parts (has_table c t && list_all (assignment_fits (columns_of c t)) more && assigns_once more) (list_all (condition_fits (columns_of c t)) conditions) f in
+      let q = and_parts (has_table c t && list_all (assignment_fits (columns_of c t)) more) (assigns_once more) p.0 in
+      no_key (columns_of c t) more (and_parts (has_table c t) _ q.0).1
   needed c (Delete t conditions) f = tt
 
   -- ---- any statement
@@ -597,21 +593,21 @@ module _ {A : Type 0} where
 
   pub outcome_keys : (c : Catalog) (q : Statement A) (X : Tables A) → Fits c q → HasKeys X → WithKeys (outcome c q X).changes
   outcome_keys c (Select t p conditions) X f h = refl
-  outcome_keys c (Insert t values) X f h = inserted_has WithKeys c t values X (needed c (Insert t values) f) refl (λ k fields e n. both _ _ n refl)
+  outcome_keys c (Insert t values) X f h = inserted_has WithKeys c t values X (needed c (Insert t values) f) refl (λ k fields e n. and_from _ _ n refl)
   outcome_keys c (Update t more conditions) X f h = updated_has WithKeys c t more (chosen X t conditions) X refl
       (all_map (λ row. puts t (updated_row more row)) (λ x. not (is_null x.key)) (λ row. not (is_null row.0)) (λ row. refl) (chosen X t conditions) (all_filter (satisfies conditions) (λ row. not (is_null row.0)) (rows_of X t) (h.each t)))
   outcome_keys c (Delete t conditions) X f h = deleted_has WithKeys c t (chosen X t conditions) X refl
       (all_map (removes t) (λ x. not (is_null x.key)) (λ row. not (is_null row.0)) (λ row. refl) (chosen X t conditions) (all_filter (satisfies conditions) (λ row. not (is_null row.0)) (rows_of X t) (h.each t)))
 
   put-keys : (k : Value A) (fields : List (Value A)) (rows : List (Row A)) → is_null k ≡ false → list_all (λ row. not (is_null row.0)) rows ≡ true → list_all (λ row. not (is_null row.0)) (put value_cmp k fields rows) ≡ true
-  put-keys k fields [] n h = both _ _ (ap not n) refl
-  put-keys k fields (r ∷ rows) n h = go (value_cmp k r.0) (and_both (not (is_null r.0)) (list_all (λ row. not (is_null row.0)) rows) h) (put-keys k fields rows n)
+  put-keys k fields [] n h = and_from _ _ (ap not n) refl
+  put-keys k fields (r ∷ rows) n h = go (value_cmp k r.0) (and_parts (not (is_null r.0)) (list_all (λ row. not (is_null row.0)) rows) h) (put-keys k fields rows n)
     where
       go : (o : Ordering) → (not (is_null r.0) ≡ true) × (list_all (λ row. not (is_null row.0)) rows ≡ true) → (list_all (λ row. not (is_null row.0)) rows ≡ true → list_all (λ row. not (is_null row.0)) (put value_cmp k fields rows) ≡ true)
           → list_all (λ row. not (is_null row.0)) (by_order o ((k, fields) ∷ r ∷ rows) ((r.0, fields) ∷ rows) (r ∷ put value_cmp k fields rows)) ≡ true
-      go Less p rest = both _ _ (ap not n) (both _ _ p.0 p.1)
-      go Equal p rest = both _ _ p.0 p.1
-      go Greater p rest = both _ _ p.0 (rest p.1)
+      go Less p rest = and_from _ _ (ap not n) (and_from _ _ p.0 p.1)
+      go Equal p rest = and_from _ _ p.0 p.1
+      go Greater p rest = and_from _ _ p.0 (rest p.1)
 
   changed-keys : (k : Value A) (fields : Option (List (Value A))) (rows : List (Row A)) → is_null k ≡ false → list_all (λ row. not (is_null row.0)) rows ≡ true → list_all (λ row. not (is_null row.0)) (changed k fields rows) ≡ true
   changed-keys k (Some fields) rows n h = put-keys k fields rows n h
@@ -632,7 +628,7 @@ module _ {A : Type 0} where
 
   pub put_all-keys : (xs : List (Change A)) (X : Tables A) → WithKeys xs → HasKeys X → HasKeys (put_all xs X)
   put_all-keys [] X w h = h
-  put_all-keys (x ∷ xs) X w h = let p = and_both (not (is_null x.key)) (list_all (λ y. not (is_null y.key)) xs) w in put_all-keys xs (put_in x X) p.1 (put_in-keys x X (flip (is_null x.key) p.0) h)
+  put_all-keys (x ∷ xs) X w h = let p = and_parts (not (is_null x.key)) (list_all (λ y. not (is_null y.key)) xs) w in put_all-keys xs (put_in x X) p.1 (put_in-keys x X (flip (is_null x.key) p.0) h)
     where
       flip : (c : Bool) → not c ≡ true → c ≡ false
       flip true g = absurd (true≢false (sym g))

@@ -1,6 +1,6 @@
 -- An UPDATE by its assignments: its faults, column by column, are those of its new rows.
 use Rattle.std.proofs.Common.{◌≡◌, refl, sym, ap, subst, ◌∙◌, ℕ, zero, suc, ◌+◌, ◌-◌, ◌<◌, ◌≤◌, Bool, true, false, true≢false, cond, not, ◌&&◌, ◌||◌, ◌⊎◌, inl, inr, List, [], ◌∷◌, map, take, drop, length, nat_lt, eqb, get_or, slice_get, slice_set, Option, Some, None, is_some, Bor, arith}
-use Rattle.std.proofs.lemmas.Bool.{eqb-true, eq-eqb}
+use Rattle.std.proofs.lemmas.Bool.{eqb-true, eq-eqb, ltb-true, and_parts}
 use Rattle.std.proofs.lemmas.Bool.Decides.{nat_tests}
 use Rattle.std.proofs.lemmas.Option.{slice_get_within}
 use Rattle.std.proofs.lemmas.List.{length-set, take_all}
@@ -27,7 +27,6 @@ use Rattle.statement.specs.Fits.{Fits, assignment_fits, assigns_once, column_pas
 use Rattle.statement.specs.Updating.{AreAssignable, IsAssignable, assignment_to, code_of, fault_of, first_fault, first_given, is_given, least_given, refuses}
 use Rattle.statement.specs.Walk.{are_of, is_row_of}
 use Rattle.statement.specs.Writing.{AreRowsOf}
-use Rattle.statement.proofs.CoverLemmas.{and_both}
 use Rattle.statement.proofs.HeldLemmas.{held_length, held_table, literals_length}
 use Rattle.statement.proofs.Suffices.{Given, assigned_at, needed}
 use Rattle.statement.proofs.WritingLemmas.{change_by, chosen_rows}
@@ -46,9 +45,6 @@ plus_suc n i = omega arith
 
 above : (n : ℕ) → nat_lt 0 n ≡ true → 0 < n
 above n e = grind (arith, nat_tests)
-
-below : (n m : ℕ) → nat_lt n m ≡ true → n < m
-below n m e = grind (arith, nat_tests)
 
 -- ---- the first of a list
 
@@ -77,11 +73,6 @@ module _ {B C : Type 0} where
       let p = first_before f (map (λ w. w.now) (take i xs)) y.now none in
       ap (λ o. cond (is_some o) o (first_some f (map (λ w. w.now) (take (suc i) xs)))) p.0 ∙ none_more f xs i x p.1 (omega arith) is e
 
--- what isn't there has no value
-pub isn't_some : {B : Type 0} (o : Option B) → is_some o ≡ false → o ≡ None
-isn't_some None e = refl
-isn't_some (Some x) e = absurd (true≢false e)
-
 module _ {A : Type 0} where
   -- ---- the assignment to a column
 
@@ -109,7 +100,7 @@ module _ {A : Type 0} where
   assigned_by (b ∷ more) a once (inr i) = go (eqb b.column a.column) refl (assigned_by more a parts.1 i)
     where
       parts : (not (is_assigned more b.column) ≡ true) × (assigns_once more ≡ true)
-      parts = and_both (not (is_assigned more b.column)) (assigns_once more) once
+      parts = and_parts (not (is_assigned more b.column)) (assigns_once more) once
 
       go : (t : Bool) → eqb b.column a.column ≡ t → assignment_to more a.column ≡ Some a → cond t (Some b) (assignment_to more a.column) ≡ Some a
       go true is rest = absurd (true≢false (sym parts.0 ∙ ap (λ n. not (is_assigned more n)) (eqb-true b.column a.column is) ∙ ap not (is_among more a i)))
@@ -154,8 +145,8 @@ module _ {A : Type 0} where
       → first_bad (λ m d v. is_assigned more m && bad m d v) ds (map (updated_row more) rows) ≡ first_given bad more ds rows
   bad_same bad more ds [] once key held = refl
   bad_same bad more ds (r ∷ rows) once key held =
-      let p = and_both (is_row_of ds r) (list_all (is_row_of ds) rows) held in
-      let fit = (and_both (not (is_null r.0)) (literals_fit ds (cells r)) p.0).1 in
+      let p = and_parts (is_row_of ds r) (list_all (is_row_of ds) rows) held in
+      let fit = (and_parts (not (is_null r.0)) (literals_fit ds (cells r)) p.0).1 in
       let is = least_same bad more r 0 ds (cells (updated_row more r)) (ap suc (length-assigned r more r.1) ∙ literals_length ds (cells r) fit) (λ i v e. subst (λ m. IsAt more r m v) (zero_plus i) (at_cell more r once key i v e)) in
       ap (λ o. cond (is_some o) o (first_bad (λ m d v. is_assigned more m && bad m d v) ds (map (updated_row more) rows))) is
       ∙ ap (cond (is_some (least_given bad more r 0 ds)) (least_given bad more r 0 ds)) (bad_same bad more ds rows once key p.1)
@@ -201,7 +192,7 @@ module _ {A : Type 0} where
   assignable more ds row a once i fit len none = go (slice_get ds a.column) refl parts.1
     where
       parts : (nat_lt 0 a.column ≡ true) × (column_passes (source_fits ds a.source) ds a.column ≡ true)
-      parts = and_both (nat_lt 0 a.column) (column_passes (source_fits ds a.source) ds a.column) fit
+      parts = and_parts (nat_lt 0 a.column) (column_passes (source_fits ds a.source) ds a.column) fit
 
       go : (o : Option Column) → slice_get ds a.column ≡ o → option_map_or (source_fits ds a.source) o false ≡ true → IsAssignable row (length row.1) a
       go None is e = absurd (true≢false (sym e))
@@ -218,15 +209,15 @@ module _ {A : Type 0} where
 
   fits_each : (ds : List Column) (more : List (Assignment A)) (a : Assignment A) → list_all (assignment_fits ds) more ≡ true → In a more → assignment_fits ds a ≡ true
   fits_each ds [] a fit i = absurd i
-  fits_each ds (b ∷ more) a fit (inl p) = ap (assignment_fits ds) p ∙ (and_both (assignment_fits ds b) (list_all (assignment_fits ds) more) fit).0
-  fits_each ds (b ∷ more) a fit (inr i) = fits_each ds more a (and_both (assignment_fits ds b) (list_all (assignment_fits ds) more) fit).1 i
+  fits_each ds (b ∷ more) a fit (inl p) = ap (assignment_fits ds) p ∙ (and_parts (assignment_fits ds b) (list_all (assignment_fits ds) more) fit).0
+  fits_each ds (b ∷ more) a fit (inr i) = fits_each ds more a (and_parts (assignment_fits ds b) (list_all (assignment_fits ds) more) fit).1 i
 
   all_assignable : (more : List (Assignment A)) (ds : List Column) (rows : List (Row A)) → assigns_once more ≡ true → list_all (assignment_fits ds) more ≡ true → list_all (is_row_of ds) rows ≡ true → first_given (λ n d v. out_of_range v) more ds rows ≡ None → AllByRecursion (AreAssignable more) rows
   all_assignable more ds [] once fit held none = tt
   all_assignable more ds (r ∷ rows) once fit held none =
-      let p = and_both (is_row_of ds r) (list_all (is_row_of ds) rows) held in
+      let p = and_parts (is_row_of ds r) (list_all (is_row_of ds) rows) held in
       let q = first_before (λ row. least_given (λ n d v. out_of_range v) more row 0 ds) rows r none in
-      let len = literals_length ds (cells r) (and_both (not (is_null r.0)) (literals_fit ds (cells r)) p.0).1 in
+      let len = literals_length ds (cells r) (and_parts (not (is_null r.0)) (literals_fit ds (cells r)) p.0).1 in
       (each_assignable (λ a. IsAssignable r (length r.1) a) more (λ a i. assignable more ds r a once i (fits_each ds more a fit i) len q.0), all_assignable more ds rows once fit p.1 q.1)
 
   -- where no stage has a fault, each row can be made
@@ -268,7 +259,7 @@ module _ {A : Type 0} where
 
   kept_of : (p : Row A → Bool) (q : Row A → Bool) (rows : List (Row A)) → list_all q rows ≡ true → list_all q (filter p rows) ≡ true
   kept_of p q [] e = refl
-  kept_of p q (r ∷ rows) e = go (p r) (and_both (q r) (list_all q rows) e) (kept_of p q rows)
+  kept_of p q (r ∷ rows) e = go (p r) (and_parts (q r) (list_all q rows) e) (kept_of p q rows)
     where
       go : (b : Bool) → (q r ≡ true) × (list_all q rows ≡ true) → (list_all q rows ≡ true → list_all q (filter p rows) ≡ true) → list_all q (cond b (r ∷ filter p rows) (filter p rows)) ≡ true
       go true h rest = ap (λ b. b && list_all q (filter p rows)) h.0 ∙ rest h.1
@@ -290,10 +281,10 @@ module _ {A : Type 0} where
 
   pub update_fits : (c : Catalog) (t : ℕ) (more : List (Assignment A)) (cs : List (Condition A)) → Fits c (Update t more cs) → UpdateFits c t more cs
   update_fits c t more cs fits =
-      let p = and_both (has_table c t && list_all (assignment_fits (columns_of c t)) more && assigns_once more) (list_all (condition_fits (columns_of c t)) cs) fits in
-      let q = and_both (has_table c t && list_all (assignment_fits (columns_of c t)) more) (assigns_once more) p.0 in
-      let r = and_both (has_table c t) (list_all (assignment_fits (columns_of c t)) more) q.0 in
-      record { table = below t (length c) r.0; fit = r.1; once = q.1; key = needed c (Update t more cs) fits; conditions = p.1 }
+      let p = and_parts (has_table c t && list_all (assignment_fits (columns_of c t)) more && assigns_once more) (list_all (condition_fits (columns_of c t)) cs) fits in
+      let q = and_parts (has_table c t && list_all (assignment_fits (columns_of c t)) more) (assigns_once more) p.0 in
+      let r = and_parts (has_table c t) (list_all (assignment_fits (columns_of c t)) more) q.0 in
+      record { table = ltb-true t (length c) r.0; fit = r.1; once = q.1; key = needed c (Update t more cs) fits; conditions = p.1 }
 
   pub update_has : (c : Catalog) (X : Tables A) (t : ℕ) (more : List (Assignment A)) (cs : List (Condition A)) → are_of c X ≡ true → Fits c (Update t more cs) → t < length X
   update_has c X t more cs held fits = let len = held_length c X held in let lt = (update_fits c t more cs fits).table in omega (arith, len, lt)

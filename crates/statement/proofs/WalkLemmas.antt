@@ -4,7 +4,7 @@ use Rattle.std.specs.List.{AllByRecursion, filter, find, list_all}
 use Rattle.std.specs.List.Sorted.{IsStrictlySortedBy}
 use Rattle.std.proofs.lemmas.List.Kept.{IsStrictlySortedBy-filter}
 use Rattle.std.proofs.lemmas.List.{take-append-drop, map-append, append-nil, take_more, length-map}
-use Rattle.std.proofs.lemmas.Bool.{eqb-true}
+use Rattle.std.proofs.lemmas.Bool.{eqb-true, and_parts, and_from}
 use Rattle.std.proofs.lemmas.Option.{slice_get-map}
 use Rattle.std.specs.Prelude.{◌==◌}
 use Rattle.std.proofs.lemmas.List.Elements.{filter-append}
@@ -17,6 +17,7 @@ use Rattle.std.specs.Ordering.{is_eq, is_lt, is_le, is_gt, is_ge, ordering_rever
 use Rattle.value.specs.declared.value.Value.{Value}
 use Rattle.value.specs.declared.value.Value.TheVariants.{Null, Int, Text, Bytes}
 use Rattle.value.specs.Order.{value_cmp, value_cmp-total}
+use Rattle.value.proofs.Basics.{all-weaker}
 use Rattle.schema.specs.declared.row.Row.{Row}
 use Rattle.schema.specs.Plain.{is_null}
 use Rattle.schema.specs.Rows.{IsInKeyOrder, row_of}
@@ -33,8 +34,7 @@ use Rattle.statement.specs.Cover.{is_from, is_to}
 use Rattle.statement.specs.Select.{HasColumns}
 use Rattle.statement.specs.Footprint.{Interval, Nothing, Span, intersection}
 use Rattle.statement.specs.Walk.{IsWithin, IsAt, IsReadable, NoneBehind, is_bound, bounds_key, listed}
-use Rattle.statement.proofs.CoverLemmas.{and_both}
-use Rattle.statement.proofs.RowsLemmas.{both, in_interval, intersection_in}
+use Rattle.statement.proofs.RowsLemmas.{in_interval, intersection_in}
 
 -- what would make a false test hold doesn't hold
 never : (b c : Bool) → c ≡ false → (b ≡ true → c ≡ true) → b ≡ false
@@ -46,20 +46,6 @@ ge_less Less e = refl
 ge_less Equal e = absurd (true≢false e)
 ge_less Greater e = absurd (true≢false e)
 
--- tests with the same answers keep the same
-pub filter_same : {T : Type 0} (p q : T → Bool) → ((x : T) → p x ≡ q x) → (xs : List T) → filter p xs ≡ filter q xs
-filter_same p q f [] = refl
-filter_same p q f (x ∷ xs) = ap (λ b. cond b (x ∷ filter p xs) (filter p xs)) (f x) ∙ ap (λ zs. cond (q x) (x ∷ zs) zs) (filter_same p q f xs)
-
--- what holds of all holds of those that are kept
-pub all_filter : {T : Type 0} (P : T → Type 0) (q : T → Bool) (xs : List T) → AllByRecursion P xs → AllByRecursion P (filter q xs)
-all_filter P q [] all = tt
-all_filter P q (x ∷ xs) all = by_test (q x) (all_filter P q xs all.1)
-  where
-    by_test : (b : Bool) → AllByRecursion P (filter q xs) → AllByRecursion P (cond b (x ∷ filter q xs) (filter q xs))
-    by_test true rest = (all.0, rest)
-    by_test false rest = rest
-
 -- what holds of all holds of the one that is found
 pub found_all : {T : Type 0} (P : T → Type 0) (q : T → Bool) (xs : List T) (x : T) → AllByRecursion P xs → find q xs ≡ Some x → P x
 found_all P q [] x all e = cc
@@ -68,11 +54,6 @@ found_all P q (y ∷ ys) x all e = by_test (q y) e (found_all P q ys x all.1)
     by_test : (b : Bool) → cond b (Some y) (find q ys) ≡ Some x → (find q ys ≡ Some x → P x) → P x
     by_test true is rest = let same : y ≡ x = cc in subst P same all.0
     by_test false is rest = rest is
-
--- from what holds of all, what follows from it
-pub all_so : {T : Type 0} (P Q : T → Type 0) → ((x : T) → P x → Q x) → (xs : List T) → AllByRecursion P xs → AllByRecursion Q xs
-all_so P Q f [] all = tt
-all_so P Q f (x ∷ xs) all = (f x all.0, all_so P Q f xs all.1)
 
 module _ {A : Type 0} where
   -- what comes after a key above the upper end is above it too
@@ -233,7 +214,7 @@ module _ {A : Type 0} where
   none_above : (cs : List (Condition A)) (k : Value A) (rows : List (Row A)) → AllByRecursion (λ row. IsAt cs k row) rows → below_all value_cmp k rows ≡ true → filter (satisfies cs) rows ≡ []
   none_above cs k [] all below = refl
   none_above cs k (r ∷ rows) all below =
-      let p = and_both (is_lt (value_cmp k r.0)) (below_all value_cmp k rows) below in
+      let p = and_parts (is_lt (value_cmp k r.0)) (below_all value_cmp k rows) below in
       ap (λ b. cond b (r ∷ filter (satisfies cs) rows) (filter (satisfies cs) rows)) (never (satisfies cs r) (is_eq (value_cmp k r.0)) (not_equal (value_cmp k r.0) p.0) (λ s. ap is_eq (all.0.at s))) ∙ none_above cs k rows all.1 p.1
     where
       not_equal : (o : Ordering) → is_lt o ≡ true → is_eq o ≡ false
@@ -246,7 +227,7 @@ module _ {A : Type 0} where
   at_key cs k (r ∷ rows) sorted all = by_test (is_eq (value_cmp k r.0)) refl (at_key cs k rows parts.1 all.1)
     where
       parts : (below_all value_cmp r.0 rows ≡ true) × (is_sorted value_cmp rows ≡ true)
-      parts = and_both (below_all value_cmp r.0 rows) (is_sorted value_cmp rows) sorted
+      parts = and_parts (below_all value_cmp r.0 rows) (is_sorted value_cmp rows) sorted
 
       by_test : (b : Bool) → is_eq (value_cmp k r.0) ≡ b → filter (satisfies cs) (listed (row_of rows k)) ≡ filter (satisfies cs) rows
           → filter (satisfies cs) (listed (cond b (Some r) (row_of rows k))) ≡ cond (satisfies cs r) (r ∷ filter (satisfies cs) rows) (filter (satisfies cs) rows)
@@ -275,19 +256,19 @@ module _ {A : Type 0} where
   open_within cs row r = record { columns = r.columns; above = λ s. refl; below = λ s. refl }
 
   pub all_open : (cs : List (Condition A)) (rows : List (Row A)) → AllByRecursion (λ row. IsReadable cs row) rows → AllByRecursion (λ row. IsWithin cs Open Open row) rows
-  all_open cs rows all = all_so (λ row. IsReadable cs row) (λ row. IsWithin cs Open Open row) (open_within cs) rows all
+  all_open cs rows all = all-weaker (λ row. IsReadable cs row) (λ row. IsWithin cs Open Open row) (open_within cs) rows all
 
   inside : (cs : List (Condition A)) (i : Option (Interval A)) (row : Row A) → IsReadable cs row → intersection cs ≡ i → satisfies cs row ≡ true → in_interval row.0 i ≡ true
   inside cs i row r is s = ap (in_interval row.0) (sym is) ∙ intersection_in row cs r.key s
 
   pub all_within : (cs : List (Condition A)) (low high : End A) (rows : List (Row A)) → intersection cs ≡ Some (Span low high) → AllByRecursion (λ row. IsReadable cs row) rows → AllByRecursion (λ row. IsWithin cs low high row) rows
-  all_within cs low high rows is all = all_so (λ row. IsReadable cs row) (λ row. IsWithin cs low high row) within rows all
+  all_within cs low high rows is all = all-weaker (λ row. IsReadable cs row) (λ row. IsWithin cs low high row) within rows all
     where
       within : (row : Row A) → IsReadable cs row → IsWithin cs low high row
       within row r = record {
         columns = r.columns;
-        above = λ s. (and_both (is_from low row.0) (is_to high row.0) (inside cs (Some (Span low high)) row r is s)).0;
-        below = λ s. (and_both (is_from low row.0) (is_to high row.0) (inside cs (Some (Span low high)) row r is s)).1;
+        above = λ s. (and_parts (is_from low row.0) (is_to high row.0) (inside cs (Some (Span low high)) row r is s)).0;
+        below = λ s. (and_parts (is_from low row.0) (is_to high row.0) (inside cs (Some (Span low high)) row r is s)).1;
       }
 
   pub nothing_within : (cs : List (Condition A)) (rows : List (Row A)) → intersection cs ≡ Some Nothing → AllByRecursion (λ row. IsReadable cs row) rows → filter (satisfies cs) rows ≡ []
@@ -298,7 +279,7 @@ module _ {A : Type 0} where
   -- rows between two ends that are one key have that key
   pub all_at : (cs : List (Condition A)) (low high : End A) (k : Value A) (rows : List (Row A)) → ((v : Value A) → is_from low v ≡ true → is_to high v ≡ true → value_cmp k v ≡ Equal)
       → AllByRecursion (λ row. IsWithin cs low high row) rows → AllByRecursion (λ row. IsAt cs k row) rows
-  all_at cs low high k rows only all = all_so (λ row. IsWithin cs low high row) (λ row. IsAt cs k row) (λ row w. record { columns = w.columns; at = λ s. only row.0 (w.above s) (w.below s) }) rows all
+  all_at cs low high k rows only all = all-weaker (λ row. IsWithin cs low high row) (λ row. IsAt cs k row) (λ row w. record { columns = w.columns; at = λ s. only row.0 (w.above s) (w.below s) }) rows all
 
 -- one row more among those kept
 pub keep_more : {T : Type 0} (p : T → Bool) (done : List T) (x : T) (rest : List T) → (done ++ filter p (x ∷ [])) ++ filter p rest ≡ done ++ filter p (x ∷ rest)
@@ -340,10 +321,10 @@ module _ {A : Type 0} where
 
   so_between : (how : Comparison) (x y z v : Value A) → is_bound how ≡ true → value_cmp x y ≡ Less → value_cmp y z ≡ Less → is_so x how v ≡ true → is_so z how v ≡ true → is_so y how v ≡ true
   so_between how x y z v bound first second e f =
-      let p = and_both (not (is_null x) && not (is_null v)) (compares how (value_cmp x v)) e in
-      let q = and_both (not (is_null z) && not (is_null v)) (compares how (value_cmp z v)) f in
-      both (not (is_null y) && not (is_null v)) (compares how (value_cmp y v))
-      (both (not (is_null y)) (not (is_null v)) (ap not (not_null_above x y first)) (and_both (not (is_null x)) (not (is_null v)) p.0).1)
+      let p = and_parts (not (is_null x) && not (is_null v)) (compares how (value_cmp x v)) e in
+      let q = and_parts (not (is_null z) && not (is_null v)) (compares how (value_cmp z v)) f in
+      and_from (not (is_null y) && not (is_null v)) (compares how (value_cmp y v))
+      (and_from (not (is_null y)) (not (is_null v)) (ap not (not_null_above x y first)) (and_parts (not (is_null x)) (not (is_null v)) p.0).1)
       (go how bound p.1 q.1)
     where
       lt_le : (o : Ordering) → is_lt o ≡ true → is_le o ≡ true
@@ -366,11 +347,11 @@ module _ {A : Type 0} where
 
   holds_between : (c : Condition A) (x y z : Row A) → bounds_key c ≡ true → value_cmp x.0 y.0 ≡ Less → value_cmp y.0 z.0 ≡ Less → holds x c ≡ true → holds z c ≡ true → holds y c ≡ true
   holds_between (Compare zero how v) x y z b first second e f = so_between how x.0 y.0 z.0 v b first second e f
-  holds_between (Compare (suc n) how v) x y z b first second e f = absurd (let p = eqb-true (suc n) 0 (and_both (suc n == 0) (is_bound how) b).0 in omega arith)
+  holds_between (Compare (suc n) how v) x y z b first second e f = absurd (let p = eqb-true (suc n) 0 (and_parts (suc n == 0) (is_bound how) b).0 in omega arith)
   holds_between (Between zero low high) x y z b first second e f =
-      let p = and_both (is_so x.0 is.GreaterOrEqual low) (is_so x.0 is.LessOrEqual high) e in
-      let q = and_both (is_so z.0 is.GreaterOrEqual low) (is_so z.0 is.LessOrEqual high) f in
-      both (is_so y.0 is.GreaterOrEqual low) (is_so y.0 is.LessOrEqual high) (so_between is.GreaterOrEqual x.0 y.0 z.0 low refl first second p.0 q.0) (so_between is.LessOrEqual x.0 y.0 z.0 high refl first second p.1 q.1)
+      let p = and_parts (is_so x.0 is.GreaterOrEqual low) (is_so x.0 is.LessOrEqual high) e in
+      let q = and_parts (is_so z.0 is.GreaterOrEqual low) (is_so z.0 is.LessOrEqual high) f in
+      and_from (is_so y.0 is.GreaterOrEqual low) (is_so y.0 is.LessOrEqual high) (so_between is.GreaterOrEqual x.0 y.0 z.0 low refl first second p.0 q.0) (so_between is.LessOrEqual x.0 y.0 z.0 high refl first second p.1 q.1)
   holds_between (Between (suc n) low high) x y z b first second e f = absurd (let p = eqb-true (suc n) 0 b in omega arith)
   holds_between (IsNull n) x y z b first second e f = absurd (true≢false (sym b))
   holds_between (IsNotNull n) x y z b first second e f = absurd (true≢false (sym b))
@@ -378,10 +359,10 @@ module _ {A : Type 0} where
   satisfies_between : (cs : List (Condition A)) (x y z : Row A) → list_all bounds_key cs ≡ true → value_cmp x.0 y.0 ≡ Less → value_cmp y.0 z.0 ≡ Less → satisfies cs x ≡ true → satisfies cs z ≡ true → satisfies cs y ≡ true
   satisfies_between [] x y z b first second e f = refl
   satisfies_between (c ∷ cs) x y z b first second e f =
-      let bs = and_both (bounds_key c) (list_all bounds_key cs) b in
-      let p = and_both (holds x c) (satisfies cs x) e in
-      let q = and_both (holds z c) (satisfies cs z) f in
-      both (holds y c) (satisfies cs y) (holds_between c x y z bs.0 first second p.0 q.0) (satisfies_between cs x y z bs.1 first second p.1 q.1)
+      let bs = and_parts (bounds_key c) (list_all bounds_key cs) b in
+      let p = and_parts (holds x c) (satisfies cs x) e in
+      let q = and_parts (holds z c) (satisfies cs z) f in
+      and_from (holds y c) (satisfies cs y) (holds_between c x y z bs.0 first second p.0 q.0) (satisfies_between cs x y z bs.1 first second p.1 q.1)
 
   -- rows of which the first and the last satisfy the conditions: all do
   all_between : (cs : List (Condition A)) (x : Row A) (middle : List (Row A)) (last : Row A) → list_all bounds_key cs ≡ true → satisfies cs x ≡ true → satisfies cs last ≡ true → AllByRecursion (λ k. value_cmp x.0 k ≡ Less) (map (λ r. r.0) (middle ++ last ∷ []))

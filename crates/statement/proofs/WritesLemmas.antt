@@ -1,6 +1,6 @@
 -- What a statement writes it has read, and marked; and which references it reads.
 use Rattle.std.proofs.Common.{◌≡◌, refl, sym, ap, subst, ◌∙◌, ℕ, zero, suc, ◌+◌, Bool, true, false, true≢false, cond, not, ◌&&◌, ◌||◌, List, [], ◌∷◌, ◌++◌, map, slice_get, Option, Some, None, is_some, eqb, arith}
-use Rattle.std.proofs.lemmas.Bool.{eqb-true}
+use Rattle.std.proofs.lemmas.Bool.{eqb-true, and_parts, or_left, and_from}
 use Rattle.std.specs.List.{list_any, list_all}
 use Rattle.std.specs.Option.{option_map_or}
 use Rattle.std.specs.Ordering.{is_lt, is_gt}
@@ -9,6 +9,7 @@ use Rattle.value.specs.declared.refusal.Refusal.{Refusal}
 use Rattle.value.specs.declared.refusal.Code.TheVariants as code
 use Rattle.value.specs.Order.{value_cmp}
 use Rattle.value.proofs.IsolationLemmas.{In}
+use Rattle.value.proofs.Basics.{any-neither, any-front}
 use Rattle.schema.specs.Definition.{Column, Catalog}
 use Rattle.schema.specs.declared.changes.Change.{Change}
 use Rattle.schema.specs.declared.tables.Tables.{Tables}
@@ -36,22 +37,10 @@ use Rattle.statement.specs.Cover.{has_key, has_reference}
 use Rattle.statement.specs.Footprint.{Interval, Nothing, Span, at_value, by_comparison, interval, later, sooner, meet_both, intersection, extent_of, extents, extents_of, in_table, reads_named, reads_fields, reads_assigned, reads_assignments, reads_inserted, rows_naming, reads_columns, reads_referencing, footprint, column_at}
 use Rattle.statement.specs.Agreement.{reads_key, reads_value, row_naming}
 use Rattle.statement.specs.Fits.{Fits}
-use Rattle.statement.proofs.CoverLemmas.{and_both, or_left, any_front, all_in}
-use Rattle.statement.proofs.RowsLemmas.{HasKeys, read_there, chosen_in_extents, both}
+use Rattle.statement.proofs.CoverLemmas.{all_in}
+use Rattle.statement.proofs.RowsLemmas.{HasKeys, read_there, chosen_in_extents}
 use Rattle.statement.proofs.MarksLemmas.{refers, refers_at, marks_of-before, marks_of-after}
 use Rattle.statement.proofs.Suffices.{inserted_has, updated_has, deleted_has, needed, same_itself}
-
--- neither of two tests
-neither : (a b : Bool) → a ≡ false → b ≡ false → (a || b) ≡ false
-neither a b p q = ap (λ x. x || b) p ∙ q
-
-none_on_both : {B : Type 0} (p : B → Bool) (xs ys : List B) → list_any p xs ≡ false → list_any p ys ≡ false → list_any p (xs ++ ys) ≡ false
-none_on_both p [] ys f g = g
-none_on_both p (x ∷ xs) ys f g = go (p x) f (λ h. none_on_both p xs ys h g)
-  where
-    go : (b : Bool) → (b || list_any p xs) ≡ false → (list_any p xs ≡ false → list_any p (xs ++ ys) ≡ false) → (b || list_any p (xs ++ ys)) ≡ false
-    go true f rest = absurd (true≢false f)
-    go false f rest = rest f
 
 some_on_one : {B : Type 0} (p : B → Bool) (xs ys : List B) → list_any p xs ≡ false → list_any p (xs ++ ys) ≡ true → list_any p ys ≡ true
 some_on_one p [] ys f h = h
@@ -63,7 +52,7 @@ some_on_one p (x ∷ xs) ys f h = go (p x) f h (some_on_one p xs ys)
 
 all_map_by : {B C : Type 0} (f : B → C) (p : C → Bool) (q : B → Bool) → ((x : B) → q x ≡ true → p (f x) ≡ true) → (xs : List B) → list_all q xs ≡ true → list_all p (map f xs) ≡ true
 all_map_by f p q e [] h = refl
-all_map_by f p q e (x ∷ xs) h = let r = and_both (q x) (list_all q xs) h in both _ _ (e x r.0) (all_map_by f p q e xs r.1)
+all_map_by f p q e (x ∷ xs) h = let r = and_parts (q x) (list_all q xs) h in and_from _ _ (e x r.0) (all_map_by f p q e xs r.1)
 
 module _ {A : Type 0} where
   -- ---- what is written was read
@@ -76,17 +65,17 @@ module _ {A : Type 0} where
   written_read c (Insert t values) X f h = inserted_has (IsRead (footprint c (Insert t values))) c t values X (needed c (Insert t values) f) refl one
     where
       one : (k : Value A) (fields : List (Value A)) → values ≡ k ∷ fields → not (is_null k) ≡ true → IsRead (footprint c (Insert t values)) (puts t (k, fields) ∷ [])
-      one k fields e n = both _ _ (any_front _ (reads_inserted t values) (reads_fields (columns_of c t) values) (subst (λ vs. reads_key (reads_inserted t vs) t k ≡ true) (sym e) (go (is_null k) n))) refl
+      one k fields e n = and_from _ _ (any-front _ (reads_inserted t values) (reads_fields (columns_of c t) values) (subst (λ vs. reads_key (reads_inserted t vs) t k ≡ true) (sym e) (go (is_null k) n))) refl
         where
           go : (b : Bool) → not b ≡ true → reads_key (cond b [] (in_table t (One k ∷ []))) t k ≡ true
           go true m = absurd (true≢false (sym m))
           go false m = read_there t k (One k ∷ []) (or_left (same k k) false (same_itself k))
   written_read c (Update t more conditions) X f h = updated_has (IsRead (footprint c (Update t more conditions))) c t more (chosen X t conditions) X refl
       (all_map_by (λ row. puts t (updated_row more row)) (λ x. reads_key (footprint c (Update t more conditions)) x.table x.key) (λ row. list_any (has_key row.0) (extents_of conditions))
-      (λ row g. any_front _ (in_table t (extents_of conditions)) (reads_assignments (columns_of c t) more) (read_there t row.0 (extents_of conditions) g)) (chosen X t conditions) (chosen_in_extents t conditions X h))
+      (λ row g. any-front _ (in_table t (extents_of conditions)) (reads_assignments (columns_of c t) more) (read_there t row.0 (extents_of conditions) g)) (chosen X t conditions) (chosen_in_extents t conditions X h))
   written_read c (Delete t conditions) X f h = deleted_has (IsRead (footprint c (Delete t conditions))) c t (chosen X t conditions) X refl
       (all_map_by (removes t) (λ x. reads_key (footprint c (Delete t conditions)) x.table x.key) (λ row. list_any (has_key row.0) (extents_of conditions))
-      (λ row g. any_front _ (in_table t (extents_of conditions)) (reads_referencing (extents_of conditions) t 0 c) (read_there t row.0 (extents_of conditions) g)) (chosen X t conditions) (chosen_in_extents t conditions X h))
+      (λ row g. any-front _ (in_table t (extents_of conditions)) (reads_referencing (extents_of conditions) t 0 c) (read_there t row.0 (extents_of conditions) g)) (chosen X t conditions) (chosen_in_extents t conditions X h))
 
   -- Each key that a statement writes is in its footprint.
   pub writes_are_read : (c : Catalog) (q : Statement A) (X : Tables A) → Fits c q → HasKeys X → (x : Change A) → In x (outcome c q X).changes → reads_key (footprint c q) x.table x.key ≡ true
@@ -186,7 +175,7 @@ module _ {A : Type 0} where
   fields_plain : (t j : ℕ) (k : Value A) (ds : List Column) (vs : List (Value A)) → reads_value (reads_fields ds vs) t j k ≡ false
   fields_plain t j k [] vs = refl
   fields_plain t j k (d ∷ ds) [] = refl
-  fields_plain t j k (d ∷ ds) (v ∷ vs) = none_on_both (is_for t j k) (reads_named d v) (reads_fields ds vs) (named_plain t j k d v) (fields_plain t j k ds vs)
+  fields_plain t j k (d ∷ ds) (v ∷ vs) = any-neither (is_for t j k) (reads_named d v) (reads_fields ds vs) (named_plain t j k d v) (fields_plain t j k ds vs)
 
   assigned_plain : (t j : ℕ) (k : Value A) (ds : List Column) (s : Source A) → reads_value (reads_assigned ds s) t j k ≡ false
   assigned_plain t j k [] s = refl
@@ -199,7 +188,7 @@ module _ {A : Type 0} where
 
   assignments_plain : (t j : ℕ) (k : Value A) (ds : List Column) (more : List (Assignment A)) → reads_value (reads_assignments ds more) t j k ≡ false
   assignments_plain t j k ds [] = refl
-  assignments_plain t j k ds (a ∷ more) = none_on_both (is_for t j k) (reads_assigned (column_at ds a.column) a.source) (reads_assignments ds more) (assigned_plain t j k (column_at ds a.column) a.source) (assignments_plain t j k ds more)
+  assignments_plain t j k ds (a ∷ more) = any-neither (is_for t j k) (reads_assigned (column_at ds a.column) a.source) (reads_assignments ds more) (assigned_plain t j k (column_at ds a.column) a.source) (assignments_plain t j k ds more)
 
   inserted_plain : (t u j : ℕ) (k : Value A) (values : List (Value A)) → reads_value (reads_inserted u values) t j k ≡ false
   inserted_plain t u j k [] = refl
@@ -347,7 +336,7 @@ module _ {A : Type 0} where
       go true r g rest = here (has_reference j k (Referencing n v)) refl g
         where
           here : (z : Bool) → has_reference j k (Referencing n v) ≡ z → (z || list_any (has_reference j k) (rows_naming v t (suc n) ds)) ≡ true → Found
-          here true q h = let p = and_both (eqb n j) (same v k) q in (0, sym (eqb-true n j p.0) ∙ plus_zero n, is_reference_to d.references r, same_value v k p.1)
+          here true q h = let p = and_parts (eqb n j) (same v k) q in (0, sym (eqb-true n j p.0) ∙ plus_zero n, is_reference_to d.references r, same_value v k p.1)
           here false q h = later_column (rest h)
 
   columns_refer : (es : List (Extent A)) (t : ℕ) (ds : List Column) (j : ℕ) (k : Value A) → ((v : Value A) → es ≡ One v ∷ [] → is_null v ≡ false) → list_any (has_reference j k) (reads_columns es t ds) ≡ true → (refers_at (slice_get ds j) ≡ true) × (is_null k ≡ false)
@@ -410,8 +399,8 @@ module _ {A : Type 0} where
   -- A reference that a statement reads is of a column that has REFERENCES, and names a key.
   pub footprint_names : (c : Catalog) (q : Statement A) (t j : ℕ) (k : Value A) → reads_value (footprint c q) t j k ≡ true → (refers c t j ≡ true) × (is_null k ≡ false)
   footprint_names c (Select s p conditions) t j k e = absurd (true≢false (sym e ∙ rows_plain t s j k conditions))
-  footprint_names c (Insert s values) t j k e = absurd (true≢false (sym e ∙ none_on_both (is_for t j k) (reads_inserted s values) (reads_fields (columns_of c s) values) (inserted_plain t s j k values) (fields_plain t j k (columns_of c s) values)))
-  footprint_names c (Update s more conditions) t j k e = absurd (true≢false (sym e ∙ none_on_both (is_for t j k) (in_table s (extents_of conditions)) (reads_assignments (columns_of c s) more) (rows_plain t s j k conditions) (assignments_plain t j k (columns_of c s) more)))
+  footprint_names c (Insert s values) t j k e = absurd (true≢false (sym e ∙ any-neither (is_for t j k) (reads_inserted s values) (reads_fields (columns_of c s) values) (inserted_plain t s j k values) (fields_plain t j k (columns_of c s) values)))
+  footprint_names c (Update s more conditions) t j k e = absurd (true≢false (sym e ∙ any-neither (is_for t j k) (in_table s (extents_of conditions)) (reads_assignments (columns_of c s) more) (rows_plain t s j k conditions) (assignments_plain t j k (columns_of c s) more)))
   footprint_names c (Delete s conditions) t j k e =
       let w = referencing_refers (extents_of conditions) s 0 c t j k (λ v g. key_of_one (intersection conditions) v (intersection_given conditions) g)
       (some_on_one (is_for t j k) (in_table s (extents_of conditions)) (reads_referencing (extents_of conditions) s 0 c) (rows_plain t s j k conditions) e) in

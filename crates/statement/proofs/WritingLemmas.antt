@@ -1,5 +1,6 @@
 -- Rows written in key order.
 use Rattle.std.proofs.Common.{◌≡◌, refl, sym, ap, ◌∙◌, ℕ, zero, suc, ◌<◌, Bool, true, false, cond, List, [], ◌∷◌, ◌++◌, map, take, length, get_or, Option, Some, Bor, append_assoc, arith, inl, inr}
+use Rattle.std.proofs.lemmas.Bool.{and_parts, and_from}
 use Rattle.std.proofs.lemmas.List.{append-nil}
 use Rattle.std.specs.FinMap.{is_sorted}
 use Rattle.std.specs.FinMap.Entries.{below_all}
@@ -19,9 +20,7 @@ use Rattle.statement.specs.Conditions.{chosen, satisfies}
 use Rattle.statement.specs.Marks.{marks_of, marks_of_change, references_of}
 use Rattle.statement.specs.Walk.{are_of}
 use Rattle.statement.specs.Writing.{AreRowsOf}
-use Rattle.statement.proofs.CoverLemmas.{and_both}
 use Rattle.statement.proofs.HeldLemmas.{held_table}
-use Rattle.statement.proofs.RowsLemmas.{both}
 
 module _ {A : Type 0} where
   -- ---- rows in key order, written one after another
@@ -57,19 +56,19 @@ module _ {A : Type 0} where
 
   below_filter : (p : Row A → Bool) (k : Value A) (rows : List (Row A)) → below_all value_cmp k rows ≡ true → below_all value_cmp k (filter p rows) ≡ true
   below_filter p k [] h = refl
-  below_filter p k (r ∷ rows) h = go (p r) (and_both (is_lt (value_cmp k r.0)) (below_all value_cmp k rows) h) (below_filter p k rows)
+  below_filter p k (r ∷ rows) h = go (p r) (and_parts (is_lt (value_cmp k r.0)) (below_all value_cmp k rows) h) (below_filter p k rows)
     where
       go : (b : Bool) → (is_lt (value_cmp k r.0) ≡ true) × (below_all value_cmp k rows ≡ true) → (below_all value_cmp k rows ≡ true → below_all value_cmp k (filter p rows) ≡ true) → below_all value_cmp k (cond b (r ∷ filter p rows) (filter p rows)) ≡ true
-      go true h rest = both (is_lt (value_cmp k r.0)) (below_all value_cmp k (filter p rows)) h.0 (rest h.1)
+      go true h rest = and_from (is_lt (value_cmp k r.0)) (below_all value_cmp k (filter p rows)) h.0 (rest h.1)
       go false h rest = rest h.1
 
   -- of rows in key order those that are kept are so too
   pub sorted_filter : (p : Row A → Bool) (rows : List (Row A)) → is_sorted value_cmp rows ≡ true → is_sorted value_cmp (filter p rows) ≡ true
   sorted_filter p [] h = refl
-  sorted_filter p (r ∷ rows) h = go (p r) (and_both (below_all value_cmp r.0 rows) (is_sorted value_cmp rows) h) (sorted_filter p rows)
+  sorted_filter p (r ∷ rows) h = go (p r) (and_parts (below_all value_cmp r.0 rows) (is_sorted value_cmp rows) h) (sorted_filter p rows)
     where
       go : (b : Bool) → (below_all value_cmp r.0 rows ≡ true) × (is_sorted value_cmp rows ≡ true) → (is_sorted value_cmp rows ≡ true → is_sorted value_cmp (filter p rows) ≡ true) → is_sorted value_cmp (cond b (r ∷ filter p rows) (filter p rows)) ≡ true
-      go true h rest = both (below_all value_cmp r.0 (filter p rows)) (is_sorted value_cmp (filter p rows)) (below_filter p r.0 rows h.0) (rest h.1)
+      go true h rest = and_from (below_all value_cmp r.0 (filter p rows)) (is_sorted value_cmp (filter p rows)) (below_filter p r.0 rows h.0) (rest h.1)
       go false h rest = rest h.1
 
   found_each : (p : Row A → Bool) (X : Tables A) (t : ℕ) (rows : List (Row A)) → ((r : Row A) → In r rows → row_at X t r.0 ≡ Some r.1) → AllByRecursion (λ row. row_at X t row.0 ≡ Some row.1) (filter p rows)

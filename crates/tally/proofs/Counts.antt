@@ -2,21 +2,15 @@
 use Rattle.std.proofs.Common.{◌≡◌, refl, sym, ap, ◌∙◌, subst, ℕ, ◌+◌, ◌<◌, ◌≤◌, Bool, true, false, cond, eqb, List, [], ◌∷◌, ◌++◌, length, arith}
 use Rattle.std.specs.Prelude.{bytes_eq}
 use Rattle.std.specs.List.{All, AllByRecursion}
-use Rattle.std.specs.Cmp.Lexicographic.{bytes_decides}
 use Rattle.std.proofs.lemmas.Bool.{eqb-true, eq-eqb, false_from_ne_true, true≢false}
 use Rattle.std.proofs.lemmas.List.{append_assoc, length-append, get_or_append_left, get_or_at, take-append-le, take_at, append-nil}
 use Rattle.std.proofs.lemmas.List.Elements.{All-from_recursion}
 use Rattle.interleave.specs.Interleavings.{occurrences, same_order}
 use Rattle.tally.specs.Outcomes.{Counted, IsFirst, noted, noted_all, outcomes, outcomes_with, runs_to, single}
 use Rattle.tally.proofs.Noted.{more}
+use Rattle.tally.proofs.Joined.{same, equal}
 
 -- ---- texts
-
-same : (a b : List ℕ) → bytes_eq a b ≡ true → a ≡ b
-same a b e = (bytes_decides a b).0 e
-
-equal : (a : List ℕ) → bytes_eq a a ≡ true
-equal a = (bytes_decides a a).1 refl
 
 same_order-itself : (a : List ℕ) → same_order a a ≡ 1
 same_order-itself [] = refl

@@ -5,10 +5,10 @@ use Rattle.std.specs.Cmp.Lexicographic.{bytes_decides}
 use Rattle.tally.specs.Outcomes.{Counted, all_runs, joined, merged, noted, noted_all, outcomes_from, single}
 use Rattle.tally.proofs.Noted.{all_runs-merged, merged_other, merged_same, more}
 
-same : (a b : List ℕ) → bytes_eq a b ≡ true → a ≡ b
+pub same : (a b : List ℕ) → bytes_eq a b ≡ true → a ≡ b
 same a b e = (bytes_decides a b).0 e
 
-equal : (a : List ℕ) → bytes_eq a a ≡ true
+pub equal : (a : List ℕ) → bytes_eq a a ≡ true
 equal a = (bytes_decides a a).1 refl
 
 -- ---- a text that some outcome has

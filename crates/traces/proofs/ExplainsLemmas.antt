@@ -1,6 +1,7 @@
 -- Each order that is serial for a legal history explains whatever is told of what it committed.
 use Rattle.std.proofs.Common.{◌≡◌, refl, sym, ap, subst, ◌∙◌, ℕ, zero, suc, ◌<◌, ◌≤◌, Bool, true, false, not, ◌&&◌, ◌⊎◌, inl, inr, List, [], ◌∷◌, length, map, nat_lt, slice_get, Option, Some, None, IfSome, arith}
-use Rattle.std.proofs.lemmas.Bool.Decides.{nat_tests}
+use Rattle.std.proofs.Math.Bool.{and-false}
+use Rattle.std.proofs.lemmas.Bool.{ltb-false, le-ltb}
 use Rattle.std.proofs.lemmas.List.Sorted.{IsPermutation-refl, IsPermutation-sym, IsPermutation-trans}
 use Rattle.std.proofs.lemmas.Option.{slice_get_within}
 use Rattle.std.specs.List.{AllByRecursion}
@@ -28,16 +29,6 @@ use Rattle.traces.proofs.PlacesLemmas.{In-permuted, In-place, Placed, heads, pla
 use Rattle.traces.proofs.RecordedLemmas.{AllAnswered, run_answered}
 use Rattle.traces.specs.Traces.{AreToldBy, IsExplainedBy, IsRecording, IsToldBy, trace_of, traces}
 
-no_less : (a b : ℕ) → b ≤ a → nat_lt a b ≡ false
-no_less a b l = grind (arith, nat_tests)
-
-no_earlier : (a b : ℕ) → nat_lt a b ≡ false → b ≤ a
-no_earlier a b e = grind (arith, nat_tests)
-
-and_false : (b : Bool) → (b && false) ≡ false
-and_false true = refl
-and_false false = refl
-
 module _ {A : Type 0} where
   -- ---- what is told, place by place
 
@@ -62,7 +53,7 @@ module _ {A : Type 0} where
 
   -- One that had not ended before another began, or that this may follow by its import, isn't told to have.
   told_late : (clock : ℕ → ℕ) → ((m n : ℕ) → m ≤ n → clock m ≤ clock n) → (t u : Txn A) (b a : Trace A) → IsToldBy clock t b → IsToldBy clock u a → (t.begin ≤ u.end) ⊎ (t.imported ≡ true) → precedes a b ≡ false
-  told_late clock steady t u b a tb ua (inr m) = ap (λ x. ended_before a.end b.begin && not x) (tb.imported m) ∙ and_false (ended_before a.end b.begin)
+  told_late clock steady t u b a tb ua (inr m) = ap (λ x. ended_before a.end b.begin && not x) (tb.imported m) ∙ and-false (ended_before a.end b.begin)
   told_late clock steady t u b a tb ua (inl l) = go a.end refl ua.end
     where
       go : (o : Option ℕ) → a.end ≡ o → IfSome o (λ e. clock u.end ≤ e) → precedes a b ≡ false
@@ -70,13 +61,13 @@ module _ {A : Type 0} where
       go (Some n) e h =
           let before : clock t.begin ≤ clock u.end = steady t.begin u.end l in
           let sent : b.begin ≤ clock t.begin = tb.begin in
-          ap (λ o. ended_before o b.begin && not b.imported) e ∙ ap (λ x. x && not b.imported) (no_less n b.begin (omega (arith, before, sent, h)))
+          ap (λ o. ended_before o b.begin && not b.imported) e ∙ ap (λ x. x && not b.imported) (le-ltb n b.begin (omega (arith, before, sent, h)))
 
   late : (t u : Txn A) → (history.precedes u t ≡ true → ⊥) → (t.begin ≤ u.end) ⊎ (t.imported ≡ true)
   late t u n = go (nat_lt u.end t.begin) t.imported refl refl n
     where
       go : (b m : Bool) → nat_lt u.end t.begin ≡ b → t.imported ≡ m → ((b && not m) ≡ true → ⊥) → (t.begin ≤ u.end) ⊎ (t.imported ≡ true)
-      go false m e f h = inl (no_earlier u.end t.begin e)
+      go false m e f h = inl (ltb-false u.end t.begin e)
       go true true e f h = inr f
       go true false e f h = absurd (h refl)
 

@@ -1,14 +1,15 @@
 -- A permutation of a list moves its places.
 use Rattle.std.proofs.Common.{◌≡◌, refl, sym, ap, subst, ◌∙◌, ℕ, zero, suc, ◌+◌, ◌<◌, ◌≤◌, Bool, true, false, true≢false, ◌||◌, inl, inr, List, [], ◌∷◌, length, map, eqb, get_or, slice_get, slice_set, Option, Some, arith}
 use Rattle.std.proofs.lemmas.Bool.{eqb-true, eqb-false}
-use Rattle.std.proofs.lemmas.Bool.Decides.{nat_tests}
 use Rattle.std.proofs.lemmas.List.{map-set}
 use Rattle.std.proofs.Math.ListN.{get_or-map}
 use Rattle.std.proofs.lemmas.List.Sorted.{list_any-IsPermutation}
 use Rattle.std.proofs.lemmas.Map.Keys.{IsDistinct-IsPermutation}
+use Rattle.std.proofs.lemmas.Option.{same_Some}
 use Rattle.std.specs.List.{AllByRecursion, IsDistinct, list_any, swap}
 use Rattle.std.specs.List.Sorted.{IsPermutation, SwapsInRange, apply_swaps}
 use Rattle.value.proofs.IsolationLemmas.{In}
+use Rattle.value.proofs.Basics.{lt-eqb, eqb_comm}
 use Rattle.orders.specs.Explains.{AreApart, Stands}
 
 module _ {X Y : Type 0} (f : X → Y) where
@@ -24,12 +25,6 @@ module _ {X Y : Type 0} (f : X → Y) where
   map_swaps xs (p ∷ ps) = map_swap (apply_swaps xs ps) p.0 p.1 ∙ ap (λ l. swap l p.0 p.1) (map_swaps xs ps)
 
 -- ---- places that differ, and those that stand in a list
-
-same_either_way : (i j : ℕ) → eqb i j ≡ eqb j i
-same_either_way i j = grind (arith, nat_tests)
-
-differs : (i j : ℕ) → i < j → eqb i j ≡ false
-differs i j l = grind (arith, nat_tests)
 
 others : (i : ℕ) (places : List ℕ) → AllByRecursion (λ j. eqb i j ≡ false) places → AllByRecursion (λ j. j ≡ i → ⊥) places
 others i [] h = tt
@@ -66,7 +61,7 @@ module _ {X : Type 0} where
 
   after_places : (i n : ℕ) (xs : List X) → i < n → AllByRecursion (λ j. eqb i j ≡ false) (places_from n xs)
   after_places i n [] l = tt
-  after_places i n (x ∷ xs) l = (differs i n l, after_places i (suc n) xs (omega (arith, l)))
+  after_places i n (x ∷ xs) l = (lt-eqb i n l, after_places i (suc n) xs (omega (arith, l)))
 
   distinct_places : (n : ℕ) (xs : List X) → IsDistinct eqb (places_from n xs)
   unfolding IsDistinct
@@ -96,7 +91,7 @@ module _ {X : Type 0} where
         ∙ ap (λ l. apply_swaps l p.moves) (read_places (slice_get xs) 0 xs (λ k. let same : 0 + k ≡ k = omega arith in ap (slice_get xs) same))
         ∙ sym (map_swaps Some xs p.moves)
         ∙ ap (map Some) (sym p.is);
-    are_apart = apart moved (IsDistinct-IsPermutation eqb same_either_way (places_from 0 xs) moved moves (distinct_places 0 xs));
+    are_apart = apart moved (IsDistinct-IsPermutation eqb eqb_comm (places_from 0 xs) moved moves (distinct_places 0 xs));
     each = λ i l. stands i moved (sym (list_any-IsPermutation (eqb i) (places_from 0 xs) moved moves) ∙ any_place i 0 xs (omega arith) (omega (arith, l)));
   }
     where
@@ -108,16 +103,13 @@ module _ {X : Type 0} where
 
   -- ---- what stands at places
 
-  some_injective : (x y : X) → Some x ≡ Some y → x ≡ y
-  some_injective x y e = cc
-
   -- what stands at places is what was asked for, one by one
   pub heads : (o : Option X) (os : List (Option X)) (x : X) (xs : List X) → o ∷ os ≡ map Some (x ∷ xs) → (o ≡ Some x) × (os ≡ map Some xs)
   heads o os x xs e = (cc, cc)
 
   pub In-place : (xs : List X) (i : ℕ) (x : X) → slice_get xs i ≡ Some x → In x xs
   In-place [] i x e = cc
-  In-place (y ∷ ys) zero x e = inl (sym (some_injective y x e))
+  In-place (y ∷ ys) zero x e = inl (sym (same_Some y x e))
   In-place (y ∷ ys) (suc i) x e = inr (In-place ys i x e)
 
   from_places : (xs : List X) (places : List ℕ) (ys : List X) (y : X) → map (slice_get xs) places ≡ map Some ys → In y ys → In y xs

@@ -2,6 +2,7 @@
 use Rattle.std.proofs.Common.{◌≡◌, refl, sym, subst, ℕ, ◌+◌, Bool, true, false, cond, ◌⊎◌, inl, inr, List, [], ◌∷◌, ◌++◌, eqb, Option, Some, None}
 use Rattle.value.proofs.IsolationLemmas.{In}
 use Rattle.value.proofs.SerialLemmas.{In-append}
+use Rattle.value.proofs.Basics.{find-In}
 use Rattle.statement.specs.declared.reply.Reply.{Reply}
 use Rattle.statement.specs.declared.reply.Reply.TheVariants.{Begun, Committed, Exported, Imported, Refused, Safe, Wait}
 use Rattle.statement.specs.declared.statement.Statement.{Statement}
@@ -11,7 +12,6 @@ use Rattle.history.specs.Transactions.{Aborted, Done, Doomed, Exported_snapshot,
 use Rattle.history.specs.declared.event.Action.{Action}
 use Rattle.history.specs.declared.event.Action.TheVariants.{Begin, Broken, Commit, Export, Import, Poll, Rollback, Run}
 use Rattle.history.specs.declared.event.Record.{Record}
-use Rattle.serial.proofs.legal.Legal.{found}
 use Rattle.serial.proofs.legal.Numbers.{In-replaced, polled_keeps}
 use Rattle.serial.proofs.structures.Dooms.{Fate, In-doomed, Over, Spared}
 use Rattle.traces.proofs.AnswersLemmas.{AreAnswered}
@@ -78,7 +78,7 @@ module _ {A : Type 0} where
       x = turned_from t.standing w e.action e.reply t
 
       of : (y : Txn A) → (y ≡ x) ⊎ In y w.txns × (eqb y.number x.number ≡ false) → Has y
-      of y (inl p) = subst (λ (z : Txn A). AreAnswered z.statements) (sym p) (turned_answered t.standing w e.action e.reply t (all t (found (is_of e.session) w.txns t c).0))
+      of y (inl p) = subst (λ (z : Txn A). AreAnswered z.statements) (sym p) (turned_answered t.standing w e.action e.reply t (all t (find-In (is_of e.session) w.txns t c).0))
       of y (inr j) = all y j.0
 
   -- No event records a refusal with a statement.

@@ -1,35 +1,23 @@
 -- The first of the open transactions that may write, and who waits for one.
 use Rattle.std.proofs.Common.{◌≡◌, refl, ap, ◌∙◌, ℕ, ◌<◌, ◌≤◌, min, Bool, true, false, cond, ◌&&◌, ◌||◌, List, [], ◌∷◌, fold, nat_lt, arith}
+use Rattle.std.proofs.Math.Bool.{and-false}
+use Rattle.std.proofs.lemmas.Bool.{or_right, ltb-false, le-ltb}
 use Rattle.std.specs.List.{AllByRecursion, list_any}
-use Rattle.std.proofs.lemmas.Bool.Decides.{nat_tests}
+use Rattle.value.proofs.Basics.{all-weaker}
 use Rattle.history.specs.Transactions.{Txn, is_open, is_read_write}
 use Rattle.transactions.specs.Active.{before_active, first_active}
 use Rattle.transactions.specs.Ledger.{is_awaited, is_pending_at}
 use Rattle.transactions.specs.Stretches.{IsPast}
-use Rattle.transactions.proofs.StretchLemmas.{all-mapped, past-not_open}
-
-not_less : (a b : ℕ) → b ≤ a → nat_lt a b ≡ false
-not_less a b h = grind (arith, nat_tests)
-
-at_least : (a b : ℕ) → nat_lt a b ≡ false → b ≤ a
-at_least a b e = grind (arith, nat_tests)
-
-and_false : (a : Bool) → (a && false) ≡ false
-and_false true = refl
-and_false false = refl
-
-or_true : (a b : Bool) → b ≡ true → (a || b) ≡ true
-or_true true b e = refl
-or_true false b e = e
+use Rattle.transactions.proofs.StretchLemmas.{past-not_open}
 
 module _ {A : Type 0} where
   -- ---- what is past is none of them
 
   past_before : (n p : ℕ) (u : Txn A) → IsPast n p u → (place : ℕ) → before_active place u ≡ place
-  past_before n p u h place = ap (λ b. cond b (min u.begin place) place) (ap (λ b. is_read_write u.mode && b) (past-not_open n p u h) ∙ and_false (is_read_write u.mode))
+  past_before n p u h place = ap (λ b. cond b (min u.begin place) place) (ap (λ b. is_read_write u.mode && b) (past-not_open n p u h) ∙ and-false (is_read_write u.mode))
 
   pub active-none : (n p : ℕ) (us : List (Txn A)) → AllByRecursion (IsPast n p) us → AllByRecursion (λ (u : Txn A). (place : ℕ) → before_active place u ≡ place) us
-  active-none n p us all = all-mapped (IsPast n p) (λ (u : Txn A). (place : ℕ) → before_active place u ≡ place) (past_before n p) us all
+  active-none n p us all = all-weaker (IsPast n p) (λ (u : Txn A). (place : ℕ) → before_active place u ≡ place) (past_before n p) us all
 
   -- ---- who waits for one
 
@@ -46,8 +34,8 @@ module _ {A : Type 0} where
     where
       go : (a o : Bool) → taken ≤ cond (a && o) (min t.begin n) n → (((a && nat_lt t.begin taken) && (o || nat_lt taken t.end)) && o) ≡ false
       go false o l = refl
-      go true false l = and_false (nat_lt t.begin taken && nat_lt taken t.end)
-      go true true l = ap (λ b. (b && true) && true) (not_less t.begin taken (omega arith))
+      go true false l = and-false (nat_lt t.begin taken && nat_lt taken t.end)
+      go true true l = ap (λ b. (b && true) && true) (le-ltb t.begin taken (omega arith))
 
   none_awaited : (n taken : ℕ) (ts : List (Txn A)) → taken ≤ fold before_active n ts → list_any (is_awaited taken) ts ≡ false
   none_awaited n taken [] h = refl
@@ -65,12 +53,12 @@ module _ {A : Type 0} where
       early : (b : Bool) → nat_lt t.begin taken ≡ b → fold before_active (min t.begin n) ts < taken → ((m : ℕ) → fold before_active m ts < taken → taken ≤ m → list_any (is_awaited taken) ts ≡ true)
           → ((((true && b) && (true || nat_lt taken t.end)) && true) || rest) ≡ true
       early true e l more = refl
-      early false e l more = more (min t.begin n) l (let p = at_least t.begin taken e in omega arith)
+      early false e l more = more (min t.begin n) l (let p = ltb-false t.begin taken e in omega arith)
 
       go : (a o : Bool) → fold before_active (cond (a && o) (min t.begin n) n) ts < taken → ((m : ℕ) → fold before_active m ts < taken → taken ≤ m → list_any (is_awaited taken) ts ≡ true)
           → ((((a && nat_lt t.begin taken) && (o || nat_lt taken t.end)) && o) || rest) ≡ true
       go false o l more = more n l le
-      go true false l more = or_true _ rest (more n l le)
+      go true false l more = or_right _ rest (more n l le)
       go true true l more = early (nat_lt t.begin taken) refl l more
 
   -- nobody, where the snapshot was taken before the first began

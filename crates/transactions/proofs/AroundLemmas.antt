@@ -1,5 +1,6 @@
 -- Dangerous structures among the transactions around a stretch are those among all.
-use Rattle.std.proofs.Common.{◌≡◌, refl, sym, ap, ◌∙◌, ℕ, zero, suc, ◌<◌, ◌≤◌, Bool, true, false, cond, ◌&&◌, List, [], ◌∷◌, ◌++◌, length, get_or, None, arith}
+use Rattle.std.proofs.Common.{◌≡◌, refl, sym, ap, ◌∙◌, ℕ, zero, suc, ◌<◌, ◌≤◌, Bool, true, false, cond, List, [], ◌∷◌, ◌++◌, length, get_or, None, arith}
+use Rattle.std.proofs.lemmas.Bool.{and_right}
 use Rattle.std.specs.List.{AllByRecursion, filter}
 use Rattle.std.proofs.lemmas.List.Elements.{filter-append}
 use Rattle.value.specs.Isolation.{bound, is_dangerous}
@@ -9,10 +10,6 @@ use Rattle.transactions.specs.Stretches.{IsAround, IsPast}
 use Rattle.transactions.specs.Structures.{BeginHold, begun_cause, closed_pair}
 use Rattle.transactions.proofs.CauseLemmas.{bounded-none, caused-none, none_closed, only-through}
 use Rattle.transactions.proofs.StretchLemmas.{past-edge}
-
-nor : (a b : Bool) → b ≡ false → (a && b) ≡ false
-nor true b e = e
-nor false b e = refl
 
 module _ {A : Type 0} where
   edges-none : (t : Txn A) (place : ℕ) (us : List (Txn A)) → AllByRecursion (IsPast t.snapshot place) us → AllByRecursion (λ u. edge t u ≡ false) us
@@ -30,7 +27,7 @@ module _ {A : Type 0} where
   -- what the first one's snapshot shows is in the middle of nothing
   pub pivots-none : (a : Txn A) (place : ℕ) (ts bs : List (Txn A)) → AllByRecursion (IsPast a.snapshot place) bs → AllByRecursion (λ b. closed_pair node edge ts a b ≡ None) bs
   pivots-none a place ts [] all = tt
-  pivots-none a place ts (b ∷ bs) all = (sym (caused-none node edge a b ts (nor (node a).committed (edge a b) (past-edge a place b all.0))), pivots-none a place ts bs all.1)
+  pivots-none a place ts (b ∷ bs) all = (sym (caused-none node edge a b ts (and_right (node a).committed (edge a b) (past-edge a place b all.0))), pivots-none a place ts bs all.1)
 
   bound-past : (n place : ℕ) (a : Txn A) → IsPast n place a → bound node edge a ≤ n
   bound-past n place a h = go (is_read_write a.mode)

@@ -1,32 +1,19 @@
 -- Structures and dooms, found from the front of a list.
-use Rattle.std.proofs.Common.{◌≡◌, refl, sym, ap, subst, ◌∙◌, ℕ, zero, suc, ◌+◌, ◌<◌, ◌≤◌, Bool, true, false, true≢false, cond, not, ◌&&◌, ◌||◌, ◌⊎◌, inl, inr, List, [], ◌∷◌, ◌++◌, length, take, drop, get_or, slice_get, Option, Some, None, is_some, eqb, nat_lt, nat_le, arith}
-use Rattle.std.proofs.lemmas.Bool.{eqb-true}
+use Rattle.std.proofs.Common.{◌≡◌, refl, sym, ap, ◌∙◌, ℕ, zero, suc, ◌+◌, ◌<◌, ◌≤◌, Bool, true, false, true≢false, cond, not, ◌&&◌, ◌||◌, ◌⊎◌, inl, inr, List, [], ◌∷◌, ◌++◌, length, take, drop, get_or, Option, Some, None, is_some, eqb, nat_lt, nat_le, arith}
 use Rattle.std.proofs.lemmas.Bool.Decides.{nat_tests}
 use Rattle.std.proofs.lemmas.List.{append-nil}
 use Rattle.std.proofs.lemmas.List.Elements.{filter-append}
 use Rattle.std.specs.List.{AllByRecursion, filter, list_any}
 use Rattle.std.specs.Option.{option_map}
 use Rattle.value.specs.Isolation.{Node, bound, caused, earlier, earliest, edge_of, first_cause, first_some, is_dangerous}
+use Rattle.value.proofs.Basics.{nat_lt-trans, not_nat_lt-trans, None-from_some, first_some-passes, take_next, split_at}
 use Rattle.transactions.specs.Earliest.{first_of, first_of_both}
 use Rattle.transactions.specs.Structures.{BeginHold, StructuresHold, closed_pair}
-use Rattle.transactions.proofs.WalkLemmas.{split_at, take_next}
 
 -- ---- the first that a function gives
 
-first_some-passes : {A B : Type 0} (f : A → Option B) (xs ys : List A) → first_some f xs ≡ None → first_some f (xs ++ ys) ≡ first_some f ys
-first_some-passes f [] ys none = refl
-first_some-passes {A} {B} f (x ∷ xs) ys none = go (f x) (first_some-passes f xs ys) none
-  where
-    go : (o : Option B) → (first_some f xs ≡ None → first_some f (xs ++ ys) ≡ first_some f ys) → cond (is_some o) o (first_some f xs) ≡ None → cond (is_some o) o (first_some f (xs ++ ys)) ≡ first_some f ys
-    go None rest e = rest e
-    go (Some y) rest e = cc
-
 given_or : {B : Type 0} (o rest : Option B) → is_some o ≡ true → o ≡ cond (is_some o) o rest
 given_or o rest e = ap (λ b. cond b o rest) (sym e)
-
-none_of : {B : Type 0} (o : Option B) → is_some o ≡ false → o ≡ None
-none_of None e = refl
-none_of (Some x) e = absurd (true≢false e)
 
 -- it gives something of this element, and nothing of those before
 pub first_some-here : {A B : Type 0} (f : A → Option B) (xs : List A) (i : ℕ) (x : A) → i < length xs → x ≡ get_or xs i x → first_some f (take i xs) ≡ None
@@ -39,7 +26,7 @@ first_some-here f xs i x lt at none o e some =
 pub first_some-next : {A B : Type 0} (f : A → Option B) (xs : List A) (i : ℕ) (x : A) → i < length xs → x ≡ get_or xs i x → first_some f (take i xs) ≡ None
     → (o : Option B) → o ≡ f x → is_some o ≡ false → first_some f (take (i + 1) xs) ≡ None
 first_some-next {A} {B} f xs i x lt at none o e empty =
-    ap (first_some f) (take_next xs i x lt at) ∙ first_some-passes f (take i xs) (x ∷ []) none ∙ last (f x) (sym e ∙ none_of o empty)
+    ap (first_some f) (take_next xs i x lt at) ∙ first_some-passes f (take i xs) (x ∷ []) none ∙ last (f x) (sym e ∙ None-from_some o empty)
   where
     last : (p : Option B) → p ≡ None → cond (is_some p) p None ≡ None
     last None q = refl
@@ -56,7 +43,7 @@ others_none {A} {B} f x empty (y ∷ ys) all = (go (is_some (f y)) refl, others_
   where
     go : (b : Bool) → is_some (f y) ≡ b → f y ≡ None
     go true e = absurd (true≢false (sym e ∙ ap (λ z. is_some (f z)) (all.0 e) ∙ empty))
-    go false e = none_of (f y) e
+    go false e = None-from_some (f y) e
 
 found_only : {A B : Type 0} (f : A → Option B) (x : A) → is_some (f x) ≡ true → (ys : List A) (i : ℕ) → i < length ys → x ≡ get_or ys i x → AllByRecursion (λ y. is_some (f y) ≡ true → y ≡ x) ys → f x ≡ first_some f ys
 found_only f x some [] i lt at all = absurd (omega arith)
@@ -73,7 +60,7 @@ first_some-only {A} {B} f xs x i lt at all = go (is_some (f x)) refl
   where
     go : (b : Bool) → is_some (f x) ≡ b → f x ≡ first_some f xs
     go true e = found_only f x e xs i lt at all
-    go false e = none_of (f x) e ∙ sym (first_some-none f xs (others_none f x e xs all))
+    go false e = None-from_some (f x) e ∙ sym (first_some-none f xs (others_none f x e xs all))
 
 -- ---- of several lists, one behind the other
 
@@ -94,15 +81,9 @@ pub first_some-back : {A B : Type 0} (f : A → Option B) (xs front between back
     → (o : Option B) → o ≡ first_some f front → is_some o ≡ false → (p : Option B) → p ≡ first_some f back → p ≡ first_some f xs
 first_some-back f xs front between back whole all o e empty p found =
     found ∙ sym (first_some-passes f between back (first_some-none f between all))
-    ∙ sym (first_some-passes f front (between ++ back) (sym e ∙ none_of o empty)) ∙ ap (first_some f) (sym whole)
+    ∙ sym (first_some-passes f front (between ++ back) (sym e ∙ None-from_some o empty)) ∙ ap (first_some f) (sym whole)
 
 -- ---- the first to commit
-
-before_or_after : (a b c : ℕ) → nat_lt a b ≡ false → nat_lt b c ≡ false → nat_lt a c ≡ false
-before_or_after a b c p q = grind (arith, nat_tests)
-
-before_both : (a b c : ℕ) → nat_lt a b ≡ true → nat_lt b c ≡ true → nat_lt a c ≡ true
-before_both a b c p q = grind (arith, nat_tests)
 
 -- the first to commit of a transaction and of those after it
 abbrev earlier_of : Node → Option Node → Node
@@ -115,10 +96,10 @@ earlier_first n (Some k) m = go (nat_lt m.commit k.commit) refl (nat_lt k.commit
   where
     go : (b : Bool) → nat_lt m.commit k.commit ≡ b → (d : Bool) → nat_lt k.commit n.commit ≡ d
         → cond (nat_lt (cond b m k).commit n.commit) (cond b m k) n ≡ cond (nat_lt m.commit (cond d k n).commit) m (cond d k n)
-    go true p true q = ap (λ b. cond b m n) (before_both m.commit k.commit n.commit p q) ∙ sym (ap (λ b. cond b m k) p)
+    go true p true q = ap (λ b. cond b m n) (nat_lt-trans m.commit k.commit n.commit p q) ∙ sym (ap (λ b. cond b m k) p)
     go true p false q = refl
     go false p true q = ap (λ b. cond b k n) q ∙ sym (ap (λ b. cond b m k) p)
-    go false p false q = ap (λ b. cond b k n) q ∙ sym (ap (λ b. cond b m n) (before_or_after m.commit k.commit n.commit p q))
+    go false p false q = ap (λ b. cond b k n) q ∙ sym (ap (λ b. cond b m n) (not_nat_lt-trans m.commit k.commit n.commit p q))
 
 first_of-assoc : (o : Option Node) (m n : Node) → first_of (Some (first_of o m)) n ≡ first_of o (first_of (Some m) n)
 first_of-assoc None m n = refl
@@ -126,10 +107,10 @@ first_of-assoc (Some k) m n = go (nat_lt m.commit k.commit) refl (nat_lt n.commi
   where
     go : (b : Bool) → nat_lt m.commit k.commit ≡ b → (d : Bool) → nat_lt n.commit m.commit ≡ d
         → cond (nat_lt n.commit (cond b m k).commit) n (cond b m k) ≡ cond (nat_lt (cond d n m).commit k.commit) (cond d n m) k
-    go true p true q = ap (λ b. cond b n m) q ∙ sym (ap (λ b. cond b n k) (before_both n.commit m.commit k.commit q p))
+    go true p true q = ap (λ b. cond b n m) q ∙ sym (ap (λ b. cond b n k) (nat_lt-trans n.commit m.commit k.commit q p))
     go true p false q = ap (λ b. cond b n m) q ∙ sym (ap (λ b. cond b m k) p)
     go false p true q = refl
-    go false p false q = ap (λ b. cond b n k) (before_or_after n.commit m.commit k.commit q p) ∙ sym (ap (λ b. cond b m k) p)
+    go false p false q = ap (λ b. cond b n k) (not_nat_lt-trans n.commit m.commit k.commit q p) ∙ sym (ap (λ b. cond b m k) p)
 
 pub both-assoc : (a b c : Option Node) → first_of_both (first_of_both a b) c ≡ first_of_both a (first_of_both b c)
 both-assoc a b None = refl
@@ -279,7 +260,7 @@ module _ {T : Type 0} (node : T → Node) (edge : T → T → Bool) where
     where
       go : (d : Bool) → is_some (closed_pair node edge ts a b) ≡ d → closed_pair node edge ts a b ≡ None
       go true p = absurd (through_some ⊥ a b ts (none_last x a b into.0 ts out all.0) p)
-      go false p = none_of (closed_pair node edge ts a b) p
+      go false p = None-from_some (closed_pair node edge ts a b) p
 
   none_from : (x : T) (ts : List T) → AllByRecursion (λ c. edge x c ≡ false) ts → (firsts : List T) → AllByRecursion (λ a. BeginHold node edge x a ts) firsts → AllByRecursion (λ a. first_some (closed_pair node edge ts a) ts ≡ None) firsts
   none_from x ts out [] all = tt
@@ -328,22 +309,4 @@ module _ {T : Type 0} (node : T → Node) (reads : T → T → Bool) where
     where
       go : (d : Bool) → is_some (closed_pair node (edge_of node reads) ts a x) ≡ d → None ≡ closed_pair node (edge_of node reads) ts a x
       go true e = absurd (through_some node (edge_of node reads) ⊥ a x ts (none_closes a x le ts) e)
-      go false e = sym (none_of (closed_pair node (edge_of node reads) ts a x) e)
-
--- what holds of each holds of the one at a place
-pub held_at : {X : Type 0} (P : X → Type 0) (xs : List X) (i : ℕ) (x : X) → i < length xs → x ≡ get_or xs i x → AllByRecursion P xs → P x
-held_at P [] i x lt at all = absurd (omega arith)
-held_at P (y ∷ ys) zero x lt at all = subst P (sym at) all.0
-held_at P (y ∷ ys) (suc i) x lt at all = held_at P ys i x (omega arith) at all.1
-
-pub got_at : {X : Type 0} (xs : List X) (i : ℕ) (x : X) → i < length xs → x ≡ get_or xs i x → slice_get xs i ≡ Some x
-got_at [] i x lt at = absurd (omega arith)
-got_at (y ∷ ys) zero x lt at = ap Some (sym at)
-got_at (y ∷ ys) (suc i) x lt at = got_at ys i x (omega arith) at
-
-pub apart : (a b : ℕ) → (a ≡ b → ⊥) → eqb a b ≡ false
-apart a b h = go (eqb a b) refl
-  where
-    go : (d : Bool) → eqb a b ≡ d → d ≡ false
-    go true e = absurd (h (eqb-true a b e))
-    go false e = refl
+      go false e = sym (None-from_some (closed_pair node (edge_of node reads) ts a x) e)

@@ -1,8 +1,9 @@
 -- What a commit, an export and a statement leave in the ledger.
 use Rattle.std.proofs.Common.{◌≡◌, refl, sym, ap, ◌∙◌, ℕ, suc, ◌+◌, ◌^◌, ◌<◌, ◌≤◌, Bool, true, false, true≢false, subst, cond, List, [], ◌∷◌, ◌++◌, length, map, slice_get, Option, Some, None, Result, Ok, Err, eqb, arith, length-append}
 use Rattle.std.specs.List.{find}
-use Rattle.std.specs.Prelude.{OnOk, OnErr, IfOk, IsOk, is_ok}
+use Rattle.std.specs.Prelude.{OnOk, IfOk, IsOk, is_ok}
 use Rattle.std.proofs.lemmas.List.{get_or_default}
+use Rattle.std.proofs.lemmas.Option.{same_Some}
 use Rattle.value.specs.declared.refusal.Refusal.{Refusal}
 use Rattle.value.specs.declared.refusal.Cause.{Cause}
 use Rattle.value.specs.Isolation.{first_cause, dooms}
@@ -33,14 +34,6 @@ open_is Failed e = absurd (true≢false (sym e))
 open_is Aborted e = absurd (true≢false (sym e))
 open_is Done e = absurd (true≢false (sym e))
 
-pub on_ok_map : {T E : Type 0} (P Q : Type 0) (r : Result T E) → (P → Q) → OnOk r P → OnOk r Q
-on_ok_map P Q (Ok v) f h = f h
-on_ok_map P Q (Err v) f h = h
-
-pub on_err_map : {T E : Type 0} (P Q : Type 0) (r : Result T E) → (P → Q) → OnErr r P → OnErr r Q
-on_err_map P Q (Ok v) f h = h
-on_err_map P Q (Err v) f h = f h
-
 pub on_if_map : {T E : Type 0} (P : Type 0) (Q : T → Type 0) (r : Result T E) → ((x : T) → P → Q x) → OnOk r P → IfOk r Q
 on_if_map P Q (Ok v) f h = f v h
 on_if_map P Q (Err v) f h = h
@@ -57,9 +50,6 @@ if_ok_map P Q (Err v) f h = h
 abbrev pub inside_or : {X : Type 0} → X → Option X → X
 inside_or d None = d
 inside_or d (Some x) = x
-
-pub some_is : {X : Type 0} (x y : X) → Some x ≡ Some y → x ≡ y
-some_is x y e = ap (inside_or x) e
 
 module _ {A : Type 0} where
   pub turned-open : (w : World A) (a : Action A) (r : Reply A) (t : Txn A) → is_open t.standing ≡ true → turned w a r t ≡ moved w a r t
@@ -101,7 +91,7 @@ module _ {A : Type 0} where
   pub holds-turned : (f : Txn A → Txn A) (ts us : List (Txn A)) (n : ℕ) → n < length ts → us ≡ turned_at n f ts → StructuresHold node edge (f (txn_at ts n)) (turned_at n f ts)
       → (x : Txn A) → slice_get us n ≡ Some x → StructuresHold node edge x us
   holds-turned f ts us n h e holds x = subst (λ (vs : List (Txn A)). slice_get vs n ≡ Some x → StructuresHold node edge x vs) (sym e)
-      (λ p. subst (λ (y : Txn A). StructuresHold node edge y (turned_at n f ts)) (some_is (f (txn_at ts n)) x (sym (got-turned f ts n h) ∙ p)) holds)
+      (λ p. subst (λ (y : Txn A). StructuresHold node edge y (turned_at n f ts)) (same_Some (f (txn_at ts n)) x (sym (got-turned f ts n h) ∙ p)) holds)
 
   -- an event that turns the course of an open transaction
   pub after-turned : (l : Ledger A) (w : World A) (a : Action A) (r : Reply A) (n : ℕ) (course : Course) → IsCounted l → n < length l.txns → is_open (txn_at l.txns n).standing ≡ true

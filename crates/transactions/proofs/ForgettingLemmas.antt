@@ -1,5 +1,7 @@
 -- The least snapshot of some transactions, and what is kept of all of them, walked from the front.
 use Rattle.std.proofs.Common.{◌≡◌, refl, sym, ap, subst, ◌∙◌, ℕ, zero, suc, ◌+◌, ◌-◌, ◌<◌, ◌≤◌, min, Bool, true, false, true≢false, cond, not, ◌&&◌, ◌||◌, List, [], ◌∷◌, ◌++◌, length, take, drop, get_or, nat_le, nat_lt, arith}
+use Rattle.std.proofs.Math.Bool.{and-false}
+use Rattle.std.proofs.lemmas.Bool.{lt-ltb, ltb-true, and_parts}
 use Rattle.std.specs.List.{AllByRecursion, filter, list_any}
 use Rattle.std.proofs.lemmas.Bool.Decides.{nat_tests}
 use Rattle.std.proofs.lemmas.List.{get_or-drop, take-append-drop}
@@ -11,22 +13,8 @@ use Rattle.transactions.specs.Forgetting.{is_left, is_needed_among, number_befor
 use Rattle.transactions.specs.Ledger.{Ledger, AreNumbered, IsCounted, nothing}
 use Rattle.transactions.specs.Versions.{least_snapshot}
 use Rattle.transactions.proofs.LedgerLemmas.{number_at}
-use Rattle.transactions.proofs.WalkLemmas.{first_and_rest}
 use Rattle.std.proofs.lemmas.List.Elements.{filter-append}
-
-both : (a b : Bool) → (a && b) ≡ true → (a ≡ true) × (b ≡ true)
-both true b e = (refl, e)
-both false b e = absurd (true≢false (sym e))
-
-and_false : (a : Bool) → (a && false) ≡ false
-and_false true = refl
-and_false false = refl
-
-is_less : (a b : ℕ) → nat_lt a b ≡ true → a < b
-is_less a b e = grind (arith, nat_tests)
-
-less_is : (a b : ℕ) → a < b → nat_lt a b ≡ true
-less_is a b h = grind (arith, nat_tests)
+use Rattle.value.proofs.Basics.{first_and_rest}
 
 -- what is sought passes the filter
 any-filter : {X : Type 0} (q p : X → Bool) → ((x : X) → q x ≡ true → p x ≡ true) → (xs : List X) → list_any q (filter p xs) ≡ list_any q xs
@@ -107,20 +95,20 @@ module _ {A : Type 0} where
 
       go : (b : Bool) → meets n u v ≡ b → (b || list_any (meets n u) vs) ≡ true → (list_any (meets n u) vs ≡ true → rest < u.commit) → cond (is_recent n v) (min v.snapshot rest) rest < u.commit
       go true p q later =
-          let m = both (is_recent n v) (edge v u) p in
-          let s = both (not (Rattle.std.specs.Prelude.◌==◌ v.number u.number)) (nat_lt v.snapshot u.commit) (both _ _ m.1).0 in
-          here m.0 (is_less v.snapshot u.commit s.1)
+          let m = and_parts (is_recent n v) (edge v u) p in
+          let s = and_parts (not (Rattle.std.specs.Prelude.◌==◌ v.number u.number)) (nat_lt v.snapshot u.commit) (and_parts _ _ m.1).0 in
+          here m.0 (ltb-true v.snapshot u.commit s.1)
       go false p q later = below (is_recent n v) (later q)
 
   met_by : (n most reach : ℕ) (u : Txn A) (ts : List (Txn A)) → reach ≤ least_snapshot (is_recent n) most ts → (nat_lt reach u.commit && list_any (meets n u) ts) ≡ list_any (meets n u) ts
   met_by n most reach u ts e = go (list_any (meets n u) ts) refl
     where
       go : (b : Bool) → list_any (meets n u) ts ≡ b → (nat_lt reach u.commit && b) ≡ b
-      go false p = and_false (nat_lt reach u.commit)
-      go true p = ap (λ x. x && true) (less_is reach u.commit (let q = met_above n most u ts p in omega arith))
+      go false p = and-false (nat_lt reach u.commit)
+      go true p = ap (λ x. x && true) (lt-ltb reach u.commit (let q = met_above n most u ts p in omega arith))
 
   recent_matters : (n : ℕ) (ts : List (Txn A)) (u v : Txn A) → meets n u v ≡ true → is_needed n ts v ≡ true
-  recent_matters n ts u v e = go (is_owed v.standing) (is_recent n v) (both (is_recent n v) (edge v u) e).0
+  recent_matters n ts u v e = go (is_owed v.standing) (is_recent n v) (and_parts (is_recent n v) (edge v u) e).0
     where
       rest : Bool
       rest = is_done v.standing && list_any (λ x. is_recent n x && edge x v) ts

@@ -2,7 +2,7 @@
 use Rattle.std.proofs.Common.{◌≡◌, refl, sym, ap, subst, ◌∙◌, ℕ, ◌+◌, ◌≤◌, ◌<◌, min, Bool, true, false, true≢false, cond, ◌||◌, ◌⊎◌, inl, inr, List, [], ◌∷◌, map, Option, Some, None, arith}
 use Rattle.std.specs.Prelude.{◌==◌, nat_le}
 use Rattle.std.specs.List.{find, list_any}
-use Rattle.std.proofs.lemmas.Bool.{eq-eqb, eqb-true, le-leb, leb-true, lt-leb}
+use Rattle.std.proofs.lemmas.Bool.{eq-eqb, eqb-true, le-leb, leb-true, lt-leb, or_right}
 use Rattle.value.proofs.IsolationLemmas.{In}
 use Rattle.value.specs.declared.refusal.Cause.{Cause}
 use Rattle.schema.specs.declared.changes.Change.{Change}
@@ -20,10 +20,6 @@ use Rattle.transactions.specs.Ledger.{Ledger, turned_at}
 use Rattle.transactions.specs.Merged.{AreInKeyOrder, AreMerged}
 use Rattle.transactions.specs.Versions.{AreCurrent, HasSameCommits, IsInstalled, StayShown, is_owed_at, lowest, lowest_of, may_be_read, needed_of, next_commit, owed_snapshots, versions_at}
 use Rattle.transactions.proofs.CommitLemmas.{open_is}
-
-or_right : (a b : Bool) → b ≡ true → (a || b) ≡ true
-or_right true b e = refl
-or_right false b e = e
 
 module _ {A : Type 0} where
   -- what versions in order show is in key order

@@ -1,5 +1,5 @@
 -- Changes by key, with one more put over those of its key.
-use Rattle.std.proofs.Common.{◌≡◌, refl, sym, ap, subst, ◌∙◌, ℕ, suc, ◌+◌, ◌<◌, ◌≤◌, Bool, true, false, true≢false, T, cond, ◌&&◌, ◌||◌, List, [], ◌∷◌, ◌++◌, length, take, drop, get_or, Bor, Option, Some, None, is_some, unwrap_or, eqb, arith}
+use Rattle.std.proofs.Common.{◌≡◌, refl, sym, ap, subst, ◌∙◌, ℕ, suc, ◌+◌, ◌<◌, ◌≤◌, Bool, true, false, T, cond, ◌&&◌, ◌||◌, List, [], ◌∷◌, ◌++◌, length, take, drop, get_or, Bor, Option, Some, None, is_some, unwrap_or, eqb, arith}
 use Rattle.std.specs.FinMap.{is_sorted}
 use Rattle.std.specs.FinMap.Entries.{same_entries}
 use Rattle.std.specs.List.{AllByRecursion, find}
@@ -10,13 +10,14 @@ use Rattle.std.specs.Cmp.{IsTotalOrder}
 use Rattle.std.specs.Ordering.{nat_cmp, ordering_then, ordering_reverse, match_ordering}
 use Rattle.std.specs.declared.cmp.Ordering.{Ordering}
 use Rattle.std.specs.declared.cmp.Ordering.TheVariants.{Less, Equal, Greater}
-use Rattle.std.proofs.lemmas.Bool.{eqb-true}
-use Rattle.std.proofs.lemmas.Bool.Decides.{nat_tests}
+use Rattle.std.proofs.lemmas.Bool.{eqb-true, and_parts}
 use Rattle.std.proofs.lemmas.Cmp.{nat_cmp_total, on_total, then_total, tied_itself}
+use Rattle.std.proofs.lemmas.Float.{T_from_true}
 use Rattle.std.proofs.lemmas.Map.Lookups.{exact_unsigned}
 use Rattle.std.proofs.lemmas.List.{take_more, take_all, take-append-drop, take-append-le}
 use Rattle.value.specs.declared.value.Value.{Value}
 use Rattle.value.specs.Order.{value_cmp, value_cmp-total, value_cmp-exact}
+use Rattle.value.proofs.Basics.{eqb_comm}
 use Rattle.schema.specs.declared.row.Row.{Row}
 use Rattle.schema.specs.declared.changes.Change.{Change}
 use Rattle.schema.specs.declared.tables.Tables.{Tables}
@@ -26,14 +27,6 @@ use Rattle.schema.proofs.PlainLemmas.{IsOrdered, touches, left_by, length-put_in
 use Rattle.schema.proofs.InsertingLemmas.{sorted_from}
 use Rattle.transactions.specs.Merged.{AreInKeyOrder, AreMerged, is_changed}
 
-pub both_of : (a b : Bool) → (a && b) ≡ true → (a ≡ true) × (b ≡ true)
-both_of true b e = (refl, e)
-both_of false b e = absurd (true≢false (sym e))
-
-T_of : (b : Bool) → b ≡ true → T b
-T_of true e = tt
-T_of false e = absurd (true≢false (sym e))
-
 tied_parts : (a b : Ordering) → ordering_then a b ≡ Equal → (a ≡ Equal) × (b ≡ Equal)
 tied_parts Less b e = cc
 tied_parts Equal b e = (refl, e)
@@ -42,9 +35,6 @@ tied_parts Greater b e = cc
 pub copied-some : {X : Type 0} (r : Option (Bor X)) → is_some r ≡ is_some (option_copied r)
 copied-some None = refl
 copied-some (Some b) = refl
-
-eqb-flip : (a b : ℕ) → eqb a b ≡ eqb b a
-eqb-flip a b = grind (arith, nat_tests)
 
 either_more : (a b c : Bool) → (a || (b || c)) ≡ (b || (a || c))
 either_more true true c = refl
@@ -108,8 +98,8 @@ module _ {A : Type 0} where
   -- two changes of one key are at one place
   touching : (t : ℕ) (q : Value A) (x y : Change A) → touches t q x ≡ true → touches t q y ≡ true → change_cmp x y ≡ Equal
   touching t q x y e f =
-      let p = both_of (eqb x.table t) (same q x.key) e in
-      let r = both_of (eqb y.table t) (same q y.key) f in
+      let p = and_parts (eqb x.table t) (same q x.key) e in
+      let r = and_parts (eqb y.table t) (same q y.key) f in
       let tables : x.table ≡ y.table = eqb-true x.table t p.0 ∙ sym (eqb-true y.table t r.0) in
       let keys : x.key ≡ y.key = sym (same_value q x.key p.1) ∙ same_value q y.key r.1 in
       same_order x y y tables keys ∙ tied_itself change_cmp-total y
@@ -163,7 +153,7 @@ module _ {A : Type 0} where
     where
       go : (Y : Tables A) (t : ℕ) → AreInKeyOrder Y → T (is_sorted value_cmp (rows_of Y t))
       go [] t s = tt
-      go (rows ∷ Y) Rattle.std.proofs.Common.zero s = T_of (is_sorted value_cmp rows) (sorted_from rows s.0)
+      go (rows ∷ Y) Rattle.std.proofs.Common.zero s = T_from_true (is_sorted value_cmp rows) (sorted_from rows s.0)
       go (rows ∷ Y) (suc t) s = go Y t s.1
 
   rest_ordered : (rows : List (Row A)) (X : Tables A) → IsOrdered (rows ∷ X) → IsOrdered X
@@ -228,7 +218,7 @@ module _ {A : Type 0} where
   -- what is looked up among them
   pub found-changed : (t : ℕ) (k : Value A) (ys : List (Change A)) → is_some (change_of ys t k) ≡ is_changed t k ys
   found-changed t k [] = refl
-  found-changed t k (y ∷ ys) = ap (λ b. is_some (option_map new_row (cond (b && same k y.key) (Some y) (find (λ x. eqb x.table t && same k x.key) ys)))) (eqb-flip y.table t) ∙ go (is_at t k y) (found-changed t k ys)
+  found-changed t k (y ∷ ys) = ap (λ b. is_some (option_map new_row (cond (b && same k y.key) (Some y) (find (λ x. eqb x.table t && same k x.key) ys)))) (eqb_comm y.table t) ∙ go (is_at t k y) (found-changed t k ys)
     where
       go : (b : Bool) → is_some (change_of ys t k) ≡ is_changed t k ys
           → is_some (option_map new_row (cond b (Some y) (find (λ x. eqb x.table t && same k x.key) ys))) ≡ (b || is_changed t k ys)

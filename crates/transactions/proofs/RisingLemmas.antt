@@ -1,7 +1,7 @@
 -- Changes that are by table, then by key as they were written: they are merged already, and a key is found among them by a binary search.
 use Rattle.std.proofs.Common.{◌≡◌, refl, sym, ap, subst, ◌∙◌, ℕ, zero, suc, ◌+◌, ◌-◌, ◌<◌, ◌≤◌, Bool, true, false, true≢false, ◌⊎◌, inl, inr, ◌&&◌, ◌||◌, List, [], ◌∷◌, length, drop, get_or, eqb, Result, Ok, Err, is_ok, arith}
 use Rattle.std.proofs.lemmas.Cmp.{tied_itself}
-use Rattle.std.proofs.lemmas.Bool.{eqb-true, eqb-false}
+use Rattle.std.proofs.lemmas.Bool.{eqb-true, and_parts}
 use Rattle.std.proofs.lemmas.List.Sorted.{searchable_from_sorted}
 use Rattle.std.specs.List.{AllByRecursion, list_any}
 use Rattle.std.specs.List.Sorted.{IsBinarySearchResult, IsSearchInRange, IsStrictlySortedBy}
@@ -10,30 +10,19 @@ use Rattle.std.specs.declared.cmp.Ordering.{Ordering}
 use Rattle.std.specs.declared.cmp.Ordering.TheVariants.{Less, Equal, Greater}
 use Rattle.value.specs.declared.value.Value.{Value}
 use Rattle.value.specs.Order.{value_cmp-total}
+use Rattle.value.proofs.Basics.{eqb-self, Less-from_lt}
 use Rattle.schema.specs.declared.changes.Change.{Change}
 use Rattle.schema.specs.Changing.{change_cmp}
 use Rattle.schema.specs.Plain.{same}
 use Rattle.schema.proofs.PlainLemmas.{same_value}
 use Rattle.transactions.specs.Merged.{AreMerged, is_changed}
-use Rattle.transactions.proofs.MergedLemmas.{AreAbove, above_too, both_of, change_cmp-total, is_at, same_order, same_place}
-
-is_less : (o : Ordering) → is_lt o ≡ true → o ≡ Less
-is_less Less e = refl
-is_less Equal e = absurd (true≢false (sym e))
-is_less Greater e = absurd (true≢false (sym e))
+use Rattle.transactions.proofs.MergedLemmas.{AreAbove, above_too, change_cmp-total, is_at, same_order, same_place}
 
 less_not_equal : Less ≡ Equal → ⊥
 less_not_equal e = cc
 
 greater_not_equal : Greater ≡ Equal → ⊥
 greater_not_equal e = cc
-
-eqb-self : (n : ℕ) → eqb n n ≡ true
-eqb-self n = go (eqb n n) refl
-  where
-    go : (b : Bool) → eqb n n ≡ b → b ≡ true
-    go true e = refl
-    go false e = absurd (eqb-false n n e refl)
 
 module _ {A : Type 0} where
   -- ---- they are merged as they are
@@ -49,7 +38,7 @@ module _ {A : Type 0} where
   pub rising_more : (xs : List (Change A)) (n : ℕ) (x y : Change A) → suc n < length xs → x ≡ get_or xs n x → y ≡ get_or xs (suc n) y → is_lt (change_cmp x y) ≡ true → IsStrictlySortedBy change_cmp (drop (suc n) xs) → IsStrictlySortedBy change_cmp (drop n xs)
   rising_more [] n x y lt at next less sorted = absurd (omega (arith, lt))
   rising_more (z ∷ []) n x y lt at next less sorted = absurd (omega (arith, lt))
-  rising_more (z ∷ w ∷ zs) zero x y lt at next less sorted = above_all z w zs (ap (λ c. change_cmp c w) (sym at) ∙ ap (change_cmp x) (sym next) ∙ is_less (change_cmp x y) less) sorted
+  rising_more (z ∷ w ∷ zs) zero x y lt at next less sorted = above_all z w zs (ap (λ c. change_cmp c w) (sym at) ∙ ap (change_cmp x) (sym next) ∙ Less-from_lt (change_cmp x y) less) sorted
   rising_more (z ∷ w ∷ zs) (suc n) x y lt at next less sorted = rising_more (w ∷ zs) n x y (omega (arith, lt)) at next less sorted
 
   -- one alone rises, and so do none
@@ -70,7 +59,7 @@ module _ {A : Type 0} where
     where
       level : is_at x.table x.key y ≡ true → change_cmp y x ≡ Equal
       level e =
-          let p = both_of (eqb x.table y.table) (same x.key y.key) e in
+          let p = and_parts (eqb x.table y.table) (same x.key y.key) e in
           same_order y x x (sym (eqb-true x.table y.table p.0)) (sym (same_value x.key y.key p.1)) ∙ tied_itself change_cmp-total x
 
       placed : change_cmp y x ≡ Equal → is_at x.table x.key y ≡ true

@@ -1,43 +1,31 @@
 -- Stretches stay what they are, and what is asked of the transactions around one is what is asked of all.
-use Rattle.std.proofs.Common.{◌≡◌, refl, sym, ap, subst, ◌∙◌, ℕ, zero, suc, ◌+◌, ◌-◌, ◌<◌, ◌≤◌, min, max, Bool, true, false, true≢false, cond, not, ◌&&◌, ◌||◌, List, [], ◌∷◌, ◌++◌, length, take, drop, get_or, set, fold, eqb, nat_lt, nat_le, Option, Some, None, is_some, arith, map, slice_get}
+use Rattle.std.proofs.Common.{◌≡◌, refl, sym, ap, subst, ◌∙◌, ℕ, zero, suc, ◌+◌, ◌-◌, ◌<◌, ◌≤◌, min, max, Bool, true, false, true≢false, cond, not, ◌&&◌, ◌||◌, List, [], ◌∷◌, ◌++◌, length, take, drop, get_or, fold, eqb, nat_lt, nat_le, Option, Some, None, is_some, arith, map, slice_get}
+use Rattle.std.proofs.Math.Bool.{and-false}
 use Rattle.std.specs.List.{AllByRecursion, filter, find, list_any}
 use Rattle.std.specs.Option.{option_map, option_or}
 use Rattle.std.proofs.lemmas.Bool.Decides.{nat_tests}
 use Rattle.std.proofs.lemmas.List.{drop-append-le, drop-drop, drop-map, get_or-drop, length-append, length-drop, length-map, length-take, map-append, take_more, take-append-drop, take-append-le, take-map}
-use Rattle.std.proofs.Math.Seq.{take-append_seam}
+use Rattle.std.proofs.Math.Seq.{take-append_seam, take-add}
+use Rattle.std.proofs.lemmas.Bool.{or_parts, le-ltb}
 use Rattle.std.proofs.lemmas.List.Elements.{filter-append}
 use Rattle.std.proofs.lemmas.List.Folds.{find-append, list_any-append}
 use Rattle.std.proofs.lemmas.List.Sums.{fold-append}
 use Rattle.value.specs.declared.refusal.Cause.{Cause}
 use Rattle.history.specs.Events.{doomed_by, doomed_with}
 use Rattle.value.specs.Isolation.{doom_of, dooms, first_part, is_doomed, is_first, is_live, with_doom}
+use Rattle.value.proofs.Basics.{all-weaker, all-append, lt-eqb, take_next}
 use Rattle.history.specs.Transactions.{Standing, Open, Doomed, Failed, Aborted, Done, Txn, edge, is_done, is_of, is_open, is_owed, node, reads_from}
 use Rattle.history.specs.Answer.{is_taken}
 use Rattle.transactions.specs.declared.kept.stretch.Stretch.{Stretch}
 use Rattle.transactions.specs.Ledger.{AreNumbered, nothing, turned_at, txn_at}
 use Rattle.transactions.specs.Stretches.{HoldStretches, HoldsStretch, IsAmongOpen, IsAround, IsPassed, IsPast, between, has_place, joined, none_at, without}
 use Rattle.transactions.specs.Versions.{least_snapshot}
-use Rattle.transactions.proofs.WalkLemmas.{take_next}
-
-and_false : (a : Bool) → (a && false) ≡ false
-and_false true = refl
-and_false false = refl
 
 mixed : (a b c d : Bool) → ((a || b) || (c || d)) ≡ ((a || c) || (b || d))
 mixed true b c d = refl
 mixed false true true d = refl
 mixed false true false d = refl
 mixed false false c d = refl
-
-not_less : (a b : ℕ) → b ≤ a → nat_lt a b ≡ false
-not_less a b h = grind (arith, nat_tests)
-
-not_equal : (a b : ℕ) → a < b → eqb a b ≡ false
-not_equal a b h = grind (arith, nat_tests)
-
-neither : (a b : Bool) → (a || b) ≡ false → (a ≡ false) × (b ≡ false)
-neither true b e = absurd (true≢false e)
-neither false b e = (refl, e)
 
 pub empty_is : {X : Type 0} (xs : List X) → eqb (length xs) 0 ≡ true → xs ≡ []
 empty_is [] e = refl
@@ -49,14 +37,6 @@ written-back f old new n counted e =
     ap (λ k. take k (new ++ drop (length new) old)) (counted ∙ sym (length-map old f) ∙ ap length (sym e)) ∙ take-append_seam new (drop (length new) old) ∙ e
 
 -- ---- of each element
-
-pub all-append : {X : Type 0} (P : X → Type 0) (xs ys : List X) → AllByRecursion P xs → AllByRecursion P ys → AllByRecursion P (xs ++ ys)
-all-append P [] ys a b = b
-all-append P (x ∷ xs) ys a b = (a.0, all-append P xs ys a.1 b)
-
-pub all-mapped : {X : Type 0} (P Q : X → Type 0) → ((x : X) → P x → Q x) → (xs : List X) → AllByRecursion P xs → AllByRecursion Q xs
-all-mapped P Q so [] a = tt
-all-mapped P Q so (x ∷ xs) a = (so x a.0, all-mapped P Q so xs a.1)
 
 pub all-front : {X : Type 0} (P : X → Type 0) (xs ys : List X) → AllByRecursion P (xs ++ ys) → AllByRecursion P xs
 all-front P [] ys a = tt
@@ -131,22 +111,7 @@ take-none : {X : Type 0} (k : ℕ) → take {A = X} k [] ≡ []
 take-none zero = refl
 take-none (suc k) = refl
 
-take-add : {X : Type 0} (m n : ℕ) (xs : List X) → take (m + n) xs ≡ take m xs ++ take n (drop m xs)
-take-add zero n xs = ap (λ k. take k xs) (let e : 0 + n ≡ n = omega arith in e)
-take-add (suc m) n [] = take-none (suc m + n) ∙ sym (take-none n)
-take-add (suc m) n (x ∷ xs) = ap (λ k. take k (x ∷ xs)) (let e : suc m + n ≡ suc (m + n) = omega arith in e) ∙ ap (λ ys. x ∷ ys) (take-add m n xs)
-
--- what holds of each holds of that at a place, of those with one set, and of the first ones
-pub all-at : {X : Type 0} (P : X → Type 0) (xs : List X) (i : ℕ) (d : X) → i < length xs → AllByRecursion P xs → P (get_or xs i d)
-all-at P [] i d lt all = absurd (omega arith)
-all-at P (x ∷ xs) zero d lt all = all.0
-all-at P (x ∷ xs) (suc i) d lt all = all-at P xs i d (omega arith) all.1
-
-pub all-set : {X : Type 0} (P : X → Type 0) (xs : List X) (i : ℕ) (y : X) → P y → AllByRecursion P xs → AllByRecursion P (set xs i y)
-all-set P [] i y one all = tt
-all-set P (x ∷ xs) zero y one all = (one, all.1)
-all-set P (x ∷ xs) (suc i) y one all = (all.0, all-set P xs i y one all.1)
-
+-- what holds of each holds of the first ones
 pub all-take : {X : Type 0} (P : X → Type 0) (k : ℕ) (xs : List X) → AllByRecursion P xs → AllByRecursion P (take k xs)
 all-take P zero xs all = tt
 all-take P (suc k) [] all = tt
@@ -156,7 +121,7 @@ all-take P (suc k) (x ∷ xs) all = (all.0, all-take P k xs all.1)
 pub ends-more : (ss : List Stretch) (i k m : ℕ) (d : Stretch) → i < length ss → AllByRecursion (λ s. s.to ≤ k) (take i ss) → m ≡ max (get_or ss i d).to k → AllByRecursion (λ s. s.to ≤ m) (take (i + 1) ss)
 ends-more ss i k m d lt all e =
     subst (AllByRecursion (λ s. s.to ≤ m)) (sym (take_more ss i d lt))
-    (all-append (λ s. s.to ≤ m) (take i ss) (get_or ss i d ∷ []) (all-mapped (λ s. s.to ≤ k) (λ s. s.to ≤ m) (λ s h. omega (arith, e, h)) (take i ss) all) (omega (arith, e), tt))
+    (all-append (λ s. s.to ≤ m) (take i ss) (get_or ss i d ∷ []) (all-weaker (λ s. s.to ≤ k) (λ s. s.to ≤ m) (λ s h. omega (arith, e, h)) (take i ss) all) (omega (arith, e), tt))
 
 module _ {A : Type 0} where
   -- ---- stretches
@@ -186,7 +151,7 @@ module _ {A : Type 0} where
     order = h.order;
     further = omega arith;
     within = h.within;
-    past = all-mapped (IsPast s.newest (s.until + 1)) (IsPast snapshot place) (later-past s.newest snapshot (s.until + 1) place le (omega arith)) (between s.from s.to ts) h.past;
+    past = all-weaker (IsPast s.newest (s.until + 1)) (IsPast snapshot place) (later-past s.newest snapshot (s.until + 1) place le (omega arith)) (between s.from s.to ts) h.past;
   }
 
   -- none is passed, and it ends
@@ -219,7 +184,7 @@ module _ {A : Type 0} where
   -- ---- questions
 
   none-between : (q : Txn A → Bool) (snapshot place : ℕ) → ((u : Txn A) → IsPast snapshot place u → q u ≡ false) → (ts f b : List (Txn A)) (r : IsAround snapshot place ts f b) → AllByRecursion (λ u. q u ≡ false) r.between
-  none-between q snapshot place so ts f b r = all-mapped (IsPast snapshot place) (λ u. q u ≡ false) so r.between r.past
+  none-between q snapshot place so ts f b r = all-weaker (IsPast snapshot place) (λ u. q u ≡ false) so r.between r.past
 
   pub any-around : (q : Txn A → Bool) (snapshot place : ℕ) → ((u : Txn A) → IsPast snapshot place u → q u ≡ false) → (ts f b : List (Txn A)) → IsAround snapshot place ts f b → (list_any q f || list_any q b) ≡ list_any q ts
   any-around q snapshot place so ts f b r = any-between q f r.between b (none-between q snapshot place so ts f b r) ∙ ap (list_any q) (sym r.whole)
@@ -251,19 +216,19 @@ module _ {A : Type 0} where
   past-not_open n p u h = closed u.standing h.over
 
   pub past-of : (s n p : ℕ) (u : Txn A) → IsPast n p u → is_of s u ≡ false
-  past-of s n p u h = ap (λ b. eqb u.session s && b) h.over ∙ and_false (eqb u.session s)
+  past-of s n p u h = ap (λ b. eqb u.session s && b) h.over ∙ and-false (eqb u.session s)
 
   pub past-edge : (t : Txn A) (p : ℕ) (u : Txn A) → IsPast t.snapshot p u → edge t u ≡ false
-  past-edge t p u h = ap (λ b. not (eqb t.number u.number) && b && reads_from t u) (not_less t.snapshot u.commit h.seen) ∙ ap (λ b. b && reads_from t u) (and_false (not (eqb t.number u.number)))
+  past-edge t p u h = ap (λ b. not (eqb t.number u.number) && b && reads_from t u) (le-ltb t.snapshot u.commit h.seen) ∙ ap (λ b. b && reads_from t u) (and-false (not (eqb t.number u.number)))
 
   pub past-taken : (t : Txn A) (x : Rattle.schema.specs.declared.changes.Change.Change A) (p : ℕ) (u : Txn A) → IsPast t.snapshot p u → is_taken t u x ≡ false
   past-taken t x p u h =
       ap (λ b. not (eqb u.number t.number) && (b || nat_lt t.snapshot u.commit) && Rattle.history.specs.Answer.has_written u x) (past-not_open t.snapshot p u h)
-      ∙ ap (λ b. not (eqb u.number t.number) && b && Rattle.history.specs.Answer.has_written u x) (not_less t.snapshot u.commit h.seen)
-      ∙ ap (λ b. b && Rattle.history.specs.Answer.has_written u x) (and_false (not (eqb u.number t.number)))
+      ∙ ap (λ b. not (eqb u.number t.number) && b && Rattle.history.specs.Answer.has_written u x) (le-ltb t.snapshot u.commit h.seen)
+      ∙ ap (λ b. b && Rattle.history.specs.Answer.has_written u x) (and-false (not (eqb u.number t.number)))
 
   pub past-commit : (n p : ℕ) (u : Txn A) → IsPast n p u → (is_done u.standing && eqb u.end p) ≡ false
-  past-commit n p u h = ap (λ b. is_done u.standing && b) (not_equal u.end p h.ended) ∙ and_false (is_done u.standing)
+  past-commit n p u h = ap (λ b. is_done u.standing && b) (lt-eqb u.end p h.ended) ∙ and-false (is_done u.standing)
 
   -- of several changes
   pub meets-around : (t : Txn A) (place : ℕ) (ts f b : List (Txn A)) → IsAround t.snapshot place ts f b → (xs : List (Rattle.schema.specs.declared.changes.Change.Change A))
@@ -452,7 +417,7 @@ module _ {A : Type 0} where
     within = omega arith;
     past = subst (AllByRecursion (IsPast (max s.newest m) (max s.until place + 1))) (sym longer)
         (all-append (IsPast (max s.newest m) (max s.until place + 1)) (between s.from s.to ts) (u ∷ [])
-        (all-mapped (IsPast s.newest (s.until + 1)) (IsPast (max s.newest m) (max s.until place + 1)) (later-past s.newest (max s.newest m) (s.until + 1) (max s.until place + 1) (omega arith) (omega arith)) (between s.from s.to ts) h.past)
+        (all-weaker (IsPast s.newest (s.until + 1)) (IsPast (max s.newest m) (max s.until place + 1)) (later-past s.newest (max s.newest m) (s.until + 1) (max s.until place + 1) (omega arith) (omega arith)) (between s.from s.to ts) h.past)
         (record { over = p.over; seen = omega arith; begun = omega arith; ended = (let e = p.ended in omega arith) }, tt));
   }
     where
@@ -470,8 +435,8 @@ module _ {A : Type 0} where
     within = k.within;
     past = subst (AllByRecursion (IsPast (max s.newest t.newest) (max s.until t.until + 1))) (sym parts)
         (all-append (IsPast (max s.newest t.newest) (max s.until t.until + 1)) (between s.from s.to ts) (between t.from t.to ts)
-        (all-mapped (IsPast s.newest (s.until + 1)) (IsPast (max s.newest t.newest) (max s.until t.until + 1)) (later-past s.newest (max s.newest t.newest) (s.until + 1) (max s.until t.until + 1) (omega arith) (omega arith)) (between s.from s.to ts) h.past)
-        (all-mapped (IsPast t.newest (t.until + 1)) (IsPast (max s.newest t.newest) (max s.until t.until + 1)) (later-past t.newest (max s.newest t.newest) (t.until + 1) (max s.until t.until + 1) (omega arith) (omega arith)) (between t.from t.to ts) k.past));
+        (all-weaker (IsPast s.newest (s.until + 1)) (IsPast (max s.newest t.newest) (max s.until t.until + 1)) (later-past s.newest (max s.newest t.newest) (s.until + 1) (max s.until t.until + 1) (omega arith) (omega arith)) (between s.from s.to ts) h.past)
+        (all-weaker (IsPast t.newest (t.until + 1)) (IsPast (max s.newest t.newest) (max s.until t.until + 1)) (later-past t.newest (max s.newest t.newest) (t.until + 1) (max s.until t.until + 1) (omega arith) (omega arith)) (between t.from t.to ts) k.past));
   }
     where
       together : s.from + (s.to - s.from) ≡ t.from
@@ -488,10 +453,10 @@ module _ {A : Type 0} where
   -- ---- several stretches
 
   pub stretches-append : (ss : List Stretch) (ts more : List (Txn A)) → HoldStretches ss ts → HoldStretches ss (ts ++ more)
-  stretches-append ss ts more all = all-mapped (λ s. HoldsStretch s ts) (λ s. HoldsStretch s (ts ++ more)) (λ s h. held-append s ts more h) ss all
+  stretches-append ss ts more all = all-weaker (λ s. HoldsStretch s ts) (λ s. HoldsStretch s (ts ++ more)) (λ s h. held-append s ts more h) ss all
 
   pub stretches-doomed : (ss : List Stretch) (place : ℕ) (causes : List Cause) (ts : List (Txn A)) → HoldStretches ss ts → HoldStretches ss (map (doomed_by place causes) ts)
-  stretches-doomed ss place causes ts all = all-mapped (λ s. HoldsStretch s ts) (λ s. HoldsStretch s (map (doomed_by place causes) ts)) (λ s h. held-doomed s place causes ts h) ss all
+  stretches-doomed ss place causes ts all = all-weaker (λ s. HoldsStretch s ts) (λ s. HoldsStretch s (map (doomed_by place causes) ts)) (λ s h. held-doomed s place causes ts h) ss all
 
   -- those before a place that is behind them stay
   pub stretches-rest : (ss : List Stretch) (k : ℕ) (ts more : List (Txn A)) → k ≤ length ts → AllByRecursion (λ s. s.to ≤ k) ss → HoldStretches ss ts → HoldStretches ss (take k ts ++ more)
@@ -501,7 +466,7 @@ module _ {A : Type 0} where
   turned-out : (ss : List Stretch) (g : Txn A → Txn A) (ts : List (Txn A)) (at : ℕ) → list_any (has_place at) ss ≡ false → HoldStretches ss ts → HoldStretches ss (turned_at at g ts)
   turned-out [] g ts at e all = tt
   turned-out (s ∷ ss) g ts at e all =
-      let o = neither (has_place at s) (list_any (has_place at) ss) e in
+      let o = or_parts (has_place at s) (list_any (has_place at) ss) e in
       (held-turned s g ts at all.0 o.0, turned-out ss g ts at o.1 all.1)
 
   -- the transaction at a place is turned
@@ -535,11 +500,11 @@ module _ {A : Type 0} where
   not-live : (c : Txn A) (n p : ℕ) (u : Txn A) → IsPast n p u → is_live node reads_from c u ≡ false
   not-live c n p u h =
       ap (λ x. not (eqb u.number c.number) && x && Rattle.history.specs.Transactions.is_read_write u.mode) (past-not_open n p u h)
-      ∙ ap (λ x. x && Rattle.history.specs.Transactions.is_read_write u.mode) (and_false (not (eqb u.number c.number)))
+      ∙ ap (λ x. x && Rattle.history.specs.Transactions.is_read_write u.mode) (and-false (not (eqb u.number c.number)))
 
   -- what is past is doomed by none
   pub dooms-none : (ts : List (Txn A)) (c : Txn A) (n p : ℕ) (us : List (Txn A)) → AllByRecursion (IsPast n p) us → AllByRecursion (λ u. (z : List Cause) → with_doom node reads_from ts c z u ≡ z) us
-  dooms-none ts c n p us all = all-mapped (IsPast n p) (λ u. (z : List Cause) → with_doom node reads_from ts c z u ≡ z) unchanged us all
+  dooms-none ts c n p us all = all-weaker (IsPast n p) (λ u. (z : List Cause) → with_doom node reads_from ts c z u ≡ z) unchanged us all
     where
       unchanged : (u : Txn A) → IsPast n p u → (z : List Cause) → with_doom node reads_from ts c z u ≡ z
       unchanged u h z = ap (λ x. z ++ Rattle.std.specs.Option.option_to_list (cond (x && reads_from u c) (Rattle.value.specs.Isolation.cause_from node reads_from u c (find (is_first node reads_from c z u) ts)) None)) (not-live c n p u h) ∙ Rattle.std.proofs.lemmas.List.append-nil z
@@ -558,7 +523,7 @@ module _ {A : Type 0} where
       not-first =
           ap (λ y. not (eqb u.number x.number) && (not (not (eqb u.number c.number)) || y && not (is_doomed node reads_from z u)) && reads_from u x) (not-live c n p u past.0)
           ∙ ap (λ y. not (eqb u.number x.number) && (not (not y) || false) && reads_from u x) (apart (eqb u.number c.number) refl)
-          ∙ ap (λ y. y && reads_from u x) (and_false (not (eqb u.number x.number)))
+          ∙ ap (λ y. y && reads_from u x) (and-false (not (eqb u.number x.number)))
 
   all-drop : (P : Txn A → Type 0) (k : ℕ) (ts : List (Txn A)) → AllByRecursion P ts → AllByRecursion P (drop k ts)
   all-drop P k ts all = all-back P (take k ts) (drop k ts) (subst (AllByRecursion P) (sym (take-append-drop k ts)) all)

@@ -1,26 +1,12 @@
 -- Walks over a list from its front.
-use Rattle.std.proofs.Common.{◌≡◌, sym, ap, ◌∙◌, ℕ, ◌-◌, ◌<◌, ◌≤◌, Bool, true, false, cond, ◌&&◌, List, [], ◌∷◌, length, take, drop, get_or, min, ltb, arith, suc, ◌+◌, ◌++◌, Some, None, drop-cons, map}
+use Rattle.std.proofs.Common.{◌≡◌, sym, ap, ◌∙◌, ℕ, ◌-◌, ◌<◌, ◌≤◌, Bool, true, false, cond, ◌&&◌, List, [], ◌∷◌, length, take, drop, get_or, min, ltb, arith, suc, ◌+◌, ◌++◌, Some, None, map}
 use Rattle.std.proofs.lemmas.List.Folds.{find-append}
 use Rattle.std.specs.List.{filter, find}
 use Rattle.std.specs.Option.{option_or}
-use Rattle.std.proofs.lemmas.List.{take_all, take_more, take-append-drop, map-append}
+use Rattle.std.proofs.lemmas.List.{map-append}
 use Rattle.std.proofs.lemmas.List.Elements.{filter-append}
 use Rattle.value.specs.Isolation.{Node, first_part}
-
--- a list that isn't empty is its first element and the rest
-pub first_and_rest : {T : Type 0} (xs : List T) (x : T) → 1 ≤ length xs → x ≡ get_or xs 0 x → xs ≡ x ∷ take (length xs - 1) (drop 1 xs)
-first_and_rest [] x long first = absurd (omega arith)
-first_and_rest (y ∷ ys) x long first =
-    let e : length (y ∷ ys) - 1 ≡ length ys = omega arith in
-    ap (λ z. z ∷ ys) (sym first) ∙ ap (λ zs. x ∷ zs) (sym (ap (λ n. take n ys) e ∙ take_all (length ys) ys (omega arith)))
-
--- one more element
-pub take_next : {X : Type 0} (xs : List X) (i : ℕ) (x : X) → i < length xs → x ≡ get_or xs i x → take (i + 1) xs ≡ take i xs ++ x ∷ []
-take_next xs i x lt at = take_more xs i x lt ∙ ap (λ y. take i xs ++ y ∷ []) (sym at)
-
--- an element, with those before and those after it
-pub split_at : {X : Type 0} (xs : List X) (i : ℕ) (x : X) → i < length xs → x ≡ get_or xs i x → xs ≡ take i xs ++ x ∷ drop (suc i) xs
-split_at xs i x lt at = sym (take-append-drop i xs) ∙ ap (λ ys. take i xs ++ ys) (drop-cons xs i x lt ∙ ap (λ y. y ∷ drop (suc i) xs) (sym at))
+use Rattle.value.proofs.Basics.{split_at, take_next, first_and_rest}
 
 -- what is made of those that pass, with one more element
 pub chosen-next : {X Y : Type 0} (p : X → Bool) (f : X → Y) (xs : List X) (i : ℕ) (x : X) (made new : List Y) → i < length xs → x ≡ get_or xs i x → made ≡ map f (filter p (take i xs)) → new ≡ made ++ cond (p x) (f x ∷ []) []
@@ -39,13 +25,6 @@ find-here p xs i x lt at none e =
     ap (find p) (split_at xs i x lt at) ∙ find-append p (take i xs) (x ∷ drop (suc i) xs)
     ∙ ap (λ o. option_or o (find p (x ∷ drop (suc i) xs))) none
     ∙ ap (λ b. cond b (Some x) (find p (drop (suc i) xs))) e
-
--- this element isn't what is sought either
-pub find-next : {X : Type 0} (p : X → Bool) (xs : List X) (i : ℕ) (x : X) → i < length xs → x ≡ get_or xs i x → find p (take i xs) ≡ None → p x ≡ false → find p (take (i + 1) xs) ≡ None
-find-next p xs i x lt at none e =
-    ap (find p) (take_next xs i x lt at) ∙ find-append p (take i xs) (x ∷ [])
-    ∙ ap (λ o. option_or o (find p (x ∷ []))) none
-    ∙ ap (λ b. cond b (Some x) None) e
 
 module _ {T : Type 0} (node : T → Node) (edge : T → T → Bool) where
   at_most_own : (t : T) (us : List T) → first_part node edge t us ≤ (node t).commit

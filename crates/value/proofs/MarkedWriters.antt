@@ -5,10 +5,7 @@ use Rattle.value.proofs.IsolationLemmas.{In, Below, IsIsolated, shown_before}
 use Rattle.value.proofs.SortLemmas.{InOrder, Below-trans}
 use Rattle.value.proofs.LastWriter.{Rising, after_all, writers, In-writers, writers-In, same_writers}
 use Rattle.value.proofs.SerialLemmas.{IsRead, IsWritten, NumberedFrom, rising_writers, same_row, In-left, In-right, In-append, In-take, take-In, InOrder-front, before_middle, in_front, Rising-take, Rising-writers}
-
-append_one : {T : Type 0} (xs : List T) (y : T) (ys : List T) → xs ++ y ∷ ys ≡ (xs ++ y ∷ []) ++ ys
-append_one [] y ys = refl
-append_one (x ∷ xs) y ys = ap (λ zs. x ∷ zs) (append_one xs y ys)
+use Rattle.value.proofs.Basics.{append_cons}
 
 module _ {T R S : Type 0} (left : T → Option R) (marked : T → Bool) (shows : R → Option S) where
   -- what those writers leave that are marked
@@ -114,7 +111,7 @@ module _ {T : Type 0} (node : T → Node) (edge : T → T → Bool) (ts : List T
     unmarked xs rise sub closed pre [] e = tt
     unmarked xs rise sub closed pre (x ∷ post) e = (
       λ w m. (ap shows (as_seen w) ∙ mark.finds x x_in w m, mark.leaves x x_in w m (after_all left pre r)),
-      subst (Unmarked left marked shows post) (after_all-push left c pre x r) (unmarked xs rise sub closed (pre ++ x ∷ []) post (e ∙ append_one pre x post)),
+      subst (Unmarked left marked shows post) (after_all-push left c pre x r) (unmarked xs rise sub closed (pre ++ x ∷ []) post (e ∙ append_cons pre x post)),
     )
       where
         x_here : In x xs

@@ -6,12 +6,10 @@ use Rattle.value.specs.Isolation.{Node, serial_key}
 use Rattle.value.proofs.IsolationLemmas.{In, Below, IsIsolated, shown_before, edge_before}
 use Rattle.value.proofs.SortLemmas.{InOrder, Below-asym}
 use Rattle.value.proofs.LastWriter.{Rising, after_all, writers, In-writers, same_writers}
+use Rattle.value.proofs.Basics.{cases_le}
 
 abbrev Key : Type 0
 Key = ℕ × ℕ × ℕ
-
-compared : (a b : ℕ) → (a ≤ b) ⊎ (b < a)
-compared a b = grind arith
 
 three : (a b : ℕ) → (a < b) ⊎ (a ≡ b) ⊎ (b < a)
 three a b = grind arith
@@ -161,7 +159,7 @@ module _ {T : Type 0} (node : T → Node) (edge : T → T → Bool) (ts : List T
       not_itself x b = Below-asym (k x) (k x) b b
 
       forth : (x : T) → In x pre → is_some (left x) ≡ true → In x (take (s t - from) log)
-      forth x i w = go (compared (c x) (s t))
+      forth x i w = go (cases_le (c x) (s t))
         where
           x_in : In x ts
           x_in = in_all x (In-left k x pre (t ∷ post) i)

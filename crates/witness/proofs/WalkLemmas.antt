@@ -1,12 +1,12 @@
 -- Walks over what was read and written.
-use Rattle.std.proofs.Common.{◌≡◌, refl, sym, ap, ◌∙◌, ℕ, ◌+◌, ◌-◌, ◌<◌, ◌≤◌, Bool, true, false, cond, not, ◌&&◌, ◌||◌, List, [], ◌∷◌, ◌++◌, length, take, drop, get_or, drop-cons, suc, zero, Option, Some, None, eqb, arith}
-use Rattle.std.proofs.lemmas.List.{take_all, take_more, take-append-drop}
+use Rattle.std.proofs.Common.{◌≡◌, refl, sym, ap, ◌∙◌, ℕ, ◌+◌, ◌-◌, ◌<◌, ◌≤◌, Bool, true, false, cond, not, ◌&&◌, ◌||◌, List, [], ◌∷◌, length, take, drop, get_or, suc, zero, Option, Some, None, eqb, arith}
 use Rattle.std.proofs.lemmas.List.Folds.{find-append}
 use Rattle.std.proofs.lemmas.List.Sums.{fold_push}
 use Rattle.std.specs.Prelude.{slice_index_or}
 use Rattle.std.specs.Option.{option_or}
 use Rattle.std.specs.List.{find, fold, list_any}
 use Rattle.value.specs.declared.value.Value.{Value}
+use Rattle.value.proofs.Basics.{split_at, any-same, take_next, first_and_rest}
 use Rattle.schema.specs.declared.changes.Change.{Change}
 use Rattle.statement.specs.declared.reading.Extent.{Extent}
 use Rattle.statement.specs.declared.reading.Extent.TheVariants.{Whole, One, Range, Referencing}
@@ -20,22 +20,9 @@ use Rattle.witness.specs.Items.{change_below, cover_change, cover_mark, cover_wr
 
 -- ---- lists
 
-pub first_and_rest : {T : Type 0} (xs : List T) (x : T) → 1 ≤ length xs → x ≡ get_or xs 0 x → xs ≡ x ∷ take (length xs - 1) (drop 1 xs)
-first_and_rest [] x long first = absurd (omega arith)
-first_and_rest (y ∷ ys) x long first =
-    let e : length (y ∷ ys) - 1 ≡ length ys = omega arith in
-    ap (λ z. z ∷ ys) (sym first) ∙ ap (λ zs. x ∷ zs) (sym (ap (λ n. take n ys) e ∙ take_all (length ys) ys (omega arith)))
-
-take_next : {X : Type 0} (xs : List X) (i : ℕ) (x : X) → i < length xs → x ≡ get_or xs i x → take (i + 1) xs ≡ take i xs ++ x ∷ []
-take_next xs i x lt at = take_more xs i x lt ∙ ap (λ y. take i xs ++ y ∷ []) (sym at)
-
 -- one more taken into a fold
 pub fold_next : {A B : Type 0} (f : B → A → B) (o : B) (xs : List A) (i : ℕ) (x : A) (before next : B) → i < length xs → x ≡ get_or xs i x → before ≡ fold f o (take i xs) → next ≡ f before x → next ≡ fold f o (take (i + 1) xs)
 fold_next f o xs i x before next lt at e n = n ∙ ap (λ b. f b x) e ∙ sym (ap (fold f o) (take_next xs i x lt at) ∙ fold_push f o (take i xs) x)
-
-any_same : {T : Type 0} (p q : T → Bool) → ((x : T) → p x ≡ q x) → (xs : List T) → list_any p xs ≡ list_any q xs
-any_same p q h [] = refl
-any_same p q h (x ∷ xs) = ap (λ b. b || list_any p xs) (h x) ∙ ap (λ b. q x || b) (any_same p q h xs)
 
 fold_same : {A B : Type 0} (f g : B → A → B) → ((b : B) (x : A) → f b x ≡ g b x) → (o : B) (xs : List A) → fold f o xs ≡ fold g o xs
 fold_same f g h o [] = refl
@@ -45,10 +32,6 @@ same_at : {X : Type 0} (xs : List X) (i : ℕ) (d : X) → i < length xs → sli
 same_at [] i d lt = absurd (omega arith)
 same_at (x ∷ xs) zero d lt = refl
 same_at (x ∷ xs) (suc i) d lt = same_at xs i d (omega arith)
-
--- an element, with those before and those after it
-split_at : {X : Type 0} (xs : List X) (i : ℕ) (x : X) → i < length xs → x ≡ get_or xs i x → xs ≡ take i xs ++ x ∷ drop (suc i) xs
-split_at xs i x lt at = sym (take-append-drop i xs) ∙ ap (λ ys. take i xs ++ ys) (drop-cons xs i x lt ∙ ap (λ y. y ∷ drop (suc i) xs) (sym at))
 
 -- the element at a place is the first that passes
 pub find_here : {X : Type 0} (p : X → Bool) (xs : List X) (i : ℕ) (d : X) → i < length xs → find p (take i xs) ≡ None → p (slice_index_or xs i d) ≡ true → find p xs ≡ Some (slice_index_or xs i d)
@@ -73,8 +56,8 @@ module _ {A : Type 0} where
 
   pub written-alike : (hs rs : List (Reading A)) → CoverAlike hs rs → (xs : List (Change A)) (ms : List (Mark A)) → cover_written hs xs ms ≡ cover_written rs xs ms
   written-alike hs rs h xs ms =
-      ap (λ b. b || list_any (cover_mark hs) ms) (any_same (cover_change hs) (cover_change rs) (λ x. alike_keys hs rs h x.table x.key) xs)
-      ∙ ap (λ b. list_any (cover_change rs) xs || b) (any_same (cover_mark hs) (cover_mark rs) (λ m. alike_references hs rs h m.table m.column m.key) ms)
+      ap (λ b. b || list_any (cover_mark hs) ms) (any-same (cover_change hs) (cover_change rs) (λ x. alike_keys hs rs h x.table x.key) xs)
+      ∙ ap (λ b. list_any (cover_change rs) xs || b) (any-same (cover_mark hs) (cover_mark rs) (λ m. alike_references hs rs h m.table m.column m.key) ms)
 
   pub change-alike : (hs rs : List (Reading A)) → CoverAlike hs rs → (xs : List (Change A)) → least_change hs xs ≡ least_change rs xs
   change-alike hs rs h xs = fold_same (lesser_change hs) (lesser_change rs) (λ o x. ap (λ b. cond (b && change_below x o) (Some x) o) (alike_keys hs rs h x.table x.key)) None xs

@@ -1,27 +1,18 @@
 -- The tables of a catalog, defined and added again as they are written.
-use Rattle.std.proofs.Common.{◌≡◌, ◌⊎◌, ℕ, zero, suc, ◌+◌, ◌<◌, nat_le, nat_lt, Bool, true, false, true≢false, cond, inl, inr, Ok, not, ◌&&◌, ◌||◌, List, [], ◌∷◌, ◌++◌, length, map, Option, Some, None, is_some, slice_get, refl, sym, ap, ◌∙◌, arith}
+use Rattle.std.proofs.Common.{◌≡◌, ◌⊎◌, ℕ, zero, suc, ◌+◌, ◌<◌, nat_le, nat_lt, Bool, true, false, cond, inl, inr, Ok, not, ◌&&◌, ◌||◌, List, [], ◌∷◌, ◌++◌, length, map, Option, Some, None, is_some, slice_get, refl, sym, ap, ◌∙◌, arith}
 use Rattle.std.specs.Prelude.{position, option_and_then}
 use Rattle.std.specs.List.{list_any, list_all, prefix_len}
 use Rattle.std.specs.Option.{option_map, option_map_or}
 use Rattle.std.specs.Str.{bytes_eq}
 use Rattle.std.proofs.lemmas.Bool.{and_parts, and_from, not-true}
 use Rattle.std.proofs.lemmas.Bool.Decides.{nat_tests}
-use Rattle.std.proofs.lemmas.Slice.Eq.{bytes_eq-Decides}
 use Rattle.value.specs.declared.kind.Kind.{Kind}
+use Rattle.value.proofs.Basics.{nat_lt-suc, nat_lt-zero, bytes_eq-self, None-from_some}
 use Rattle.schema.specs.Definition.{ColumnDef, TableDef, Column, TableSchema, Catalog, table_named}
 use Rattle.schema.specs.Names.{is_name}
 use Rattle.schema.specs.Adding.{is_well_named, have_new_names, are_distinct, without_key_mark, is_well_made, defined, key_has_kind, finds_table, matches_key, resolved_column, resolved, adding_fault, added}
 use Rattle.dumpplan.specs.Lines.{name_of_table, written_column, written}
 use Rattle.schema.specs.WellFormed.{are_new, are_named, is_key_unmarked, references_key, is_table_after, are_tables_after}
-
--- ---- tests
-
-none_of : {X : Type 0} (o : Option X) → is_some o ≡ false → o ≡ None
-none_of None e = refl
-none_of (Some x) e = absurd (true≢false e)
-
-same_bytes : (name : List ℕ) → bytes_eq name name ≡ true
-same_bytes name = (bytes_eq-Decides name name).1 refl
 
 -- ---- what is_table_after says, one by one
 
@@ -51,7 +42,7 @@ table_after before d h =
     let names = and_parts (list_all (λ x. is_name x.name) d.columns) (are_new [] (map (λ x. x.name) d.columns)) c.1 in
     record {
       name = f.0;
-      new = none_of (table_named before d.name) (not-true (is_some (table_named before d.name)) f.1);
+      new = None-from_some (table_named before d.name) (not-true (is_some (table_named before d.name)) f.1);
       some = few.0;
       few = few.1;
       names = names.0;
@@ -68,12 +59,6 @@ IsFound c = (t : ℕ) (d : TableSchema) → slice_get c t ≡ Some d → table_n
 
 -- ---- places
 
-first_place : (l : ℕ) → nat_lt 0 (suc l) ≡ true
-first_place l = grind (arith, nat_tests)
-
-next_place : (n l : ℕ) → nat_lt (1 + n) (suc l) ≡ nat_lt n l
-next_place n l = grind (arith, nat_tests)
-
 -- the place in a list with one more at its front
 position-cons : {X : Type 0} (p : X → Bool) (x : X) (xs : List X) → position p (x ∷ xs) ≡ cond (p x) (Some 0) (option_map suc (position p xs))
 position-cons p x xs = by_test (p x)
@@ -83,8 +68,8 @@ position-cons p x xs = by_test (p x)
     later false n = refl
 
     by_test : (b : Bool) → cond (nat_lt (cond (not b) (1 + prefix_len (λ y. not (p y)) xs) 0) (suc (length xs))) (Some (cond (not b) (1 + prefix_len (λ y. not (p y)) xs) 0)) None ≡ cond b (Some 0) (option_map suc (position p xs))
-    by_test true = rw (first_place (length xs)) refl
-    by_test false = rw (next_place (prefix_len (λ y. not (p y)) xs) (length xs)) (later (nat_lt (prefix_len (λ y. not (p y)) xs) (length xs)) (prefix_len (λ y. not (p y)) xs))
+    by_test true = rw (nat_lt-zero (length xs)) refl
+    by_test false = rw (nat_lt-suc (prefix_len (λ y. not (p y)) xs) (length xs)) (later (nat_lt (prefix_len (λ y. not (p y)) xs) (length xs)) (prefix_len (λ y. not (p y)) xs))
 
 -- a table that is found is found among more
 named-front : (c more : Catalog) (name : List ℕ) (t : ℕ) → table_named c name ≡ Some t → table_named (c ++ more) name ≡ Some t
@@ -102,7 +87,7 @@ named-front (d ∷ c) more name t h = position-cons (λ e. bytes_eq name e.name)
 
 -- a new table is found as the last
 named-last : (c : Catalog) (d : TableSchema) → table_named c d.name ≡ None → table_named (c ++ d ∷ []) d.name ≡ Some (length c)
-named-last [] d h = position-cons (λ e. bytes_eq d.name e.name) d [] ∙ ap (λ b. cond b (Some 0) None) (same_bytes d.name)
+named-last [] d h = position-cons (λ e. bytes_eq d.name e.name) d [] ∙ ap (λ b. cond b (Some 0) None) (bytes_eq-self d.name)
 named-last (e ∷ c) d h = position-cons (λ x. bytes_eq d.name x.name) e (c ++ d ∷ []) ∙ by_test (bytes_eq d.name e.name) (sym (position-cons (λ x. bytes_eq d.name x.name) e c) ∙ h) (named-last c d)
   where
     nothing : (o : Option ℕ) → option_map suc o ≡ None → o ≡ None
@@ -176,7 +161,7 @@ no_mark c (d ∷ ds) h =
 
 some_columns : (c : Catalog) (ds : List Column) → nat_lt 0 (length ds) ≡ true → nat_lt 0 (length (map (written_column c) ds)) ≡ true
 some_columns c [] h = h
-some_columns c (d ∷ ds) h = first_place (length (map (written_column c) ds))
+some_columns c (d ∷ ds) h = nat_lt-zero (length (map (written_column c) ds))
 
 defined_by : (name : List ℕ) (columns : List ColumnDef) → is_well_made name columns ≡ true → defined name columns ≡ Ok (record { name = name; columns = without_key_mark columns })
 defined_by name columns made = rw made refl

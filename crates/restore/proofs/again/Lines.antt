@@ -1,10 +1,8 @@
 -- The lines of a dump, read one after another.
 use Rattle.std.proofs.Common.{◌≡◌, ℕ, zero, suc, ◌+◌, ◌≤◌, nat_lt, Bool, true, false, true≢false, Ok, Result, not, ◌&&◌, List, [], ◌∷◌, ◌++◌, length, map, Some, slice_get, refl, sym, ap, subst, ◌∙◌, append_assoc, arith}
 use Rattle.std.specs.List.{list_all}
-use Rattle.std.specs.Str.{bytes_eq}
 use Rattle.std.proofs.lemmas.Bool.{and_parts, and_from}
 use Rattle.std.proofs.lemmas.List.{append-nil, length-append}
-use Rattle.std.proofs.lemmas.Slice.Eq.{bytes_eq-Decides}
 use Rattle.value.specs.declared.refusal.Code.{Code}
 use Rattle.schema.specs.Definition.{TableDef, Column, TableSchema, Catalog, columns_of}
 use Rattle.schema.specs.declared.tables.Tables.{Tables}
@@ -16,9 +14,6 @@ use Rattle.restore.specs.CreateLine.{well_formed, table_of}
 use Rattle.restore.specs.Reading.{Progress, Start, Created, Whole, step, after, read_lines}
 use Rattle.restore.proofs.again.Catalog.{IsTableAfter, table_after, IsFound, IsFound-push, IsNamed, columns_named, defined_again, added_again}
 use Rattle.restore.proofs.again.Spelling.{is_key_first, behind_words, table_again}
-
-pub itself : (text : List ℕ) → bytes_eq text text ≡ true
-itself text = (bytes_eq-Decides text text).1 refl
 
 -- a table of the catalog, by its place
 pub at_seam : (cs ds : Catalog) (d : TableSchema) → slice_get (cs ++ d ∷ ds) (length cs) ≡ Some d

@@ -1,12 +1,11 @@
 -- A row of sound tables, written as a line and put in behind the rows before it.
-use Rattle.std.proofs.Common.{◌≡◌, ℕ, ◌<◌, Bool, true, false, true≢false, Ok, not, eqb, ◌&&◌, ◌||◌, List, [], ◌∷◌, ◌++◌, length, set, map, Option, Some, None, is_some, refl, sym, ap, ◌∙◌, arith}
+use Rattle.std.proofs.Common.{◌≡◌, ℕ, ◌<◌, Bool, true, false, Ok, not, eqb, ◌&&◌, ◌||◌, List, [], ◌∷◌, ◌++◌, length, set, map, Option, Some, None, is_some, refl, sym, ap, ◌∙◌, arith}
 use Rattle.std.specs.List.{list_any, list_all}
 use Rattle.std.specs.FinMap.{find, is_sorted}
 use Rattle.std.specs.FinMap.Entries.{below_all}
 use Rattle.std.specs.Option.{option_map_or}
 use Rattle.std.specs.Ordering.{is_lt, ordering_reverse}
-use Rattle.std.specs.declared.cmp.Ordering.{Ordering}
-use Rattle.std.specs.declared.cmp.Ordering.TheVariants.{Less, Equal, Greater}
+use Rattle.std.specs.declared.cmp.Ordering.TheVariants.{Greater}
 use Rattle.std.specs.Str.{is_utf8}
 use Rattle.std.proofs.lemmas.Bool.{and_parts, and_from, not-true, or_from}
 use Rattle.std.proofs.lemmas.List.{get_or_append_left}
@@ -17,6 +16,7 @@ use Rattle.value.specs.declared.kind.Kind.TheVariants as kind
 use Rattle.value.specs.declared.value.Value.{Value}
 use Rattle.value.specs.declared.value.Value.TheVariants.{Null, Int, Text, Bytes}
 use Rattle.value.specs.Order.{value_cmp, value_cmp-total}
+use Rattle.value.proofs.Basics.{Less-from_lt}
 use Rattle.schema.specs.Definition.{Column, Catalog, columns_of}
 use Rattle.schema.specs.declared.row.Row.{Row}
 use Rattle.schema.specs.declared.tables.Tables.{Tables}
@@ -27,11 +27,6 @@ use Rattle.schema.specs.Inserting.{is_of_kind, are_of_kinds, has_zero_byte, lack
 use Rattle.copytext.specs.RoundTrip.{fit_kinds}
 use Rattle.schema.specs.WellFormed.{references_key}
 use Rattle.restore.proofs.again.Catalog.{key_there}
-
-pub lt_is : (o : Ordering) → is_lt o ≡ true → o ≡ Less
-lt_is Less h = refl
-lt_is Equal h = absurd (true≢false (sym h))
-lt_is Greater h = absurd (true≢false (sym h))
 
 module _ {A : Type 0} where
   -- ---- values of their columns' kinds
@@ -133,7 +128,7 @@ module _ {A : Type 0} where
   above : (x : Row A) (front : List (Row A)) (row : Row A) (rest : List (Row A)) → is_sorted value_cmp (x ∷ (front ++ row ∷ rest)) ≡ true → (value_cmp row.0 x.0 ≡ Greater) × (is_sorted value_cmp (front ++ row ∷ rest) ≡ true)
   above x front row rest h =
       let p = and_parts (below_all value_cmp x.0 (front ++ row ∷ rest)) (is_sorted value_cmp (front ++ row ∷ rest)) h in
-      (value_cmp-total.antisymm row.0 x.0 ∙ ap ordering_reverse (lt_is (value_cmp x.0 row.0) (among x.0 front row rest p.0)), p.1)
+      (value_cmp-total.antisymm row.0 x.0 ∙ ap ordering_reverse (Less-from_lt (value_cmp x.0 row.0) (among x.0 front row rest p.0)), p.1)
 
   -- its key isn't there yet
   absent : (front : List (Row A)) (row : Row A) (rest : List (Row A)) → is_sorted value_cmp (front ++ row ∷ rest) ≡ true → find value_cmp row.0 front ≡ None

@@ -3,10 +3,11 @@ use Rattle.std.proofs.Common.{◌≡◌, ℕ, nat_le, Bool, true, false, true≢
 use Rattle.std.specs.Prelude.{codes}
 use Rattle.std.specs.List.{list_any, list_all, slice_split, join_with_byte}
 use Rattle.std.specs.Option.{option_map_or}
-use Rattle.std.proofs.lemmas.Bool.{and_parts, and_from, eqb-true, eq-eqb, not_from_false, or_from, or_parts, not-true}
+use Rattle.std.proofs.lemmas.Bool.{and_parts, and_from, eqb-true, not_from_false, or_from, or_parts, not-true}
 use Rattle.std.proofs.lemmas.List.Splits.{slice_split-cons_yes, slice_split-cons_no}
 use Rattle.value.specs.declared.kind.Kind.{Kind}
 use Rattle.value.specs.declared.kind.Kind.TheVariants as kind
+use Rattle.value.proofs.Basics.{eqb-self}
 use Rattle.schema.specs.Definition.{ColumnDef, TableDef}
 use Rattle.schema.specs.Names.{begins_name, continues_name, is_small_word, is_reserved, is_name}
 use Rattle.schema.specs.Adding.{is_well_named, defined}
@@ -24,12 +25,9 @@ lacks-append c (x ∷ a) b h k =
     let p = or_parts (eqb x c) (list_any (λ y. eqb y c) a) h in
     or_from (eqb x c) (list_any (λ y. eqb y c) (a ++ b)) p.0 (lacks-append c a b p.1 k)
 
-itself : (c : ℕ) → eqb c c ≡ true
-itself c = eq-eqb c c refl
-
 -- a text is cut at the first of a byte
 pub cut_at : (c : ℕ) (text rest : List ℕ) → Lacks c text → slice_split (λ b. eqb b c) (text ++ c ∷ rest) ≡ text ∷ slice_split (λ b. eqb b c) rest
-cut_at c [] rest h = slice_split-cons_yes (λ b. eqb b c) c rest (itself c)
+cut_at c [] rest h = slice_split-cons_yes (λ b. eqb b c) c rest (eqb-self c)
 cut_at c (b ∷ text) rest h =
     let p = or_parts (eqb b c) (list_any (λ y. eqb y c) text) h in
     slice_split-cons_no (λ x. eqb x c) b (text ++ c ∷ rest) p.0 ∙ rw (cut_at c text rest p.1) refl
@@ -41,7 +39,7 @@ uncut c (b ∷ text) h =
     slice_split-cons_no (λ x. eqb x c) b text p.0 ∙ rw (uncut c text p.1) refl
 
 pub parted_at : (c : ℕ) (text rest : List ℕ) → Lacks c text → parted c (text ++ c ∷ rest) ≡ Some (text, rest)
-parted_at c [] rest h = rw (itself c) refl
+parted_at c [] rest h = rw (eqb-self c) refl
 parted_at c (b ∷ text) rest h =
     let p = or_parts (eqb b c) (list_any (λ y. eqb y c) text) h in
     rw (p.0, parted_at c text rest p.1) refl

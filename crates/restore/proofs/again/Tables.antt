@@ -12,6 +12,7 @@ use Rattle.value.specs.declared.refusal.Code.{Code}
 use Rattle.value.specs.declared.value.Value.{Value}
 use Rattle.value.specs.declared.value.Value.TheVariants.{Null, Int, Text, Bytes}
 use Rattle.value.specs.Order.{value_cmp}
+use Rattle.value.proofs.Basics.{bytes_eq-self}
 use Rattle.schema.specs.Definition.{Column, TableSchema, Catalog, columns_of}
 use Rattle.schema.specs.declared.row.Row.{Row}
 use Rattle.schema.specs.declared.tables.Tables.{Tables}
@@ -27,7 +28,7 @@ use Rattle.restore.specs.Reading.{Before, Within, Behind, Whole, kinds_of, copie
 use Rattle.restore.proofs.again.Catalog.{table_after}
 use Rattle.restore.proofs.again.Rows.{kinds_fit, inserted_again}
 use Rattle.restore.proofs.again.RowLines.{row_isnt_end}
-use Rattle.restore.proofs.again.Lines.{GoesTo, nowhere, goes_on, goes_through, itself, at_seam, columns_at}
+use Rattle.restore.proofs.again.Lines.{GoesTo, nowhere, goes_on, goes_through, at_seam, columns_at}
 
 module _ {A : Type 0} where
   -- ---- one row
@@ -98,7 +99,7 @@ module _ {A : Type 0} where
 
   copy_step : (counted : Bool) (c : Catalog) (Y : Tables A) (t : ℕ) (d : TableSchema) → slice_get c t ≡ Some d → step (Before counted c Y t) (copy_line d) ≡ Ok (Within counted c Y t)
   unfolding step
-  copy_step counted c Y t d at = ap (λ (o : Option TableSchema). copies counted c Y t o (copy_line d)) at ∙ rw (itself (copy_line d)) refl
+  copy_step counted c Y t d at = ap (λ (o : Option TableSchema). copies counted c Y t o (copy_line d)) at ∙ rw (bytes_eq-self (copy_line d)) refl
 
   end_step : (counted : Bool) (c : Catalog) (Y : Tables A) (t : ℕ) → step (Within counted c Y t) end_of_rows ≡ Ok (ended counted c Y t)
   unfolding step
@@ -106,7 +107,7 @@ module _ {A : Type 0} where
 
   count_step : (c : Catalog) (Y : Tables A) (t : ℕ) (rows : List (Row A)) → rows_of Y t ≡ rows → step (Behind true c Y t) (rows_line (length rows)) ≡ Ok (Before true c Y (t + 1))
   unfolding step
-  count_step c Y t rows same = rw (same, itself (rows_line (length rows))) refl
+  count_step c Y t rows same = rw (same, bytes_eq-self (rows_line (length rows))) refl
 
   counts_go : (counted : Bool) (c : Catalog) (Y : Tables A) (t : ℕ) (rows : List (Row A)) → rows_of Y t ≡ rows → GoesTo (Within counted c Y t) (end_of_rows ∷ count_lines counted (length rows)) (Before counted c Y (t + 1))
   counts_go true c Y t rows same =

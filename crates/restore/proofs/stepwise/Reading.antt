@@ -4,8 +4,8 @@ use Rattle.std.specs.Prelude.{codes}
 use Rattle.std.specs.List.{onto_first}
 use Rattle.std.specs.Str.{bytes_eq}
 use Rattle.std.proofs.lemmas.Bool.{eqb-true}
-use Rattle.std.proofs.lemmas.Slice.Eq.{bytes_eq-Decides}
 use Rattle.value.specs.declared.refusal.Code.TheVariants.{BadCopyFileFormat}
+use Rattle.value.proofs.Basics.{bytes_eq-self}
 use Rattle.schema.specs.Definition.{TableSchema, Catalog}
 use Rattle.schema.specs.declared.tables.Tables.{Tables}
 use Rattle.schema.specs.Inserting.{empty_tables}
@@ -34,9 +34,6 @@ split_some (b ∷ text) e = go (b == 10) e
     go : (is : Bool) → cond is ([] ∷ lines_of text) (onto_first b (lines_of text)) ≡ [] → ⊥
     go true h = absurd cc
     go false h = onto_some b (lines_of text) h
-
-same_bytes : (line : List ℕ) → bytes_eq line line ≡ true
-same_bytes line = (bytes_eq-Decides line line).1 refl
 
 -- what stops one reading stops an equal one
 pub stops_at : {Y : Type 0} (e : ReadError) (now before : Result Y RestoreFault) → Stops e now → now ≡ before → Stops e before
@@ -131,7 +128,7 @@ module _ {A : Type 0} where
 
   copy_is : (counted : Bool) (c : Catalog) (X : Tables A) (t : ℕ) (d : TableSchema) → slice_get c t ≡ Some d → step (Before counted c X t) (copy_line d) ≡ Ok (Within counted c X t)
   unfolding step
-  copy_is counted c X t d at = rw (at, same_bytes (copy_line d)) refl
+  copy_is counted c X t d at = rw (at, bytes_eq-self (copy_line d)) refl
 
   copy_other : (counted : Bool) (c : Catalog) (X : Tables A) (t : ℕ) (d : TableSchema) (line : List ℕ) → slice_get c t ≡ Some d → bytes_eq line (copy_line d) ≡ false → step (Before counted c X t) line ≡ Err BadCopyFileFormat
   unfolding step
@@ -185,7 +182,7 @@ module _ {A : Type 0} where
 
   count_is : (c : Catalog) (X : Tables A) (t : ℕ) → step (Behind true c X t) (rows_line (length (rows_of X t))) ≡ Ok (Before true c X (t + 1))
   unfolding step
-  count_is c X t = rw (same_bytes (rows_line (length (rows_of X t)))) refl
+  count_is c X t = rw (bytes_eq-self (rows_line (length (rows_of X t)))) refl
 
   count_other : (c : Catalog) (X : Tables A) (t : ℕ) (line : List ℕ) → bytes_eq line (rows_line (length (rows_of X t))) ≡ false → step (Behind true c X t) line ≡ Err BadCopyFileFormat
   unfolding step

@@ -3,6 +3,7 @@ use Rattle.std.proofs.Common.{◌≡◌, true, ◌&&◌, List, [], ◌∷◌, So
 use Rattle.std.specs.Ordering.{is_lt}
 use Rattle.std.proofs.lemmas.Bool.{and_parts}
 use Rattle.value.specs.Order.{value_cmp}
+use Rattle.value.proofs.Basics.{Less-from_lt}
 use Rattle.schema.specs.Definition.{Column}
 use Rattle.schema.specs.declared.row.Row.{Row}
 use Rattle.schema.specs.declared.tables.Tables.{Tables}
@@ -10,7 +11,6 @@ use Rattle.schema.specs.Rows.{Rows, put_row}
 use Rattle.restore.specs.declared.error.LineError.{LineError}
 use Rattle.restore.specs.Rows.{is_free, IsNext, rise_from, rise, follows, AreStillThere}
 use Rattle.restore.proofs.taking.Behind.{still_behind}
-use Rattle.restore.proofs.again.Rows.{lt_is}
 use Rattle.restore.proofs.taking.StillThere.{free-still, rise_from-too}
 
 module _ {A : Type 0} where
@@ -34,5 +34,5 @@ module _ {A : Type 0} where
       let p = and_parts (is_lt (value_cmp row.0 more.0) && is_free (Some X) ds more) (rise_from (Some X) ds more.0 rows) rises in
       let q = and_parts (is_lt (value_cmp row.0 more.0)) (is_free (Some X) ds more) p.0 in
       let free = free-still X Y ds still in
-      ((free more q.1, still_behind table row more.0 next.1 (lt_is (value_cmp row.0 more.0) q.0)), rise_from-too (Some X) (Some Y) ds more.0 rows free p.1)
+      ((free more q.1, still_behind table row more.0 next.1 (Less-from_lt (value_cmp row.0 more.0) q.0)), rise_from-too (Some X) (Some Y) ds more.0 rows free p.1)
   followed-next X Y ds table row (Err e ∷ rows) still next rises = absurd cc

@@ -1,5 +1,7 @@
 -- Rows put in one after another: which keys are there, and how many rows.
 use Rattle.std.proofs.Common.{◌≡◌, ◌+◌, Bool, true, false, true≢false, cond, ◌||◌, List, [], ◌∷◌, ◌++◌, length, Some, is_some, refl, ap, ◌∙◌, arith}
+use Rattle.std.proofs.Math.Bool.{or-false}
+use Rattle.std.proofs.lemmas.Bool.{or_parts}
 use Rattle.std.specs.FinMap.{find}
 use Rattle.std.specs.List.{fold}
 use Rattle.std.specs.Ordering.{is_eq, match_ordering}
@@ -28,18 +30,6 @@ or_turned true true c = refl
 or_turned true false c = refl
 or_turned false b c = refl
 
-or_none : (b : Bool) → (b || false) ≡ b
-or_none true = refl
-or_none false = refl
-
-left_of : (a b : Bool) → (a || b) ≡ false → a ≡ false
-left_of true b e = absurd (true≢false e)
-left_of false b e = refl
-
-right_of : (a b : Bool) → (a || b) ≡ false → b ≡ false
-right_of true b e = absurd (true≢false e)
-right_of false b e = e
-
 module _ {A : Type 0} where
   pub key_found : (key : Value A) (rows : List (Row A)) → is_some (find value_cmp key rows) ≡ has_key rows key
   key_found key [] = refl
@@ -66,7 +56,7 @@ module _ {A : Type 0} where
 
   -- the keys of rows in their order are those of the rows
   pub by_key_has : (key : Value A) (rows : List (Row A)) → has_key (by_key rows) key ≡ has_key rows key
-  by_key_has key rows = all_has key [] rows ∙ or_none (has_key rows key)
+  by_key_has key rows = all_has key [] rows ∙ or-false (has_key rows key)
 
   -- a row more
   pub by_key_more : (rows : List (Row A)) (row : Row A) → by_key (rows ++ row ∷ []) ≡ put_row (by_key rows) row
@@ -75,7 +65,7 @@ module _ {A : Type 0} where
   -- a row of a new key makes a table longer by one
   pub put_length : (rows : List (Row A)) (row : Row A) → has_key rows row.0 ≡ false → length (put_row rows row) ≡ length rows + 1
   put_length [] row new = refl
-  put_length (first ∷ rows) row new = go (value_cmp row.0 first.0) (left_of (same row.0 first.0) (has_key rows row.0) new) (put_length rows row (right_of (same row.0 first.0) (has_key rows row.0) new))
+  put_length (first ∷ rows) row new = go (value_cmp row.0 first.0) (or_parts (same row.0 first.0) (has_key rows row.0) new).0 (put_length rows row (or_parts (same row.0 first.0) (has_key rows row.0) new).1)
     where
       go : (o : Ordering) → is_eq o ≡ false → length (put_row rows row) ≡ length rows + 1 → length (match_ordering o (row ∷ first ∷ rows) (row ∷ rows) (first ∷ put_row rows row)) ≡ length (first ∷ rows) + 1
       go Less e more = omega arith

@@ -4,8 +4,8 @@ use Rattle.std.specs.Str.{bytes_eq}
 use Rattle.std.proofs.Math.Nat.{mod-lt}
 use Rattle.std.proofs.lemmas.List.{take-append-drop, drop-drop, map-append, length-map}
 use Rattle.std.proofs.lemmas.Nat.{div-add-mod'}
-use Rattle.std.proofs.lemmas.Slice.Eq.{bytes_eq-Decides}
 use Rattle.value.specs.declared.kind.Kind.{Kind}
+use Rattle.value.proofs.Basics.{bytes_eq-self}
 use Rattle.schema.specs.Definition.{Catalog}
 use Rattle.schema.specs.declared.row.Row.{Row}
 use Rattle.schema.specs.declared.tables.Tables.{Tables}
@@ -28,9 +28,6 @@ use Rattle.restore.proofs.words.Texts.{split-parted}
 
 -- ---- the end of the rows
 
-same : (line : List ℕ) → bytes_eq line line ≡ true
-same line = (bytes_eq-Decides line line).1 refl
-
 differs : (b : Bool) → b ≡ true → b ≡ false → ⊥
 differs true e f = absurd cc
 differs false e f = absurd cc
@@ -43,7 +40,7 @@ module _ {A : Type 0} where
   -- where no row is next, the line behind the rows is, or the dump's end
   pub rows_ended : (counted : Bool) (c : Catalog) (X : Tables A) (t : ℕ) (r : Result Lines ReadError) (n : ℕ) (text : List ℕ) → HasNoRowLine text → IsWantedLine end_of_rows n text r
       → Reads (λ l. read_lines l.number (ended counted c X t) (lines_of l.text.now)) r (read_lines n (Within counted c X t) (lines_of text))
-  rows_ended counted c X t (Ok rest) n text none h = stepped rest n (Within counted c X t) (ended counted c X t) text end_of_rows h.0 h.1 (rows_end counted c X t end_of_rows (same end_of_rows))
+  rows_ended counted c X t (Ok rest) n text none h = stepped rest n (Within counted c X t) (ended counted c X t) text end_of_rows h.0 h.1 (rows_end counted c X t end_of_rows (bytes_eq-self end_of_rows))
   rows_ended counted c X t (Err read.Memory) n text none h = tt
   rows_ended counted c X t (Err (read.Faulty f)) n text none h = rw h.1 (no-line n (Within counted c X t) text (none_next text (parted 10 text) refl none h.0) refl)
 

@@ -1,10 +1,11 @@
 -- Rows that are there stay there while others are put in, and not-false do references that were found.
-use Rattle.std.proofs.Common.{◌≡◌, ℕ, ◌<◌, ◌≤◌, Bool, true, false, cond, not, ◌&&◌, ◌⊎◌, inl, inr, List, [], ◌∷◌, length, Option, Some, None, is_some, slice_set, Result, Ok, Err, refl, ap, sym, subst, ◌∙◌, arith}
+use Rattle.std.proofs.Common.{◌≡◌, ℕ, ◌<◌, ◌≤◌, Bool, true, false, cond, not, ◌&&◌, ◌⊎◌, inl, inr, List, [], ◌∷◌, length, Option, Some, None, is_some, slice_set, Result, Ok, Err, refl, ap, sym, subst, ◌∙◌}
 use Rattle.std.specs.List.{list_any}
 use Rattle.std.proofs.lemmas.Bool.{and_parts, not-false, not-true, or_parts, or_from}
 use Rattle.value.specs.declared.refusal.Code.{Code}
 use Rattle.value.specs.declared.value.Value.{Value}
 use Rattle.value.specs.Order.{value_cmp}
+use Rattle.value.proofs.Basics.{cases_le}
 use Rattle.schema.specs.Definition.{Column, Catalog}
 use Rattle.schema.specs.declared.changes.Change.{Change}
 use Rattle.schema.specs.declared.row.Row.{Row}
@@ -21,9 +22,6 @@ use Rattle.restore.specs.declared.rows.ReadPiece.{ReadPiece}
 use Rattle.restore.specs.Rows.{is_free, rise_from, rise, AreStillThere, AreKnown, MayRise}
 use Rattle.restore.proofs.taking.Behind.{none_dangles}
 use Rattle.restore.proofs.stepwise.Reading.{done_same}
-
-two_places : (n t : ℕ) → (n ≤ t) ⊎ (t < n)
-two_places n t = grind arith
 
 swap : (a b c : Bool) → (a ≡ true → b ≡ true) → (a && c) ≡ true → (b && c) ≡ true
 swap true true c f h = h
@@ -43,7 +41,7 @@ module _ {A : Type 0} where
   is_put X t row = ap (slice_set X t) (put_changed {U = Unit {0}} {E = Unit {0}} (Ok tt) (rows_of X t) (put_row (rows_of X t) row) row row.0 row.1 (Some row.1) refl refl refl)
 
   pub still-put : (X : Tables A) (t : ℕ) (row : Row A) → AreStillThere X (slice_set X t (put_row (rows_of X t) row))
-  still-put X t row = λ u key h. subst (λ (Y : Tables A). is_some (row_at Y u key) ≡ true) (sym (is_put X t row)) (go u key h (two_places (length X) u))
+  still-put X t row = λ u key h. subst (λ (Y : Tables A). is_some (row_at Y u key) ≡ true) (sym (is_put X t row)) (go u key h (cases_le (length X) u))
     where
       x : Change A
       x = record { table = t; key = row.0; fields = Some row.1 }

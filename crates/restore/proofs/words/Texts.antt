@@ -4,16 +4,14 @@ use Rattle.std.specs.List.{slice_split, onto_first, prefix_len, position}
 use Rattle.std.specs.Option.{option_map}
 use Rattle.std.proofs.lemmas.Bool.{eqb-true}
 use Rattle.std.proofs.lemmas.Bool.Decides.{nat_tests}
+use Rattle.value.proofs.Basics.{eqb-self}
 use Rattle.restore.specs.CreateLine.{behind, parted}
-
-same_byte : (b : ℕ) → (b == b) ≡ true
-same_byte b = grind (arith, nat_tests)
 
 -- ---- behind some bytes
 
 pub behind-append : (bytes rest : List ℕ) → behind bytes (bytes ++ rest) ≡ Some rest
 behind-append [] rest = refl
-behind-append (b ∷ bytes) rest = rw (same_byte b) (behind-append bytes rest)
+behind-append (b ∷ bytes) rest = rw (eqb-self b) (behind-append bytes rest)
 
 pub behind-none : (bytes text : List ℕ) → ((rest : List ℕ) → text ≡ bytes ++ rest → ⊥) → behind bytes text ≡ None
 behind-none [] text h = absurd (h text refl)

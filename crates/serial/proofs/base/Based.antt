@@ -2,12 +2,13 @@
 use Rattle.std.proofs.Common.{◌≡◌, sym, subst, ◌+◌, ◌<◌, ◌≤◌, Bool, true, false, cond, ◌⊎◌, inl, inr, List, [], ◌∷◌, length, eqb, arith, length-append}
 use Rattle.value.proofs.IsolationLemmas.{In}
 use Rattle.value.proofs.SerialLemmas.{In-append}
+use Rattle.value.proofs.Basics.{find-In}
 use Rattle.history.specs.Opening.{Opening}
 use Rattle.history.specs.declared.event.Record.{Record}
 use Rattle.history.specs.Transactions.{Done, Txn, World, Exported_snapshot, commits, is_read_write}
 use Rattle.history.specs.Events.{ended, begun, start, follows, run}
 use Rattle.history.specs.Answer.{reply_in, IsAnswered}
-use Rattle.serial.proofs.legal.Legal.{Move, Stays, Fails, Aborts, Commits, Runs, Asks, Polls, Learns, Imports, Step, Nothing, Begins, Moves, Settles, Dooms, Steps, One, Two, current_in, found, legal_steps}
+use Rattle.serial.proofs.legal.Legal.{Move, Stays, Fails, Aborts, Commits, Runs, Asks, Polls, Learns, Imports, Step, Nothing, Begins, Moves, Settles, Dooms, Steps, One, Two, current_in, legal_steps}
 use Rattle.serial.proofs.structures.Dooms.{Fate, Spared, Over, In-doomed, length-doomed}
 use Rattle.serial.proofs.legal.Numbers.{IsNumbered, In-replaced, length-replaced, polled_keeps}
 use Rattle.serial.proofs.legal.InTime.{keeps}
@@ -32,7 +33,7 @@ module _ {A : Type 0} where
   moved_taken w t x log exports b h (Asks m) = h
   moved_taken w t x log exports b h (Polls d k) = polled_keeps (λ y. w.base.events < y.taken) w t h (let p = b.placed in omega arith)
   moved_taken w t x log exports b h (Learns d k p) = polled_keeps (λ y. w.base.events < y.taken) w t h (let q = b.placed in omega arith)
-  moved_taken w t x log exports b h (Imports i y r a e) = (b.exporters y (found _ w.exports y e).0).2
+  moved_taken w t x log exports b h (Imports i y r a e) = (b.exporters y (find-In _ w.exports y e).0).2
 
   moved_exporters : (w : World A) (t x : Txn A) (log : List (Txn A)) (exports : List Exported_snapshot) → IsNumbered w → IsBased w → In t w.txns → Move w t x log exports
       → (y : Exported_snapshot) → In y exports → (w.base.transactions < y.exporter) × (y.exporter ≤ w.base.transactions + length w.txns) × (w.base.events < y.taken)

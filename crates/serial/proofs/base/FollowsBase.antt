@@ -2,6 +2,7 @@
 use Rattle.std.proofs.Common.{◌≡◌, refl, sym, ap, subst, ◌∙◌, ℕ, ◌+◌, ◌≤◌, Bool, true, false, cond, not, ◌&&◌, List, [], ◌∷◌, ◌++◌, length, map, Option, Some, None, is_some, append_assoc, arith}
 use Rattle.value.specs.declared.refusal.Code.TheVariants as code
 use Rattle.value.proofs.IsolationLemmas.{In}
+use Rattle.value.proofs.Basics.{find-In}
 use Rattle.schema.specs.declared.tables.Tables.{Tables}
 use Rattle.statement.specs.declared.reply.Reply.{Reply}
 use Rattle.statement.specs.declared.reply.Reply.TheVariants.{Begun, Committed, Imported, Safe, Wait, Exported, Refused}
@@ -13,7 +14,7 @@ use Rattle.history.specs.declared.event.Record.{Record}
 use Rattle.history.specs.Transactions.{Standing, Open, Failed, Done, Txn, World, Exported_snapshot, is_read_write, is_deferrable, is_read_only, is_quiet, is_pending, must_wait, commits, tables_at, current, exported}
 use Rattle.history.specs.Events.{begun, numbered, polled, import, moved, turned_from, turned, causes, doomed_by, replaced, txns_after, log_after, exports_after, next_identifier, without_transaction, followed, follows, run}
 use Rattle.history.specs.Answer.{reply_in, reply_of, reply_from, open_reply, commit_reply, is_refused, refuses, refuses_row, IsAnswered}
-use Rattle.serial.proofs.legal.Legal.{current_in, found}
+use Rattle.serial.proofs.legal.Legal.{current_in}
 use Rattle.serial.proofs.order.SerialTheorem.{IsGood}
 use Rattle.serial.proofs.base.Based.{next_good}
 use Rattle.serial.proofs.base.OnBase.{joined, IsOnBase, new_number, same_commits, same_tables, same_current, same_pending, same_exported, same_meets, replaced_joined, doomed_joined, same_numbered, same_cause, same_dooms, same_polled, taken_polled}
@@ -70,7 +71,7 @@ module _ {A : Type 0} (w : World A) (gw : IsGood w) (quiet : is_quiet w ≡ true
     same_moved t i Poll (Safe s) = ap (λ (x : Txn A). record x { known = true }) (same_polled w gw quiet v on t i)
     same_moved t i Poll Wait = same_polled w gw quiet v on t i
     same_moved t i (Import n) Imported = ap (λ o. import o (join v) t) (same_exported w gw quiet v on old n)
-        ∙ imported t (exported v n) (λ y e. let h = (on.good.numbered.exports y (found _ v.exports y e).0).0 in omega (arith, h, ap (λ (b : Base). b.commits) on.base))
+        ∙ imported t (exported v n) (λ y e. let h = (on.good.numbered.exports y (find-In _ v.exports y e).0).0 in omega (arith, h, ap (λ (b : Base). b.commits) on.base))
     same_moved t i Commit Committed = same_numbered w gw quiet v on t
     same_moved t i _ _ = refl
 

@@ -1,13 +1,14 @@
 -- Events on the base of a quiet history do what they do after that history's own events.
 use Rattle.std.proofs.Common.{◌≡◌, refl, sym, ap, subst, ◌∙◌, ℕ, zero, suc, ◌+◌, ◌-◌, ◌<◌, ◌≤◌, Bool, true, false, true≢false, cond, not, ◌&&◌, ◌||◌, ◌⊎◌, inl, inr, List, [], ◌∷◌, ◌++◌, length, map, take, filter, fold, Option, Some, None, is_some, eqb, nat_lt, nat_le, arith}
-use Rattle.std.proofs.lemmas.Bool.{eqb-true}
-use Rattle.std.proofs.lemmas.Bool.Decides.{nat_tests}
+use Rattle.std.proofs.lemmas.Bool.{eqb-true, le-ltb, leb-true, ltb-true, and_right, false_from_ne_true, and_parts}
+use Rattle.std.proofs.lemmas.List.{map-append, take_all}
 use Rattle.std.specs.List.{find, list_any, list_all}
 use Rattle.std.specs.Option.{option_to_list}
 use Rattle.value.specs.declared.refusal.Cause.{Cause}
 use Rattle.value.specs.Isolation.{is_dangerous, bound, earliest, caused, first_some, first_cause, dooms, with_doom, doom_of, is_live, is_first, cause_from}
 use Rattle.value.proofs.IsolationLemmas.{In}
 use Rattle.value.proofs.SerialLemmas.{NumberedFrom}
+use Rattle.value.proofs.Basics.{fold-same_in, first_some-none, first_some-same_in, filter_none, find-same_in, any-same_in}
 use Rattle.schema.specs.declared.changes.Change.{Change}
 use Rattle.schema.specs.declared.tables.Tables.{Tables}
 use Rattle.history.specs.declared.base.Base.{Base}
@@ -26,10 +27,6 @@ module _ {T : Type 0} where
   any_past p [] ys f = refl
   any_past p (x ∷ xs) ys f = ap (λ b. b || list_any p (xs ++ ys)) (f x (inl refl)) ∙ any_past p xs ys (λ y i. f y (inr i))
 
-  any_same : (p q : T → Bool) (xs : List T) → ((x : T) → In x xs → p x ≡ q x) → list_any p xs ≡ list_any q xs
-  any_same p q [] f = refl
-  any_same p q (x ∷ xs) f = ap (λ b. b || list_any p xs) (f x (inl refl)) ∙ ap (λ b. q x || b) (any_same p q xs (λ y i. f y (inr i)))
-
   any_none : (p : T → Bool) (xs : List T) → ((x : T) → In x xs → p x ≡ false) → list_any p xs ≡ false
   any_none p [] f = refl
   any_none p (x ∷ xs) f = ap (λ b. b || list_any p xs) (f x (inl refl)) ∙ any_none p xs (λ y i. f y (inr i))
@@ -38,41 +35,17 @@ module _ {T : Type 0} where
   find_past p [] ys f = refl
   find_past p (x ∷ xs) ys f = ap (λ b. cond b (Some x) (find p (xs ++ ys))) (f x (inl refl)) ∙ find_past p xs ys (λ y i. f y (inr i))
 
-  find_same : (p q : T → Bool) (xs : List T) → ((x : T) → In x xs → p x ≡ q x) → find p xs ≡ find q xs
-  find_same p q [] f = refl
-  find_same p q (x ∷ xs) f = ap (λ b. cond b (Some x) (find p xs)) (f x (inl refl)) ∙ ap (λ o. cond (q x) (Some x) o) (find_same p q xs (λ y i. f y (inr i)))
-
   filter_past : (p : T → Bool) (xs ys : List T) → ((x : T) → In x xs → p x ≡ false) → filter p (xs ++ ys) ≡ filter p ys
   filter_past p [] ys f = refl
   filter_past p (x ∷ xs) ys f = ap (λ b. cond b (x ∷ filter p (xs ++ ys)) (filter p (xs ++ ys))) (f x (inl refl)) ∙ filter_past p xs ys (λ y i. f y (inr i))
-
-  filter_none : (p : T → Bool) (xs : List T) → ((x : T) → In x xs → p x ≡ false) → filter p xs ≡ []
-  filter_none p [] f = refl
-  filter_none p (x ∷ xs) f = ap (λ b. cond b (x ∷ filter p xs) (filter p xs)) (f x (inl refl)) ∙ filter_none p xs (λ y i. f y (inr i))
 
   first_past : {B : Type 0} (f : T → Option B) (xs ys : List T) → ((x : T) → In x xs → f x ≡ None) → first_some f (xs ++ ys) ≡ first_some f ys
   first_past f [] ys g = refl
   first_past f (x ∷ xs) ys g = ap (λ o. cond (is_some o) o (first_some f (xs ++ ys))) (g x (inl refl)) ∙ first_past f xs ys (λ y i. g y (inr i))
 
-  first_same : {B : Type 0} (f g : T → Option B) (xs : List T) → ((x : T) → In x xs → f x ≡ g x) → first_some f xs ≡ first_some g xs
-  first_same f g [] h = refl
-  first_same f g (x ∷ xs) h = ap (λ o. cond (is_some o) o (first_some f xs)) (h x (inl refl)) ∙ ap (λ o. cond (is_some (g x)) (g x) o) (first_same f g xs (λ y i. h y (inr i)))
-
-  first_none : {B : Type 0} (f : T → Option B) (xs : List T) → ((x : T) → In x xs → f x ≡ None) → first_some f xs ≡ None
-  first_none f [] g = refl
-  first_none f (x ∷ xs) g = ap (λ o. cond (is_some o) o (first_some f xs)) (g x (inl refl)) ∙ first_none f xs (λ y i. g y (inr i))
-
   fold_past : {B : Type 0} (f : B → T → B) (b : B) (xs ys : List T) → ((x : T) → In x xs → f b x ≡ b) → fold f b (xs ++ ys) ≡ fold f b ys
   fold_past f b [] ys g = refl
   fold_past f b (x ∷ xs) ys g = ap (λ c. fold f c (xs ++ ys)) (g x (inl refl)) ∙ fold_past f b xs ys (λ y i. g y (inr i))
-
-  fold_same : {B : Type 0} (f g : B → T → B) (b : B) (xs : List T) → ((c : B) (x : T) → In x xs → f c x ≡ g c x) → fold f b xs ≡ fold g b xs
-  fold_same f g b [] h = refl
-  fold_same f g b (x ∷ xs) h = ap (λ c. fold f c xs) (h b x (inl refl)) ∙ fold_same f g (g b x) xs (λ c y i. h c y (inr i))
-
-  map_append : (f : T → T) (xs ys : List T) → map f (xs ++ ys) ≡ map f xs ++ map f ys
-  map_append f [] ys = refl
-  map_append f (x ∷ xs) ys = ap (λ zs. f x ∷ zs) (map_append f xs ys)
 
   map_still : (f : T → T) (xs : List T) → ((x : T) → In x xs → f x ≡ x) → map f xs ≡ xs
   map_still f [] g = refl
@@ -83,44 +56,13 @@ module _ {T : Type 0} where
   take_past zero (x ∷ xs) ys h = absurd (omega arith)
   take_past (suc n) (x ∷ xs) ys h = ap (λ zs. x ∷ zs) (take_past n xs ys (omega arith)) ∙ ap (λ m. x ∷ (xs ++ take m ys)) (omega arith)
 
-  take_all : (n : ℕ) (xs : List T) → length xs ≤ n → take n xs ≡ xs
-  take_all zero [] h = refl
-  take_all (suc n) [] h = refl
-  take_all zero (x ∷ xs) h = absurd (omega arith)
-  take_all (suc n) (x ∷ xs) h = ap (λ zs. x ∷ zs) (take_all n xs (omega arith))
-
-  nil_right : (xs : List T) → xs ++ [] ≡ xs
-  nil_right [] = refl
-  nil_right (x ∷ xs) = ap (λ ys. x ∷ ys) (nil_right xs)
-
 -- ---- tests
 
-two_of : (a b : Bool) → (a && b) ≡ true → (a ≡ true) × (b ≡ true)
-two_of true b e = (refl, e)
-two_of false b e = absurd (true≢false (sym e))
-
-not_so : (b : Bool) → (b ≡ true → ⊥) → b ≡ false
-not_so true f = absurd (f refl)
-not_so false f = refl
-
-second_false : (a b : Bool) → b ≡ false → (a && b) ≡ false
-second_false true b e = e
-second_false false b e = refl
-
 middle_false : (a b c : Bool) → b ≡ false → (a && b && c) ≡ false
-middle_false a b c e = ap (λ d. d && c) (second_false a b e)
+middle_false a b c e = ap (λ d. d && c) (and_right a b e)
 
 first_false : (a b c : Bool) → a ≡ false → (a && b && c) ≡ false
 first_false a b c e = ap (λ d. d && b && c) e
-
-is_less : (a b : ℕ) → nat_lt a b ≡ true → a < b
-is_less a b e = grind (arith, nat_tests)
-
-is_least : (a b : ℕ) → nat_le a b ≡ true → a ≤ b
-is_least a b e = grind (arith, nat_tests)
-
-not_less : (a b : ℕ) → b ≤ a → nat_lt a b ≡ false
-not_less a b h = grind (arith, nat_tests)
 
 closed : (st : Standing) → is_owed st ≡ false → is_open st ≡ false
 closed Open e = e
@@ -159,8 +101,8 @@ module _ {A : Type 0} (w : World A) (gw : IsGood w) (quiet : is_quiet w ≡ true
 
       all_of : (ts : List (Txn A)) → list_all (λ t. not (is_owed t.standing)) ts ≡ true → In u ts → not (is_owed u.standing) ≡ true
       all_of [] e j = absurd j
-      all_of (t ∷ ts) e (inl p) = ap (λ (y : Txn A). not (is_owed y.standing)) p ∙ (two_of (not (is_owed t.standing)) (list_all (λ y. not (is_owed y.standing)) ts) e).0
-      all_of (t ∷ ts) e (inr j) = all_of ts (two_of (not (is_owed t.standing)) (list_all (λ y. not (is_owed y.standing)) ts) e).1 j
+      all_of (t ∷ ts) e (inl p) = ap (λ (y : Txn A). not (is_owed y.standing)) p ∙ (and_parts (not (is_owed t.standing)) (list_all (λ y. not (is_owed y.standing)) ts) e).0
+      all_of (t ∷ ts) e (inr j) = all_of ts (and_parts (not (is_owed t.standing)) (list_all (λ y. not (is_owed y.standing)) ts) e).1 j
 
   pub old_open : (u : Txn A) → In u w.txns → is_open u.standing ≡ false
   old_open u i = closed u.standing (old_owed u i)
@@ -208,10 +150,10 @@ module _ {A : Type 0} (w : World A) (gw : IsGood w) (quiet : is_quiet w ≡ true
         go (inr k) = inl k.0
 
     pub apart : (u t : Txn A) → In u w.txns → In t v.txns → eqb u.number t.number ≡ false
-    apart u t i j = not_so (eqb u.number t.number) (λ e. let p = eqb-true u.number t.number e in let h = gw.numbered.bounded u i in let k = new_number t j in omega arith)
+    apart u t i j = false_from_ne_true (eqb u.number t.number) (λ e. let p = eqb-true u.number t.number e in let h = gw.numbered.bounded u i in let k = new_number t j in omega arith)
 
     pub no_edge : (t u : Txn A) → commits w ≤ t.snapshot → In u w.txns → edge t u ≡ false
-    no_edge t u s i = not_so (edge t u) (λ e. let h = (edge_parts t u e).1 in let k = old_commit u i in omega arith)
+    no_edge t u s i = false_from_ne_true (edge t u) (λ e. let h = (edge_parts t u e).1 in let k = old_commit u i in omega arith)
 
     -- ---- numbers and tables
 
@@ -235,10 +177,10 @@ module _ {A : Type 0} (w : World A) (gw : IsGood w) (quiet : is_quiet w ≡ true
     -- ---- what is looked up
 
     pub same_current : (s : ℕ) → current (joined v) s ≡ current v s
-    same_current s = find_past (is_of s) w.txns v.txns (λ u i. second_false (eqb u.session s) (is_owed u.standing) (old_owed u i))
+    same_current s = find_past (is_of s) w.txns v.txns (λ u i. and_right (eqb u.session s) (is_owed u.standing) (old_owed u i))
 
     inactive : (t u : Txn A) → w.place < t.taken → In u w.txns → was_active t u ≡ false
-    inactive t u l i = second_false _ (is_open u.standing || nat_lt t.taken u.end) (ap (λ b. b || nat_lt t.taken u.end) (old_open u i) ∙ not_less t.taken u.end (let h = gw.time.ended_by u i in omega arith))
+    inactive t u l i = and_right _ (is_open u.standing || nat_lt t.taken u.end) (ap (λ b. b || nat_lt t.taken u.end) (old_open u i) ∙ le-ltb t.taken u.end (let h = gw.time.ended_by u i in omega arith))
 
     pub same_pending : (t : Txn A) → w.place < t.taken → is_pending (w.txns ++ v.txns) t ≡ is_pending v.txns t
     same_pending t l = any_past _ w.txns v.txns (λ u i. ap (λ b. b && is_open u.standing) (inactive t u l i))
@@ -246,29 +188,29 @@ module _ {A : Type 0} (w : World A) (gw : IsGood w) (quiet : is_quiet w ≡ true
     pub same_spoilt : (t : Txn A) → In t v.txns → is_spoilt (w.txns ++ v.txns) t ≡ is_spoilt v.txns t
     same_spoilt t i =
         any_past _ w.txns v.txns (λ u j. ap (λ b. b && spoils (w.txns ++ v.txns) t u) (inactive t u (new_taken t i) j))
-        ∙ any_same _ _ v.txns (λ u j. ap (λ b. was_active t u && (is_done u.standing && b)) (any_past _ w.txns v.txns (λ y k. ap (λ b. b && nat_le y.commit t.snapshot) (no_edge u y (new_snapshot u j) k))))
+        ∙ any-same_in _ _ v.txns (λ u j. ap (λ b. was_active t u && (is_done u.standing && b)) (any_past _ w.txns v.txns (λ y k. ap (λ b. b && nat_le y.commit t.snapshot) (no_edge u y (new_snapshot u j) k))))
 
     no_living : (y : Exported_snapshot) → In y w.exports → y.exporter ≤ w.base.transactions + length w.txns → is_living (w.txns ++ v.txns) y ≡ false
-    no_living y i h = any_past _ w.txns v.txns (λ u j. second_false (eqb u.number y.exporter) (is_open u.standing) (old_open u j)) ∙ any_none _ v.txns (λ t j. ap (λ b. b && is_open t.standing)
-        (not_so (eqb t.number y.exporter) (λ e. let p = eqb-true t.number y.exporter e in let k = new_number t j in omega arith)))
+    no_living y i h = any_past _ w.txns v.txns (λ u j. and_right (eqb u.number y.exporter) (is_open u.standing) (old_open u j)) ∙ any_none _ v.txns (λ t j. ap (λ b. b && is_open t.standing)
+        (false_from_ne_true (eqb t.number y.exporter) (λ e. let p = eqb-true t.number y.exporter e in let k = new_number t j in omega arith)))
 
     pub same_exported : ((y : Exported_snapshot) → In y w.exports → y.exporter ≤ w.base.transactions + length w.txns) → (n : ℕ) → exported (joined v) n ≡ exported v n
     same_exported old n =
-        find_past _ w.exports v.exports (λ y i. second_false (eqb y.id n) (is_living (w.txns ++ v.txns) y) (no_living y i (old y i)))
-        ∙ find_same _ _ v.exports (λ y i. ap (λ b. eqb y.id n && b) (any_past _ w.txns v.txns (λ u j. second_false (eqb u.number y.exporter) (is_open u.standing) (old_open u j))))
+        find_past _ w.exports v.exports (λ y i. and_right (eqb y.id n) (is_living (w.txns ++ v.txns) y) (no_living y i (old y i)))
+        ∙ find-same_in _ _ v.exports (λ y i. ap (λ b. eqb y.id n && b) (any_past _ w.txns v.txns (λ u j. and_right (eqb u.number y.exporter) (is_open u.standing) (old_open u j))))
 
     pub same_meets : (t : Txn A) → In t v.txns → (xs : List (Change A)) → meets_another (joined v) t xs ≡ meets_another v t xs
-    same_meets t i xs = any_same _ _ xs (λ x j. any_past (λ u. is_taken t u x) w.txns v.txns (λ u k. middle_false _ (is_unseen t u) _
-        (ap (λ b. b || nat_lt t.snapshot u.commit) (old_open u k) ∙ not_less t.snapshot u.commit (let a = old_commit u k in let b = new_snapshot t i in omega arith))))
+    same_meets t i xs = any-same_in _ _ xs (λ x j. any_past (λ u. is_taken t u x) w.txns v.txns (λ u k. middle_false _ (is_unseen t u) _
+        (ap (λ b. b || nat_lt t.snapshot u.commit) (old_open u k) ∙ le-ltb t.snapshot u.commit (let a = old_commit u k in let b = new_snapshot t i in omega arith))))
 
     -- ---- replacing and dooming
 
     pub replaced_joined : (x : Txn A) → w.base.transactions + length w.txns < x.number → replaced x (w.txns ++ v.txns) ≡ w.txns ++ replaced x v.txns
-    replaced_joined x l = map_append _ w.txns v.txns ∙ ap (λ ts. ts ++ replaced x v.txns) (map_still _ w.txns (λ u i. ap (λ b. cond b x u)
-        (not_so (eqb u.number x.number) (λ e. let p = eqb-true u.number x.number e in let h = gw.numbered.bounded u i in omega arith))))
+    replaced_joined x l = map-append _ w.txns v.txns ∙ ap (λ ts. ts ++ replaced x v.txns) (map_still _ w.txns (λ u i. ap (λ b. cond b x u)
+        (false_from_ne_true (eqb u.number x.number) (λ e. let p = eqb-true u.number x.number e in let h = gw.numbered.bounded u i in omega arith))))
 
     pub doomed_joined : (place : ℕ) (cs : List Cause) (ts : List (Txn A)) → map (doomed_by place cs) (w.txns ++ ts) ≡ w.txns ++ map (doomed_by place cs) ts
-    doomed_joined place cs ts = map_append _ w.txns ts ∙ ap (λ us. us ++ map (doomed_by place cs) ts) (map_still _ w.txns (λ u i. ap (λ b. doomed_with place (cond b (find (λ c. eqb c.b.0 u.number) cs) None) u) (old_open u i)))
+    doomed_joined place cs ts = map-append _ w.txns ts ∙ ap (λ us. us ++ map (doomed_by place cs) ts) (map_still _ w.txns (λ u i. ap (λ b. doomed_with place (cond b (find (λ c. eqb c.b.0 u.number) cs) None) u) (old_open u i)))
 
     -- ---- causes
 
@@ -279,11 +221,11 @@ module _ {A : Type 0} (w : World A) (gw : IsGood w) (quiet : is_quiet w ≡ true
     -- the parts of a structure that aren't between its members
     dangerous_parts : (a b d : Txn A) → is_dangerous node edge a b d ≡ true → (edge a b ≡ true) × (edge b d ≡ true) × (d.commit < b.commit) × (d.commit ≤ bound node edge a)
     dangerous_parts a b d e =
-        let p1 = two_of _ (nat_le d.commit (bound node edge a)) e in
-        let p2 = two_of _ (nat_lt d.commit b.commit) p1.0 in
-        let p3 = two_of _ (edge b d) p2.0 in
-        let p4 = two_of _ (edge a b) p3.0 in
-        (p4.1, p3.1, is_less d.commit b.commit p2.1, is_least d.commit (bound node edge a) p1.1)
+        let p1 = and_parts _ (nat_le d.commit (bound node edge a)) e in
+        let p2 = and_parts _ (nat_lt d.commit b.commit) p1.0 in
+        let p3 = and_parts _ (edge b d) p2.0 in
+        let p4 = and_parts _ (edge a b) p3.0 in
+        (p4.1, p3.1, ltb-true d.commit b.commit p2.1, leb-true d.commit (bound node edge a) p1.1)
 
     above : (t u : Txn A) → edge t u ≡ true → t.snapshot < u.commit
     above t u e = (edge_parts t u e).1
@@ -304,21 +246,21 @@ module _ {A : Type 0} (w : World A) (gw : IsGood w) (quiet : is_quiet w ≡ true
 
     from_old : (a b d : Txn A) → In a w.txns → Member b → Member d → is_dangerous node edge a b d ≡ false
     from_old a b d i (inl j) (inl k) = gw.none_dangerous.each a b d i j k
-    from_old a b d i (inl j) (inr n) = not_so (is_dangerous node edge a b d) (λ e. let p = dangerous_parts a b d e in let h = far_new d b.snapshot n (above b d p.1) in let l = old_commit b j in let m = p.2 in omega arith)
-    from_old a b d i (inr n) m = not_so (is_dangerous node edge a b d) (λ e. let p = dangerous_parts a b d e in let h = far b d n p.1 in let l = old_bound a i in let q = p.3 in omega arith)
+    from_old a b d i (inl j) (inr n) = false_from_ne_true (is_dangerous node edge a b d) (λ e. let p = dangerous_parts a b d e in let h = far_new d b.snapshot n (above b d p.1) in let l = old_commit b j in let m = p.2 in omega arith)
+    from_old a b d i (inr n) m = false_from_ne_true (is_dangerous node edge a b d) (λ e. let p = dangerous_parts a b d e in let h = far b d n p.1 in let l = old_bound a i in let q = p.3 in omega arith)
 
     to_old : (a b d : Txn A) → IsNew a → In b w.txns → is_dangerous node edge a b d ≡ false
-    to_old a b d n j = not_so (is_dangerous node edge a b d) (λ e. let p = dangerous_parts a b d e in let h = far a b n p.0 in let l = old_commit b j in omega arith)
+    to_old a b d n j = false_from_ne_true (is_dangerous node edge a b d) (λ e. let p = dangerous_parts a b d e in let h = far a b n p.0 in let l = old_commit b j in omega arith)
 
     last_old : (a b d : Txn A) → IsNew b → In d w.txns → is_dangerous node edge a b d ≡ false
-    last_old a b d n k = not_so (is_dangerous node edge a b d) (λ e. let p = dangerous_parts a b d e in let h = far b d n p.1 in let l = old_commit d k in omega arith)
+    last_old a b d n k = false_from_ne_true (is_dangerous node edge a b d) (λ e. let p = dangerous_parts a b d e in let h = far b d n p.1 in let l = old_commit d k in omega arith)
 
     same_first : (ts : List (Txn A)) → ((z : Txn A) → In z ts → IsNew z) → first_cause node edge (w.txns ++ ts) ≡ first_cause node edge ts
     same_first ts new =
-        first_past _ w.txns ts (λ a i. first_none _ (w.txns ++ ts) (λ b j. ap (λ ys. caused node edge a b (earliest node edge ys)) (filter_none (is_dangerous node edge a b) (w.txns ++ ts) (λ d k. from_old a b d i (member b j) (member d k)))))
-        ∙ first_same _ _ ts (λ a i.
+        first_past _ w.txns ts (λ a i. first_some-none _ (w.txns ++ ts) (λ b j. ap (λ ys. caused node edge a b (earliest node edge ys)) (filter_none (is_dangerous node edge a b) (w.txns ++ ts) (λ d k. from_old a b d i (member b j) (member d k)))))
+        ∙ first_some-same_in _ _ ts (λ a i.
         first_past _ w.txns ts (λ b j. ap (λ ys. caused node edge a b (earliest node edge ys)) (filter_none (is_dangerous node edge a b) (w.txns ++ ts) (λ d k. to_old a b d (new a i) j)))
-        ∙ first_same _ _ ts (λ b j. ap (λ ys. caused node edge a b (earliest node edge ys)) (filter_past (is_dangerous node edge a b) w.txns ts (λ d k. last_old a b d (new b j) k))))
+        ∙ first_some-same_in _ _ ts (λ b j. ap (λ ys. caused node edge a b (earliest node edge ys)) (filter_past (is_dangerous node edge a b) w.txns ts (λ d k. last_old a b d (new b j) k))))
       where
         member : (z : Txn A) → In z (w.txns ++ ts) → Member z
         member z j = side (Rattle.value.proofs.SerialLemmas.In-append (λ (_ : Txn A). (0, 0, 0)) z w.txns ts j)
@@ -356,7 +298,7 @@ module _ {A : Type 0} (w : World A) (gw : IsGood w) (quiet : is_quiet w ≡ true
     pub same_dooms : (t : Txn A) → In t v.txns → dooms node reads_from (w.txns ++ v.txns) t ≡ dooms node reads_from v.txns t
     same_dooms t i =
         fold_past (with_doom node reads_from (w.txns ++ v.txns) t) [] w.txns v.txns (λ u j. idle u j)
-        ∙ fold_same (with_doom node reads_from (w.txns ++ v.txns) t) (with_doom node reads_from v.txns t) [] v.txns (λ cs b j. ap (λ o. cs ++ option_to_list o) (doom cs b))
+        ∙ fold-same_in (with_doom node reads_from (w.txns ++ v.txns) t) (with_doom node reads_from v.txns t) [] v.txns (λ cs b j. ap (λ o. cs ++ option_to_list o) (doom cs b))
       where
         dead : (u : Txn A) → In u w.txns → is_live node reads_from t u ≡ false
         dead u j = middle_false (not (eqb u.number t.number)) (is_open u.standing) (is_read_write u.mode) (old_open u j)

@@ -1,5 +1,6 @@
 -- The serial order of a history on a base follows that of the history before it.
 use Rattle.std.proofs.Common.{◌≡◌, refl, sym, ap, subst, ◌∙◌, ℕ, ◌<◌, ◌≤◌, min, Bool, true, false, true≢false, cond, ◌&&◌, ◌⊎◌, inl, inr, List, [], ◌∷◌, ◌++◌, filter, nat_lt, arith}
+use Rattle.std.proofs.lemmas.List.{append-nil}
 use Rattle.value.specs.Isolation.{first_part, write_key}
 use Rattle.value.proofs.IsolationLemmas.{In, Below, f, key-write, key-read, read-0, write-0, write-1, first_part-least, first_part-above}
 use Rattle.value.proofs.SerialLemmas.{In-append, In-left, In-right}
@@ -21,10 +22,6 @@ use Rattle.serial.proofs.legal.Histories.{answered-append, Legal-start}
 use Rattle.serial.proofs.base.Based.{IsBased, based_start, based_run}
 use Rattle.serial.proofs.base.OnBase.{joined, IsOnBase, old_commit, new_snapshot, no_edge, same_tables}
 use Rattle.serial.proofs.base.FollowsBase.{runs_on}
-
-nil_right : {T : Type 0} (xs : List T) → xs ++ [] ≡ xs
-nil_right [] = refl
-nil_right (y ∷ ys) = ap (λ zs. y ∷ zs) (nil_right ys)
 
 module _ {A : Type 0} where
   filter_append : (p : Txn A → Bool) (xs ys : List (Txn A)) → filter p (xs ++ ys) ≡ filter p xs ++ filter p ys
@@ -194,7 +191,7 @@ module _ {A : Type 0} where
       runs = runs_on w gw quiet (λ y i. (bw.exporters y i).1) s more on m.1
 
       begins : joined w gw quiet s ≡ w
-      begins = ap (λ xs. record (joined w gw quiet s) { log = xs }) (nil_right w.log) ∙ ap (λ xs. record (joined w gw quiet s) { log = w.log; txns = xs }) (nil_right w.txns) ∙ ap (λ xs. record w { exports = xs }) (nil_right w.exports)
+      begins = ap (λ xs. record (joined w gw quiet s) { log = xs }) (append-nil w.log) ∙ ap (λ xs. record (joined w gw quiet s) { log = w.log; txns = xs }) (append-nil w.txns) ∙ ap (λ xs. record w { exports = xs }) (append-nil w.exports)
 
       legal : Legal o (es ++ more)
       legal = (l.0, answered-append (start o) es more l.1 (subst (λ u. IsAnswered u more) begins runs.0))

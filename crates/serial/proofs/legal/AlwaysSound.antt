@@ -1,11 +1,13 @@
 -- The tables of each commit are sound.
-use Rattle.std.proofs.Common.{◌≡◌, refl, sym, ap, subst, ◌∙◌, ℕ, zero, suc, ◌+◌, ◌-◌, ◌<◌, ◌≤◌, Bool, true, false, true≢false, T, cond, not, ◌&&◌, ◌⊎◌, inl, inr, List, [], ◌∷◌, ◌++◌, length, take, slice_get, Some, nat_le, arith}
-use Rattle.std.proofs.lemmas.Bool.Decides.{nat_tests}
+use Rattle.std.proofs.Common.{◌≡◌, refl, sym, ap, subst, ◌∙◌, ℕ, zero, suc, ◌+◌, ◌-◌, ◌<◌, ◌≤◌, Bool, true, false, cond, not, ◌⊎◌, inl, inr, List, [], ◌∷◌, ◌++◌, length, take, slice_get, Some, nat_le, arith}
+use Rattle.std.proofs.lemmas.Bool.{le-leb}
+use Rattle.std.specs.Cmp.{first_so}
 use Rattle.std.specs.FinMap.{is_sorted}
 use Rattle.value.specs.Order.{value_cmp}
 use Rattle.value.proofs.IsolationLemmas.{In, first_part-least, write-0, f}
 use Rattle.value.proofs.SerialLemmas.{NumberedFrom}
 use Rattle.value.proofs.SortLemmas.{In-sorted}
+use Rattle.value.proofs.Basics.{cases_le, true_from_T}
 use Rattle.statement.specs.declared.outcome.Mark.{Mark}
 use Rattle.schema.specs.Definition.{Catalog, TableSchema}
 use Rattle.schema.specs.declared.row.Row.{Row}
@@ -33,24 +35,10 @@ use Rattle.serial.proofs.order.SerialTheorem.{IsGood, good_step, good_steps, goo
 use Rattle.serial.proofs.legal.Faithful.{IsFaithful}
 use Rattle.serial.proofs.legal.DoneFromSnapshot.{along_replies}
 
-of_T : (b : Bool) → T b → b ≡ true
-of_T true t = refl
-of_T false t = absurd t
-
-first_of : (a b : Bool) → (a && b) ≡ true → a ≡ true
-first_of true b e = refl
-first_of false b e = absurd (true≢false (sym e))
-
-least_so : (a b : ℕ) → a ≤ b → nat_le a b ≡ true
-least_so a b h = grind (arith, nat_tests)
-
-compared : (a b : ℕ) → (a ≤ b) ⊎ (b < a)
-compared a b = grind arith
-
 module _ {A : Type 0} where
   -- no row has a null key
   keyed : (c : Catalog) (X : Tables A) → Sound c X → (r : Row A) (t : ℕ) → In r (rows_of X t) → not (is_null r.0) ≡ true
-  keyed c X s r t i = go (compared (length X) t)
+  keyed c X s r t i = go (cases_le (length X) t)
     where
       there : (n : ℕ) (b : Catalog) → n < length b → (d : TableSchema) × (slice_get b n ≡ Some d)
       there n [] l = absurd (omega arith)
@@ -61,7 +49,7 @@ module _ {A : Type 0} where
       go (inl l) = absurd (subst (In r) (rows_of-past X t l) i)
       go (inr l) =
           let d = there t c (omega (arith, s.count)) in
-          first_of (not (is_null r.0)) (fits_columns X d.0.columns (r.0 ∷ r.1)) (s.rows t d.0 d.1 r.0 r.1 (found_row (rows_of X t) r (of_T (is_sorted value_cmp (rows_of X t)) (s.ordered.each t)) i))
+          first_so (not (is_null r.0)) (fits_columns X d.0.columns (r.0 ∷ r.1)) (s.rows t d.0 d.1 r.0 r.1 (found_row (rows_of X t) r (true_from_T (is_sorted value_cmp (rows_of X t)) (s.ordered.each t)) i))
 
   abbrev AllFit : Catalog → List (Statement A × Reply A) → Type 0
   AllFit c [] = Unit {0}
@@ -99,7 +87,7 @@ module _ {A : Type 0} where
           go (inr k) = omega (arith, k.0)
 
       all : (u : Txn A) → In u (committed w) → (node u).read_write ≡ true → u.commit ≤ commits w → nat_le (key w u).0 (commits w) ≡ true
-      all u i r h = least_so (key w u).0 (commits w) (let q = write-0 node edge u (committed w) r in let l = first_part-least node edge u (committed w) in omega arith)
+      all u i r h = le-leb (key w u).0 (commits w) (let q = write-0 node edge u (committed w) r in let l = first_part-least node edge u (committed w) in omega arith)
 
       fit : (t : Txn A) → In t (prefix w (commits w)) → AllFit w.catalog t.statements
       fit t i = all_fit w.catalog t.statements (tables_at w t.snapshot) t.reads t.changes t.marks
@@ -154,7 +142,7 @@ module _ {A : Type 0} where
   same_take (suc n) (x ∷ xs) ys h = ap (λ zs. x ∷ zs) (same_take n xs ys (omega arith))
 
   all_sound_step : (u v : World A) → AllSound u → IsGood v → Step u v → AllSound v
-  all_sound_step u v s g step = record { opening = opened; each = λ n h. go n h (compared n (commits u)) }
+  all_sound_step u v s g step = record { opening = opened; each = λ n h. go n h (cases_le n (commits u)) }
     where
       a : Adds_one u v
       a = adds_one u v step

@@ -2,12 +2,13 @@
 use Rattle.std.proofs.Common.{◌≡◌, sym, ap, subst, ◌∙◌, ℕ, ◌+◌, ◌≤◌, Bool, true, false, cond, ◌⊎◌, inl, inr, List, [], ◌∷◌, ◌++◌, eqb, arith}
 use Rattle.value.proofs.IsolationLemmas.{In}
 use Rattle.value.proofs.SerialLemmas.{In-append}
+use Rattle.value.proofs.Basics.{find-In}
 use Rattle.history.specs.declared.event.Record.{Record}
 use Rattle.history.specs.Opening.{Opening}
 use Rattle.history.specs.Transactions.{Done, Txn, World, Exported_snapshot, commits, is_done, is_read_write}
 use Rattle.history.specs.Events.{begun, ended, follows, run, start, world_of}
 use Rattle.history.specs.Answer.{IsAnswered, Legal, reply_in}
-use Rattle.serial.proofs.legal.Legal.{Move, Stays, Fails, Aborts, Commits, Runs, Asks, Polls, Learns, Imports, Step, Nothing, Begins, Moves, Settles, Dooms, Steps, One, Two, current_in, found, legal_steps}
+use Rattle.serial.proofs.legal.Legal.{Move, Stays, Fails, Aborts, Commits, Runs, Asks, Polls, Learns, Imports, Step, Nothing, Begins, Moves, Settles, Dooms, Steps, One, Two, current_in, legal_steps}
 use Rattle.serial.proofs.structures.Dooms.{Fate, Spared, Over, In-doomed}
 use Rattle.serial.proofs.legal.Numbers.{Adds, In-replaced, adds, polled_keeps, no_commit}
 use Rattle.serial.proofs.order.SerialTheorem.{IsGood, good_start, good_step, good_steps, sound_proper}
@@ -39,7 +40,7 @@ module _ {A : Type 0} where
   moved_point Q w t x log exports q now ex (Asks a) = q
   moved_point Q w t x log exports q now ex (Polls d k) = polled_keeps (λ y. Q y.snapshot y.taken) w t q now
   moved_point Q w t x log exports q now ex (Learns d k e) = polled_keeps (λ y. Q y.snapshot y.taken) w t q now
-  moved_point Q w t x log exports q now ex (Imports n y d a e) = ex y (found _ w.exports y e).0
+  moved_point Q w t x log exports q now ex (Imports n y d a e) = ex y (find-In _ w.exports y e).0
 
   moved_points : (Q : ℕ → ℕ → Type 0) (w : World A) (t x : Txn A) (log : List (Txn A)) (exports : List Exported_snapshot) → Q t.snapshot t.taken
       → ((y : Exported_snapshot) → In y w.exports → Q y.snapshot y.taken) → Move w t x log exports → (y : Exported_snapshot) → In y exports → Q y.snapshot y.taken

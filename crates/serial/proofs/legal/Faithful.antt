@@ -1,8 +1,9 @@
 -- What transactions read, wrote and were answered is what evaluation from their snapshots gives.
 use Rattle.std.proofs.Common.{◌≡◌, refl, sym, ap, subst, ◌∙◌, ℕ, ◌+◌, ◌-◌, ◌≤◌, Bool, true, false, true≢false, cond, not, ◌&&◌, ◌⊎◌, inl, inr, List, [], ◌∷◌, ◌++◌, take, Some, eqb, arith, append_assoc}
-use Rattle.std.proofs.lemmas.List.{take-append-le}
+use Rattle.std.proofs.lemmas.List.{take-append-le, append-nil}
 use Rattle.value.proofs.IsolationLemmas.{In}
 use Rattle.value.proofs.SerialLemmas.{In-append}
+use Rattle.value.proofs.Basics.{find-In}
 use Rattle.schema.specs.declared.changes.Change.{Change}
 use Rattle.statement.specs.declared.outcome.Mark.{Mark}
 use Rattle.schema.specs.Definition.{Catalog}
@@ -19,13 +20,9 @@ use Rattle.statement.specs.Fits.{Fits}
 use Rattle.history.specs.Transactions.{Done, Txn, World, Exported_snapshot, commits, tables_at, with_all, is_read_write, is_deferrable, must_wait}
 use Rattle.history.specs.Events.{ended, numbered, ran, import, begun, with_snapshot}
 use Rattle.history.proofs.Alone.{Along}
-use Rattle.serial.proofs.legal.Legal.{Move, Stays, Fails, Aborts, Commits, Runs, Asks, Polls, Learns, Imports, Step, Nothing, Begins, Moves, Settles, Dooms, current_in, found}
+use Rattle.serial.proofs.legal.Legal.{Move, Stays, Fails, Aborts, Commits, Runs, Asks, Polls, Learns, Imports, Step, Nothing, Begins, Moves, Settles, Dooms, current_in}
 use Rattle.serial.proofs.structures.Dooms.{Fate, Spared, Over, In-doomed}
 use Rattle.serial.proofs.legal.Numbers.{IsNumbered, In-replaced, polled_keeps}
-
-append_nil : {A : Type 0} (xs : List A) → xs ++ [] ≡ xs
-append_nil [] = refl
-append_nil (x ∷ xs) = ap (λ ys. x ∷ ys) (append_nil xs)
 
 both_false : (a b : Bool) → (a && not b) ≡ false → b ≡ false → a ≡ false
 both_false true b e f = absurd (true≢false (sym (ap not f) ∙ e))
@@ -47,9 +44,9 @@ module _ {A : Type 0} where
         [],
         fits,
         ap (λ X. (outcome c q X).reply) (sym same) ∙ e,
-        ap (λ zs. zs ++ footprint c q) a.0 ∙ sym (append_nil (footprint c q)),
-        ap (λ zs. zs ++ (outcome c q Y).changes) a.1 ∙ ap (λ X. (outcome c q X).changes) same ∙ sym (append_nil (outcome c q B).changes),
-        ap (λ zs. zs ++ (outcome c q Y).marks) a.2 ∙ ap (λ X. (outcome c q X).marks) same ∙ sym (append_nil (outcome c q B).marks),
+        ap (λ zs. zs ++ footprint c q) a.0 ∙ sym (append-nil (footprint c q)),
+        ap (λ zs. zs ++ (outcome c q Y).changes) a.1 ∙ ap (λ X. (outcome c q X).changes) same ∙ sym (append-nil (outcome c q B).changes),
+        ap (λ zs. zs ++ (outcome c q Y).marks) a.2 ∙ ap (λ X. (outcome c q X).marks) same ∙ sym (append-nil (outcome c q B).marks),
         (refl, refl, refl),
       )
   Along-push c (p ∷ qs) B Y rs xs ms q r fits a y e = (
@@ -137,15 +134,15 @@ module _ {A : Type 0} where
     where
       go : (b : Bool) → (more : List (Txn A)) × (cond b (w.log ++ numbered w t ∷ []) w.log ≡ w.log ++ more)
       go true = (numbered w t ∷ [], refl)
-      go false = ([], sym (append_nil w.log))
-  grown w t x log exports Stays = ([], sym (append_nil w.log))
-  grown w t x log exports Fails = ([], sym (append_nil w.log))
-  grown w t x log exports Aborts = ([], sym (append_nil w.log))
-  grown w t x log exports (Runs q fits a b d) = ([], sym (append_nil w.log))
-  grown w t x log exports (Asks a) = ([], sym (append_nil w.log))
-  grown w t x log exports (Polls a b) = ([], sym (append_nil w.log))
-  grown w t x log exports (Learns a b d) = ([], sym (append_nil w.log))
-  grown w t x log exports (Imports i y a b e) = ([], sym (append_nil w.log))
+      go false = ([], sym (append-nil w.log))
+  grown w t x log exports Stays = ([], sym (append-nil w.log))
+  grown w t x log exports Fails = ([], sym (append-nil w.log))
+  grown w t x log exports Aborts = ([], sym (append-nil w.log))
+  grown w t x log exports (Runs q fits a b d) = ([], sym (append-nil w.log))
+  grown w t x log exports (Asks a) = ([], sym (append-nil w.log))
+  grown w t x log exports (Polls a b) = ([], sym (append-nil w.log))
+  grown w t x log exports (Learns a b d) = ([], sym (append-nil w.log))
+  grown w t x log exports (Imports i y a b e) = ([], sym (append-nil w.log))
 
   moved_shown : (w : World A) (t x : Txn A) (log : List (Txn A)) (exports : List Exported_snapshot) → IsNumbered w → t.snapshot ≤ commits w → Move w t x log exports → x.snapshot ≤ commits w
   moved_shown w t x log exports inv h (Commits e) = go (is_read_write t.mode)
@@ -155,7 +152,7 @@ module _ {A : Type 0} where
       go false = h
   moved_shown w t x log exports inv h (Polls a b) = polled_keeps (λ y. y.snapshot ≤ commits w) w t h (omega arith)
   moved_shown w t x log exports inv h (Learns a b d) = polled_keeps (λ y. y.snapshot ≤ commits w) w t h (omega arith)
-  moved_shown w t x log exports inv h (Imports i y a b e) = (inv.exports y (found _ w.exports y e).0).1
+  moved_shown w t x log exports inv h (Imports i y a b e) = (inv.exports y (find-In _ w.exports y e).0).1
   moved_shown w t x log exports inv h Stays = h
   moved_shown w t x log exports inv h Fails = h
   moved_shown w t x log exports inv h Aborts = h

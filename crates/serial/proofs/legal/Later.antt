@@ -1,6 +1,6 @@
 -- What more events leave as it is: the committed transactions, their keys and order, and the tables of each commit.
 use Rattle.std.proofs.Common.{◌≡◌, refl, sym, ap, subst, ◌∙◌, ℕ, zero, suc, ◌+◌, ◌-◌, ◌<◌, ◌≤◌, Bool, true, false, true≢false, cond, not, ◌&&◌, ◌⊎◌, inl, inr, List, [], ◌∷◌, ◌++◌, length, take, eqb, nat_lt, nat_le, append_assoc, arith}
-use Rattle.std.proofs.lemmas.Bool.{eqb-true}
+use Rattle.std.proofs.lemmas.Bool.{eqb-true, leb-true, le-leb, ltb-true, and_parts}
 use Rattle.std.specs.List.{filter}
 use Rattle.value.specs.Isolation.{write_key}
 use Rattle.value.proofs.IsolationLemmas.{In, Below, Out, f, first_part-least, first_part-edge, first_part-cases, key-write, key-read}
@@ -19,7 +19,7 @@ use Rattle.serial.proofs.structures.Dooms.{Fate, Spared, Over, In-doomed, done-I
 use Rattle.serial.proofs.legal.Numbers.{IsNumbered, Adds, adds, In-replaced, replaced-In, not_done, no_commit}
 use Rattle.serial.proofs.legal.InTime.{keeps}
 use Rattle.serial.proofs.safe.Stamps.{Stamp, Stands, stamp, stamp_step}
-use Rattle.serial.proofs.safe.Prefix.{all_by, by_all, has_earlier, is_least, is_less, is_safe, least_so, two_of}
+use Rattle.serial.proofs.safe.Prefix.{all_by, by_all, has_earlier, is_safe}
 use Rattle.serial.proofs.order.SerialTheorem.{IsGood, good_step, good_steps, good_world, isolated_world}
 
 module _ {A : Type 0} where
@@ -176,7 +176,7 @@ module _ {A : Type 0} where
         go (inr k) = omega (arith, k.0)
 
     above : (t u : Txn A) → edge t u ≡ true → t.snapshot < u.commit
-    above t u e = is_less t.snapshot u.commit (two_of (not (eqb t.number u.number)) (nat_lt t.snapshot u.commit) (two_of (not (eqb t.number u.number) && nat_lt t.snapshot u.commit) _ e).0).1
+    above t u e = ltb-true t.snapshot u.commit (and_parts (not (eqb t.number u.number)) (nat_lt t.snapshot u.commit) (and_parts (not (eqb t.number u.number) && nat_lt t.snapshot u.commit) _ e).0).1
 
     -- the first part of a key is as it was
     same_first : (t : Txn A) → In t (committed w) → f node edge t (committed v) ≡ f node edge t (committed w)
@@ -223,10 +223,10 @@ module _ {A : Type 0} where
 
         side : In t w.txns ⊎ (w.place < t.end) × ((t.commit ≡ 0) ⊎ (commits w < t.commit)) → In t (committed w)
         side (inl j) = filter-In (λ (y : Txn A). is_done y.standing) w.txns t j (done v t now).1
-        side (inr k) = absurd (let l = is_least t.end w.place both.1 in let m = k.0 in omega arith)
+        side (inr k) = absurd (let l = leb-true t.end w.place both.1 in let m = k.0 in omega arith)
 
     earlier-In : (t : Txn A) → In t (committed w) → In t earlier
-    earlier-In t i = filter-In (λ y. nat_le y.end w.place) (serial_order v) t (sorted-In (key v) t (committed v) (still t i)) (least_so t.end w.place (gw.time.ended_by t (done w t i).0))
+    earlier-In t i = filter-In (λ y. nat_le y.end w.place) (serial_order v) t (sorted-In (key v) t (committed v) (still t i)) (le-leb t.end w.place (gw.time.ended_by t (done w t i).0))
 
     filter_order : (p : Txn A → Bool) (xs : List (Txn A)) → InOrder (key v) xs → InOrder (key v) (filter p xs)
     filter_order p [] o = tt
@@ -255,7 +255,7 @@ module _ {A : Type 0} where
 
     -- what had committed before a transaction of w began is of w
     still_earlier : (t : Txn A) → In t w.txns → t.imported ≡ false → HasEarlier v t
-    still_earlier t i m = all_by _ (committed v) (λ u j p. side u (g.new u (done v u j).0 (done v u j).1) (done v u j).1 (is_less u.end t.begin p) p)
+    still_earlier t i m = all_by _ (committed v) (λ u j p. side u (g.new u (done v u j).0 (done v u j).1) (done v u j).1 (ltb-true u.end t.begin p) p)
       where
         side : (u : Txn A) → In u w.txns ⊎ (w.place < u.end) × ((u.commit ≡ 0) ⊎ (commits w < u.commit)) → is_done u.standing ≡ true → u.end < t.begin → nat_lt u.end t.begin ≡ true → nat_le (key v u).0 t.snapshot ≡ true
         side u (inl j) d l p =

@@ -1,11 +1,13 @@
 -- What a legal event makes of a world.
-use Rattle.std.proofs.Common.{◌≡◌, refl, sym, ap, subst, ◌∙◌, ℕ, ◌+◌, Bool, true, false, true≢false, cond, not, ◌&&◌, inl, inr, List, [], ◌∷◌, ◌++◌, map, Option, Some, None, is_some, if◌then◌else◌, eqb}
-use Rattle.std.specs.List.{list_any, find}
+use Rattle.std.proofs.Common.{◌≡◌, refl, sym, ap, subst, ◌∙◌, ℕ, ◌+◌, Bool, true, false, true≢false, cond, not, ◌&&◌, List, [], ◌∷◌, ◌++◌, map, Option, Some, None, is_some, if◌then◌else◌, eqb}
+use Rattle.std.specs.Cmp.{second_so}
+use Rattle.std.specs.List.{list_any}
 use Rattle.value.specs.declared.refusal.Mode.{Mode}
 use Rattle.value.specs.declared.refusal.Refusal.{Refusal}
 use Rattle.value.specs.declared.refusal.Cause.{Cause}
 use Rattle.value.specs.declared.refusal.Code.TheVariants as code
 use Rattle.value.proofs.IsolationLemmas.{In}
+use Rattle.value.proofs.Basics.{find-In}
 use Rattle.statement.specs.declared.statement.Statement.{Statement}
 use Rattle.statement.specs.declared.reply.Reply.{Reply}
 use Rattle.statement.specs.declared.reply.Reply.TheVariants.{Imported, Safe, Wait, Exported, Refused}
@@ -16,18 +18,6 @@ use Rattle.history.specs.Transactions.{Standing, Open, Doomed, Failed, Aborted, 
 use Rattle.history.specs.Events.{goes_on, fails, moved, told, settled, turned_from, ended, numbered, ran, polled, import, begun, causes, doomed_by, log_after, exports_after, next_identifier, with_snapshot, replaced, followed, follows}
 use Rattle.history.specs.Answer.{reply_in, reply_of, reply_from, open_reply, run_reply, poll_reply, export_reply, import_reply, commit_reply, cause_of, is_refused, is_taken, refuses, failed, doomed, Allowed}
 use Rattle.statement.specs.Fits.{Fits}
-
-pub found : {A : Type 0} (p : A → Bool) (xs : List A) (x : A) → find p xs ≡ Some x → In x xs × (p x ≡ true)
-found p [] x e = cc
-found {A} p (y ∷ xs) x e = go (p y) refl (found p xs x) e
-  where
-    go : (b : Bool) → p y ≡ b → (find p xs ≡ Some x → In x xs × (p x ≡ true)) → cond b (Some y) (find p xs) ≡ Some x → In x (y ∷ xs) × (p x ≡ true)
-    go true q rest f = let same : x ≡ y = cc in (inl same, ap p same ∙ q)
-    go false q rest f = let r = rest f in (inr r.0, r.1)
-
-second_of : (a b : Bool) → (a && b) ≡ true → b ≡ true
-second_of true b e = e
-second_of false b e = absurd (true≢false (sym e))
 
 module _ {A : Type 0} where
   -- What an answered action makes of the open transaction that took it, and what is known where it does.
@@ -167,7 +157,7 @@ module _ {A : Type 0} where
     Two : (u v : World A) → Step w u → Step u v → Steps w v
 
   pub current_in : (w : World A) (s : ℕ) (t : Txn A) → current w s ≡ Some t → In t w.txns × (is_of s t ≡ true)
-  current_in w s t e = found (is_of s) w.txns t e
+  current_in w s t e = find-In (is_of s) w.txns t e
 
   -- what a doomed one's or a failed one's session is answered leaves the log and the identifiers as they are
   doomed_log : (w : World A) (c : Cause) (a : Action A) (t : Txn A) → log_after w a (doomed c a) t ≡ w.log
@@ -200,7 +190,7 @@ module _ {A : Type 0} where
 
   -- its session has still to end it
   owed : (w : World A) (s : ℕ) (t : Txn A) → current w s ≡ Some t → is_owed t.standing ≡ true
-  owed w s t e = second_of (eqb t.session s) (is_owed t.standing) (current_in w s t e).1
+  owed w s t e = second_so (eqb t.session s) (is_owed t.standing) (current_in w s t e).1
 
   -- the world before the dooms
   abbrev pub before : World A → Action A → Reply A → Txn A → Txn A → World A

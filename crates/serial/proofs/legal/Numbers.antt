@@ -3,9 +3,10 @@ use Rattle.std.proofs.Common.{◌≡◌, refl, sym, ap, subst, ◌∙◌, ℕ, s
 use Rattle.std.proofs.lemmas.Bool.{eqb-true, eqb-false, eq-eqb}
 use Rattle.value.proofs.IsolationLemmas.{In}
 use Rattle.value.proofs.SerialLemmas.{NumberedFrom, In-left, In-right, In-append}
+use Rattle.value.proofs.Basics.{find-In}
 use Rattle.history.specs.Transactions.{Standing, Open, Doomed, Failed, Aborted, Done, Txn, World, Exported_snapshot, commits, is_open, is_done, is_read_write, is_spoilt}
 use Rattle.history.specs.Events.{ended, numbered, polled, begun, with_snapshot, replaced, doomed_by}
-use Rattle.serial.proofs.legal.Legal.{Move, Stays, Fails, Aborts, Commits, Runs, Asks, Polls, Learns, Imports, Step, Nothing, Begins, Moves, Settles, Dooms, current_in, found}
+use Rattle.serial.proofs.legal.Legal.{Move, Stays, Fails, Aborts, Commits, Runs, Asks, Polls, Learns, Imports, Step, Nothing, Begins, Moves, Settles, Dooms, current_in}
 use Rattle.serial.proofs.structures.Dooms.{Fate, Spared, Over, In-doomed, In-made, done-In, length-doomed, number-doomed}
 
 pub not_done : (st : Standing) → is_open st ≡ true → is_done st ≡ true → ⊥
@@ -110,7 +111,7 @@ module _ {A : Type 0} where
       polled_keeps (λ y. Adds w t (record y { known = true }) w.log) w t
       (record { number = refl; mode = refl; shown = h; log_is = inl (refl, z, λ d'. absurd (not_done t.standing o d')) })
       (record { number = refl; mode = refl; shown = (omega arith, omega arith); log_is = inl (refl, z, λ d'. absurd (not_done t.standing o d')) })
-  adds w t x log exports inv o z h (Imports i y a b e) = record { number = refl; mode = refl; shown = inv.exports y (found _ w.exports y e).0; log_is = inl (refl, z, λ d. absurd (not_done t.standing o d)) }
+  adds w t x log exports inv o z h (Imports i y a b e) = record { number = refl; mode = refl; shown = inv.exports y (find-In _ w.exports y e).0; log_is = inl (refl, z, λ d. absurd (not_done t.standing o d)) }
 
   -- the identifiers after a move
   exports_kept : (w : World A) (t x : Txn A) (log : List (Txn A)) (exports : List Exported_snapshot) → IsNumbered w → Shown w t.snapshot → Move w t x log exports → (y : Exported_snapshot) → In y exports → Shown w y.snapshot

@@ -1,11 +1,11 @@
 -- The structure that a commit is refused for, from the transactions that matter alone.
-use Rattle.std.proofs.Common.{◌≡◌, refl, sym, ap, subst, ◌∙◌, ℕ, ◌+◌, ◌<◌, ◌≤◌, Bool, true, false, true≢false, cond, not, ◌&&◌, ◌||◌, ◌⊎◌, inl, inr, List, [], ◌∷◌, length, eqb, nat_lt, nat_le, arith}
-use Rattle.std.proofs.lemmas.Bool.{eqb-true}
-use Rattle.std.proofs.lemmas.Bool.Decides.{nat_tests}
+use Rattle.std.proofs.Common.{◌≡◌, refl, sym, ap, subst, ◌∙◌, ℕ, ◌+◌, ◌<◌, ◌≤◌, Bool, true, false, true≢false, cond, not, ◌&&◌, ◌||◌, ◌⊎◌, inl, inr, List, [], ◌∷◌, length, eqb, arith}
+use Rattle.std.proofs.lemmas.Bool.{eqb-true, not-true, leb-true, ltb-true, lt-ltb, and_parts, and_from, or_left, or_right}
 use Rattle.value.specs.Isolation.{bound, first_cause, is_dangerous}
 use Rattle.value.proofs.IsolationLemmas.{In}
 use Rattle.value.proofs.SerialLemmas.{NumberedFrom}
-use Rattle.conflict.proofs.Lists.{In-any, and_true, both_true, clash, or_left, or_right}
+use Rattle.value.proofs.Basics.{In-any}
+use Rattle.conflict.proofs.Lists.{clash}
 use Rattle.conflict.proofs.Structures.{Danger, parts, cause-kept}
 use Rattle.history.specs.declared.event.Record.{Record}
 use Rattle.history.specs.Opening.{Opening}
@@ -20,19 +20,6 @@ use Rattle.serial.proofs.safe.Readers.{safe_stands, sure}
 use Rattle.serial.proofs.safe.Prefix.{all_by, by_all}
 use Rattle.serial.proofs.order.SerialTheorem.{IsGood, edge_parts, good_world}
 use Rattle.serial.proofs.needed.Structures.{Suits, all_kept}
-
-less_so : (a b : ℕ) → a < b → nat_lt a b ≡ true
-less_so a b h = grind (arith, nat_tests)
-
-is_less : (a b : ℕ) → nat_lt a b ≡ true → a < b
-is_less a b e = grind (arith, nat_tests)
-
-is_least : (a b : ℕ) → nat_le a b ≡ true → a ≤ b
-is_least a b e = grind (arith, nat_tests)
-
-pub was_not : (b : Bool) → not b ≡ true → b ≡ false
-was_not true e = absurd (true≢false (sym e))
-was_not false e = refl
 
 pub open_owed : (st : Rattle.history.specs.Transactions.Standing) → is_open st ≡ true → is_owed st ≡ true
 open_owed Open e = refl
@@ -157,7 +144,7 @@ module _ {A : Type 0} where
         go : (a ≡ x) ⊎ Old a → (b ≡ x) ⊎ Old b → (d ≡ x) ⊎ Old d → (a ≡ x) ⊎ (b ≡ x)
         go (inl q) j k = inl q
         go (inr q) (inl r) k = inr r
-        go (inr q) (inr r) (inl s) = absurd (let n = (new_number d s (meets_number b d p.out)).1 in omega (arith, n, is_less d.commit b.commit p.before, old_commit b r.0))
+        go (inr q) (inr r) (inl s) = absurd (let n = (new_number d s (meets_number b d p.out)).1 in omega (arith, n, ltb-true d.commit b.commit p.before, old_commit b r.0))
         go (inr q) (inr r) (inr s) = clash (is_dangerous node edge a b d) e (g.none_dangerous.each a b d q.0 r.0 s.0)
 
     -- ---- safe readers are first of none
@@ -176,7 +163,7 @@ module _ {A : Type 0} where
         p = parts node edge a b d e
 
         within : d.commit ≤ a.snapshot
-        within = subst (λ q. d.commit ≤ cond q a.commit a.snapshot) r (is_least d.commit (bound node edge a) p.within)
+        within = subst (λ q. d.commit ≤ cond q a.commit a.snapshot) r (leb-true d.commit (bound node edge a) p.within)
 
         above : a.snapshot < b.commit
         above = (edge_parts a b p.into).1
@@ -185,7 +172,7 @@ module _ {A : Type 0} where
         last = meets_number b d p.out
 
         before : d.commit < b.commit
-        before = is_less d.commit b.commit p.before
+        before = ltb-true d.commit b.commit p.before
 
         go : (b ≡ x) ⊎ Old b → (d ≡ x) ⊎ Old d → ⊥
         go j (inl q) = let n = (new_number d q last).1 in omega (arith, n, before, up_to_new b ib)
@@ -207,7 +194,7 @@ module _ {A : Type 0} where
     safe_commit e a b d ia ib id q = go (holds a b d ia ib id q)
       where
         reads : is_read_write t.mode ≡ false
-        reads = was_not (is_read_write t.mode) (both_true (not (is_read_write t.mode)) (t.known || is_settled w.txns t) e).0
+        reads = not-true (is_read_write t.mode) (and_parts (not (is_read_write t.mode)) (t.known || is_settled w.txns t) e).0
 
         go : (a ≡ x) ⊎ (b ≡ x) → ⊥
         go (inl p) = safe_first a b d ib id (ap (λ (y : Txn A). is_read_write y.mode) p ∙ ap is_read_write c.mode ∙ reads) (sure t) (sym (ap (λ (y : Txn A). y.snapshot) p ∙ c.snapshot)) refl (safe_stands w g t i e) q
@@ -226,14 +213,14 @@ module _ {A : Type 0} where
       owed_kept u j e = by_need u j (or_left _ _ (or_left _ _ (or_left _ _ e)))
 
       pub recent_kept : (u : Txn A) → In u w.txns → is_done u.standing ≡ true → is_read_write u.mode ≡ true → n < u.commit → k u ≡ true
-      recent_kept u j d r l = by_need u j (or_left _ _ (or_left _ _ (or_right (is_owed u.standing) _ (and_true _ _ (and_true _ _ d r) (less_so n u.commit l)))))
+      recent_kept u j d r l = by_need u j (or_left _ _ (or_left _ _ (or_right (is_owed u.standing) _ (and_from _ _ (and_from _ _ d r) (lt-ltb n u.commit l)))))
 
       late_kept : (u : Txn A) → In u w.txns → is_done u.standing ≡ true → is_read_write u.mode ≡ false → u.known ≡ false → n < u.snapshot → k u ≡ true
-      late_kept u j d r q l = by_need u j (or_left _ _ (or_right (is_owed u.standing || is_recent n u) _ (and_true _ _ (and_true _ _ (and_true _ _ d (ap not r)) (ap not q)) (less_so n u.snapshot l))))
+      late_kept u j d r q l = by_need u j (or_left _ _ (or_right (is_owed u.standing || is_recent n u) _ (and_from _ _ (and_from _ _ (and_from _ _ d (ap not r)) (ap not q)) (lt-ltb n u.snapshot l))))
 
       pub met_kept : (u v : Txn A) → In u w.txns → In v w.txns → is_done u.standing ≡ true → is_done v.standing ≡ true → is_read_write u.mode ≡ true → n < u.commit → edge u v ≡ true → k v ≡ true
       met_kept u v j m d q r l e = by_need v m (or_right (is_owed v.standing || is_recent n v || is_late_reader n v) _
-          (and_true _ _ q (In-any (λ y. is_recent n y && edge y v) w.txns u j (and_true _ _ (and_true _ _ (and_true _ _ d r) (less_so n u.commit l)) e))))
+          (and_from _ _ q (In-any (λ y. is_recent n y && edge y v) w.txns u j (and_from _ _ (and_from _ _ (and_from _ _ d r) (lt-ltb n u.commit l)) e))))
 
       pub self : k x ≡ true
       self = ap keep c.number ∙ owed_kept t i (open_owed t.standing o)

@@ -1,5 +1,6 @@
 -- An event makes of what is kept what is kept of what it makes of all.
 use Rattle.std.proofs.Common.{◌≡◌, refl, sym, ap, ◌∙◌, ℕ, ◌+◌, Bool, true, false, cond, not, ◌&&◌, List, [], Option, Some, None}
+use Rattle.std.proofs.lemmas.Bool.{and_parts}
 use Rattle.value.proofs.IsolationLemmas.{In}
 use Rattle.statement.specs.declared.reply.Reply.{Reply}
 use Rattle.statement.specs.declared.reply.Reply.TheVariants.{Imported, Safe, Wait, Exported, Refused, Committed}
@@ -14,7 +15,6 @@ use Rattle.history.specs.Needed.{Keeps, kept_of, thin}
 use Rattle.serial.proofs.legal.Legal.{current_in}
 use Rattle.serial.proofs.legal.EndsSeen.{EndsSeen, ends_seen}
 use Rattle.serial.proofs.order.SerialTheorem.{IsGood, good_world}
-use Rattle.conflict.proofs.Lists.{both_true}
 use Rattle.serial.proofs.needed.Cause.{kept_replaced}
 use Rattle.serial.proofs.needed.Replies.{current_of_kept, dooms_of_kept, owed_stays}
 use Rattle.serial.proofs.needed.World.{exported_alike, kept_doomed, polled_alike}
@@ -37,7 +37,7 @@ module _ {A : Type 0} where
     i = (current_in w s t e).0
 
     self : keep t.number ≡ true
-    self = owed_stays w n keep h t i (both_true _ _ (current_in w s t e).1).1
+    self = owed_stays w n keep h t i (and_parts _ _ (current_in w s t e).1).1
 
     polled_same : is_open t.standing ≡ true → polled (thin keep w) t ≡ polled w t
     polled_same o = go t.known refl

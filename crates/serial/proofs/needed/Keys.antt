@@ -1,11 +1,11 @@
 -- The serial key of a committed transaction, from the transactions that matter alone.
-use Rattle.std.proofs.Common.{◌≡◌, refl, sym, ap, subst, ◌∙◌, ℕ, ◌+◌, ◌<◌, ◌≤◌, Bool, true, false, true≢false, cond, ◌⊎◌, inl, inr, List, [], ◌∷◌, eqb, Option, Some, None, nat_lt, arith}
-use Rattle.std.proofs.lemmas.Bool.Decides.{nat_tests}
+use Rattle.std.proofs.Common.{◌≡◌, refl, sym, ap, subst, ◌∙◌, ℕ, ◌+◌, ◌<◌, ◌≤◌, Bool, true, false, true≢false, cond, ◌⊎◌, inl, inr, List, [], ◌∷◌, eqb, Option, Some, None, arith}
+use Rattle.std.proofs.lemmas.Bool.{lt-ltb, and_parts, and_from, or_left, or_right}
 use Rattle.std.specs.List.{filter}
 use Rattle.value.specs.Isolation.{first_part, serial_key, write_key}
 use Rattle.value.proofs.IsolationLemmas.{In}
 use Rattle.value.proofs.SerialLemmas.{In-append}
-use Rattle.conflict.proofs.Lists.{In-filter, and_true, both_true, clash, filter-filter, or_left, or_right}
+use Rattle.conflict.proofs.Lists.{In-filter, clash, filter-filter}
 use Rattle.history.specs.declared.event.Action.{Action}
 use Rattle.history.specs.declared.event.Action.TheVariants.{Begin}
 use Rattle.history.specs.declared.event.Record.{Record}
@@ -24,9 +24,6 @@ use Rattle.serial.proofs.needed.Later.{moved_done}
 use Rattle.serial.proofs.safe.Readers.{writer_unsafe}
 use Rattle.serial.proofs.needed.Replies.{owed_stays}
 use Rattle.serial.proofs.needed.Questions.{first_part-kept}
-
-less_so : (a b : ℕ) → a < b → nat_lt a b ≡ true
-less_so a b h = grind (arith, nat_tests)
 
 module _ {A : Type 0} where
   abbrev done : Txn A → Bool
@@ -47,7 +44,7 @@ module _ {A : Type 0} where
         where
           kept : (u : Txn A) → In u w.txns × (is_done u.standing ≡ true) → edge x u ≡ true → keep u.number ≡ true
           kept u j e = by_all (λ v. is_needed n w.txns v ≡ true → keep v.number ≡ true) w.txns u h.needed j.0
-              (or_left _ _ (or_left _ _ (or_right (is_owed u.standing) _ (and_true _ _ (and_true _ _ j.1 writes) (less_so n u.commit above)))))
+              (or_left _ _ (or_left _ _ (or_right (is_owed u.standing) _ (and_from _ _ (and_from _ _ j.1 writes) (lt-ltb n u.commit above)))))
             where
               above : n < u.commit
               above = omega (arith, (edge_parts x u e).1, from r)
@@ -94,8 +91,8 @@ module _ {A : Type 0} where
         from q = let m = oldest_is w g t i o n keep h (writer_unsafe w.txns t (sym (ap is_read_write c.mode) ∙ q)) in omega (arith, m, c.snapshot)
     own_last t e (Doomed c) p d = clash (is_done (told a t.standing)) d (told_is a t.standing (ap is_open p) (ap is_done p)).1
     own_last t e Failed p d = clash (is_done (settled a t.standing)) d (settled_is a t.standing (ap is_open p) (ap is_done p)).1
-    own_last t e Aborted p d = clash (is_owed t.standing) (both_true (eqb t.session s) (is_owed t.standing) (current_in w s t e).1).1 (ap is_owed p)
-    own_last t e Done p d = clash (is_owed t.standing) (both_true (eqb t.session s) (is_owed t.standing) (current_in w s t e).1).1 (ap is_owed p)
+    own_last t e Aborted p d = clash (is_owed t.standing) (and_parts (eqb t.session s) (is_owed t.standing) (current_in w s t e).1).1 (ap is_owed p)
+    own_last t e Done p d = clash (is_owed t.standing) (and_parts (eqb t.session s) (is_owed t.standing) (current_in w s t e).1).1 (ap is_owed p)
 
     last_of : (o : Option (Txn A)) → current w s ≡ o → (x : Txn A) → In x (followed w (record { session = s; action = a; reply = reply_of w o a }) o).txns → is_done x.standing ≡ true → x.end ≡ w.place + 1 → IsLast n keep x
     last_of None e x i d l = none a i

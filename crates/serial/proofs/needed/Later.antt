@@ -1,11 +1,12 @@
 -- What doesn't matter any more never does again; and what matters can be told from what is kept alone.
 use Rattle.std.proofs.Common.{◌≡◌, refl, sym, ap, ◌∙◌, ℕ, ◌+◌, ◌<◌, ◌≤◌, Bool, true, false, true≢false, ◌&&◌, ◌||◌, ◌⊎◌, inl, inr, List, [], ◌∷◌, ◌++◌, length, map, Option, Some, None, eqb, nat_lt, arith}
-use Rattle.std.proofs.lemmas.Bool.Decides.{nat_tests}
+use Rattle.std.proofs.lemmas.Bool.{lt-ltb, and_parts, and_from, or_cases, or_left, or_right}
 use Rattle.std.specs.List.{filter, list_any, AllByRecursion}
 use Rattle.value.specs.declared.refusal.Cause.{Cause}
 use Rattle.value.proofs.IsolationLemmas.{In}
 use Rattle.value.proofs.SerialLemmas.{In-append}
-use Rattle.conflict.proofs.Lists.{any-In, In-any, and_true, both_true, clash, either, filter-kept, filter_alike, or_left, or_right}
+use Rattle.value.proofs.Basics.{any-In, In-any}
+use Rattle.conflict.proofs.Lists.{clash, filter-kept, filter_alike}
 use Rattle.history.specs.declared.event.Action.{Action}
 use Rattle.history.specs.declared.event.Action.TheVariants.{Begin}
 use Rattle.history.specs.declared.event.Record.{Record}
@@ -23,9 +24,6 @@ use Rattle.serial.proofs.needed.Cause.{c, in_log, open_owed}
 use Rattle.serial.proofs.needed.Questions.{any-kept}
 use Rattle.serial.proofs.safe.Readers.{writer_unsafe}
 
-less_so : (a b : ℕ) → a < b → nat_lt a b ≡ true
-less_so a b h = grind (arith, nat_tests)
-
 module _ {A : Type 0} where
   abbrev pub NeededKept : ℕ → (ℕ → Bool) → List (Txn A) → Type 0
   NeededKept n keep ts = (u : Txn A) → In u ts → is_needed n ts u ≡ true → keep u.number ≡ true
@@ -42,19 +40,19 @@ module _ {A : Type 0} where
           side y = last (recent y.0 y.1 q.0)
             where
               q : (is_recent n y.0 ≡ true) × (edge y.0 u ≡ true)
-              q = both_true (is_recent n y.0) (edge y.0 u) y.2
+              q = and_parts (is_recent n y.0) (edge y.0 u) y.2
 
               last : In y.0 ts ⊎ ((z : Txn A) → In z ts → edge y.0 z ≡ true → keep z.number ≡ true) → keep u.number ≡ true
-              last (inl k) = h u i (or_right (is_owed u.standing || is_recent n u || is_late_reader n u) _ (and_true _ _ p.0 (In-any (λ v. is_recent n v && edge v u) ts y.0 k y.2)))
+              last (inl k) = h u i (or_right (is_owed u.standing || is_recent n u || is_late_reader n u) _ (and_from _ _ p.0 (In-any (λ v. is_recent n v && edge v u) ts y.0 k y.2)))
               last (inr f) = f u i q.1
 
       by_need : In u ts → ((is_owed u.standing || is_recent n u || is_late_reader n u) ≡ true) ⊎ (is_met n vs u ≡ true) → keep u.number ≡ true
       by_need i (inl p) = h u i (or_left _ _ p)
-      by_need i (inr p) = by_met i (both_true (is_done u.standing) (list_any (λ v. is_recent n v && edge v u) vs) p)
+      by_need i (inr p) = by_met i (and_parts (is_done u.standing) (list_any (λ v. is_recent n v && edge v u) vs) p)
 
       go : In u ts ⊎ (keep u.number ≡ true) → keep u.number ≡ true
       go (inr k) = k
-      go (inl i) = by_need i (either (is_owed u.standing || is_recent n u || is_late_reader n u) (is_met n vs u) e)
+      go (inl i) = by_need i (or_cases (is_owed u.standing || is_recent n u || is_late_reader n u) (is_met n vs u) e)
 
   owed_too : (n : ℕ) (keep : ℕ → Bool) (ts : List (Txn A)) → NeededKept n keep ts → (u : Txn A) → In u ts → is_owed u.standing ≡ true → keep u.number ≡ true
   owed_too n keep ts h u i o = h u i (or_left _ _ (or_left _ _ (or_left _ _ o)))
@@ -124,10 +122,10 @@ module _ {A : Type 0} where
       recent y (inl p) r = inr (λ u j q. met u j q)
         where
           r1 : ((is_done y.standing && is_read_write y.mode) ≡ true) × (nat_lt n y.commit ≡ true)
-          r1 = both_true (is_done y.standing && is_read_write y.mode) (nat_lt n y.commit) r
+          r1 = and_parts (is_done y.standing && is_read_write y.mode) (nat_lt n y.commit) r
 
           r0 : (is_done y.standing ≡ true) × (is_read_write y.mode ≡ true)
-          r0 = both_true (is_done y.standing) (is_read_write y.mode) r1.0
+          r0 = and_parts (is_done y.standing) (is_read_write y.mode) r1.0
 
           y_is : y ≡ numbered w t
           y_is = p ∙ moved_done w t x log exports o move (sym (ap (λ (k : Txn A). is_done k.standing) p) ∙ r0.0)
@@ -142,7 +140,7 @@ module _ {A : Type 0} where
           snapshot = ap (λ (k : Txn A). k.snapshot) y_is ∙ (c w g t i o).snapshot
 
           met : (u : Txn A) → In u w.txns → edge y u ≡ true → keep u.number ≡ true
-          met u j q = h u j (or_left _ _ (or_left _ _ (or_right (is_owed u.standing) _ (and_true _ _ (and_true _ _ l.1 l.2) (less_so n u.commit above)))))
+          met u j q = h u j (or_left _ _ (or_left _ _ (or_right (is_owed u.standing) _ (and_from _ _ (and_from _ _ l.1 l.2) (lt-ltb n u.commit above)))))
             where
               above : n < u.commit
               above = omega (arith, (edge_parts y u q).1, snapshot, from)
@@ -153,12 +151,12 @@ module _ {A : Type 0} where
       (λ u j. origin u (In-replaced u (record t { standing = st }) w.txns j)) (λ y j r. inl (recent y (In-replaced y (record t { standing = st }) w.txns j) r))
     where
       origin : (u : Txn A) → (u ≡ record t { standing = st }) ⊎ In u w.txns × (eqb u.number t.number ≡ false) → In u w.txns ⊎ (keep u.number ≡ true)
-      origin u (inl p) = inr (ap (λ (y : Txn A). keep y.number) p ∙ owed_too n keep w.txns h t (current_in w s t e).0 (both_true (eqb t.session s) (is_owed t.standing) (current_in w s t e).1).1)
+      origin u (inl p) = inr (ap (λ (y : Txn A). keep y.number) p ∙ owed_too n keep w.txns h t (current_in w s t e).0 (and_parts (eqb t.session s) (is_owed t.standing) (current_in w s t e).1).1)
       origin u (inr j) = inl j.0
 
       recent : (y : Txn A) → (y ≡ record t { standing = st }) ⊎ In y w.txns × (eqb y.number t.number ≡ false) → is_recent n y ≡ true → In y w.txns
       recent y (inr j) r = j.0
-      recent y (inl p) r = clash (is_done y.standing) (both_true (is_done y.standing) (is_read_write y.mode) (both_true (is_done y.standing && is_read_write y.mode) (nat_lt n y.commit) r).0).0 (ap (λ (k : Txn A). is_done k.standing) p ∙ d')
+      recent y (inl p) r = clash (is_done y.standing) (and_parts (is_done y.standing) (is_read_write y.mode) (and_parts (is_done y.standing && is_read_write y.mode) (nat_lt n y.commit) r).0).0 (ap (λ (k : Txn A). is_done k.standing) p ∙ d')
   needed_step w v n keep g old new h (Dooms cs) = doomed_later n keep w.place cs w.txns h
 
   -- ---- one event
@@ -183,7 +181,7 @@ module _ {A : Type 0} where
 
       met : (u : Txn A) → list_any (λ v. is_recent n v && edge v u) (kept_of keep w.txns) ≡ list_any (λ v. is_recent n v && edge v u) w.txns
       met u = any-kept (λ v. is_recent n v && edge v u) (λ v. keep v.number) w.txns
-          (λ v j e. all v j (or_left _ _ (or_left _ _ (or_right (is_owed v.standing) _ (both_true (is_recent n v) (edge v u) e).0))))
+          (λ v j e. all v j (or_left _ _ (or_left _ _ (or_right (is_owed v.standing) _ (and_parts (is_recent n v) (edge v u) e).0))))
 
   -- ---- the laws
 

@@ -1,16 +1,17 @@
 -- A transaction that its session has still to end reads a snapshot that one read before the last event, or that of all commits; and an identifier that doesn't live never does again.
 use Rattle.std.proofs.Common.{◌≡◌, sym, ap, subst, ◌∙◌, ℕ, ◌+◌, ◌≤◌, Bool, true, false, true≢false, cond, ◌&&◌, ◌⊎◌, inl, inr, List, [], ◌∷◌, ◌++◌, length, eqb, length-append, arith}
-use Rattle.std.proofs.lemmas.Bool.{eqb-true, eq-eqb}
+use Rattle.std.proofs.lemmas.Bool.{eqb-true, eq-eqb, and_parts, and_from}
 use Rattle.value.proofs.IsolationLemmas.{In}
 use Rattle.value.proofs.SerialLemmas.{In-append}
-use Rattle.conflict.proofs.Lists.{In-any, and_true, any-In, both_true, clash}
+use Rattle.value.proofs.Basics.{any-In, In-any, find-In}
+use Rattle.conflict.proofs.Lists.{clash}
 use Rattle.history.specs.declared.event.Action.{Action}
 use Rattle.history.specs.declared.event.Record.{Record}
 use Rattle.history.specs.Opening.{Opening}
 use Rattle.history.specs.Transactions.{Done, Txn, World, Exported_snapshot, commits, is_living, is_open, is_owed, is_read_write}
 use Rattle.history.specs.Events.{begun, ended, follows, world_of}
 use Rattle.history.specs.Answer.{Allowed, Legal, reply_in}
-use Rattle.serial.proofs.legal.Legal.{Move, Stays, Fails, Aborts, Commits, Runs, Asks, Polls, Learns, Imports, Step, Nothing, Begins, Moves, Settles, Dooms, Steps, One, Two, current_in, found, legal_steps}
+use Rattle.serial.proofs.legal.Legal.{Move, Stays, Fails, Aborts, Commits, Runs, Asks, Polls, Learns, Imports, Step, Nothing, Begins, Moves, Settles, Dooms, Steps, One, Two, current_in, legal_steps}
 use Rattle.serial.proofs.structures.Dooms.{Fate, Spared, Over, In-doomed, length-doomed}
 use Rattle.serial.proofs.legal.Numbers.{In-replaced, adds, length-replaced, polled_keeps, no_commit}
 use Rattle.serial.proofs.order.SerialTheorem.{IsGood, good_step, good_world}
@@ -41,14 +42,14 @@ module _ {A : Type 0} where
     moved_read w t x log exports h read now i o (Imports j y d a e) = from (any-In (λ u. eqb u.number y.exporter && is_open u.standing) w.txns living)
       where
         f : In y w.exports × ((eqb y.id j && is_living w.txns y) ≡ true)
-        f = found _ w.exports y e
+        f = find-In _ w.exports y e
 
         living : is_living w.txns y ≡ true
-        living = (both_true (eqb y.id j) (is_living w.txns y) f.1).1
+        living = (and_parts (eqb y.id j) (is_living w.txns y) f.1).1
 
         from : (u : Txn A) × In u w.txns × ((eqb u.number y.exporter && is_open u.standing) ≡ true) → P y.snapshot
         from u =
-            let q = both_true (eqb u.0.number y.exporter) (is_open u.0.standing) u.2 in
+            let q = and_parts (eqb u.0.number y.exporter) (is_open u.0.standing) u.2 in
             let p = h.stood y f.0 u.0 u.1 (eqb-true u.0.number y.exporter q.0) q.1 in
             subst P p.0 (read u.0 u.1 (open_owed u.0.standing q.1))
 
@@ -70,7 +71,7 @@ module _ {A : Type 0} where
         go : (u : Txn A) → (u ≡ record t { standing = st }) ⊎ In u w.txns × (eqb u.number t.number ≡ false) → is_owed u.standing ≡ true → P u.snapshot
         go u (inl p) q =
             let i = current_in w s t c in
-            subst P (sym (ap (λ (y : Txn A). y.snapshot) p)) (read t i.0 (both_true (eqb t.session s) (is_owed t.standing) i.1).1)
+            subst P (sym (ap (λ (y : Txn A). y.snapshot) p)) (read t i.0 (and_parts (eqb t.session s) (is_owed t.standing) i.1).1)
         go u (inr k) q = read u k.0 q
     read_step w v h read now (Dooms cs) = λ u k q. let f = In-doomed w.place cs u w.txns k in go f.0 u f.1 f.2 q
       where
@@ -112,13 +113,13 @@ module _ {A : Type 0} where
   Lived ts us y = is_living us y ≡ true → is_living ts y ≡ true
 
   lives : (ts : List (Txn A)) (y : Exported_snapshot) (t : Txn A) → In t ts → t.number ≡ y.exporter → is_open t.standing ≡ true → is_living ts y ≡ true
-  lives ts y t i e o = In-any (λ u. eqb u.number y.exporter && is_open u.standing) ts t i (and_true _ _ (eq-eqb t.number y.exporter e) o)
+  lives ts y t i e o = In-any (λ u. eqb u.number y.exporter && is_open u.standing) ts t i (and_from _ _ (eq-eqb t.number y.exporter e) o)
 
   by_one : (ts us : List (Txn A)) (y : Exported_snapshot) → ((u : Txn A) → In u us → u.number ≡ y.exporter → is_open u.standing ≡ true → is_living ts y ≡ true) → Lived ts us y
   by_one ts us y f e = go (any-In (λ u. eqb u.number y.exporter && is_open u.standing) us e)
     where
       go : (u : Txn A) × In u us × ((eqb u.number y.exporter && is_open u.standing) ≡ true) → is_living ts y ≡ true
-      go u = let q = both_true (eqb u.0.number y.exporter) (is_open u.0.standing) u.2 in f u.0 u.1 (eqb-true u.0.number y.exporter q.0) q.1
+      go u = let q = and_parts (eqb u.0.number y.exporter) (is_open u.0.standing) u.2 in f u.0 u.1 (eqb-true u.0.number y.exporter q.0) q.1
 
   lived_step : (w v : World A) (y : Exported_snapshot) → IsGood w → HasBegun w y → Step w v → HasBegun v y × Lived w.txns v.txns y
   lived_step w v y g h Nothing = (h, λ e. e)

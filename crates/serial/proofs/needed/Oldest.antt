@@ -1,15 +1,16 @@
 -- The oldest snapshot never falls: an identifier that lives stands for its exporter's snapshot.
 use Rattle.std.proofs.Common.{◌≡◌, refl, sym, ap, subst, ◌∙◌, ℕ, ◌+◌, ◌≤◌, Bool, true, false, true≢false, cond, ◌&&◌, ◌⊎◌, inl, inr, List, [], ◌∷◌, length, eqb, length-append, arith}
-use Rattle.std.proofs.lemmas.Bool.{eqb-true, eqb-false}
+use Rattle.std.proofs.lemmas.Bool.{eqb-true, eqb-false, and_parts}
 use Rattle.value.specs.declared.refusal.Mode.{Mode}
 use Rattle.value.specs.declared.refusal.Mode.TheVariants.{ReadWrite, ReadOnly, Deferrable}
 use Rattle.value.proofs.IsolationLemmas.{In}
 use Rattle.value.proofs.SerialLemmas.{In-append}
-use Rattle.conflict.proofs.Lists.{any-In, both_true, clash}
+use Rattle.value.proofs.Basics.{any-In, find-In}
+use Rattle.conflict.proofs.Lists.{clash}
 use Rattle.history.specs.Transactions.{Done, Txn, World, Exported_snapshot, commits, is_living, is_open, is_read_only, is_read_write, must_wait}
 use Rattle.history.specs.Events.{begun, ended}
 use Rattle.history.specs.Needed.{is_safe_reader}
-use Rattle.serial.proofs.legal.Legal.{Move, Stays, Fails, Aborts, Commits, Runs, Asks, Polls, Learns, Imports, Step, Nothing, Begins, Moves, Settles, Dooms, current_in, found}
+use Rattle.serial.proofs.legal.Legal.{Move, Stays, Fails, Aborts, Commits, Runs, Asks, Polls, Learns, Imports, Step, Nothing, Begins, Moves, Settles, Dooms, current_in}
 use Rattle.serial.proofs.structures.Dooms.{Fate, Spared, Over, In-doomed, length-doomed}
 use Rattle.serial.proofs.legal.Faithful.{waits}
 use Rattle.serial.proofs.legal.Numbers.{In-replaced, adds, length-replaced, polled_keeps, no_commit}
@@ -145,14 +146,14 @@ module _ {A : Type 0} where
   moved_origin w n t x log exports h most i o (Imports j y d a e) = from (any-In (λ u. eqb u.number y.exporter && is_open u.standing) w.txns living)
     where
       f : In y w.exports × ((eqb y.id j && is_living w.txns y) ≡ true)
-      f = found _ w.exports y e
+      f = find-In _ w.exports y e
 
       living : is_living w.txns y ≡ true
-      living = (both_true (eqb y.id j) (is_living w.txns y) f.1).1
+      living = (and_parts (eqb y.id j) (is_living w.txns y) f.1).1
 
       from : (u : Txn A) × In u w.txns × ((eqb u.number y.exporter && is_open u.standing) ≡ true) → Origin w n x
       from u =
-          let q = both_true (eqb u.0.number y.exporter) (is_open u.0.standing) u.2 in
+          let q = and_parts (eqb u.0.number y.exporter) (is_open u.0.standing) u.2 in
           let p = h.stood y f.0 u.0 u.1 (eqb-true u.0.number y.exporter q.0) q.1 in
           inr (u.0, u.1, q.1, record { snapshot = sym p.0; taken = sym p.4; writes = λ r. clash (is_read_write t.mode) r (reads t.mode d) })
 

@@ -1,9 +1,11 @@
 -- Serial keys and the questions of a POLL, from the transactions that matter alone.
 use Rattle.std.proofs.Common.{◌≡◌, refl, sym, ap, ◌∙◌, ℕ, ◌<◌, ◌≤◌, min, Bool, true, false, true≢false, cond, not, ◌&&◌, ◌||◌, ◌⊎◌, inl, inr, List, [], ◌∷◌, eqb, nat_lt, nat_le, arith}
+use Rattle.std.proofs.lemmas.Bool.{and_parts, and_from, or_left, false_from_ne_true}
 use Rattle.std.specs.List.{filter, list_any}
 use Rattle.value.specs.Isolation.{Node, first_part, serial_key, write_key}
 use Rattle.value.proofs.IsolationLemmas.{In}
-use Rattle.conflict.proofs.Lists.{In-any, In-filter, and_true, any-In, both_true, clash, filter-In, filter-filter, is_false, or_left}
+use Rattle.value.proofs.Basics.{any-same_in, filter-In, any-In, In-any}
+use Rattle.conflict.proofs.Lists.{In-filter, clash, filter-filter}
 use Rattle.history.specs.declared.event.Record.{Record}
 use Rattle.history.specs.Opening.{Opening}
 use Rattle.history.specs.Transactions.{Standing, Txn, World, node, edge, is_open, is_done, is_pending, is_read_write, is_spoilt, spoils, was_active}
@@ -25,11 +27,7 @@ module _ {X : Type 0} where
     where
       go : (b : Bool) → k x ≡ b → list_any p (filter k xs) ≡ list_any p xs → list_any p (cond b (x ∷ filter k xs) (filter k xs)) ≡ (p x || list_any p xs)
       go true e rest = ap (λ b. p x || b) rest
-      go false e rest = rest ∙ sym (ap (λ b. b || list_any p xs) (is_false (p x) (λ q. clash (k x) (h x (inl refl) q) e)))
-
-  pub any-alike : (p q : X → Bool) (xs : List X) → ((x : X) → In x xs → p x ≡ q x) → list_any p xs ≡ list_any q xs
-  any-alike p q [] h = refl
-  any-alike p q (x ∷ xs) h = ap (λ b. b || list_any p xs) (h x (inl refl)) ∙ ap (λ b. q x || b) (any-alike p q xs (λ y i. h y (inr i)))
+      go false e rest = rest ∙ sym (ap (λ b. b || list_any p xs) (false_from_ne_true (p x) (λ q. clash (k x) (h x (inl refl) q) e)))
 
 module _ {T : Type 0} (node : T → Node) (edge : T → T → Bool) where
   pub first_part-kept : (t : T) (k : T → Bool) (us : List T) → ((u : T) → In u us → edge t u ≡ true → k u ≡ true) → first_part node edge t (filter k us) ≡ first_part node edge t us
@@ -40,10 +38,10 @@ module _ {T : Type 0} (node : T → Node) (edge : T → T → Bool) where
           → first_part node edge t (cond b (u ∷ filter k us) (filter k us)) ≡ cond (edge t u && nat_lt (node u).commit (node t).commit) (min (node u).commit (first_part node edge t us)) (first_part node edge t us)
       go true e rest = ap (λ m. cond (edge t u && nat_lt (node u).commit (node t).commit) (min (node u).commit m) m) rest
       go false e rest = rest ∙ sym (ap (λ b. cond b (min (node u).commit (first_part node edge t us)) (first_part node edge t us))
-          (is_false (edge t u && nat_lt (node u).commit (node t).commit) (λ q. clash (k u) (h u (inl refl) (both_true (edge t u) (nat_lt (node u).commit (node t).commit) q).0) e)))
+          (false_from_ne_true (edge t u && nat_lt (node u).commit (node t).commit) (λ q. clash (k u) (h u (inl refl) (and_parts (edge t u) (nat_lt (node u).commit (node t).commit) q).0) e)))
 
 done_closed : (st : Standing) → is_done st ≡ true → is_open st ≡ false
-done_closed st d = is_false (is_open st) (λ o. not_done st o d)
+done_closed st d = false_from_ne_true (is_open st) (λ o. not_done st o d)
 
 module _ {A : Type 0} where
   -- ---- the key of a commit
@@ -87,7 +85,7 @@ module _ {A : Type 0} where
 
   pub pending_of_kept : (w : World A) (n : ℕ) (keep : ℕ → Bool) → Keeps w n keep → (t : Txn A) → is_pending (kept_of keep w.txns) t ≡ is_pending w.txns t
   pending_of_kept w n keep h t = any-kept (λ u. was_active t u && is_open u.standing) (λ u. keep u.number) w.txns
-      (λ u j e. by_all (λ v. is_needed n w.txns v ≡ true → keep v.number ≡ true) w.txns u h.needed j (or_left _ _ (or_left _ _ (or_left _ _ (open_owed u.standing (both_true (was_active t u) (is_open u.standing) e).1)))))
+      (λ u j e. by_all (λ v. is_needed n w.txns v ≡ true → keep v.number ≡ true) w.txns u h.needed j (or_left _ _ (or_left _ _ (or_left _ _ (open_owed u.standing (and_parts (was_active t u) (is_open u.standing) e).1)))))
 
   module _ (w : World A) (g : IsGood w) (ends : EndsSeen w) (t : Txn A) (i : In t w.txns) (o : is_open t.standing ≡ true) (n : ℕ) (keep : ℕ → Bool) (h : Keeps w n keep) (from : n ≤ t.snapshot) where
     -- who was active at the snapshot and has committed has a number above it
@@ -96,7 +94,7 @@ module _ {A : Type 0} where
 
     pub spoilt_of_kept : is_spoilt (kept_of keep w.txns) t ≡ is_spoilt w.txns t
     spoilt_of_kept =
-        any-alike (λ u. was_active t u && spoils (kept_of keep w.txns) t u) (λ u. was_active t u && spoils w.txns t u) (kept_of keep w.txns) (λ u j. alike u (In-filter k u w.txns j).0)
+        any-same_in (λ u. was_active t u && spoils (kept_of keep w.txns) t u) (λ u. was_active t u && spoils w.txns t u) (kept_of keep w.txns) (λ u j. alike u (In-filter k u w.txns j).0)
         ∙ any-kept (λ u. was_active t u && spoils w.txns t u) k w.txns kept
       where
         k : Txn A → Bool
@@ -107,8 +105,8 @@ module _ {A : Type 0} where
 
         kept : (u : Txn A) → In u w.txns → (was_active t u && spoils w.txns t u) ≡ true → keep u.number ≡ true
         kept u j e =
-            let p = both_true (was_active t u) (is_done u.standing && list_any (λ v. edge u v && nat_le v.commit t.snapshot) w.txns) e in
-            let d = (both_true (is_done u.standing) (list_any (λ v. edge u v && nat_le v.commit t.snapshot) w.txns) p.1).0 in
+            let p = and_parts (was_active t u) (is_done u.standing && list_any (λ v. edge u v && nat_le v.commit t.snapshot) w.txns) e in
+            let d = (and_parts (is_done u.standing) (list_any (λ v. edge u v && nat_le v.commit t.snapshot) w.txns) p.1).0 in
             let r = recent_active u j p.0 d in recent_kept w g t i o n keep h u j d r.0 r.1
 
         alike : (u : Txn A) → In u w.txns → (was_active t u && spoils (kept_of keep w.txns) t u) ≡ (was_active t u && spoils w.txns t u)
@@ -119,7 +117,7 @@ module _ {A : Type 0} where
             go false p d q = refl
             go true p false q = refl
             go true p true q = any-kept (λ v. edge u v && nat_le v.commit t.snapshot) (λ v. keep v.number) w.txns
-                (λ v m e. let s = both_true (edge u v) (nat_le v.commit t.snapshot) e in let r = recent_active u j p q in
+                (λ v m e. let s = and_parts (edge u v) (nat_le v.commit t.snapshot) e in let r = recent_active u j p q in
                 met_kept w g t i o n keep h u v j m q (g.numbered.logged v (in_log w g t i o v m (meets_number w g t i o u v s.0))).1 r.0 r.1 s.0)
 
     settled_of_kept : is_settled (kept_of keep w.txns) t ≡ is_settled w.txns t
@@ -130,21 +128,21 @@ module _ {A : Type 0} where
 
   -- what isn't spoilt by all isn't spoilt by those that are kept
   unspoilt_kept : (k : Txn A → Bool) (ts : List (Txn A)) (t : Txn A) → is_spoilt ts t ≡ false → is_spoilt (filter k ts) t ≡ false
-  unspoilt_kept k ts t e = is_false (is_spoilt (filter k ts) t) (λ f. go (any-In (λ u. was_active t u && spoils (filter k ts) t u) (filter k ts) f))
+  unspoilt_kept k ts t e = false_from_ne_true (is_spoilt (filter k ts) t) (λ f. go (any-In (λ u. was_active t u && spoils (filter k ts) t u) (filter k ts) f))
     where
       go : (u : Txn A) × In u (filter k ts) × ((was_active t u && spoils (filter k ts) t u) ≡ true) → ⊥
       go u = last (any-In (λ v. edge u.0 v && nat_le v.commit t.snapshot) (filter k ts) q.1)
         where
           p : (was_active t u.0 ≡ true) × (spoils (filter k ts) t u.0 ≡ true)
-          p = both_true (was_active t u.0) (spoils (filter k ts) t u.0) u.2
+          p = and_parts (was_active t u.0) (spoils (filter k ts) t u.0) u.2
 
           q : (is_done u.0.standing ≡ true) × (list_any (λ v. edge u.0 v && nat_le v.commit t.snapshot) (filter k ts) ≡ true)
-          q = both_true (is_done u.0.standing) (list_any (λ v. edge u.0 v && nat_le v.commit t.snapshot) (filter k ts)) p.1
+          q = and_parts (is_done u.0.standing) (list_any (λ v. edge u.0 v && nat_le v.commit t.snapshot) (filter k ts)) p.1
 
           last : (v : Txn A) × In v (filter k ts) × ((edge u.0 v && nat_le v.commit t.snapshot) ≡ true) → ⊥
           last v = clash (is_spoilt ts t)
               (In-any (λ y. was_active t y && spoils ts t y) ts u.0 (In-filter k u.0 ts u.1).0
-              (and_true _ _ p.0 (and_true _ _ q.0 (In-any (λ y. edge u.0 y && nat_le y.commit t.snapshot) ts v.0 (In-filter k v.0 ts v.1).0 v.2)))) e
+              (and_from _ _ p.0 (and_from _ _ q.0 (In-any (λ y. edge u.0 y && nat_le y.commit t.snapshot) ts v.0 (In-filter k v.0 ts v.1).0 v.2)))) e
 
   module _ (w : World A) (g : IsGood w) (ends : EndsSeen w) (n : ℕ) (keep : ℕ → Bool) (h : Keeps w n keep) where
     -- so a POLL finds the same of a snapshot that isn't known to be safe

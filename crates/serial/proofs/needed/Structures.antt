@@ -1,13 +1,10 @@
 -- The dangerous structures that a commit makes, among transactions of which only those that matter are kept: by edges and numbers alone.
-use Rattle.std.proofs.Common.{◌≡◌, refl, ap, subst, ◌∙◌, ℕ, ◌<◌, ◌≤◌, Bool, true, false, cond, ◌⊎◌, inl, inr, List, nat_le, arith}
-use Rattle.std.proofs.lemmas.Bool.Decides.{nat_tests}
+use Rattle.std.proofs.Common.{◌≡◌, refl, ap, subst, ◌∙◌, ℕ, ◌<◌, ◌≤◌, Bool, true, false, cond, ◌⊎◌, inl, inr, List, arith}
+use Rattle.std.proofs.lemmas.Bool.{leb-true}
 use Rattle.std.specs.List.{filter}
 use Rattle.value.specs.Isolation.{Node, bound, first_cause, is_dangerous}
 use Rattle.value.proofs.IsolationLemmas.{In}
 use Rattle.conflict.proofs.Structures.{Danger, parts, cause-kept}
-
-is_least : (a b : ℕ) → nat_le a b ≡ true → a ≤ b
-is_least a b e = grind (arith, nat_tests)
 
 module _ {T : Type 0} (node : T → Node) (edge : T → T → Bool) where
   -- x commits among ts; k tells which are kept, and n is a number at most x's snapshot.
@@ -45,7 +42,7 @@ module _ {T : Type 0} (node : T → Node) (edge : T → T → Bool) where
             above = let s : (node b).snapshot ≡ (node x).snapshot = ap (λ y. (node y).snapshot) p in omega (arith, h.from, s, h.seen b c j l d.out)
 
             within : (node c).commit ≤ cond (node a).read_write (node a).commit (node a).snapshot
-            within = is_least (node c).commit (bound node edge a) d.within
+            within = leb-true (node c).commit (bound node edge a) d.within
 
             side : (r : Bool) → (node a).read_write ≡ r → k a ≡ true
             side true q = h.recent a i d.first q (let m : (node c).commit ≤ (node a).commit = subst (λ r. (node c).commit ≤ cond r (node a).commit (node a).snapshot) q within in omega (arith, m, above))

@@ -1,10 +1,10 @@
 -- The world of what is kept answers as the world of the whole history does, and an event makes of it what is kept of what it makes of the whole.
 use Rattle.std.proofs.Common.{◌≡◌, refl, sym, ap, ◌∙◌, ℕ, ◌+◌, Bool, true, false, true≢false, cond, not, ◌&&◌, ◌||◌, List, [], ◌∷◌, map, Option, Some, None, is_some, eqb}
+use Rattle.std.proofs.lemmas.Bool.{and_parts}
 use Rattle.std.specs.List.{find, list_any}
 use Rattle.value.specs.declared.refusal.Cause.{Cause}
 use Rattle.value.specs.declared.refusal.Code.TheVariants as code
 use Rattle.value.proofs.IsolationLemmas.{In}
-use Rattle.conflict.proofs.Lists.{both_true}
 use Rattle.schema.specs.Definition.{Catalog}
 use Rattle.schema.specs.declared.tables.Tables.{Tables}
 use Rattle.schema.specs.declared.changes.Change.{Change}
@@ -87,7 +87,7 @@ module _ {A : Type 0} where
           by_writes s true e = ap (λ b. whole b (met (thin keep w))) refused ∙ sym (ap (λ b. whole b (met w)) refused)
             where
               refused : (writes q && not (is_read_write t.mode)) ≡ true
-              refused = ap (λ b. b && not (is_read_write t.mode)) e ∙ (both_true (not (is_read_write t.mode)) (t.known || is_settled w.txns t) s).0
+              refused = ap (λ b. b && not (is_read_write t.mode)) e ∙ (and_parts (not (is_read_write t.mode)) (t.known || is_settled w.txns t) s).0
           by_writes s false e = ap (whole (writes q && not (is_read_write t.mode))) (none_taken (kept_of keep w.txns) w.txns t xs (reads_only w.catalog q t.own e))
 
           go : (s : Bool) → is_safe_reader w.txns t ≡ s → whole (writes q && not (is_read_write t.mode)) (met (thin keep w)) ≡ whole (writes q && not (is_read_write t.mode)) (met w)

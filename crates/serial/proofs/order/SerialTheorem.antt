@@ -1,6 +1,6 @@
 -- Every legal history has its serial order.
 use Rattle.std.proofs.Common.{◌≡◌, refl, sym, ap, subst, ◌∙◌, ℕ, zero, suc, ◌+◌, ◌-◌, ◌<◌, ◌≤◌, Bool, true, false, true≢false, T, cond, not, ◌&&◌, ◌⊎◌, inl, inr, List, [], ◌∷◌, ◌++◌, map, take, is_some, eqb, nat_lt, nat_le, arith}
-use Rattle.std.proofs.lemmas.Bool.{eqb-true, eqb-false}
+use Rattle.std.proofs.lemmas.Bool.{eqb-true, eqb-false, and_parts}
 use Rattle.std.proofs.lemmas.Bool.Decides.{nat_tests}
 use Rattle.std.specs.List.{filter, list_all}
 use Rattle.value.specs.declared.value.Value.{Value}
@@ -35,10 +35,6 @@ use Rattle.serial.proofs.structures.FirstUpdater.{IsFirstUpdater, first_updater_
 use Rattle.serial.proofs.structures.NoneDangerous.{NoneDangerous, none_dangerous_step}
 use Rattle.serial.proofs.legal.InTime.{IsInTime, Shows, in_time_step}
 use Rattle.serial.proofs.safe.Stamps.{AllStand, stands_step, stands_start}
-
-two_of : (a b : Bool) → (a && b) ≡ true → (a ≡ true) × (b ≡ true)
-two_of true b e = (refl, e)
-two_of false b e = absurd (true≢false (sym e))
 
 module _ {A : Type 0} where
   In-filter : (p : Txn A → Bool) (t : Txn A) (ts : List (Txn A)) → In t (filter p ts) → In t ts × (p t ≡ true)
@@ -118,7 +114,7 @@ module _ {A : Type 0} where
 
   keyed_append : (xs ys : List (Change A)) → WithKeys xs → WithKeys ys → WithKeys (xs ++ ys)
   keyed_append [] ys h k = k
-  keyed_append (x ∷ xs) ys h k = let p = two_of (not (is_null x.key)) (list_all (λ y. not (is_null y.key)) xs) h in ap (λ b. b && list_all (λ y. not (is_null y.key)) (xs ++ ys)) p.0 ∙ keyed_append xs ys p.1 k
+  keyed_append (x ∷ xs) ys h k = let p = and_parts (not (is_null x.key)) (list_all (λ y. not (is_null y.key)) xs) h in ap (λ b. b && list_all (λ y. not (is_null y.key)) (xs ++ ys)) p.0 ∙ keyed_append xs ys p.1 k
 
   keyed_move : (w : World A) (t x : Txn A) (log : List (Txn A)) (exports : List Exported_snapshot) → WithKeys t.changes → HasKeys t.own → Move w t x log exports → WithKeys x.changes
   keyed_move w t x log exports h k Stays = h
@@ -228,8 +224,8 @@ module _ {A : Type 0} where
   -- the parts of an edge
   pub edge_parts : (t u : Txn A) → edge t u ≡ true → (eqb t.number u.number ≡ false) × (t.snapshot < u.commit)
   edge_parts t u e =
-      let p = two_of (not (eqb t.number u.number) && nat_lt t.snapshot u.commit) _ e in
-      let q = two_of (not (eqb t.number u.number)) (nat_lt t.snapshot u.commit) p.0 in
+      let p = and_parts (not (eqb t.number u.number) && nat_lt t.snapshot u.commit) _ e in
+      let q = and_parts (not (eqb t.number u.number)) (nat_lt t.snapshot u.commit) p.0 in
       (not_true (eqb t.number u.number) q.0, is_less t.snapshot u.commit q.1)
     where
       not_true : (b : Bool) → not b ≡ true → b ≡ false
@@ -345,7 +341,7 @@ module _ {A : Type 0} where
     time a b i j p = go (is_read_write a.mode) refl
       where
         parts : (nat_lt a.end b.begin ≡ true) × (not b.imported ≡ true)
-        parts = two_of (nat_lt a.end b.begin) (not b.imported) p
+        parts = and_parts (nat_lt a.end b.begin) (not b.imported) p
 
         before : a.end < b.begin
         before = less a.end b.begin parts.0
@@ -413,17 +409,17 @@ module _ {A : Type 0} where
   sound_rows X [] [] t e = (tt, refl)
   sound_rows X [] (rows ∷ Y) t e = absurd (true≢false (sym e))
   sound_rows X (d ∷ c) [] t e = absurd (true≢false (sym e))
-  sound_rows X (d ∷ c) (rows ∷ Y) (suc t) e = sound_rows X c Y t (two_of (is_sound_table X d rows) (sound_tables X c Y) e).1
+  sound_rows X (d ∷ c) (rows ∷ Y) (suc t) e = sound_rows X c Y t (and_parts (is_sound_table X d rows) (sound_tables X c Y) e).1
   sound_rows X (d ∷ c) (rows ∷ Y) zero e =
-      let p = two_of (is_sound_table X d rows) (sound_tables X c Y) e in
-      let q = two_of (is_sorted value_cmp rows) (list_all (λ r. not (is_null r.0) && fits_columns X d.columns (cells r)) rows) p.0 in
+      let p = and_parts (is_sound_table X d rows) (sound_tables X c Y) e in
+      let q = and_parts (is_sorted value_cmp rows) (list_all (λ r. not (is_null r.0) && fits_columns X d.columns (cells r)) rows) p.0 in
       (subst T (sym q.0) tt, keys rows q.1)
     where
       keys : (rs : List (Row A)) → list_all (λ r. not (is_null r.0) && fits_columns X d.columns (cells r)) rs ≡ true → list_all (λ row. not (is_null row.0)) rs ≡ true
       keys [] h = refl
       keys (r ∷ rs) h =
-          let p = two_of (not (is_null r.0) && fits_columns X d.columns (cells r)) _ h in
-          let q = two_of (not (is_null r.0)) (fits_columns X d.columns (cells r)) p.0 in
+          let p = and_parts (not (is_null r.0) && fits_columns X d.columns (cells r)) _ h in
+          let q = and_parts (not (is_null r.0)) (fits_columns X d.columns (cells r)) p.0 in
           ap (λ b. b && list_all (λ row. not (is_null row.0)) rs) q.0 ∙ keys rs p.1
 
   pub sound_proper : (c : Catalog) (X : Tables A) → is_sound c X ≡ true → Proper X

@@ -1,28 +1,16 @@
 -- Readers of safe snapshots: what is told of such a snapshot stands for good, whether it was asked for or not.
-use Rattle.std.proofs.Common.{◌≡◌, refl, sym, ap, subst, ℕ, ◌<◌, ◌≤◌, Bool, true, false, not, ◌&&◌, ◌||◌, ◌⊎◌, inl, inr, List, nat_lt, nat_le, arith}
-use Rattle.std.proofs.lemmas.Bool.Decides.{nat_tests}
+use Rattle.std.proofs.Common.{◌≡◌, refl, ap, subst, ℕ, ◌<◌, ◌≤◌, Bool, true, false, not, ◌&&◌, ◌||◌, ◌⊎◌, inl, inr, List, nat_lt, nat_le, arith}
+use Rattle.std.proofs.lemmas.Bool.{not-true, leb-true, ltb-true, and_parts, and_from, or_cases, or_right, false_from_ne_true}
 use Rattle.std.specs.List.{list_any}
 use Rattle.value.proofs.IsolationLemmas.{In}
-use Rattle.conflict.proofs.Lists.{any-In, and_true, both_true, clash, either, is_false, or_right}
+use Rattle.value.proofs.Basics.{cases_le, any-In}
+use Rattle.conflict.proofs.Lists.{clash}
 use Rattle.history.specs.Transactions.{Txn, World, edge, is_open, is_done, is_pending, is_read_write, is_spoilt, spoils, was_active}
 use Rattle.history.specs.Needed.{is_safe_reader, is_settled}
 use Rattle.serial.proofs.legal.EndsSeen.{EndsSeen}
 use Rattle.serial.proofs.legal.Numbers.{not_done}
 use Rattle.serial.proofs.order.SerialTheorem.{IsGood, edge_parts}
 use Rattle.serial.proofs.safe.Stamps.{Stamp, Stands, stands_settled}
-
-compared : (a b : ℕ) → (a ≤ b) ⊎ (b < a)
-compared a b = grind arith
-
-is_less : (a b : ℕ) → nat_lt a b ≡ true → a < b
-is_less a b e = grind (arith, nat_tests)
-
-is_least : (a b : ℕ) → nat_le a b ≡ true → a ≤ b
-is_least a b e = grind (arith, nat_tests)
-
-was_not : (b : Bool) → not b ≡ true → b ≡ false
-was_not true e = sym e
-was_not false e = refl
 
 -- an edge leads to a commit
 above_none : (a b : ℕ) → a < b → b ≡ 0 → ⊥
@@ -40,11 +28,11 @@ module _ {A : Type 0} where
   module _ (w : World A) (g : IsGood w) (t : Txn A) (i : In t w.txns) where
     pub settled_stands : is_settled w.txns t ≡ true → Stands w (sure t)
     settled_stands e =
-        let p = both_true (not (is_pending w.txns t)) (not (is_spoilt w.txns t)) e in
-        stands_settled w t g.numbered g.stands i (was_not (is_spoilt w.txns t) p.1) (was_not (is_pending w.txns t) p.0)
+        let p = and_parts (not (is_pending w.txns t)) (not (is_spoilt w.txns t)) e in
+        stands_settled w t g.numbered g.stands i (not-true (is_spoilt w.txns t) p.1) (not-true (is_pending w.txns t) p.0)
 
     pub safe_stands : is_safe_reader w.txns t ≡ true → Stands w (sure t)
-    safe_stands e = go (either t.known (is_settled w.txns t) (both_true (not (is_read_write t.mode)) (t.known || is_settled w.txns t) e).1)
+    safe_stands e = go (or_cases t.known (is_settled w.txns t) (and_parts (not (is_read_write t.mode)) (t.known || is_settled w.txns t) e).1)
       where
         go : (t.known ≡ true) ⊎ (is_settled w.txns t ≡ true) → Stands w (sure t)
         go (inl k) = subst (λ (b : Bool). Stands w (record { snapshot = t.snapshot; taken = t.taken; known = b })) k (g.stands.txns t i)
@@ -56,38 +44,38 @@ module _ {A : Type 0} where
       active_above u j e d = go (g.numbered.kind u j)
         where
           q : ((is_read_write u.mode && nat_lt u.begin t.taken) ≡ true) × ((is_open u.standing || nat_lt t.taken u.end) ≡ true)
-          q = both_true (is_read_write u.mode && nat_lt u.begin t.taken) (is_open u.standing || nat_lt t.taken u.end) e
+          q = and_parts (is_read_write u.mode && nat_lt u.begin t.taken) (is_open u.standing || nat_lt t.taken u.end) e
 
           p : (is_read_write u.mode ≡ true) × (nat_lt u.begin t.taken ≡ true)
-          p = both_true (is_read_write u.mode) (nat_lt u.begin t.taken) q.0
+          p = and_parts (is_read_write u.mode) (nat_lt u.begin t.taken) q.0
 
           ended : t.taken < u.end
-          ended = side (either (is_open u.standing) (nat_lt t.taken u.end) q.1)
+          ended = side (or_cases (is_open u.standing) (nat_lt t.taken u.end) q.1)
             where
               side : (is_open u.standing ≡ true) ⊎ (nat_lt t.taken u.end ≡ true) → t.taken < u.end
               side (inl r) = absurd (not_done u.standing r d)
-              side (inr r) = is_less t.taken u.end r
+              side (inr r) = ltb-true t.taken u.end r
 
           go : In u w.log ⊎ (u.commit ≡ 0) × (is_done u.standing ≡ true → is_read_write u.mode ≡ false) → In u w.log × (is_read_write u.mode ≡ true) × (t.snapshot < u.commit)
           go (inr k) = clash (is_read_write u.mode) p.0 (k.1 d)
-          go (inl k) = side (compared u.commit t.snapshot)
+          go (inl k) = side (cases_le u.commit t.snapshot)
             where
               side : (u.commit ≤ t.snapshot) ⊎ (t.snapshot < u.commit) → In u w.log × (is_read_write u.mode ≡ true) × (t.snapshot < u.commit)
               side (inl l) = absurd (let m = ends.txns t i u k l in omega (arith, m, ended))
               side (inr l) = (k, p.0, l)
 
       pub stands_is_settled : Stands w (sure t) → is_settled w.txns t ≡ true
-      stands_is_settled s = and_true _ _ (ap not (is_false (is_pending w.txns t) pending)) (ap not (is_false (is_spoilt w.txns t) spoilt))
+      stands_is_settled s = and_from _ _ (ap not (false_from_ne_true (is_pending w.txns t) pending)) (ap not (false_from_ne_true (is_spoilt w.txns t) spoilt))
         where
           pending : is_pending w.txns t ≡ true → ⊥
           pending e = go (any-In (λ u. was_active t u && is_open u.standing) w.txns e)
             where
               go : (u : Txn A) × In u w.txns × ((was_active t u && is_open u.standing) ≡ true) → ⊥
               go u =
-                  let p = both_true (was_active t u.0) (is_open u.0.standing) u.2 in
-                  let q = both_true (is_read_write u.0.mode && nat_lt u.0.begin t.taken) (is_open u.0.standing || nat_lt t.taken u.0.end) p.0 in
-                  let r = both_true (is_read_write u.0.mode) (nat_lt u.0.begin t.taken) q.0 in
-                  s.none_open refl u.0 u.1 r.0 p.1 (is_less u.0.begin t.taken r.1)
+                  let p = and_parts (was_active t u.0) (is_open u.0.standing) u.2 in
+                  let q = and_parts (is_read_write u.0.mode && nat_lt u.0.begin t.taken) (is_open u.0.standing || nat_lt t.taken u.0.end) p.0 in
+                  let r = and_parts (is_read_write u.0.mode) (nat_lt u.0.begin t.taken) q.0 in
+                  s.none_open refl u.0 u.1 r.0 p.1 (ltb-true u.0.begin t.taken r.1)
 
           spoilt : is_spoilt w.txns t ≡ true → ⊥
           spoilt e = go (any-In (λ u. was_active t u && spoils w.txns t u) w.txns e)
@@ -96,10 +84,10 @@ module _ {A : Type 0} where
               go u = last (any-In (λ v. edge u.0 v && nat_le v.commit t.snapshot) w.txns q.1)
                 where
                   p : (was_active t u.0 ≡ true) × (spoils w.txns t u.0 ≡ true)
-                  p = both_true (was_active t u.0) (spoils w.txns t u.0) u.2
+                  p = and_parts (was_active t u.0) (spoils w.txns t u.0) u.2
 
                   q : (is_done u.0.standing ≡ true) × (list_any (λ v. edge u.0 v && nat_le v.commit t.snapshot) w.txns ≡ true)
-                  q = both_true (is_done u.0.standing) (list_any (λ v. edge u.0 v && nat_le v.commit t.snapshot) w.txns) p.1
+                  q = and_parts (is_done u.0.standing) (list_any (λ v. edge u.0 v && nat_le v.commit t.snapshot) w.txns) p.1
 
                   above : In u.0 w.log × (is_read_write u.0.mode ≡ true) × (t.snapshot < u.0.commit)
                   above = active_above u.0 u.1 p.0 q.0
@@ -108,12 +96,12 @@ module _ {A : Type 0} where
                   last v = end (g.numbered.kind v.0 v.1)
                     where
                       r : (edge u.0 v.0 ≡ true) × (nat_le v.0.commit t.snapshot ≡ true)
-                      r = both_true (edge u.0 v.0) (nat_le v.0.commit t.snapshot) v.2
+                      r = and_parts (edge u.0 v.0) (nat_le v.0.commit t.snapshot) v.2
 
                       end : In v.0 w.log ⊎ (v.0.commit ≡ 0) × (is_done v.0.standing ≡ true → is_read_write v.0.mode ≡ false) → ⊥
-                      end (inl k) = s.safe refl u.0 v.0 above.0 k above.2 (is_least v.0.commit t.snapshot r.1) r.0
+                      end (inl k) = s.safe refl u.0 v.0 above.0 k above.2 (leb-true v.0.commit t.snapshot r.1) r.0
                       end (inr k) = above_none u.0.snapshot v.0.commit (edge_parts u.0 v.0 r.0).1 k.0
 
       -- what stands so is a safe reader's, if it only reads
       pub stands_safe : is_read_write t.mode ≡ false → Stands w (sure t) → is_safe_reader w.txns t ≡ true
-      stands_safe r s = and_true _ _ (ap not r) (or_right t.known _ (stands_is_settled s))
+      stands_safe r s = and_from _ _ (ap not r) (or_right t.known _ (stands_is_settled s))

@@ -1,15 +1,16 @@
 -- Snapshots that are known to be safe: no commit above such a one has an edge to a commit that it shows, now or later.
 use Rattle.std.proofs.Common.{◌≡◌, refl, sym, ap, subst, ◌∙◌, ℕ, ◌+◌, ◌<◌, ◌≤◌, Bool, true, false, true≢false, cond, not, ◌&&◌, ◌||◌, ◌⊎◌, inl, inr, List, [], ◌∷◌, ◌++◌, length, map, eqb, nat_lt, nat_le, arith}
-use Rattle.std.proofs.lemmas.Bool.Decides.{nat_tests}
+use Rattle.std.proofs.lemmas.Bool.{le-leb, lt-ltb, ltb-true, or_right, or_left, and_from, and_parts}
 use Rattle.std.specs.List.{list_any}
 use Rattle.value.specs.declared.refusal.Cause.{Cause}
 use Rattle.value.specs.declared.refusal.Mode.{Mode}
 use Rattle.value.specs.declared.refusal.Mode.TheVariants.{ReadWrite, ReadOnly, Deferrable}
 use Rattle.value.proofs.IsolationLemmas.{In}
 use Rattle.value.proofs.SerialLemmas.{NumberedFrom, In-append}
+use Rattle.value.proofs.Basics.{cases_le, find-In}
 use Rattle.history.specs.Transactions.{Standing, Done, Txn, World, Exported_snapshot, edge, commits, is_open, is_read_write, is_read_only, is_deferrable, is_spoilt, was_active, spoils}
 use Rattle.history.specs.Events.{ended, begun, with_snapshot, replaced, doomed_by}
-use Rattle.serial.proofs.legal.Legal.{Move, Stays, Fails, Aborts, Commits, Runs, Asks, Polls, Learns, Imports, Step, Nothing, Begins, Moves, Settles, Dooms, current_in, found}
+use Rattle.serial.proofs.legal.Legal.{Move, Stays, Fails, Aborts, Commits, Runs, Asks, Polls, Learns, Imports, Step, Nothing, Begins, Moves, Settles, Dooms, current_in}
 use Rattle.serial.proofs.structures.Dooms.{Fate, Spared, Over, In-doomed}
 use Rattle.serial.proofs.legal.Numbers.{IsNumbered, In-replaced, polled_keeps}
 use Rattle.serial.proofs.legal.InTime.{IsInTime}
@@ -31,32 +32,6 @@ none_of p (y ∷ ys) x h i e = go (p y) refl (none_of p ys x) h i
     go true q rest g j = true≢false g
     go false q rest g (inl j) = true≢false (sym e ∙ ap p j ∙ q)
     go false q rest g (inr j) = rest g j e
-
-two_of : (a b : Bool) → (a && b) ≡ true → (a ≡ true) × (b ≡ true)
-two_of true b e = (refl, e)
-two_of false b e = absurd (true≢false (sym e))
-
-both_so : (a b : Bool) → a ≡ true → b ≡ true → (a && b) ≡ true
-both_so a b p q = cc
-
-left_so : (a b : Bool) → a ≡ true → (a || b) ≡ true
-left_so a b p = cc
-
-right_so : (a b : Bool) → b ≡ true → (a || b) ≡ true
-right_so true b p = refl
-right_so false b p = p
-
-is_less : (a b : ℕ) → nat_lt a b ≡ true → a < b
-is_less a b e = grind (arith, nat_tests)
-
-less_so : (a b : ℕ) → a < b → nat_lt a b ≡ true
-less_so a b h = grind (arith, nat_tests)
-
-least_so : (a b : ℕ) → a ≤ b → nat_le a b ≡ true
-least_so a b h = grind (arith, nat_tests)
-
-compared : (a b : ℕ) → (a ≤ b) ⊎ (b < a)
-compared a b = grind arith
 
 deferrable_reads : (m : Mode) → is_deferrable m ≡ true → is_read_write m ≡ true → ⊥
 deferrable_reads ReadWrite d w = true≢false (sym d)
@@ -87,7 +62,7 @@ module _ {A : Type 0} where
     pub exports : (x : Exported_snapshot) → In x w.exports → Stands w (stamp_of x)
 
   edge_above : (t u : Txn A) → edge t u ≡ true → t.snapshot < u.commit
-  edge_above t u e = is_less t.snapshot u.commit (two_of (not (eqb t.number u.number)) (nat_lt t.snapshot u.commit) (two_of (not (eqb t.number u.number) && nat_lt t.snapshot u.commit) _ e).0).1
+  edge_above t u e = ltb-true t.snapshot u.commit (and_parts (not (eqb t.number u.number)) (nat_lt t.snapshot u.commit) (and_parts (not (eqb t.number u.number) && nat_lt t.snapshot u.commit) _ e).0).1
 
   upto : (n : ℕ) (ts : List (Txn A)) (u : Txn A) → NumberedFrom (λ (t : Txn A). t.commit) n ts → In u ts → u.commit ≤ n + length ts
   upto n [] u h k = absurd k
@@ -183,7 +158,7 @@ module _ {A : Type 0} where
       safe : p.known ≡ true → (u v : Txn A) → In u w.log ⊎ Committed u → In v w.log ⊎ Committed v → p.snapshot < u.commit → v.commit ≤ p.snapshot → edge u v ≡ true → ⊥
       safe k u v j (inr m) l g e = let n : v.commit ≡ x.commit = ap (λ (y : Txn A). y.commit) m.0 in omega (arith, h.shown, m.1)
       safe k u v (inl j) (inl m) l g e = h.safe k u v j m l g e
-      safe k u v (inr q) (inl m) l g e = go (compared p.taken t.begin)
+      safe k u v (inr q) (inl m) l g e = go (cases_le p.taken t.begin)
         where
           go : (p.taken ≤ t.begin) ⊎ (t.begin < p.taken) → ⊥
           go (inl b) =
@@ -225,7 +200,7 @@ module _ {A : Type 0} where
 
   -- who may write, is open and began before a stamp was active at it
   active : (t u : Txn A) → is_read_write u.mode ≡ true → is_open u.standing ≡ true → u.begin < t.taken → (was_active t u && is_open u.standing) ≡ true
-  active t u r o l = both_so _ _ (both_so _ _ (both_so _ _ r (less_so u.begin t.taken l)) (left_so _ _ o)) o
+  active t u r o l = and_from _ _ (and_from _ _ (and_from _ _ r (lt-ltb u.begin t.taken l)) (or_left _ _ o)) o
 
   -- The snapshot isn't spoilt, and nobody is awaited: it is safe.
   pub stands_settled : (w : World A) (t : Txn A) → IsNumbered w → AllStand w → In t w.txns
@@ -237,7 +212,7 @@ module _ {A : Type 0} where
     behind = h.behind;
     ahead = h.ahead;
     none_open = λ _ u j r o l. none_of (λ v. was_active t v && is_open v.standing) w.txns u ended j (active t u r o l);
-    safe = λ _ u v j m l g e. go u v j m l g e (compared t.taken u.begin);
+    safe = λ _ u v j m l g e. go u v j m l g e (cases_le t.taken u.begin);
   }
     where
       h : Stands w (stamp t)
@@ -247,17 +222,17 @@ module _ {A : Type 0} where
       go u v j m l g e (inl b) = let n = num.logged u j in omega (arith, h.behind u n.0 n.2 b, edge_above u v e)
       go u v j m l g e (inr b) =
           let n = num.logged u j in
-          let later : nat_lt t.taken u.end ≡ true = less_so t.taken u.end (h.ahead u j l) in
-          let was : was_active t u ≡ true = both_so _ _ (both_so _ _ n.2 (less_so u.begin t.taken b)) (right_so (is_open u.standing) _ later) in
-          none_of (λ y. was_active t y && spoils w.txns t y) w.txns u unspoilt n.0 (both_so _ _ was (both_so _ _ n.1 (found_one v (num.logged v m).0 (both_so _ _ e (least_so v.commit t.snapshot g)))))
+          let later : nat_lt t.taken u.end ≡ true = lt-ltb t.taken u.end (h.ahead u j l) in
+          let was : was_active t u ≡ true = and_from _ _ (and_from _ _ n.2 (lt-ltb u.begin t.taken b)) (or_right (is_open u.standing) _ later) in
+          none_of (λ y. was_active t y && spoils w.txns t y) w.txns u unspoilt n.0 (and_from _ _ was (and_from _ _ n.1 (found_one v (num.logged v m).0 (and_from _ _ e (le-leb v.commit t.snapshot g)))))
         where
           found_one : (y : Txn A) → In y w.txns → (edge u y && nat_le y.commit t.snapshot) ≡ true → list_any (λ z. edge u z && nat_le z.commit t.snapshot) w.txns ≡ true
           found_one y k q = some_of (λ z. edge u z && nat_le z.commit t.snapshot) w.txns y k q
             where
               some_of : (p : Txn A → Bool) (xs : List (Txn A)) (z : Txn A) → In z xs → p z ≡ true → list_any p xs ≡ true
               some_of p [] z k q = absurd k
-              some_of p (x ∷ xs) z (inl a) q = left_so (p x) (list_any p xs) (sym (ap p a) ∙ q)
-              some_of p (x ∷ xs) z (inr k) q = right_so (p x) (list_any p xs) (some_of p xs z k q)
+              some_of p (x ∷ xs) z (inl a) q = or_left (p x) (list_any p xs) (sym (ap p a) ∙ q)
+              some_of p (x ∷ xs) z (inr k) q = or_right (p x) (list_any p xs) (some_of p xs z k q)
 
   moved_stamp : (w : World A) (t x : Txn A) (log : List (Txn A)) (exports : List Exported_snapshot) → IsNumbered w → IsInTime w → AllStand w → In t w.txns → Carries w t x log
       → ((k : ℕ) (y : Stamp) → Stands w y → Stands (Moved w x log exports) y)
@@ -294,7 +269,7 @@ module _ {A : Type 0} where
         where
           stayed : again spoilt ≡ t
           stayed = ap again q ∙ ap (λ n. cond (not n && false) (with_snapshot w (commits w) (w.place + 1) t) t) k
-  moved_stamp w t x log exports num time all i c kept (Imports n y d a e) = kept 0 (stamp_of y) (all.exports y (found _ w.exports y e).0)
+  moved_stamp w t x log exports num time all i c kept (Imports n y d a e) = kept 0 (stamp_of y) (all.exports y (find-In _ w.exports y e).0)
 
   -- the identifiers after a move
   moved_exports : (w : World A) (t x : Txn A) (log : List (Txn A)) (exports : List Exported_snapshot) → AllStand w → In t w.txns → Move w t x log exports

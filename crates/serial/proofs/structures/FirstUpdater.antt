@@ -1,7 +1,7 @@
 -- Of two transactions that wrote one key, one's commit was in the other's snapshot, or one came to nothing.
-use Rattle.std.proofs.Common.{◌≡◌, refl, sym, ap, subst, ◌∙◌, ℕ, ◌+◌, ◌<◌, ◌≤◌, Bool, true, false, true≢false, cond, not, ◌&&◌, ◌||◌, ◌⊎◌, inl, inr, List, [], ◌∷◌, ◌++◌, eqb, nat_lt, arith}
+use Rattle.std.proofs.Common.{◌≡◌, refl, sym, ap, subst, ◌∙◌, ℕ, ◌+◌, ◌<◌, ◌≤◌, Bool, true, false, true≢false, cond, not, ◌&&◌, ◌||◌, ◌⊎◌, inl, inr, List, [], ◌∷◌, eqb, nat_lt, arith}
 use Rattle.std.proofs.lemmas.Bool.Decides.{nat_tests}
-use Rattle.std.proofs.lemmas.Bool.{eqb-true, eqb-false, eq-eqb}
+use Rattle.std.proofs.lemmas.Bool.{eqb-true, eqb-false, eq-eqb, and_parts}
 use Rattle.std.specs.List.{list_any}
 use Rattle.value.specs.declared.value.Value.{Value}
 use Rattle.value.proofs.IsolationLemmas.{In}
@@ -10,6 +10,7 @@ use Rattle.schema.specs.declared.changes.Change.{Change}
 use Rattle.schema.specs.Plain.{same}
 use Rattle.schema.proofs.PlainLemmas.{touches, same_value}
 use Rattle.value.specs.Order.{value_cmp-total}
+use Rattle.value.proofs.Basics.{In-any, any-cases, any-In}
 use Rattle.std.specs.Ordering.{is_eq}
 use Rattle.std.proofs.lemmas.Cmp.{tied_itself}
 use Rattle.statement.specs.Evaluation.{outcome}
@@ -30,40 +31,11 @@ none_in {A} p (y ∷ xs) x e i = go (p y) refl (none_in p xs x) e i
     go false q rest f (inl r) = ap p r ∙ q
     go false q rest f (inr j) = rest f j
 
-some_in : {A : Type 0} (p : A → Bool) (xs : List A) → list_any p xs ≡ true → (x : A) × In x xs × (p x ≡ true)
-some_in p [] e = absurd (true≢false (sym e))
-some_in {A} p (y ∷ xs) e = go (p y) refl (some_in p xs) e
-  where
-    go : (b : Bool) → p y ≡ b → (list_any p xs ≡ true → (x : A) × In x xs × (p x ≡ true)) → (b || list_any p xs) ≡ true → (x : A) × In x (y ∷ xs) × (p x ≡ true)
-    go true q rest f = (y, inl refl, q)
-    go false q rest f = let r = rest f in (r.0, inr r.1, r.2)
-
-any_split : {A : Type 0} (p : A → Bool) (xs ys : List A) → list_any p (xs ++ ys) ≡ true → (list_any p xs ≡ true) ⊎ (list_any p ys ≡ true)
-any_split p [] ys e = inr e
-any_split p (x ∷ xs) ys e = go (p x) (any_split p xs ys) e
-  where
-    go : (b : Bool) → (list_any p (xs ++ ys) ≡ true → (list_any p xs ≡ true) ⊎ (list_any p ys ≡ true)) → (b || list_any p (xs ++ ys)) ≡ true → ((b || list_any p xs) ≡ true) ⊎ (list_any p ys ≡ true)
-    go true rest f = inl refl
-    go false rest f = rest f
-
-any_in : {A : Type 0} (p : A → Bool) (xs : List A) (x : A) → In x xs → p x ≡ true → list_any p xs ≡ true
-any_in p [] x i e = absurd i
-any_in p (y ∷ xs) x (inl q) e = ap (λ b. b || list_any p xs) (sym (ap p q) ∙ e)
-any_in p (y ∷ xs) x (inr i) e = right (p y) (list_any p xs) (any_in p xs x i e)
-  where
-    right : (a b : Bool) → b ≡ true → (a || b) ≡ true
-    right true b f = refl
-    right false b f = f
-
 -- of three that are not all true, two are
 middle : (a b c : Bool) → a ≡ true → c ≡ true → (a && b && c) ≡ false → b ≡ false
 middle true true c e f g = absurd (true≢false (sym f ∙ g))
 middle true false c e f g = refl
 middle false b c e f g = absurd (true≢false (sym e))
-
-both : (a b : Bool) → (a && b) ≡ true → (a ≡ true) × (b ≡ true)
-both true b e = (refl, e)
-both false b e = absurd (true≢false (sym e))
 
 module _ {A : Type 0} where
   abbrev pub Touched : ℕ → Value A → Txn A → Type 0
@@ -99,14 +71,14 @@ module _ {A : Type 0} where
 
   -- what touches a key of a table
   touched_is : (n : ℕ) (k : Value A) (x : Change A) → touches n k x ≡ true → (x.table ≡ n) × (x.key ≡ k)
-  touched_is n k x e = let p = both (eqb x.table n) (same k x.key) e in (eqb-true x.table n p.0, sym (same_value k x.key p.1))
+  touched_is n k x e = let p = and_parts (eqb x.table n) (same k x.key) e in (eqb-true x.table n p.0, sym (same_value k x.key p.1))
 
   -- A new write of a key that another has written.
   apart_new : (n : ℕ) (k : Value A) (t v x : Txn A) (y : Change A) → is_taken t v y ≡ false → (t.number ≡ v.number → ⊥) → touches n k y ≡ true → Touched n k v → x.snapshot ≡ t.snapshot → Apart x v
   apart_new n k t v x y free other ty tv e = go (is_open v.standing) (nat_lt t.snapshot v.commit) refl refl
     where
       z : (c : Change A) × In c v.changes × (touches n k c ≡ true)
-      z = some_in (touches n k) v.changes tv
+      z = any-In (touches n k) v.changes tv
 
       here : (x.snapshot ≡ x.snapshot) × (list_any (λ c. eqb y.table c.table && same y.key c.key) v.changes ≡ true)
       here =
@@ -114,7 +86,7 @@ module _ {A : Type 0} where
           let q = touched_is n k z.0 z.2 in
           let tables : eqb y.table z.0.table ≡ true = eq-eqb y.table z.0.table (p.0 ∙ sym q.0) in
           let keys : same y.key z.0.key ≡ true = ap (λ v. same y.key v) (q.1 ∙ sym p.1) ∙ same_itself y.key in
-          (refl, any_in (λ c. eqb y.table c.table && same y.key c.key) v.changes z.0 z.1 (ap (λ b. b && same y.key z.0.key) tables ∙ keys))
+          (refl, In-any (λ c. eqb y.table c.table && same y.key c.key) v.changes z.0 z.1 (ap (λ b. b && same y.key z.0.key) tables ∙ keys))
 
       unlike : eqb v.number t.number ≡ false
       unlike = not_true (eqb v.number t.number) refl
@@ -158,12 +130,12 @@ module _ {A : Type 0} where
       go true tx = apart_kept t (X true) v o z refl (before tx tv)
       go false tx = apart_kept t (X false) v o z refl (before tx tv)
   apart_move w n k t v x log exports a o z i other before (Asks m) tx tv = apart_kept t x v o z refl (before tx tv)
-  apart_move w n k t v x log exports a o z i other before (Runs q fits m wr free) tx tv = go (any_split (touches n k) t.changes (outcome w.catalog q t.own).changes tx)
+  apart_move w n k t v x log exports a o z i other before (Runs q fits m wr free) tx tv = go (any-cases (touches n k) t.changes (outcome w.catalog q t.own).changes tx)
     where
       go : (Touched n k t) ⊎ (list_any (touches n k) (outcome w.catalog q t.own).changes ≡ true) → Apart (ran w q (outcome w.catalog q t.own).reply t) v
       go (inl h) = apart_kept t (ran w q (outcome w.catalog q t.own).reply t) v o z refl (before h tv)
       go (inr h) =
-          let y = some_in (touches n k) (outcome w.catalog q t.own).changes h in
+          let y = any-In (touches n k) (outcome w.catalog q t.own).changes h in
           apart_new n k t v (ran w q (outcome w.catalog q t.own).reply t) y.0 (none_in (λ u. is_taken t u y.0) w.txns v (none_in (λ c. list_any (λ u. is_taken t u c) w.txns) (outcome w.catalog q t.own).changes y.0 free y.1) i) other y.2 tv refl
   apart_move w n k t v x log exports a o z i other before (Polls d g) tx tv = polled_keeps (λ y. Touched n k y → Apart y v) w t (λ h. absurd (never h)) (λ h. absurd (never h)) tx
     where

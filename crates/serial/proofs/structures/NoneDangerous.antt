@@ -1,9 +1,10 @@
 -- No dangerous structure among the committed.
-use Rattle.std.proofs.Common.{◌≡◌, refl, sym, ap, ◌∙◌, Bool, true, false, true≢false, cond, ◌&&◌, ◌⊎◌, inl, inr, List, [], ◌∷◌, ◌++◌, Option, Some, None, is_some, eqb, nat_lt, nat_le}
+use Rattle.std.proofs.Common.{◌≡◌, refl, sym, ap, ◌∙◌, Bool, true, false, true≢false, cond, ◌&&◌, ◌⊎◌, inl, inr, List, [], ◌∷◌, ◌++◌, None, eqb, nat_lt, nat_le}
 use Rattle.std.specs.List.{filter}
 use Rattle.value.specs.Isolation.{Node, is_dangerous, earliest, caused, first_some, first_cause}
 use Rattle.value.proofs.IsolationLemmas.{In}
 use Rattle.value.proofs.SerialLemmas.{In-append}
+use Rattle.value.proofs.Basics.{none_from_filter, first_some-In}
 use Rattle.history.specs.Transactions.{Standing, Open, Doomed, Failed, Aborted, Done, Txn, World, Exported_snapshot, node, edge, is_open, is_done, is_read_write}
 use Rattle.history.specs.Events.{numbered, begun, replaced}
 use Rattle.history.specs.Answer.{cause_of}
@@ -11,34 +12,16 @@ use Rattle.serial.proofs.legal.Legal.{Move, Stays, Fails, Aborts, Commits, Runs,
 use Rattle.serial.proofs.structures.Dooms.{Fate, Spared, Over, In-doomed}
 use Rattle.serial.proofs.legal.Numbers.{In-replaced, polled_keeps}
 
-first_some-None : {A B : Type 0} (f : A → Option B) (xs : List A) (x : A) → first_some f xs ≡ None → In x xs → f x ≡ None
-first_some-None f [] x e i = absurd i
-first_some-None {A} {B} f (y ∷ xs) x e i = go (f y) refl (first_some-None f xs x) e i
-  where
-    go : (o : Option B) → f y ≡ o → (first_some f xs ≡ None → In x xs → f x ≡ None) → cond (is_some o) (f y) (first_some f xs) ≡ None → (x ≡ y) ⊎ In x xs → f x ≡ None
-    go None p rest h (inl q) = ap f q ∙ p
-    go None p rest h (inr j) = rest h j
-    go (Some v) p rest h j = cc
-
-filter-none : {A : Type 0} (p : A → Bool) (xs : List A) (x : A) → filter p xs ≡ [] → In x xs → p x ≡ false
-filter-none p [] x e i = absurd i
-filter-none {A} p (y ∷ xs) x e i = go (p y) refl (filter-none p xs x) e i
-  where
-    go : (b : Bool) → p y ≡ b → (filter p xs ≡ [] → In x xs → p x ≡ false) → cond b (y ∷ filter p xs) (filter p xs) ≡ [] → (x ≡ y) ⊎ In x xs → p x ≡ false
-    go true q rest h j = cc
-    go false q rest h (inl r) = ap p r ∙ q
-    go false q rest h (inr j) = rest h j
-
 none_caused : {T : Type 0} (node : T → Node) (edge : T → T → Bool) (a b : T) (ys : List T) → caused node edge a b (earliest node edge ys) ≡ None → ys ≡ []
 none_caused node edge a b [] e = refl
 none_caused node edge a b (y ∷ ys) e = cc
 
 pub no_cause : {T : Type 0} (node : T → Node) (edge : T → T → Bool) (ts : List T) → first_cause node edge ts ≡ None → (a b d : T) → In a ts → In b ts → In d ts → is_dangerous node edge a b d ≡ false
 no_cause node edge ts e a b d i j k =
-    filter-none (is_dangerous node edge a b) ts d
+    none_from_filter (is_dangerous node edge a b) ts d
     (none_caused node edge a b (filter (is_dangerous node edge a b) ts)
-    (first_some-None (λ y. caused node edge a y (earliest node edge (filter (is_dangerous node edge a y) ts))) ts b
-    (first_some-None (λ x. first_some (λ y. caused node edge x y (earliest node edge (filter (is_dangerous node edge x y) ts))) ts) ts a e i) j)) k
+    (first_some-In (λ y. caused node edge a y (earliest node edge (filter (is_dangerous node edge a y) ts))) ts b
+    (first_some-In (λ x. first_some (λ y. caused node edge x y (earliest node edge (filter (is_dangerous node edge x y) ts))) ts) ts a e i) j)) k
 
 not_first : (a b c : Bool) → a ≡ false → (a && b) ≡ false
 not_first a b c e = ap (λ x. x && b) e

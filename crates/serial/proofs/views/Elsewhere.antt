@@ -3,6 +3,7 @@ use Rattle.std.proofs.Common.{◌≡◌, refl, sym, ap, subst, ◌∙◌, ℕ, �
 use Rattle.std.specs.List.{find}
 use Rattle.std.specs.Option.{option_map}
 use Rattle.std.proofs.lemmas.Bool.{eqb-true}
+use Rattle.std.specs.Cmp.{first_so}
 use Rattle.value.specs.declared.refusal.Cause.{Cause}
 use Rattle.value.proofs.IsolationLemmas.{In}
 use Rattle.schema.specs.declared.tables.Tables.{Tables}
@@ -19,10 +20,6 @@ use Rattle.serial.proofs.structures.Dooms.{Fate, Spared, Over, fate}
 use Rattle.serial.proofs.legal.Legal.{Move, Stays, Fails, Aborts, Commits, Runs, Asks, Polls, Learns, Imports, current_in, legal_steps, open_move}
 use Rattle.serial.proofs.legal.Numbers.{IsNumbered, polled_keeps}
 use Rattle.serial.proofs.order.SerialTheorem.{IsGood, good_steps, good_world}
-
-first_of : (a b : Bool) → (a && b) ≡ true → a ≡ true
-first_of true b e = refl
-first_of false b e = absurd (true≢false (sym e))
 
 open_is_owed : (st : Standing) → is_open st ≡ true → is_owed st ≡ true
 open_is_owed Open e = refl
@@ -157,7 +154,7 @@ module _ {A : Type 0} where
       party = turned_party w a own fits own.standing
 
       owned : own.session ≡ n
-      owned = eqb-true own.session n (first_of (eqb own.session n) (is_owed own.standing) (current_in w n own c).1)
+      owned = eqb-true own.session n (first_so (eqb own.session n) (is_owed own.standing) (current_in w n own c).1)
 
       not_of : (u : Txn A) → u.session ≡ own.session → is_of s u ≡ false
       not_of u p = ap (λ b. b && is_owed u.standing) (other_session s n u.session e (p ∙ owned))

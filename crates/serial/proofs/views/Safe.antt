@@ -1,7 +1,7 @@
 -- The tables that a session may view are a state of the serial order, and stay one.
-use Rattle.std.proofs.Common.{◌≡◌, refl, sym, ap, ◌∙◌, ℕ, ◌<◌, ◌≤◌, Bool, true, false, cond, not, ◌&&◌, ◌⊎◌, inl, inr, List, [], ◌∷◌, ◌++◌, Option, Some, None, Result, Ok, Err, if◌then◌else◌, eqb, arith}
+use Rattle.std.proofs.Common.{◌≡◌, refl, sym, ap, ◌∙◌, ℕ, ◌<◌, ◌≤◌, Bool, true, false, cond, not, ◌⊎◌, inl, inr, List, [], ◌∷◌, ◌++◌, Option, Some, None, Result, Ok, Err, if◌then◌else◌, eqb, arith}
 use mathlib.Core.Bool.{false≢true}
-use Rattle.std.proofs.lemmas.Bool.{eq-eqb, eqb-true}
+use Rattle.std.proofs.lemmas.Bool.{eq-eqb, eqb-true, and_from, and_parts, not-true}
 use Rattle.std.specs.Result.{is_ok}
 use Rattle.std.specs.List.{filter}
 use Rattle.value.specs.declared.refusal.Code.TheVariants as code
@@ -23,17 +23,6 @@ use Rattle.serial.proofs.safe.Prefix.{by_all, safe_are_safe}
 use Rattle.serial.proofs.order.SerialTheorem.{IsGood, good_world}
 use Rattle.serial.proofs.order.Promised.{legal_serializable}
 use Rattle.serial.proofs.views.Sourced.{Source, sourced}
-
-was_not : (b : Bool) → not b ≡ true → b ≡ false
-was_not true e = absurd (false≢true e)
-was_not false e = refl
-
-two_of : (a b : Bool) → (a && b) ≡ true → (a ≡ true) × (b ≡ true)
-two_of true b e = (refl, e)
-two_of false b e = absurd (false≢true e)
-
-both_so : (a b : Bool) → a ≡ true → b ≡ true → (a && b) ≡ true
-both_so a b p q = cc
 
 -- where p holds of none
 filter_none : {T : Type 0} (p : T → Bool) (ts : List T) → ((u : T) → In u ts → p u ≡ true → ⊥) → filter p ts ≡ []
@@ -64,10 +53,10 @@ module _ {A : Type 0} where
 
   -- it is one that took the snapshot
   took_so : (t d : Txn A) → d.imported ≡ false → d.taken ≡ t.taken → took t d ≡ true
-  took_so t d i e = both_so (not d.imported) (eqb d.taken t.taken) (ap not i) (eq-eqb d.taken t.taken e)
+  took_so t d i e = and_from (not d.imported) (eqb d.taken t.taken) (ap not i) (eq-eqb d.taken t.taken e)
 
   took_is : (t d : Txn A) → took t d ≡ true → (d.imported ≡ false) × (d.taken ≡ t.taken)
-  took_is t d e = let p = two_of (not d.imported) (eqb d.taken t.taken) e in (was_not d.imported p.0, eqb-true d.taken t.taken p.1)
+  took_is t d e = let p = and_parts (not d.imported) (eqb d.taken t.taken) e in (not-true d.imported p.0, eqb-true d.taken t.taken p.1)
 
   module _ (o : Opening A) (es : List (Record A)) (legal : Legal o es) where
     abbrev w : World A

@@ -5,13 +5,14 @@ use Rattle.value.specs.declared.refusal.Mode.{Mode}
 use Rattle.value.specs.declared.refusal.Mode.TheVariants.{ReadWrite, ReadOnly, Deferrable}
 use Rattle.value.proofs.IsolationLemmas.{In}
 use Rattle.value.proofs.SerialLemmas.{In-left, In-append}
+use Rattle.value.proofs.Basics.{find-In}
 use Rattle.history.specs.declared.event.Record.{Record}
 use Rattle.history.specs.Opening.{Opening}
 use Rattle.history.specs.Transactions.{Done, Txn, World, Exported_snapshot, commits, is_read_write, is_read_only, is_deferrable}
 use Rattle.history.specs.Events.{begun, ended, numbered, polled, replaced, doomed_by, follows, start, run, world_of}
 use Rattle.history.specs.Answer.{reply_in, IsAnswered, Legal}
 use Rattle.serial.proofs.structures.Dooms.{Fate, Spared, Over, In-doomed, doomed-In, fate}
-use Rattle.serial.proofs.legal.Legal.{Move, Stays, Fails, Aborts, Commits, Runs, Asks, Polls, Learns, Imports, Step, Nothing, Begins, Moves, Settles, Dooms, Steps, One, Two, legal_steps, current_in, found}
+use Rattle.serial.proofs.legal.Legal.{Move, Stays, Fails, Aborts, Commits, Runs, Asks, Polls, Learns, Imports, Step, Nothing, Begins, Moves, Settles, Dooms, Steps, One, Two, legal_steps, current_in}
 use Rattle.serial.proofs.legal.Numbers.{IsNumbered, In-replaced, replaced-In, replaced-new, polled_keeps}
 use Rattle.serial.proofs.order.SerialTheorem.{IsGood, good_step, good_steps, good_world}
 
@@ -101,7 +102,7 @@ module _ {A : Type 0} where
   knows w t x log exports (Asks a) = Keeps (record { number = refl; mode = refl; imported = refl }) refl refl refl
   knows w t x log exports (Polls a b) = Finds (polled_party w t) a b (polled_taken w t)
   knows w t x log exports (Learns a b d) = Finds (learned_party t (polled w t) (polled_party w t)) a b (polled_taken w t)
-  knows w t x log exports (Imports i y a b e) = Takes y (found _ w.exports y e).0 a (record { number = refl; mode = refl; imported = refl; known = refl; taken = refl; snapshot = refl })
+  knows w t x log exports (Imports i y a b e) = Takes y (find-In _ w.exports y e).0 a (record { number = refl; mode = refl; imported = refl; known = refl; taken = refl; snapshot = refl })
 
   -- an identifier was there, or has the snapshot of the transaction that took the move
   abbrev Named : World A → Txn A → Exported_snapshot → Type 0

@@ -1,10 +1,10 @@
 use Rattle.std.proofs.Common.{◌∙◌, sym, subst, ap, map, []}
 use Rattle.std.specs.List.{filter, list_all}
+use Rattle.value.proofs.Basics.{IfOk_then}
 use Rattle.schema.specs.Plain.{is_sound}
 use Rattle.history.specs.declared.base.Base.{Base}
 use Rattle.audit.specs.Course.{courses_after}
 use Rattle.audit.specs.Replay.{AreInPlace, are_fit, if_committed, present, replays}
-use Rattle.audit.proofs.StepLemmas.{if-ok}
 use Rattle.audit.proofs.HistoryLemmas.{courses_fit, opening_sound, order-answer}
 use Rattle.audit.proofs.ToComeLemmas.{courses-in_place, present-committed}
 use Rattle.audit.proofs.order.check_order.Goals as goal
@@ -30,7 +30,7 @@ pub returns-clause-answer : goal.returns-clause-answer
 returns-clause-answer g c =
     let h = c.args.history.now in
     let ns = map (λ n. n.0) c.args.numbers.now in
-    if-ok c.replays.result c.replays.ensures.answer (λ b e. order-answer h.opening h.records c.requires ns b
+    IfOk_then c.replays.result c.replays.ensures.answer (λ b e. order-answer h.opening h.records c.requires ns b
     (e ∙ ap (λ k. replays k c.base-base.result.transactions 0 (present c.in_ok-left.left.items) ns c.in_ok-tables.tables) c.catalog.ensures
     ∙ ap (λ (x : Base). replays h.opening.catalog x.transactions 0 (present c.in_ok-left.left.items) ns c.in_ok-tables.tables) c.base-base.ensures
     ∙ ap (λ xs. replays h.opening.catalog h.opening.base.transactions 0 xs ns c.in_ok-tables.tables)

@@ -1,6 +1,7 @@
 use Rattle.std.proofs.Common.{◌≡◌, sym, ap, ◌∙◌, ◌<◌, ◌≤◌, map, arith}
+use Rattle.value.proofs.Basics.{IfOk_then}
 use Rattle.audit.specs.Replay.{answers_again, are_fit, end_of}
-use Rattle.audit.proofs.StepLemmas.{ended-before, if-ok, not_ended}
+use Rattle.audit.proofs.StepLemmas.{ended-before, not_ended}
 use Rattle.audit.proofs.order.goes_after.Goals as goal
 
 pub returns-then-course-latest-clause-same : goal.returns-then-course-latest-clause-same
@@ -20,9 +21,9 @@ pub returns-clause-same : goal.returns-clause-same
 returns-clause-same g c =
     let same : c.course.inside.end ≡ c.args.course.now.end = ap (λ x. x.end) c.course.view_is in
     let not_before : c.args.latest ≤ c.args.course.now.end = omega (arith, c.if-course-latest.false) in
-    if-ok c.answer_again.result c.answer_again.ensures.same (λ b e. e ∙ ap (λ qs. answers_again c.args.catalog.now (map (λ a. (a.statement, a.reply)) qs) c.args.tables.now) c.as_slice.ensures.value ∙ ap (λ x. answers_again c.args.catalog.now x.statements c.args.tables.now) c.course.view_is
+    IfOk_then c.answer_again.result c.answer_again.ensures.same (λ b e. e ∙ ap (λ qs. answers_again c.args.catalog.now (map (λ a. (a.statement, a.reply)) qs) c.args.tables.now) c.as_slice.ensures.value ∙ ap (λ x. answers_again c.args.catalog.now x.statements c.args.tables.now) c.course.view_is
     ∙ sym (not_ended c.args.course.now.end c.args.latest (answers_again c.args.catalog.now c.args.course.now.statements c.args.tables.now) not_before))
 
 pub returns-clause-done : goal.returns-clause-done
 returns-clause-done g c =
-    if-ok c.answer_again.result c.answer_again.ensures.done (λ b done h. done h ∙ ap (λ qs. end_of c.args.catalog.now (map (λ a. (a.statement, a.reply)) qs) c.args.tables.now) c.as_slice.ensures.value ∙ ap (λ x. end_of c.args.catalog.now x.statements c.args.tables.now) c.course.view_is)
+    IfOk_then c.answer_again.result c.answer_again.ensures.done (λ b done h. done h ∙ ap (λ qs. end_of c.args.catalog.now (map (λ a. (a.statement, a.reply)) qs) c.args.tables.now) c.as_slice.ensures.value ∙ ap (λ x. end_of c.args.catalog.now x.statements c.args.tables.now) c.course.view_is)

@@ -2,7 +2,8 @@ use Rattle.std.proofs.Common.{◌≡◌, inl, inr, map}
 use Rattle.std.specs.Option.{option_map}
 use Rattle.clap.specs.Words.{fault_of, kind_of}
 use Rattle.program.proofs.EndLemmas.{among}
-use Rattle.command_shell.proofs.WordsLemmas.{all_within, begun_of, four_within, none_mistaken, unbegun_by, without}
+use Rattle.script_files.proofs.EndLemmas.{four_within}
+use Rattle.command_shell.proofs.WordsLemmas.{all_within, begun_of, none_mistaken, unbegun_by, without}
 use Rattle.command_shell.specs.Words.{shell}
 use Rattle.command_shell.proofs.words.begin_words.Goals as goal
 

@@ -1,6 +1,5 @@
 use Rattle.std.proofs.Common.{◌∙◌, inl, inr, subst}
-use Rattle.std.proofs.lemmas.Result.{IfErr-weaker, err_from_is_err_and}
-use Rattle.program.proofs.RunLemmas.{on_ok}
+use Rattle.std.proofs.lemmas.Result.{IfErr-weaker, err_from_is_err_and, on_ok_weaker}
 use Rattle.command_why.specs.Told.{HasStopped, HasTold}
 use Rattle.script_files.proofs.EndLemmas.{appends_none}
 use Rattle.command_why.proofs.words.do_script.Goals as goal
@@ -13,7 +12,7 @@ returns-in_err-core-clause-stopped g c =
 pub returns-clause-done : goal.returns-clause-done
 returns-clause-done g c =
     let begun = c.in_ok-core.ensures.begun in
-    on_ok c.do_lines.result _ _
+    on_ok_weaker c.do_lines.result
     (λ told. (begun.0, begun.1, begun.2, subst (λ h. HasTold c.args.most_events h c.args.lines.now (g.W.Write.contents c.args.out.now) (g.W.Write.contents c.do_lines.new.out)) (c.of-course.ensures ∙ begun.3) told))
     c.do_lines.ensures.done
 

@@ -1,8 +1,9 @@
 use Rattle.std.proofs.Common.{◌≡◌, ◌<◌, ◌∙◌, ℕ, false, ap, subst, sym}
+use Rattle.std.proofs.lemmas.Result.{on_ok_weaker, on_err_weaker}
 use Rattle.conflict.specs.Tracked.{IsSorted, Party, Rising, with_in}
 use Rattle.conflict.specs.Undo.{is_tracked, without_in}
 use Rattle.conflict.specs.Walks.{IsAt}
-use Rattle.conflict.proofs.Places.{at_number, at_within, each_at, if_ok, none_map, on_err, on_ok, other_in, other_no_in, set_back, set_map, set_same}
+use Rattle.conflict.proofs.Places.{at_number, at_within, each_at, if_ok, none_map, other_in, other_no_in, set_back, set_map, set_same}
 use Rattle.conflict.proofs.parties.add_in.Goals as goal
 
 pub place_of-requires : goal.place_of-requires
@@ -22,7 +23,7 @@ returns-in_default-clause-ok g c = none_map (with_in c.args.begun c.args.reader 
 
 pub returns-clause-ok : goal.returns-clause-ok
 returns-clause-ok g c =
-    on_ok c.be_read.result
+    on_ok_weaker c.be_read.result
     (λ e. set_map (with_in c.args.begun c.args.reader c.args.writer) c.args.writer (other_in c.args.begun c.args.reader c.args.writer) c.args.parties.now.items c.in-Some.place c.index_mut.result.now c.be_read.new.self c.requires.0 (subst (IsAt c.in-Some.place c.args.writer) c.as_slice.ensures.value c.in-Some.ensures.some) c.index_mut.ensures.value
     (e ∙ ap (λ n. with_in c.args.begun c.args.reader n c.index_mut.result.now) (at_number c.args.writer c.args.parties.now.items c.in-Some.place c.index_mut.result.now (subst (IsAt c.in-Some.place c.args.writer) c.as_slice.ensures.value c.in-Some.ensures.some) c.index_mut.ensures.value)))
     c.be_read.ensures.ok
@@ -42,6 +43,6 @@ returns-clause-same g c =
 
 pub returns-clause-err : goal.returns-clause-err
 returns-clause-err g c =
-    on_err c.be_read.result
+    on_err_weaker c.be_read.result
     (λ e. set_same c.args.writer c.args.parties.now.items c.in-Some.place c.index_mut.result.now c.be_read.new.self (subst (IsAt c.in-Some.place c.args.writer) c.as_slice.ensures.value c.in-Some.ensures.some) c.index_mut.ensures.value e)
     c.be_read.ensures.err

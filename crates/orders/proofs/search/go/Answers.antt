@@ -1,11 +1,12 @@
 use Rattle.std.proofs.Common.{◌∙◌, ap, subst}
+use Rattle.value.proofs.Basics.{IfOk_then}
 use Rattle.orders.specs.Walks.{HasTurned}
-use Rattle.orders.proofs.AloneLemmas.{if-ok, past-none, read-at, there}
+use Rattle.orders.proofs.AloneLemmas.{past-none, read-at}
 use Rattle.orders.proofs.search.go.Goals as goal
 
 pub returns-in-Some-clause-ok : goal.returns-in-Some-clause-ok
 returns-in-Some-clause-ok g c =
-    if-ok c.go.result c.go.ensures.ok (λ b h t at. subst (λ u. HasTurned c.args.catalog.now u c.args.walk.now c.args.place b c.go.new.self) (read-at c.args.transactions.now c.args.place c.in-Some.transaction.now t c.in-Some.ensures.lookup.1 at) h)
+    IfOk_then c.go.result c.go.ensures.ok (λ b h t at. subst (λ u. HasTurned c.args.catalog.now u c.args.walk.now c.args.place b c.go.new.self) (read-at c.args.transactions.now c.args.place c.in-Some.transaction.now t c.in-Some.ensures.lookup.1 at) h)
 
 pub returns-in-None-clause-ok : goal.returns-in-None-clause-ok
 returns-in-None-clause-ok g c = λ t at. absurd (past-none c.args.transactions.now c.args.place t c.in-None.ensures.lookup.3 at)

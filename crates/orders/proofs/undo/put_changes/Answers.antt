@@ -1,8 +1,8 @@
 use Rattle.std.proofs.Common.{◌∙◌, sym, ap, subst, ◌-◌, length, take, drop, arith}
 use Rattle.std.proofs.lemmas.List.{nil_from_length}
+use Rattle.value.proofs.Basics.{first_and_rest}
 use Rattle.schema.specs.Plain.{put_all}
 use Rattle.orders.specs.Undone.{AreOrdered}
-use Rattle.orders.proofs.AloneLemmas.{first_and_rest}
 use Rattle.orders.proofs.UndoLemmas.{ordered-put, put-front}
 use Rattle.orders.proofs.undo.put_changes.Goals as goal
 

@@ -1,9 +1,10 @@
 use Rattle.std.proofs.Common.{ap, sym, subst, ◌∙◌, ◌≡◌, ◌==◌, ◌||◌, ◌+◌, ◌^◌, true, false, nat_le, inl, Ok, Err}
+use Rattle.std.proofs.lemmas.Bool.{or_parts}
 use Rattle.value.specs.Refusals.{AnswersOrNoMemory}
 use Rattle.history.specs.declared.base.Base.{Base}
 use Rattle.history.specs.Answer.{checkpoint_answer}
 use Rattle.session.specs.Core.{from_opening}
-use Rattle.session.proofs.CoreLemmas.{as_many, checkpoint_is, checkpoint_many, checkpoint_sound, counts_so, first_false}
+use Rattle.session.proofs.CoreLemmas.{as_many, checkpoint_is, checkpoint_many, checkpoint_sound, counts_so}
 use Rattle.session.proofs.OpenLemmas.{opened_or_none}
 use Rattle.session.proofs.sessions.go_on_quiet.Goals as goal
 
@@ -29,4 +30,4 @@ returns g c =
     checkpoint_is c.args.history.now c.args.world.now c.requires.kept c.args.rows.now c.requires.rows c.args.max_events c.in_ok-catalog.catalog c.in_ok-tables.tables c.counted-base.result c.requires.quiet few
     (c.in_ok-catalog.ensures.ok ∙ c.catalog-2.ensures) c.counted-base.ensures.value c.in_ok-tables.ensures.ok in
     subst (AnswersOrNoMemory c.open_on.result) (sym (ap (from_opening c.args.max_events) opens))
-    (opened_or_none (c.args.max_events == 0) c.open_on.result _ (first_false (c.args.max_events == 0) (nat_le (2 ^ 64) (c.args.world.now.place + c.args.max_events)) few) c.open_on.ensures.ok c.open_on.ensures.refused)
+    (opened_or_none (c.args.max_events == 0) c.open_on.result _ (or_parts (c.args.max_events == 0) (nat_le (2 ^ 64) (c.args.world.now.place + c.args.max_events)) few).0 c.open_on.ensures.ok c.open_on.ensures.refused)

@@ -2,8 +2,8 @@ use Rattle.std.proofs.Common.{◌≡◌, ◌∙◌, Some, length, slice_get, sym
 use Rattle.std.proofs.lemmas.List.{length-map}
 use Rattle.program.specs.Files.{IsWritten}
 use Rattle.program.specs.Freely.{ArePrinted, fresh}
-use Rattle.std.proofs.lemmas.Result.{IfErr-weaker}
-use Rattle.program.proofs.FreelyLemmas.{all_printed, if_more, of_both, these_end}
+use Rattle.std.proofs.lemmas.Result.{IfErr-weaker, IfOk-weaker}
+use Rattle.program.proofs.FreelyLemmas.{all_printed, of_both, these_end}
 use Rattle.program.proofs.free.serving.play_all.Goals as goal
 
 pub returns-clause-text : goal.returns-clause-text
@@ -29,7 +29,7 @@ returns-clause-text g c =
 
 pub returns-clause-count : goal.returns-clause-count
 returns-clause-count g c =
-    if_more c.ended.result _ _
+    IfOk-weaker c.ended.result _ _
     (λ r passes. ap length passes ∙ length-map c.play.result.items (λ s. s.pass) ∙ c.play.ensures.count ∙ sym (length-map c.in-Ok.seats.items (λ s. s.pass)) ∙ ap length c.in-Ok.ensures.passes)
     c.ended.ensures.passes
 

@@ -1,11 +1,11 @@
-use Rattle.std.proofs.lemmas.Result.{IfErr-weaker}
+use Rattle.std.proofs.lemmas.Result.{IfErr-weaker, on_ok_weaker}
 use Rattle.program.specs.Files.{IsWritten}
-use Rattle.program.proofs.RunLemmas.{flushed, lost, on_ok, stopped_flushed}
+use Rattle.program.proofs.RunLemmas.{flushed, lost, stopped_flushed}
 use Rattle.program.proofs.machine.Machine.do_all_lines.Goals as goal
 
 pub returns-in-Ok-clause-done : goal.returns-in-Ok-clause-done
 returns-in-Ok-clause-done g c =
-    on_ok c.do_lines-done.result _ _
+    on_ok_weaker c.do_lines-done.result
     (λ run. flushed (IsWritten g.F.Out.OutFile.path g.F.Out.Placed.kept) c.args.way c.args.core c.args.lines.now c.args.printer.now c.do_lines-done.new.printer c.flush.new.self run c.in-Ok.ensures.printed)
     c.do_lines-done.ensures.done
 

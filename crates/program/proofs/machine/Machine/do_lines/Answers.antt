@@ -1,8 +1,8 @@
 use Rattle.std.proofs.Common.{◌∙◌, [], inl, refl, arith}
-use Rattle.std.proofs.lemmas.Result.{err_from_is_err_and}
+use Rattle.std.proofs.lemmas.Result.{err_from_is_err_and, on_ok_weaker}
 use Rattle.program.specs.Files.{IsWritten}
 use Rattle.program.proofs.PrintLemmas.{adds_none, prints_none}
-use Rattle.program.proofs.RunLemmas.{ends_by_print, ends_by_step, if_err_of, on_ok, one_more, stopped, run}
+use Rattle.program.proofs.RunLemmas.{ends_by_print, ends_by_step, if_err_of, one_more, stopped, run}
 use Rattle.program.proofs.machine.Machine.do_lines.Goals as goal
 
 pub loop-line-init : goal.loop-line-init
@@ -33,7 +33,7 @@ returns-in_err-show-clause-stopped g c =
 
 pub returns-clause-done : goal.returns-clause-done
 returns-clause-done g c =
-    on_ok c.show-told.result _ _
+    on_ok_weaker c.show-told.result
     (λ printed. run (IsWritten g.F.Out.OutFile.path g.F.Out.Placed.kept) c.args.way c.args.core c.loop-line.core c.args.lines.now c.loop-line.line-index c.args.printer.now c.loop-line.printer c.show-told.new.printer c.as_slice-2.result.now (omega arith) c.loop-line.invariant (c.as_slice-2.ensures.value ∙ c.in_ok-order.ensures.order) printed)
     c.show-told.ensures.printed
 

@@ -1,8 +1,7 @@
 use Rattle.std.proofs.Common.{inl, inr, refl, subst}
-use Rattle.std.proofs.lemmas.Result.{IfErr-weaker, err_from_is_err_and}
+use Rattle.std.proofs.lemmas.Result.{IfErr-weaker, err_from_is_err_and, on_ok_weaker}
 use Rattle.program.specs.Files.{IsWritten}
 use Rattle.program.specs.Runs.{HasRun, HasStopped}
-use Rattle.program.proofs.RunLemmas.{on_ok}
 use Rattle.program.proofs.machine.Machine.do_script.Goals as goal
 
 pub returns-in_err-core-clause-stopped : goal.returns-in_err-core-clause-stopped
@@ -13,7 +12,7 @@ returns-in_err-core-clause-stopped g c =
 pub returns-clause-done : goal.returns-clause-done
 returns-clause-done g c =
     let begun = c.in_ok-core.ensures.begun in
-    on_ok c.do_all_lines.result _ _
+    on_ok_weaker c.do_all_lines.result
     (λ run. (
       begun.0,
       begun.1,

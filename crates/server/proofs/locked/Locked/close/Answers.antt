@@ -1,8 +1,8 @@
 use Rattle.std.proofs.Common.{rules, ◌∙◌, sym, ap, subst, ◌++◌, ◌∷◌, [], append_assoc, All, refl, arith}
 use Rattle.std.proofs.lemmas.Grind.{common_steps}
-use Rattle.std.proofs.lemmas.List.{append-nil}
+use Rattle.std.proofs.lemmas.List.{append-nil, nil_from_length}
 use Rattle.server.specs.Calls.{HasClosed}
-use Rattle.server.proofs.Grows.{closed_push, nil}
+use Rattle.server.proofs.Grows.{closed_push}
 use Rattle.server.proofs.locked.Locked.close.Goals as goal
 
 pub loop-pass-init : goal.loop-pass-init
@@ -29,5 +29,5 @@ returns-clause-closed g c =
       opening = c.self.invariant.0;
       most = c.self.invariant.1;
       legal = c.is_legal.ensures;
-      passes = subst (λ l. All (λ q. HasClosed q c.self.inside.core.records) l) (sym (append-nil c.loop-pass.yielded) ∙ ap (λ l. c.loop-pass.yielded ++ l) (sym (nil c.loop-pass.pass-iterator.rest.items (let o = c.loop-pass.pass-iterator.rest.ok in search rules))) ∙ i.2) i.3;
+      passes = subst (λ l. All (λ q. HasClosed q c.self.inside.core.records) l) (sym (append-nil c.loop-pass.yielded) ∙ ap (λ l. c.loop-pass.yielded ++ l) (sym (nil_from_length c.loop-pass.pass-iterator.rest.items (let o = c.loop-pass.pass-iterator.rest.ok in search rules))) ∙ i.2) i.3;
     }

@@ -3,6 +3,7 @@ use Rattle.std.specs.Prelude.{vec_len}
 use Rattle.std.proofs.lemmas.Bool.{eqb-true}
 use Rattle.std.specs.List.{AllByRecursion, filter}
 use Rattle.std.proofs.lemmas.List.{append-nil, nil_from_length}
+use Rattle.value.proofs.Basics.{all-filter}
 use Rattle.schema.specs.Plain.{rows_of}
 use Rattle.schema.specs.Rows.{IsInKeyOrder}
 use Rattle.schema.specs.Walking.{lent, rows_behind, rows_to_come}
@@ -10,7 +11,7 @@ use Rattle.statement.specs.declared.reading.End.TheVariants.{Open}
 use Rattle.statement.specs.Conditions.{satisfies}
 use Rattle.statement.specs.Cover.{is_from}
 use Rattle.statement.specs.Walk.{IsWithin}
-use Rattle.statement.proofs.WalkLemmas.{all_filter, behind_within, first_rise, first_within, from_low, from_low_rise, next_batch, rest_rise, up_to}
+use Rattle.statement.proofs.WalkLemmas.{behind_within, first_rise, first_within, from_low, from_low_rise, next_batch, rest_rise, up_to}
 use Rattle.statement.proofs.evaluate.chosen.chosen_between.Goals as goal
 
 pub loop-alloc-init : goal.loop-alloc-init
@@ -19,7 +20,7 @@ loop-alloc-init g c =
     let cs = c.args.conditions.now in
     let e = c.in_ok-batch.ensures.rows in (
       rw (c.new-chosen.ensures.items) (ap (filter (satisfies cs)) e ∙ from_low cs c.args.low.now c.args.high.now rows c.requires.within),
-      subst (AllByRecursion (λ row. IsWithin cs c.args.low.now c.args.high.now row)) (sym e) (all_filter (λ row. IsWithin cs c.args.low.now c.args.high.now row) (λ row. is_from c.args.low.now row.0) rows c.requires.within),
+      subst (AllByRecursion (λ row. IsWithin cs c.args.low.now c.args.high.now row)) (sym e) (all-filter (λ row. IsWithin cs c.args.low.now c.args.high.now row) (λ row. is_from c.args.low.now row.0) rows c.requires.within),
       subst IsInKeyOrder (sym e) (from_low_rise c.args.low.now rows c.rows_from.ensures.ordered),
     )
 

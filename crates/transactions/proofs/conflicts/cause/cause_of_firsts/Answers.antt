@@ -1,13 +1,14 @@
 use Rattle.std.proofs.Common.{◌∙◌, sym, arith}
+use Rattle.value.proofs.Basics.{all-get}
 use Rattle.history.specs.Transactions.{edge, node}
 use Rattle.transactions.specs.Ledger.{txn_at}
 use Rattle.transactions.specs.Structures.{BeginHold, begun_cause}
-use Rattle.transactions.proofs.CauseLemmas.{first_some-here, first_some-next, held_at}
+use Rattle.transactions.proofs.CauseLemmas.{first_some-here, first_some-next}
 use Rattle.transactions.proofs.conflicts.cause.cause_of_firsts.Goals as goal
 
 pub cause_through-cause-requires-clause-committer : goal.cause_through-cause-requires-clause-committer
 cause_through-cause-requires-clause-committer g c =
-    held_at (λ a. BeginHold node edge (txn_at c.args.all.now c.args.at) a c.args.all.now) c.args.firsts.now c.loop-first.first-index c.first-item.result (omega arith) c.first-item.is c.requires.committer
+    all-get (λ a. BeginHold node edge (txn_at c.args.all.now c.args.at) a c.args.all.now) c.args.firsts.now c.loop-first.first-index c.first-item.result (omega arith) c.first-item.is c.requires.committer
 
 pub returns-then-is_some : goal.returns-then-is_some
 returns-then-is_some g c =

@@ -1,7 +1,8 @@
 use Rattle.std.proofs.Common.{◌∙◌, sym, ap, Some, arith}
 use Rattle.std.specs.Option.{option_map}
 use Rattle.value.specs.Isolation.{is_first}
-use Rattle.transactions.proofs.WalkLemmas.{find-here, find-next}
+use Rattle.value.proofs.Basics.{find-next}
+use Rattle.transactions.proofs.WalkLemmas.{find-here}
 use Rattle.transactions.proofs.conflicts.dooms.first_among.Goals as goal
 
 pub returns-then-is_first : goal.returns-then-is_first

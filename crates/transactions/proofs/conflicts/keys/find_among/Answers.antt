@@ -1,6 +1,7 @@
 use Rattle.std.proofs.Common.{◌==◌, ◌&&◌, ◌∙◌, sym, arith}
+use Rattle.value.proofs.Basics.{find-next}
 use Rattle.history.specs.Transactions.{is_done}
-use Rattle.transactions.proofs.WalkLemmas.{find-here, find-next}
+use Rattle.transactions.proofs.WalkLemmas.{find-here}
 use Rattle.transactions.proofs.conflicts.keys.find_among.Goals as goal
 
 pub returns-then-is_commit_at : goal.returns-then-is_commit_at

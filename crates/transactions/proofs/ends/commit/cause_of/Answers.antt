@@ -1,7 +1,8 @@
 use Rattle.std.proofs.Common.{◌∙◌, sym, arith, refl}
 use Rattle.std.specs.Prelude.{◌==◌}
 use Rattle.std.proofs.lemmas.List.{get_or_default}
-use Rattle.transactions.proofs.WalkLemmas.{find-here, find-next}
+use Rattle.value.proofs.Basics.{find-next}
+use Rattle.transactions.proofs.WalkLemmas.{find-here}
 use Rattle.transactions.proofs.ends.commit.cause_of.Goals as goal
 
 pub returns-then-cause-number : goal.returns-then-cause-number

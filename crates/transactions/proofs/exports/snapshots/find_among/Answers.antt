@@ -1,7 +1,8 @@
 use Rattle.std.proofs.Common.{◌∙◌, sym, ap, Some, arith}
 use Rattle.std.proofs.lemmas.Option.{slice_get-get_or}
+use Rattle.value.proofs.Basics.{find-next}
 use Rattle.history.specs.Transactions.{is_of}
-use Rattle.transactions.proofs.WalkLemmas.{find-here, find-next}
+use Rattle.transactions.proofs.WalkLemmas.{find-here}
 use Rattle.transactions.proofs.exports.snapshots.find_among.Goals as goal
 
 pub returns-then-is_of-clause-some : goal.returns-then-is_of-clause-some

@@ -1,7 +1,8 @@
 use Rattle.std.proofs.Common.{◌∙◌, sym, ◌&&◌, arith}
 use Rattle.std.specs.Prelude.{◌==◌}
+use Rattle.value.proofs.Basics.{find-next}
 use Rattle.history.specs.Transactions.{is_living}
-use Rattle.transactions.proofs.WalkLemmas.{find-here, find-next}
+use Rattle.transactions.proofs.WalkLemmas.{find-here}
 use Rattle.transactions.proofs.exports.snapshots.find_exported.Goals as goal
 
 pub returns-then-is_exported : goal.returns-then-is_exported

@@ -1,6 +1,7 @@
 use Rattle.std.proofs.Common.{◌<◌, arith, length}
+use Rattle.value.proofs.Basics.{all-at}
 use Rattle.transactions.specs.Stretches.{HoldsStretch, none_at}
-use Rattle.transactions.proofs.StretchLemmas.{all-at, ends-more}
+use Rattle.transactions.proofs.StretchLemmas.{ends-more}
 use Rattle.transactions.proofs.kept.stretch.end_of.Goals as goal
 
 pub loop-stretch-preserved : goal.loop-stretch-preserved

@@ -1,4 +1,5 @@
 use Rattle.std.proofs.Common.{ap, refl, sym, subst, Some, ◌∙◌, ◌≡◌, true, false, get_or}
+use Rattle.std.proofs.lemmas.Result.{on_ok_weaker}
 use Rattle.history.specs.Transactions.{Txn, is_open}
 use Rattle.history.specs.declared.event.Action.TheVariants.{Run}
 use Rattle.transactions.specs.Answers.{both}
@@ -6,7 +7,7 @@ use Rattle.transactions.specs.Ledger.{Ledger, ready, txn_at, world_on}
 use Rattle.transactions.specs.Runs.{IsFoundFor}
 use Rattle.transactions.specs.Versions.{versions_at}
 use Rattle.transactions.proofs.LedgerLemmas.{txn_at-is}
-use Rattle.transactions.proofs.CommitLemmas.{if_ok_map, on_ok_map}
+use Rattle.transactions.proofs.CommitLemmas.{if_ok_map}
 use Rattle.transactions.proofs.InstallLemmas.{stay-same}
 use Rattle.transactions.proofs.RunLemmas.{open_ready, over_after, over_reply, runs}
 use Rattle.transactions.proofs.world.World.record_owned.Goals as goal
@@ -36,7 +37,7 @@ pub returns-else-is_active-clause-rows : goal.returns-else-is_active-clause-rows
 returns-else-is_active-clause-rows g c = stay-same c.args.self.now c.settle-else-is_active.new.self c.args.rows.now c.args.rows.now c.settle-else-is_active.ensures.log refl c.requires.current
 
 pub returns-in-Run-clause-rows : goal.returns-in-Run-clause-rows
-returns-in-Run-clause-rows g c = on_ok_map _ _ c.record_open.result (λ same. stay-same c.args.self.now c.record_open.new.self c.args.rows.now c.args.rows.now same refl c.requires.current) c.record_open.ensures.log
+returns-in-Run-clause-rows g c = on_ok_weaker c.record_open.result (λ same. stay-same c.args.self.now c.record_open.new.self c.args.rows.now c.args.rows.now same refl c.requires.current) c.record_open.ensures.log
 
 pub returns-in-Run-clause-world : goal.returns-in-Run-clause-world
 returns-in-Run-clause-world g c = rw c.in-Run.is c.record_open.ensures.world

@@ -1,7 +1,7 @@
 use Rattle.std.proofs.Common.{ap, sym, subst, arith, length, ◌≤◌, ◌++◌, ◌∷◌, [], take, ◌∙◌}
 use Rattle.std.proofs.lemmas.List.{take_all}
+use Rattle.value.proofs.Basics.{take_next}
 use Rattle.schema.specs.Rows.{IsInKeyOrder}
-use Rattle.schema.proofs.PageLemmas.{take-item}
 use Rattle.schema.proofs.table.page.Page.copy.Goals as goal
 
 pub loop-row-preserved : goal.loop-row-preserved
@@ -9,7 +9,7 @@ loop-row-preserved g c =
     c.in_ok-push.ensures.items
     ∙ ap (λ xs. xs ++ c.in_ok-copy.field-0 ∷ []) c.loop-row.invariant
     ∙ ap (λ x. take c.loop-row.row-index c.deref-row-items.result.now ++ x ∷ []) c.in_ok-copy.ensures.ok
-    ∙ sym (take-item c.deref-row-items.result.now c.loop-row.row-index c.row-item.result (omega arith) c.row-item.is)
+    ∙ sym (take_next c.deref-row-items.result.now c.loop-row.row-index c.row-item.result (omega arith) c.row-item.is)
 
 pub invariant_of-result : goal.invariant_of-result
 invariant_of-result g c =

@@ -1,6 +1,7 @@
 use Rattle.std.proofs.Common.{◌≤◌, arith, slice_index_or}
+use Rattle.value.proofs.Basics.{all-at}
 use Rattle.transactions.specs.Stretches.{HoldsStretch, none_at}
-use Rattle.transactions.proofs.StretchLemmas.{all-at, passed-here}
+use Rattle.transactions.proofs.StretchLemmas.{passed-here}
 use Rattle.transactions.proofs.kept.stretch.Walk.passed.Goals as goal
 
 pub returns-then-may_pass-clause-passed : goal.returns-then-may_pass-clause-passed
