@@ -1,5 +1,5 @@
 -- Rows that a snapshot shows, read from pages one after another, up to so many.
-use Rattle.std.proofs.Common.{◌≡◌, refl, sym, ap, ◌∙◌, ℕ, ◌+◌, ◌<◌, ◌≤◌, Bool, true, false, true≢false, not, ◌&&◌, List, [], ◌∷◌, ◌++◌, take, drop, length, Option, Some, None, Bor, get_or, arith, append_assoc}
+use Rattle.std.proofs.Common.{◌≡◌, refl, sym, ap, ◌∙◌, ℕ, ◌+◌, ◌<◌, ◌≤◌, true, false, not, List, [], ◌∷◌, ◌++◌, take, drop, length, Option, Some, None, Bor, get_or, arith, append_assoc}
 use Rattle.std.specs.List.{AllByRecursion, cons_option}
 use Rattle.std.specs.Option.{option_map}
 use Rattle.std.proofs.lemmas.List.{append-nil, drop_all, length-map, map-append, take-append-drop, take_all}
@@ -9,12 +9,14 @@ use Rattle.value.specs.declared.key.Key.{Key}
 use Rattle.value.specs.declared.value.Value.{Value}
 use Rattle.schema.specs.declared.row.Row.{Row}
 use Rattle.schema.specs.declared.reader.Bound.{Bound}
+use Rattle.schema.specs.Pages.{is_before}
 use Rattle.schema.specs.Rows.{Rows, is_within, rows_within}
 use Rattle.schema.specs.Walking.{lent}
 use Rattle.schema.proofs.BatchLemmas.{take_taken, taken_few}
+use Rattle.schema.proofs.PageLemmas.{drop-item}
+use Rattle.schema.proofs.PagedLemmas.{pages_before}
 use Rattle.mvrows.specs.Versions.{KeyVersions, VersionedRows, shown_fields, shown_row, shown_rows}
-use Rattle.mvrows.specs.HeldRows.{Held, joined, rows_in, is_before}
-use Rattle.mvrows.proofs.PageLemmas.{drop-item}
+use Rattle.mvrows.specs.HeldRows.{Held, chain_key, rows_in}
 
 module _ {A : Type 0} where
   -- ---- the first so many
@@ -77,26 +79,13 @@ module _ {A : Type 0} where
 
   -- ---- pages
 
-  not_within : (bound : Bound (Bor (Key A))) (page : VersionedRows A) → is_before bound page ≡ true → AllByRecursion (λ k. is_within bound k.key ≡ false) page
-  not_within bound [] early = tt
-  not_within bound (k ∷ ks) early = go (is_within bound k.key) refl early (not_within bound ks)
-    where
-      go : (b : Bool) → is_within bound k.key ≡ b → (not b && is_before bound ks) ≡ true → (is_before bound ks ≡ true → AllByRecursion (λ l. is_within bound l.key ≡ false) ks) → (is_within bound k.key ≡ false) × AllByRecursion (λ l. is_within bound l.key ≡ false) ks
-      go true is e rest = absurd (true≢false (sym e))
-      go false is e rest = (is, rest e)
-
-  none_before : (n : ℕ) (bound : Bound (Bor (Key A))) (pages : List (VersionedRows A)) → AllByRecursion (λ page. is_before bound page ≡ true) pages → rows_within (shown_rows n (joined pages)) bound ≡ []
-  none_before n bound [] early = refl
-  none_before n bound (page ∷ pages) early =
-      within_append n bound page (joined pages) ∙ ap (λ rows. rows ++ rows_within (shown_rows n (joined pages)) bound) (none_within n bound page (not_within bound page early.0)) ∙ none_before n bound pages early.1
-
   -- those of a table stand behind the pages that have none
-  pub within_pages : (n : ℕ) (bound : Bound (Bor (Key A))) (pages : List (VersionedRows A)) (i : ℕ) → AllByRecursion (λ page. is_before bound page ≡ true) (take i pages) → rows_within (shown_rows n (joined (drop i pages))) bound ≡ rows_within (shown_rows n (joined pages)) bound
-  within_pages n bound pages i early = sym (
-      ap (λ ps. rows_within (shown_rows n (joined ps)) bound) (sym (take-append-drop i pages))
-      ∙ ap (λ rows. rows_within (shown_rows n rows) bound) (flat_map-append (λ page. page) (take i pages) (drop i pages))
-      ∙ within_append n bound (joined (take i pages)) (joined (drop i pages))
-      ∙ ap (λ rows. rows ++ rows_within (shown_rows n (joined (drop i pages))) bound) (none_before n bound (take i pages) early))
+  pub within_pages : (n : ℕ) (bound : Bound (Bor (Key A))) (leaves : List (Held A)) (i : ℕ) → AllByRecursion (λ h. is_before chain_key bound h.rows ≡ true) (take i leaves) → rows_within (shown_rows n (rows_in (drop i leaves))) bound ≡ rows_within (shown_rows n (rows_in leaves)) bound
+  within_pages n bound leaves i early = sym (
+      ap (λ hs. rows_within (shown_rows n (rows_in hs)) bound) (sym (take-append-drop i leaves))
+      ∙ ap (λ rows. rows_within (shown_rows n rows) bound) (flat_map-append (λ (h : Held A). h.rows) (take i leaves) (drop i leaves))
+      ∙ within_append n bound (rows_in (take i leaves)) (rows_in (drop i leaves))
+      ∙ ap (λ rows. rows ++ rows_within (shown_rows n (rows_in (drop i leaves))) bound) (none_within n bound (rows_in (take i leaves)) (pages_before chain_key (λ h. h.rows) bound (take i leaves) early)))
 
   -- one page more
   pub page_pushed : (n i most : ℕ) (bound : Bound (Bor (Key A))) (leaves : List (Held A)) (h : Held A) (page : VersionedRows A) (old new : List (Bor (Row A))) (total : Rows A) → i < length leaves → h ≡ get_or leaves i h → page ≡ h.rows

@@ -11,10 +11,11 @@ use Rattle.schema.specs.declared.row.Row.{Row}
 use Rattle.schema.specs.declared.tables.Tables.{Tables}
 use Rattle.schema.specs.Plain.{rows_of}
 use Rattle.schema.specs.Rows.{Rows, IsInKeyOrder, put_row}
+use Rattle.schema.proofs.PageLemmas.{take-item, drop-item}
+use Rattle.schema.proofs.PagedLemmas.{pushed}
 use Rattle.mvrows.specs.Versions.{KeyVersions, VersionedRows, IsInOrder, shown_row, shown_rows, shown}
-use Rattle.mvrows.specs.HeldRows.{Held, pages_of, joined, rows_in, rows_held}
+use Rattle.mvrows.specs.HeldRows.{Held, chain_key, rows_in, rows_held}
 use Rattle.mvrows.specs.Copied.{put_rows, with_rows}
-use Rattle.mvrows.proofs.PageLemmas.{take-item, drop-item}
 use Rattle.mvrows.proofs.JoinedLemmas.{shown_rows-append}
 use Rattle.mvrows.proofs.ViewLemmas.{shown-in_order}
 
@@ -56,16 +57,8 @@ module _ {A : Type 0} where
       ∙ ap (with_rows X t) (sym (ap (shown_rows n) (take-item rows i k lt at) ∙ shown_rows-append n (take i rows) (k ∷ []) ∙ ap (λ o. shown_rows n (take i rows) ++ cons_option o []) shows ∙ append-nil (shown_rows n (take i rows))))
 
   -- one more page
-  joined-append : (xs ys : List (VersionedRows A)) → joined (xs ++ ys) ≡ joined xs ++ joined ys
-  joined-append [] ys = refl
-  joined-append (x ∷ xs) ys = ap (λ rest. x ++ rest) (joined-append xs ys) ∙ sym (append_assoc x (joined xs) (joined ys))
-
   page-more : (leaves : List (Held A)) (i : ℕ) (h : Held A) → i < length leaves → h ≡ get_or leaves i h → rows_in (take (i + 1) leaves) ≡ rows_in (take i leaves) ++ h.rows
-  page-more leaves i h lt at =
-      ap rows_in (take-item leaves i h lt at)
-      ∙ ap joined (map-append (λ (l : Held A). l.rows) (take i leaves) (h ∷ []))
-      ∙ joined-append (pages_of (take i leaves)) (h.rows ∷ [])
-      ∙ ap (λ rows. rows_in (take i leaves) ++ rows) (append-nil h.rows)
+  page-more leaves i h lt at = pushed chain_key (λ (h : Held A). h.rows) (take i leaves) (take (i + 1) leaves) h (take-item leaves i h lt at)
 
   pub page-shown : (n : ℕ) (leaves : List (Held A)) (i : ℕ) (h : Held A) (page : VersionedRows A) (X Y Z : Tables A) (t : ℕ) → i < length leaves → h ≡ get_or leaves i h → page ≡ h.rows → t < length X
       → Y ≡ with_rows X t (shown_rows n (rows_in (take i leaves))) → Z ≡ with_rows Y t (shown_rows n page) → Z ≡ with_rows X t (shown_rows n (rows_in (take (i + 1) leaves)))

@@ -14,12 +14,13 @@ use Rattle.schema.specs.declared.row.Row.{Row}
 use Rattle.schema.specs.declared.changes.Change.{Change}
 use Rattle.schema.specs.declared.tables.Tables.{Tables}
 use Rattle.schema.specs.Rows.{IsInKeyOrder}
+use Rattle.schema.proofs.PagedLemmas.{all-cut, all-set}
 use Rattle.mvrows.specs.Versions.{Version, KeyVersions, VersionedRows, IsInOrder, AreInOrder, versions_of, AreBelow, RowsAreBelow, TablesAreBelow}
 use Rattle.mvrows.specs.Installing.{opened_row, opened, first_version, newer, put_version, install_change, installed}
 use Rattle.mvrows.specs.Pruning.{has_version, pruned_key, pruned}
 use Rattle.mvrows.specs.TakenBack.{versions_before, key_before, rows_before}
 use Rattle.mvrows.specs.HeldRows.{Held, rows_in, rows_held, undone, undone_in, IsUndoable, AreUndoable, AllVersioned, AreVersioned}
-use Rattle.mvrows.proofs.VersionLemmas.{IsLeast, all-set, all-get_or}
+use Rattle.mvrows.proofs.VersionLemmas.{IsLeast, all-get_or}
 
 -- a list that is cut before an element
 take_suc-cut : {X : Type 0} (xs : List X) (i : ℕ) (x : X) (rest : List X) → drop i xs ≡ x ∷ rest → take (suc i) xs ≡ take i xs ++ x ∷ []
@@ -38,19 +39,10 @@ take-cut xs i x rest cut = rw add-one (take_suc-cut xs i x rest cut)
 drop-cut : {X : Type 0} (xs : List X) (i : ℕ) (x : X) (rest : List X) → drop i xs ≡ x ∷ rest → drop (i + 1) xs ≡ rest
 drop-cut xs i x rest cut = rw add-one (drop_suc-cut xs i x rest cut)
 
-pub all-append : {X : Type 0} (P : X → Type 0) (xs ys : List X) → AllByRecursion P (xs ++ ys) → AllByRecursion P xs × AllByRecursion P ys
-all-append P [] ys all = (tt, all)
-all-append P (x ∷ xs) ys all = let rest = all-append P xs ys all.1 in ((all.0, rest.0), rest.1)
-
 -- a function of each element that a change leaves
 pub same-set : {X Y : Type 0} (f : X → Y) (xs : List X) (t : ℕ) (h old : X) → old ≡ get_or xs t old → f h ≡ f old → map f (set xs t h) ≡ map f xs
 same-set f xs t h old at same =
     map-set f xs t h ∙ ap (set (map f xs) t) (same ∙ ap f at) ∙ sym (map-set f xs t (get_or xs t old)) ∙ ap (map f) (set-get_or xs t old)
-
-pub element-at : {X : Type 0} (P : X → Type 0) (xs : List X) (t : ℕ) (old : X) → t < length xs → old ≡ get_or xs t old → AllByRecursion P xs → P old
-element-at P [] t old lt at all = absurd (omega arith)
-element-at P (h ∷ hs) zero old lt at all = subst P (sym at) all.0
-element-at P (h ∷ hs) (suc t) old lt at all = element-at P hs t old (omega arith) at all.1
 
 module _ {A : Type 0} where
   -- ---- taking back
@@ -163,7 +155,7 @@ module _ {A : Type 0} where
   leaves_undoable : (commit : ℕ) (leaves : List (Held A)) → RowsAreBelow commit (rows_in leaves) → AreUndoable commit leaves
   leaves_undoable commit [] below = tt
   leaves_undoable commit (h ∷ hs) below =
-      let parts = all-append (λ k. AreBelow commit k.versions) h.rows (rows_in hs) below in
+      let parts = all-cut (λ k. AreBelow commit k.versions) h.rows (rows_in hs) below in
       ((λ shared. parts.0), leaves_undoable commit hs parts.1)
 
   pub undoable-below : (commit : ℕ) (tables : List (List (Held A))) → TablesAreBelow commit (rows_held tables) → AllByRecursion (AreUndoable commit) tables
@@ -173,8 +165,8 @@ module _ {A : Type 0} where
   leaves_undone : (commit : ℕ) (leaves : List (Held A)) → AllVersioned (rows_in leaves) → RowsAreBelow commit (rows_in leaves) → undone_in commit leaves ≡ rows_in leaves
   leaves_undone commit [] versioned below = refl
   leaves_undone commit (h ∷ hs) versioned below =
-      let all = all-append (λ k. has_version k ≡ true) h.rows (rows_in hs) versioned in
-      let parts = all-append (λ k. AreBelow commit k.versions) h.rows (rows_in hs) below in
+      let all = all-cut (λ k. has_version k ≡ true) h.rows (rows_in hs) versioned in
+      let parts = all-cut (λ k. AreBelow commit k.versions) h.rows (rows_in hs) below in
       λ i. go h.own all.0 parts.0 i ++ leaves_undone commit hs all.1 parts.1 i
     where
       go : (b : Bool) → AllVersioned h.rows → RowsAreBelow commit h.rows → cond b (rows_before commit h.rows) h.rows ≡ h.rows

@@ -1,27 +1,27 @@
 -- A table's pages, of which it has some for itself, while they are changed, cut and dropped.
-use Rattle.std.proofs.Common.{suc, zero, ◌≡◌, refl, sym, ap, subst, ◌∙◌, ℕ, ◌+◌, ◌<◌, ◌≤◌, Bool, true, false, true≢false, cond, List, [], ◌∷◌, ◌++◌, take, drop, map, length, Option, Some, None, Bor, get_or, set, arith, add-one, inl, inr}
-use Rattle.std.specs.Prelude.{filter, ◌⊎◌, Result, Ok, Err, OnOk, OnErr}
+use Rattle.std.proofs.Common.{suc, zero, ◌≡◌, refl, sym, ap, subst, ◌∙◌, ℕ, ◌+◌, ◌<◌, ◌≤◌, Bool, true, false, true≢false, cond, List, [], ◌∷◌, ◌++◌, drop, map, length, Option, Some, None, Bor, get_or, set, arith, inl, inr, append_assoc}
+use Rattle.std.specs.Prelude.{filter, ◌⊎◌, Result, Ok, Err, OnErr}
 use Rattle.std.specs.List.{AllByRecursion, flat_map}
 use Rattle.std.specs.Option.{option_or}
-use Rattle.std.specs.Ordering.{is_le}
-use Rattle.std.proofs.lemmas.List.{map-set, map-append, append-nil, drop_all, length-map}
+use Rattle.std.proofs.lemmas.List.{map-append, append-nil, drop_all}
 use Rattle.std.proofs.lemmas.List.Elements.{filter-append}
-use Rattle.value.specs.Order.{value_cmp}
 use Rattle.value.specs.declared.value.Value.{Value}
 use Rattle.value.specs.declared.key.Key.{Key}
 use Rattle.schema.specs.declared.row.Row.{Row}
 use Rattle.schema.specs.declared.reader.Bound.{Bound}
 use Rattle.schema.specs.Paged.{joined as all_of}
 use Rattle.schema.specs.Rows.{next_row}
+use Rattle.schema.proofs.PageLemmas.{one-in_order, drop-item}
+use Rattle.schema.proofs.PagedLemmas.{Below, least-append, least-join, in_order-cut, in_order-join, cut_pages, cut-flat, cut-all, same-in, all-cut, all-get}
 use Rattle.mvrows.specs.Versions.{Version, VersionedRows, IsInOrder, shown_rows}
 use Rattle.mvrows.specs.Installing.{opened_row, first_version, put_version}
 use Rattle.mvrows.specs.Pruning.{has_version, pruned_key, pruned_rows, pruned_versions}
 use Rattle.mvrows.specs.TakenBack.{key_before, rows_before, versions_before}
-use Rattle.mvrows.specs.HeldRows.{Held, pages_of, joined, rows_in, has_keys, AreLaidOut, undone, undone_in, IsUndoable, AreUndoable, own_pruned, AllVersioned}
-use Rattle.mvrows.proofs.VersionLemmas.{IsLeast, get_or-map, all-set, put_version-in_order}
-use Rattle.mvrows.proofs.PageLemmas.{one-in_order, trimmed, drop-item, kept-least, kept-in_order}
-use Rattle.mvrows.proofs.HeldLemmas.{before-put, front-in_order, all-append, same-set, element-at, undone-own, undone-kept, undoable-own}
-use Rattle.mvrows.proofs.JoinedLemmas.{append-assoc, Below, least-append, least-join, in_order-cut, in_order-join, put-in, put-has_keys, next-append}
+use Rattle.mvrows.specs.HeldRows.{Held, chain_key, pages_of, rows_in, has_keys, AreLaidOut, undone, undone_in, IsUndoable, AreUndoable, own_pruned, AllVersioned}
+use Rattle.mvrows.proofs.VersionLemmas.{IsLeast}
+use Rattle.mvrows.proofs.PageLemmas.{trimmed, kept-least, kept-in_order}
+use Rattle.mvrows.proofs.HeldLemmas.{before-put, front-in_order, undone-own, undone-kept, undoable-own}
+use Rattle.mvrows.proofs.JoinedLemmas.{next-append}
 
 -- ---- lists
 
@@ -33,67 +33,36 @@ all-from_map : {X Y : Type 0} (P : Y → Type 0) (f : X → Y) (xs : List X) →
 all-from_map P f [] all = tt
 all-from_map P f (x ∷ xs) all = (all.0, all-from_map P f xs all.1)
 
--- an element that is cut in two
-cut-flat_suc : {X Y : Type 0} (f : X → List Y) (xs : List X) (i : ℕ) (old lower upper : X) → i < length xs → old ≡ get_or xs i old → f lower ++ f upper ≡ f old → flat_map f (take (suc i) (set xs i lower) ++ upper ∷ drop (suc i) (set xs i lower)) ≡ flat_map f xs
-cut-flat_suc f [] i old lower upper lt at parts = absurd (omega arith)
-cut-flat_suc f (y ∷ ys) zero old lower upper lt at parts = sym (append-assoc (f lower) (f upper) (flat_map f ys)) ∙ ap (λ z. z ++ flat_map f ys) (parts ∙ ap f at)
-cut-flat_suc f (y ∷ ys) (suc i) old lower upper lt at parts = ap (λ rest. f y ++ rest) (cut-flat_suc f ys i old lower upper (omega arith) at parts)
+-- a function of each element, flattened
+flat-map : {X Z : Type 0} (f : X → List Z) (xs : List X) → flat_map f xs ≡ flat_map (λ z. z) (map f xs)
+flat-map f [] = refl
+flat-map f (x ∷ xs) = ap (λ rest. f x ++ rest) (flat-map f xs)
 
-cut-all_suc : {X : Type 0} (P : X → Type 0) (xs : List X) (i : ℕ) (lower upper : X) → i < length xs → P lower → P upper → AllByRecursion P xs → AllByRecursion P (take (suc i) (set xs i lower) ++ upper ∷ drop (suc i) (set xs i lower))
-cut-all_suc P [] i lower upper lt low up all = absurd (omega arith)
-cut-all_suc P (y ∷ ys) zero lower upper lt low up all = (low, (up, all.1))
-cut-all_suc P (y ∷ ys) (suc i) lower upper lt low up all = (all.0, cut-all_suc P ys i lower upper (omega arith) low up all.1)
-
-cut-flat : {X Y : Type 0} (f : X → List Y) (xs : List X) (i : ℕ) (old lower upper : X) → i < length xs → old ≡ get_or xs i old → f lower ++ f upper ≡ f old → flat_map f (take (i + 1) (set xs i lower) ++ upper ∷ drop (i + 1) (set xs i lower)) ≡ flat_map f xs
-cut-flat f xs i old lower upper lt at parts = rw add-one (cut-flat_suc f xs i old lower upper lt at parts)
-
-cut-all : {X : Type 0} (P : X → Type 0) (xs : List X) (i : ℕ) (lower upper : X) → i < length xs → P lower → P upper → AllByRecursion P xs → AllByRecursion P (take (i + 1) (set xs i lower) ++ upper ∷ drop (i + 1) (set xs i lower))
-cut-all P xs i lower upper lt low up all = rw add-one (cut-all_suc P xs i lower upper lt low up all)
+pub flat-same : {X Y Z : Type 0} (f : X → List Z) (g : Y → List Z) (xs : List X) (ys : List Y) → map f xs ≡ map g ys → flat_map f xs ≡ flat_map g ys
+flat-same f g xs ys same = flat-map f xs ∙ ap (flat_map (λ z. z)) same ∙ sym (flat-map g ys)
 
 pub on_err : {T E : Type 0} (r : Result T E) (P Q : Type 0) → (P → Q) → OnErr r P → OnErr r Q
 on_err (Ok x) P Q f p = p
 on_err (Err e) P Q f p = f p
 
 module _ {A : Type 0} where
-  joined-map : {X : Type 0} (f : X → VersionedRows A) (xs : List X) → joined (map f xs) ≡ flat_map f xs
-  joined-map f [] = refl
-  joined-map f (x ∷ xs) = ap (λ rest. f x ++ rest) (joined-map f xs)
+  -- ---- tables of the same pages
 
-  -- ---- one page changed
+  pub same-rows : (leaves more : List (Held A)) → pages_of more ≡ pages_of leaves → rows_in more ≡ rows_in leaves
+  same-rows leaves more same = flat-same (λ (h : Held A). h.rows) (λ h. h.rows) more leaves same
 
-  pub page-at : (leaves : List (Held A)) (i : ℕ) (h : Held A) → h ≡ get_or leaves i h → h.rows ≡ get_or (pages_of leaves) i h.rows
-  page-at leaves i h at = ap (λ x. x.rows) at ∙ sym (get_or-map (λ x. x.rows) leaves i h)
-
-  -- where a key belongs
-  pub record Placed (key : Value A) (leaves : List (Held A)) (i : ℕ) : Type 0 where
-    pub range : i < length leaves
-    pub before : AllByRecursion (λ k. is_le (value_cmp key k.key) ≡ false) (joined (take i (pages_of leaves)))
-    pub after : IsLeast key (joined (drop (i + 1) (pages_of leaves)))
-
-  -- as a look-up of an equal key in an equal list tells it
-  pub placed : (key k : Value A) (leaves slice : List (Held A)) (i : ℕ) → slice ≡ leaves → k ≡ key → Placed k slice i → Placed key leaves i
-  placed key k leaves slice i same is p = subst (λ ls. Placed key ls i) same (subst (λ x. Placed x slice i) is p)
-
-  pub put-ok : (key : Value A) (v : Version A) (leaves : List (Held A)) (i : ℕ) (old new : Held A) → old ≡ get_or leaves i old → Placed key leaves i → new.rows ≡ put_version key v old.rows
-      → rows_in (set leaves i new) ≡ put_version key v (rows_in leaves)
-  put-ok key v leaves i old new at p put =
-      ap joined (map-set (λ h. h.rows) leaves i new)
-      ∙ put-in key v (pages_of leaves) i old.rows new.rows (omega (arith, p.range, length-map leaves (λ (h : Held A). h.rows))) (page-at leaves i old at) p.before p.after put
-
-  pub put-laid_out : {T E : Type 0} (r : Result T E) (key : Value A) (v : Version A) (leaves : List (Held A)) (i : ℕ) (old new : Held A) → old ≡ get_or leaves i old → Placed key leaves i
-      → OnOk r (new.rows ≡ put_version key v old.rows) → OnErr r (new.rows ≡ old.rows) → AreLaidOut (pages_of leaves) → AreLaidOut (pages_of (set leaves i new))
-  put-laid_out (Ok x) key v leaves i old new at p ok err laid = (
-    subst IsInOrder (sym (put-ok key v leaves i old new at p ok)) (put_version-in_order key v (rows_in leaves) laid.0),
-    subst (AllByRecursion (λ (page : VersionedRows A). has_keys page ≡ true)) (sym (map-set (λ h. h.rows) leaves i new))
-        (all-set (λ (page : VersionedRows A). has_keys page ≡ true) (pages_of leaves) i new.rows (subst (λ (page : VersionedRows A). has_keys page ≡ true) (sym ok) (put-has_keys key v old.rows)) laid.1),
+  pub same-pages_laid_out : (leaves more : List (Held A)) → pages_of more ≡ pages_of leaves → AreLaidOut leaves → AreLaidOut more
+  same-pages_laid_out leaves more same laid = (
+    subst IsInOrder (sym (same-rows leaves more same)) laid.0,
+    all-from_map (λ (page : VersionedRows A). has_keys page ≡ true) (λ h. h.rows) more
+        (subst (AllByRecursion (λ (page : VersionedRows A). has_keys page ≡ true)) (sym same) (all-of_map (λ (page : VersionedRows A). has_keys page ≡ true) (λ h. h.rows) leaves laid.1)),
   )
-  put-laid_out (Err e) key v leaves i old new at p ok err laid = subst AreLaidOut (sym (same-set (λ (h : Held A). h.rows) leaves i new old at err)) laid
 
   -- what holds of all keys holds of a page's
   pub versioned-page : (leaves : List (Held A)) (i : ℕ) (h : Held A) → i < length leaves → h ≡ get_or leaves i h → AllVersioned (rows_in leaves) → AllVersioned h.rows
   versioned-page [] i h lt at all = absurd (omega arith)
-  versioned-page (g ∷ gs) zero h lt at all = subst (λ x. AllVersioned x.rows) (sym at) (all-append (λ k. has_version k ≡ true) g.rows (rows_in gs) all).0
-  versioned-page (g ∷ gs) (suc i) h lt at all = versioned-page gs i h (omega arith) at (all-append (λ k. has_version k ≡ true) g.rows (rows_in gs) all).1
+  versioned-page (g ∷ gs) zero h lt at all = subst (λ x. AllVersioned x.rows) (sym at) (all-cut (λ k. has_version k ≡ true) g.rows (rows_in gs) all).0
+  versioned-page (g ∷ gs) (suc i) h lt at all = versioned-page gs i h (omega arith) at (all-cut (λ k. has_version k ≡ true) g.rows (rows_in gs) all).1
 
   -- ---- a page cut in two
 
@@ -107,59 +76,39 @@ module _ {A : Type 0} where
       ∙ ap (rows_before commit) parts
       ∙ undone-kept commit old versioned undoable
 
-  abbrev cut_leaves : List (Held A) → ℕ → Held A → Held A → List (Held A)
-  cut_leaves leaves i lower upper = take (i + 1) (set leaves i lower) ++ upper ∷ drop (i + 1) (set leaves i lower)
-
-  pub cut-rows : (leaves more : List (Held A)) (i : ℕ) (old lower upper : Held A) → i < length leaves → old ≡ get_or leaves i old → lower.rows ++ upper.rows ≡ old.rows → more ≡ cut_leaves leaves i lower upper → rows_in more ≡ rows_in leaves
-  cut-rows leaves more i old lower upper lt at parts is =
-      ap rows_in is ∙ joined-map (λ (h : Held A). h.rows) (cut_leaves leaves i lower upper)
-      ∙ (cut-flat (λ (h : Held A). h.rows) leaves i old lower upper lt at parts)
-      ∙ sym (joined-map (λ (h : Held A). h.rows) leaves)
-
-  pub cut-undo : (commit : ℕ) (leaves more : List (Held A)) (i : ℕ) (old lower upper : Held A) → i < length leaves → old ≡ get_or leaves i old → lower.rows ++ upper.rows ≡ old.rows → lower.own ≡ true → upper.own ≡ true → more ≡ cut_leaves leaves i lower upper
+  pub cut-undo : (commit : ℕ) (leaves more : List (Held A)) (i : ℕ) (old lower upper : Held A) → i < length leaves → old ≡ get_or leaves i old → lower.rows ++ upper.rows ≡ old.rows → lower.own ≡ true → upper.own ≡ true → more ≡ cut_pages leaves i lower upper
       → AllVersioned (rows_in leaves) → AreUndoable commit leaves → undone_in commit more ≡ undone_in commit leaves
   cut-undo commit leaves more i old lower upper lt at parts low up is versioned undoable =
-      let one = cut-undone commit old lower upper low up parts (versioned-page leaves i old lt at versioned) (element-at (IsUndoable commit) leaves i old lt at undoable) in
-      ap (undone_in commit) is ∙ joined-map (undone commit) (cut_leaves leaves i lower upper)
-      ∙ (cut-flat (undone commit) leaves i old lower upper lt at one)
-      ∙ sym (joined-map (undone commit) leaves)
+      let one = cut-undone commit old lower upper low up parts (versioned-page leaves i old lt at versioned) (all-get (IsUndoable commit) leaves i old lt at undoable) in
+      ap (undone_in commit) is ∙ cut-flat (undone commit) leaves i old lower upper lt at one
 
-  pub cut-undoable : (commit : ℕ) (leaves more : List (Held A)) (i : ℕ) (lower upper : Held A) → i < length leaves → lower.own ≡ true → upper.own ≡ true → more ≡ cut_leaves leaves i lower upper → AreUndoable commit leaves → AreUndoable commit more
+  pub cut-undoable : (commit : ℕ) (leaves more : List (Held A)) (i : ℕ) (lower upper : Held A) → i < length leaves → lower.own ≡ true → upper.own ≡ true → more ≡ cut_pages leaves i lower upper → AreUndoable commit leaves → AreUndoable commit more
   cut-undoable commit leaves more i lower upper lt low up is undoable =
       subst (AreUndoable commit) (sym is) (cut-all (IsUndoable commit) leaves i lower upper lt (undoable-own commit lower low) (undoable-own commit upper up) undoable)
 
-  pub cut-laid_out : (leaves more : List (Held A)) (i : ℕ) (old lower upper : Held A) → i < length leaves → old ≡ get_or leaves i old → lower.rows ++ upper.rows ≡ old.rows → has_keys lower.rows ≡ true → has_keys upper.rows ≡ true → more ≡ cut_leaves leaves i lower upper
-      → AreLaidOut (pages_of leaves) → AreLaidOut (pages_of more)
-  cut-laid_out leaves more i old lower upper lt at parts low up is laid = (
-    subst IsInOrder (sym (cut-rows leaves more i old lower upper lt at parts is)) laid.0,
-    all-of_map (λ (page : VersionedRows A). has_keys page ≡ true) (λ h. h.rows) more
-        (subst (AllByRecursion (λ (h : Held A). has_keys h.rows ≡ true)) (sym is)
-        (cut-all (λ (h : Held A). has_keys h.rows ≡ true) leaves i lower upper lt low up (all-from_map (λ (page : VersionedRows A). has_keys page ≡ true) (λ h. h.rows) leaves laid.1))),
-  )
-
   -- a page taken for itself, where the cut failed
-  pub taken-rows : (leaves : List (Held A)) (i : ℕ) (old new : Held A) → old ≡ get_or leaves i old → (new ≡ old) ⊎ (new ≡ record old { own = true }) → pages_of (set leaves i new) ≡ pages_of leaves
-  taken-rows leaves i old new at (inl e) = same-set (λ (h : Held A). h.rows) leaves i new old at (ap (λ h. h.rows) e)
-  taken-rows leaves i old new at (inr e) = same-set (λ (h : Held A). h.rows) leaves i new old at (ap (λ h. h.rows) e)
+  pub taken-page : (old new : Held A) → (new ≡ old) ⊎ (new ≡ record old { own = true }) → new.rows ≡ old.rows
+  taken-page old new (inl e) = ap (λ h. h.rows) e
+  taken-page old new (inr e) = ap (λ h. h.rows) e
 
   pub taken-undo : (commit : ℕ) (leaves : List (Held A)) (i : ℕ) (old new : Held A) → i < length leaves → old ≡ get_or leaves i old → (new ≡ old) ⊎ (new ≡ record old { own = true }) → AllVersioned (rows_in leaves) → AreUndoable commit leaves → undone_in commit (set leaves i new) ≡ undone_in commit leaves
-  taken-undo commit leaves i old new lt at (inl e) versioned undoable = ap joined (same-set (undone commit) leaves i new old at (ap (undone commit) e))
+  taken-undo commit leaves i old new lt at (inl e) versioned undoable = same-in chain_key (undone commit) leaves i old new lt at (ap (undone commit) e)
   taken-undo commit leaves i old new lt at (inr e) versioned undoable =
-      ap joined (same-set (undone commit) leaves i new old at (ap (undone commit) e ∙ undone-kept commit old (versioned-page leaves i old lt at versioned) (element-at (IsUndoable commit) leaves i old lt at undoable)))
+      same-in chain_key (undone commit) leaves i old new lt at (ap (undone commit) e ∙ undone-kept commit old (versioned-page leaves i old lt at versioned) (all-get (IsUndoable commit) leaves i old lt at undoable))
 
   -- ---- pages that keep some versions of their keys
 
   abbrev kept_page : (List (Version A) → List (Version A)) → Held A → VersionedRows A
   kept_page f h = cond h.own (filter has_version (map (trimmed f) h.rows)) h.rows
 
-  keep-below : (f : List (Version A) → List (Version A)) (rows ys : VersionedRows A) → Below rows ys → Below (filter has_version (map (trimmed f) rows)) ys
+  keep-below : (f : List (Version A) → List (Version A)) (rows ys : VersionedRows A) → Below chain_key rows ys → Below chain_key (filter has_version (map (trimmed f) rows)) ys
   keep-below f [] ys below = tt
   keep-below f (r ∷ rs) ys below = by_test (has_version (trimmed f r)) (keep-below f rs ys below.1)
     where
       left : VersionedRows A
       left = filter has_version (map (trimmed f) rs)
 
-      by_test : (b : Bool) → Below left ys → Below (cond b (trimmed f r ∷ left) left) ys
+      by_test : (b : Bool) → Below chain_key left ys → Below chain_key (cond b (trimmed f r ∷ left) left) ys
       by_test true rest = (below.0, rest)
       by_test false rest = rest
 
@@ -177,31 +126,31 @@ module _ {A : Type 0} where
       go true = kept-in_order f h.rows sorted
       go false = sorted
 
-  page-below : (f : List (Version A) → List (Version A)) (h : Held A) (ys : VersionedRows A) → Below h.rows ys → Below (kept_page f h) ys
+  page-below : (f : List (Version A) → List (Version A)) (h : Held A) (ys : VersionedRows A) → Below chain_key h.rows ys → Below chain_key (kept_page f h) ys
   page-below f h ys below = go h.own
     where
-      go : (b : Bool) → Below (cond b (filter has_version (map (trimmed f) h.rows)) h.rows) ys
+      go : (b : Bool) → Below chain_key (cond b (filter has_version (map (trimmed f) h.rows)) h.rows) ys
       go true = keep-below f h.rows ys below
       go false = below
 
-  pages-least : (f : List (Version A) → List (Version A)) (k : Value A) (leaves : List (Held A)) → IsLeast k (rows_in leaves) → IsLeast k (joined (map (kept_page f) leaves))
+  pages-least : (f : List (Version A) → List (Version A)) (k : Value A) (leaves : List (Held A)) → IsLeast k (rows_in leaves) → IsLeast k (flat_map (kept_page f) leaves)
   pages-least f k [] least = least
   pages-least f k (h ∷ hs) least =
-      let parts = least-append k h.rows (rows_in hs) least in
-      least-join k (kept_page f h) (joined (map (kept_page f) hs)) (page-least f k h parts.0) (pages-least f k hs parts.1)
+      let parts = least-append chain_key k h.rows (rows_in hs) least in
+      least-join chain_key k (kept_page f h) (flat_map (kept_page f) hs) (page-least f k h parts.0) (pages-least f k hs parts.1)
 
-  pages-below : (f : List (Version A) → List (Version A)) (xs : VersionedRows A) (leaves : List (Held A)) → Below xs (rows_in leaves) → Below xs (joined (map (kept_page f) leaves))
+  pages-below : (f : List (Version A) → List (Version A)) (xs : VersionedRows A) (leaves : List (Held A)) → Below chain_key xs (rows_in leaves) → Below chain_key xs (flat_map (kept_page f) leaves)
   pages-below f [] leaves below = tt
   pages-below f (x ∷ xs) leaves below = (pages-least f x.key leaves below.0, pages-below f xs leaves below.1)
 
-  pages-in_order : (f : List (Version A) → List (Version A)) (leaves : List (Held A)) → IsInOrder (rows_in leaves) → IsInOrder (joined (map (kept_page f) leaves))
+  pages-in_order : (f : List (Version A) → List (Version A)) (leaves : List (Held A)) → IsInOrder (rows_in leaves) → IsInOrder (flat_map (kept_page f) leaves)
   pages-in_order f [] sorted = sorted
   pages-in_order f (h ∷ hs) sorted =
-      let cut = in_order-cut h.rows (rows_in hs) sorted in
-      in_order-join (kept_page f h) (joined (map (kept_page f) hs)) (record {
+      let cut = in_order-cut chain_key h.rows (rows_in hs) sorted in
+      in_order-join chain_key (kept_page f h) (flat_map (kept_page f) hs) (record {
         first = page-in_order f h cut.first;
         second = pages-in_order f hs cut.second;
-        below = page-below f h (joined (map (kept_page f) hs)) (pages-below f h.rows hs cut.below);
+        below = page-below f h (flat_map (kept_page f) hs) (pages-below f h.rows hs cut.below);
       })
 
   -- ---- pages without a key are dropped
@@ -221,33 +170,33 @@ module _ {A : Type 0} where
       go true e rest = ap (λ left. h.rows ++ left) rest
       go false e rest = rest ∙ no_keys h.rows (rows_in hs) e
 
-  kept-keys : (leaves : List (Held A)) → AllByRecursion (λ page. has_keys page ≡ true) (pages_of (kept_leaves leaves))
+  kept-keys : (leaves : List (Held A)) → AllByRecursion (λ h. has_keys h.rows ≡ true) (kept_leaves leaves)
   kept-keys [] = tt
   kept-keys (h ∷ hs) = go (has_keys h.rows) refl (kept-keys hs)
     where
-      go : (b : Bool) → has_keys h.rows ≡ b → AllByRecursion (λ page. has_keys page ≡ true) (pages_of (kept_leaves hs)) → AllByRecursion (λ page. has_keys page ≡ true) (pages_of (cond b (h ∷ kept_leaves hs) (kept_leaves hs)))
+      go : (b : Bool) → has_keys h.rows ≡ b → AllByRecursion (λ h. has_keys h.rows ≡ true) (kept_leaves hs) → AllByRecursion (λ h. has_keys h.rows ≡ true) (cond b (h ∷ kept_leaves hs) (kept_leaves hs))
       go true e rest = (e, rest)
       go false e rest = rest
 
   -- what is left, laid out
-  left-laid_out : (f : List (Version A) → List (Version A)) (leaves changed left : List (Held A)) → left ≡ kept_leaves changed → pages_of changed ≡ map (kept_page f) leaves → AreLaidOut (pages_of leaves) → AreLaidOut (pages_of left)
-  left-laid_out f leaves changed left is kept laid = subst (λ hs. AreLaidOut (pages_of hs)) (sym is) (subst IsInOrder (sym (kept-rows changed ∙ ap joined kept)) (pages-in_order f leaves laid.0), kept-keys changed)
+  left-laid_out : (f : List (Version A) → List (Version A)) (leaves changed left : List (Held A)) → left ≡ kept_leaves changed → pages_of changed ≡ map (kept_page f) leaves → AreLaidOut leaves → AreLaidOut left
+  left-laid_out f leaves changed left is kept laid = subst AreLaidOut (sym is) (subst IsInOrder (sym (kept-rows changed ∙ flat-same (λ (h : Held A). h.rows) (kept_page f) changed leaves kept)) (pages-in_order f leaves laid.0), kept-keys changed)
 
-  pub undone-laid_out : (commit : ℕ) (leaves changed left : List (Held A)) → left ≡ kept_leaves changed → pages_of changed ≡ map (undone commit) leaves → AreLaidOut (pages_of leaves) → AreLaidOut (pages_of left)
+  pub undone-laid_out : (commit : ℕ) (leaves changed left : List (Held A)) → left ≡ kept_leaves changed → pages_of changed ≡ map (undone commit) leaves → AreLaidOut leaves → AreLaidOut left
   undone-laid_out commit leaves changed left is kept laid = left-laid_out (versions_before commit) leaves changed left is kept laid
 
-  pub pruned-laid_out : (oldest : ℕ) (leaves changed left : List (Held A)) → left ≡ kept_leaves changed → pages_of changed ≡ map (own_pruned oldest) leaves → AreLaidOut (pages_of leaves) → AreLaidOut (pages_of left)
+  pub pruned-laid_out : (oldest : ℕ) (leaves changed left : List (Held A)) → left ≡ kept_leaves changed → pages_of changed ≡ map (own_pruned oldest) leaves → AreLaidOut leaves → AreLaidOut left
   pruned-laid_out oldest leaves changed left is kept laid = left-laid_out (pruned_versions oldest) leaves changed left is kept laid
 
-  pub left-rows : (changed left : List (Held A)) (pages : List (VersionedRows A)) → left ≡ kept_leaves changed → pages_of changed ≡ pages → rows_in left ≡ joined pages
-  left-rows changed left pages is kept = ap rows_in is ∙ kept-rows changed ∙ ap joined kept
+  pub left-rows : (f : Held A → VersionedRows A) (leaves changed left : List (Held A)) → left ≡ kept_leaves changed → pages_of changed ≡ map f leaves → rows_in left ≡ flat_map f leaves
+  left-rows f leaves changed left is kept = ap rows_in is ∙ kept-rows changed ∙ flat-same (λ (h : Held A). h.rows) f changed leaves kept
 
   -- ---- a pruning of all pages
 
   pruned-append : (oldest : ℕ) (xs ys : VersionedRows A) → pruned_rows oldest (xs ++ ys) ≡ pruned_rows oldest xs ++ pruned_rows oldest ys
   pruned-append oldest xs ys = ap (filter has_version) (map-append (pruned_key oldest) xs ys) ∙ filter-append has_version (map (pruned_key oldest) xs) (map (pruned_key oldest) ys)
 
-  pub pruned-pages : (oldest : ℕ) (leaves : List (Held A)) → joined (map (λ h. pruned_rows oldest h.rows) leaves) ≡ pruned_rows oldest (rows_in leaves)
+  pub pruned-pages : (oldest : ℕ) (leaves : List (Held A)) → flat_map (λ h. pruned_rows oldest h.rows) leaves ≡ pruned_rows oldest (rows_in leaves)
   pruned-pages oldest [] = refl
   pruned-pages oldest (h ∷ hs) = ap (λ rest. pruned_rows oldest h.rows ++ rest) (pruned-pages oldest hs) ∙ sym (pruned-append oldest h.rows (rows_in hs))
 
@@ -261,9 +210,9 @@ module _ {A : Type 0} where
   open-whole : (old page new next : VersionedRows A) (row : Row A) (rest left : List (Row A)) (whole : VersionedRows A)
       → new ++ next ≡ old ++ page → rest ≡ row ∷ left → old ++ (page ++ map opened_row rest) ≡ whole → new ++ (next ++ opened_row row ∷ map opened_row left) ≡ whole
   open-whole old page new next row rest left whole turned step so_far =
-      sym (append-assoc new next (opened_row row ∷ map opened_row left))
+      sym (append_assoc new next (opened_row row ∷ map opened_row left))
       ∙ ap (λ rows. rows ++ opened_row row ∷ map opened_row left) turned
-      ∙ append-assoc old page (opened_row row ∷ map opened_row left)
+      ∙ append_assoc old page (opened_row row ∷ map opened_row left)
       ∙ ap (λ rows. old ++ (page ++ map opened_row rows)) (sym step)
       ∙ so_far
 
@@ -271,13 +220,13 @@ module _ {A : Type 0} where
       → new ++ next ≡ old ++ page → rest ≡ row ∷ left → old ++ (page ++ map opened_row rest) ≡ whole → IsInOrder whole → IsInOrder (next ++ opened_row row ∷ [])
   open-order old page new next row rest left whole turned step so_far sorted =
       front-in_order next (opened_row row) (map opened_row left)
-      (in_order-cut new (next ++ opened_row row ∷ map opened_row left) (subst IsInOrder (sym (open-whole old page new next row rest left whole turned step so_far)) sorted)).second
+      (in_order-cut chain_key new (next ++ opened_row row ∷ map opened_row left) (subst IsInOrder (sym (open-whole old page new next row rest left whole turned step so_far)) sorted)).second
 
   pub open-step : (old page new next more : VersionedRows A) (row : Row A) (rest left : List (Row A)) (whole : VersionedRows A)
       → new ++ next ≡ old ++ page → more ≡ next ++ opened_row row ∷ [] → rest ≡ row ∷ left → old ++ (page ++ map opened_row rest) ≡ whole → new ++ (more ++ map opened_row left) ≡ whole
   open-step old page new next more row rest left whole turned made step so_far =
       ap (λ rows. new ++ (rows ++ map opened_row left)) made
-      ∙ ap (λ rows. new ++ rows) (append-assoc next (opened_row row ∷ []) (map opened_row left))
+      ∙ ap (λ rows. new ++ rows) (append_assoc next (opened_row row ∷ []) (map opened_row left))
       ∙ open-whole old page new next row rest left whole turned step so_far
 
   pub open-end : (old page new : VersionedRows A) (rest : List (Row A)) (whole : VersionedRows A) → new ≡ old ++ page → rest ≡ [] → old ++ (page ++ map opened_row rest) ≡ whole → new ≡ whole
@@ -289,19 +238,19 @@ module _ {A : Type 0} where
   opened-parts : (old page : VersionedRows A) (moved more : List (Row A)) → old ++ (page ++ map opened_row (moved ++ more)) ≡ (old ++ (page ++ map opened_row moved)) ++ map opened_row more
   opened-parts old page moved more =
       ap (λ rows. old ++ (page ++ rows)) (map-append opened_row moved more)
-      ∙ ap (λ rows. old ++ rows) (sym (append-assoc page (map opened_row moved) (map opened_row more)))
-      ∙ sym (append-assoc old (page ++ map opened_row moved) (map opened_row more))
+      ∙ ap (λ rows. old ++ rows) (sym (append_assoc page (map opened_row moved) (map opened_row more)))
+      ∙ sym (append_assoc old (page ++ map opened_row moved) (map opened_row more))
 
   pub pages-order : (old page : VersionedRows A) (moved : List (Row A)) (rest left : List (List (Row A))) (whole : VersionedRows A)
       → rest ≡ moved ∷ left → old ++ (page ++ map opened_row (all_of rest)) ≡ whole → IsInOrder whole → IsInOrder (old ++ (page ++ map opened_row moved))
   pages-order old page moved rest left whole step so_far sorted =
-      (in_order-cut (old ++ (page ++ map opened_row moved)) (map opened_row (all_of left))
+      (in_order-cut chain_key (old ++ (page ++ map opened_row moved)) (map opened_row (all_of left))
       (subst IsInOrder (sym so_far ∙ ap (λ pages. old ++ (page ++ map opened_row (all_of pages))) step ∙ opened-parts old page moved (all_of left)) sorted)).first
 
   pub pages-step : (old page new next : VersionedRows A) (moved : List (Row A)) (rest left : List (List (Row A))) (whole : VersionedRows A)
       → new ++ next ≡ old ++ (page ++ map opened_row moved) → rest ≡ moved ∷ left → old ++ (page ++ map opened_row (all_of rest)) ≡ whole → new ++ (next ++ map opened_row (all_of left)) ≡ whole
   pages-step old page new next moved rest left whole turned step so_far =
-      sym (append-assoc new next (map opened_row (all_of left)))
+      sym (append_assoc new next (map opened_row (all_of left)))
       ∙ ap (λ rows. rows ++ map opened_row (all_of left)) turned
       ∙ sym (opened-parts old page moved (all_of left))
       ∙ ap (λ pages. old ++ (page ++ map opened_row (all_of pages))) (sym step)
@@ -322,9 +271,9 @@ module _ {A : Type 0} where
   pub first-ok : (key : Value A) (v : Version A) (leaves more : List (Held A)) → length leaves ≡ 0 → more ≡ leaves ++ own_page (first_version key v ∷ []) ∷ [] → rows_in more ≡ put_version key v (rows_in leaves)
   first-ok key v leaves more none is = ap rows_in (first-leaves leaves more (first_version key v ∷ []) none is) ∙ ap (λ hs. put_version key v (rows_in hs)) (sym (no_leaves leaves none))
 
-  pub first-laid_out : (key : Value A) (v : Version A) (leaves more : List (Held A)) → length leaves ≡ 0 → more ≡ leaves ++ own_page (first_version key v ∷ []) ∷ [] → AreLaidOut (pages_of more)
+  pub first-laid_out : (key : Value A) (v : Version A) (leaves more : List (Held A)) → length leaves ≡ 0 → more ≡ leaves ++ own_page (first_version key v ∷ []) ∷ [] → AreLaidOut more
   first-laid_out key v leaves more none is =
-      subst (λ hs. AreLaidOut (pages_of hs)) (sym (first-leaves leaves more (first_version key v ∷ []) none is)) (one-in_order (first_version key v) (first_version key v ∷ []) refl, (refl, tt))
+      subst AreLaidOut (sym (first-leaves leaves more (first_version key v ∷ []) none is)) (one-in_order chain_key (first_version key v) (first_version key v ∷ []) refl, (refl, tt))
 
   pub first-undo : (commit : ℕ) (key : Value A) (fields : Option (List (Value A))) (leaves more : List (Held A)) → length leaves ≡ 0 → more ≡ leaves ++ own_page (first_version key (record { number = commit; fields = fields }) ∷ []) ∷ [] → undone_in commit more ≡ undone_in commit leaves
   first-undo commit key fields leaves more none is =

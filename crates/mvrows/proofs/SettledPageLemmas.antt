@@ -7,20 +7,21 @@ use Rattle.std.specs.Ordering.{is_eq, is_le, match_ordering}
 use Rattle.std.specs.declared.cmp.Ordering.{Ordering}
 use Rattle.std.specs.declared.cmp.Ordering.TheVariants.{Less, Equal, Greater}
 use Rattle.std.proofs.lemmas.Bool.{lt-leb}
-use Rattle.std.proofs.lemmas.List.{set_split, take-append-drop, map-set, length-map}
+use Rattle.std.proofs.lemmas.List.{set_split, take-append-drop}
 use Rattle.value.specs.Order.{value_cmp}
 use Rattle.value.specs.declared.value.Value.{Value}
+use Rattle.schema.specs.Pages.{IsPlaced}
 use Rattle.schema.specs.Plain.{same}
-use Rattle.mvrows.specs.Versions.{Version, KeyVersions, VersionedRows, IsInOrder, AreBelow, RowsAreBelow}
+use Rattle.schema.proofs.FindLemmas.{find-in}
+use Rattle.schema.proofs.PageLemmas.{greater, less, equal, slice_get-none, slice_get-item, below-passed}
+use Rattle.schema.proofs.PagedLemmas.{IsLocal, local-parted, all-get}
+use Rattle.mvrows.specs.Versions.{Version, KeyVersions, VersionedRows, AreBelow, RowsAreBelow}
 use Rattle.mvrows.specs.Pruning.{has_version}
 use Rattle.mvrows.specs.Settling.{Needed, found, if_version, settled_key, settle_key}
 use Rattle.mvrows.specs.Fresh.{is_from, IsFreshIn, IsOwnKey}
-use Rattle.mvrows.specs.HeldRows.{Held, pages_of, joined, rows_in, has_keys, AreLaidOut, IsUndoable}
-use Rattle.mvrows.proofs.VersionLemmas.{IsLeast, all-set}
-use Rattle.mvrows.proofs.PageLemmas.{greater, less, equal, drop-at, slice_get-none, slice_get-item, below-passed}
-use Rattle.mvrows.proofs.HeldLemmas.{element-at}
-use Rattle.mvrows.proofs.JoinedLemmas.{flat-split, flat-set, find-in}
-use Rattle.mvrows.proofs.LeavesLemmas.{Placed, page-at}
+use Rattle.mvrows.specs.HeldRows.{Held, chain_key, rows_in, IsUndoable}
+use Rattle.mvrows.proofs.VersionLemmas.{IsLeast}
+use Rattle.mvrows.proofs.PageLemmas.{drop-at}
 use Rattle.mvrows.proofs.SettlingLemmas.{settle-in_order}
 
 not-le : (m n : ℕ) → n < m → nat_le m n ≡ false
@@ -36,23 +37,44 @@ pub cut-set : {X : Type 0} (xs : List X) (i : ℕ) (x : X) → i < length xs →
 cut-set xs i x lt = cut-set_suc xs i x lt ∙ rw add-one refl
 
 module _ {A : Type 0} where
-  -- ---- by its place
+  -- ---- other keys have no part in it
 
-  settle-early : (needed : Needed) (key : Value A) (i : ℕ) (rows : VersionedRows A) → AllByRecursion (λ r. is_le (value_cmp key r.key) ≡ false) (take i rows) → settle_key needed key rows ≡ take i rows ++ settle_key needed key (drop i rows)
-  settle-early needed key zero rows early = refl
-  settle-early needed key (suc i) [] early = refl
-  settle-early needed key (suc i) (r ∷ rs) early = rw (greater (value_cmp key r.key) early.0) (ap (λ rest. r ∷ rest) (settle-early needed key i rs early.1))
+  settle-after_run : (needed : Needed) (key : Value A) (xs ys : VersionedRows A) → AllByRecursion (λ k. is_le (value_cmp key k.key) ≡ false) xs → settle_key needed key (xs ++ ys) ≡ xs ++ settle_key needed key ys
+  settle-after_run needed key [] ys before = refl
+  settle-after_run needed key (x ∷ xs) ys before = rw (greater (value_cmp key x.key) before.0) (ap (λ rest. x ∷ rest) (settle-after_run needed key xs ys before.1))
+
+  settle-above : (needed : Needed) (key : Value A) (ys : VersionedRows A) → IsLeast key ys → settle_key needed key ys ≡ ys
+  settle-above needed key [] least = refl
+  settle-above needed key (y ∷ ys) least = rw least.0 refl
+
+  settle-before_run : (needed : Needed) (key : Value A) (xs ys : VersionedRows A) → IsLeast key ys → settle_key needed key (xs ++ ys) ≡ settle_key needed key xs ++ ys
+  settle-before_run needed key [] ys least = settle-above needed key ys least
+  settle-before_run needed key (x ∷ xs) ys least = by_order (value_cmp key x.key) (settle-before_run needed key xs ys least)
+    where
+      if_any : (b : Bool) → cond b (settled_key needed x ∷ (xs ++ ys)) (xs ++ ys) ≡ cond b (settled_key needed x ∷ xs) xs ++ ys
+      if_any true = refl
+      if_any false = refl
+
+      by_order : (o : Ordering) → settle_key needed key (xs ++ ys) ≡ settle_key needed key xs ++ ys → match_ordering o (x ∷ (xs ++ ys)) (if_version (settled_key needed x) (xs ++ ys)) (x ∷ settle_key needed key (xs ++ ys)) ≡ match_ordering o (x ∷ xs) (if_version (settled_key needed x) xs) (x ∷ settle_key needed key xs) ++ ys
+      by_order Less rest = refl
+      by_order Equal rest = if_any (has_version (settled_key needed x))
+      by_order Greater rest = ap (λ left. x ∷ left) rest
+
+  pub settle-local : (needed : Needed) (key : Value A) → IsLocal chain_key key (settle_key needed key)
+  settle-local needed key = record { behind = settle-after_run needed key; ahead = settle-before_run needed key; ordered = settle-in_order needed key }
+
+  -- ---- by its place
 
   settle-here : (needed : Needed) (key : Value A) (i : ℕ) (rows : VersionedRows A) (k : KeyVersions A) → AllByRecursion (λ r. is_le (value_cmp key r.key) ≡ false) (take i rows) → slice_get rows i ≡ Some k → same key k.key ≡ true
       → settle_key needed key rows ≡ take i rows ++ if_version (settled_key needed k) (drop (i + 1) rows)
   settle-here needed key i rows k early at is =
       let e : settle_key needed key (k ∷ drop (i + 1) rows) ≡ if_version (settled_key needed k) (drop (i + 1) rows) = rw (equal (value_cmp key k.key) is) refl in
-      settle-early needed key i rows early ∙ ap (λ ks. take i rows ++ settle_key needed key ks) (drop-at rows i k at) ∙ ap (λ ks. take i rows ++ ks) e
+      local-parted chain_key key (settle_key needed key) i rows (settle-local needed key) early ∙ ap (λ ks. take i rows ++ settle_key needed key ks) (drop-at rows i k at) ∙ ap (λ ks. take i rows ++ ks) e
 
   -- a key that isn't at its place isn't there
   pub settle-none : (needed : Needed) (key : Value A) (i : ℕ) (rows : VersionedRows A) → AllByRecursion (λ r. is_le (value_cmp key r.key) ≡ false) (take i rows) → AllByRecursion (λ r. is_le (value_cmp key r.key) ≡ true) (drop i rows) → option_map_or (λ k. same key k.key) (slice_get rows i) false ≡ false
       → rows ≡ settle_key needed key rows
-  settle-none needed key i rows early late isnt = sym (settle-early needed key i rows early ∙ go (slice_get rows i) refl isnt ∙ take-append-drop i rows)
+  settle-none needed key i rows early late isnt = sym (local-parted chain_key key (settle_key needed key) i rows (settle-local needed key) early ∙ go (slice_get rows i) refl isnt ∙ take-append-drop i rows)
     where
       go : (o : Option (KeyVersions A)) → slice_get rows i ≡ o → option_map_or (λ k. same key k.key) o false ≡ false → take i rows ++ settle_key needed key (drop i rows) ≡ take i rows ++ drop i rows
       go None at e = ap (λ ks. take i rows ++ settle_key needed key ks) (slice_get-none rows i at) ∙ ap (λ ks. take i rows ++ ks) (sym (slice_get-none rows i at))
@@ -84,8 +106,6 @@ module _ {A : Type 0} where
       let none : if_version (settled_key needed k) (drop (i + 1) rows) ≡ drop (i + 1) rows = ap (λ x. if_version x (drop (i + 1) rows)) (sym made) ∙ rw has refl in
       put ∙ cut-set rows i left lt ∙ sym (settle-here needed key i rows k early here tied ∙ ap (λ ks. take i rows ++ ks) none)
 
-  -- ---- pages one after another
-
   -- a key that isn't there
   pub settle-missing : (needed : Needed) (key : Value A) (rows : VersionedRows A) → found key rows ≡ None → settle_key needed key rows ≡ rows
   settle-missing needed key [] none = refl
@@ -98,85 +118,6 @@ module _ {A : Type 0} where
 
   pub settle-shared : (needed : Needed) (key : Value A) (h : Held A) → h.own ≡ false → IsOwnKey key h → h.rows ≡ settle_key needed key h.rows
   settle-shared needed key h shared own = sym (settle-missing needed key h.rows (own shared))
-
-  settle-after_run : (needed : Needed) (key : Value A) (xs ys : VersionedRows A) → AllByRecursion (λ k. is_le (value_cmp key k.key) ≡ false) xs → settle_key needed key (xs ++ ys) ≡ xs ++ settle_key needed key ys
-  settle-after_run needed key [] ys before = refl
-  settle-after_run needed key (x ∷ xs) ys before = rw (greater (value_cmp key x.key) before.0) (ap (λ rest. x ∷ rest) (settle-after_run needed key xs ys before.1))
-
-  settle-above : (needed : Needed) (key : Value A) (ys : VersionedRows A) → IsLeast key ys → settle_key needed key ys ≡ ys
-  settle-above needed key [] least = refl
-  settle-above needed key (y ∷ ys) least = rw least.0 refl
-
-  settle-before_run : (needed : Needed) (key : Value A) (xs ys : VersionedRows A) → IsLeast key ys → settle_key needed key (xs ++ ys) ≡ settle_key needed key xs ++ ys
-  settle-before_run needed key [] ys least = settle-above needed key ys least
-  settle-before_run needed key (x ∷ xs) ys least = by_order (value_cmp key x.key) (settle-before_run needed key xs ys least)
-    where
-      if_any : (b : Bool) → cond b (settled_key needed x ∷ (xs ++ ys)) (xs ++ ys) ≡ cond b (settled_key needed x ∷ xs) xs ++ ys
-      if_any true = refl
-      if_any false = refl
-
-      by_order : (o : Ordering) → settle_key needed key (xs ++ ys) ≡ settle_key needed key xs ++ ys → match_ordering o (x ∷ (xs ++ ys)) (if_version (settled_key needed x) (xs ++ ys)) (x ∷ settle_key needed key (xs ++ ys)) ≡ match_ordering o (x ∷ xs) (if_version (settled_key needed x) xs) (x ∷ settle_key needed key xs) ++ ys
-      by_order Less rest = refl
-      by_order Equal rest = if_any (has_version (settled_key needed x))
-      by_order Greater rest = ap (λ left. x ∷ left) rest
-
-  settle-in : (needed : Needed) (key : Value A) (pages : List (VersionedRows A)) (i : ℕ) (old new : VersionedRows A) → i < length pages → old ≡ get_or pages i old
-      → AllByRecursion (λ k. is_le (value_cmp key k.key) ≡ false) (joined (take i pages)) → IsLeast key (joined (drop (i + 1) pages)) → new ≡ settle_key needed key old
-      → joined (set pages i new) ≡ settle_key needed key (joined pages)
-  settle-in needed key pages i old new lt at before after made =
-      flat-set (λ p. p) pages i new lt
-      ∙ ap (λ p. joined (take i pages) ++ (p ++ joined (drop (i + 1) pages))) made
-      ∙ sym (
-      ap (settle_key needed key) (flat-split (λ p. p) pages i old lt at)
-      ∙ settle-after_run needed key (joined (take i pages)) (old ++ joined (drop (i + 1) pages)) before
-      ∙ ap (λ rest. joined (take i pages) ++ rest) (settle-before_run needed key old (joined (drop (i + 1) pages)) after))
-
-  -- ---- a table's pages
-
-  -- the page that a key belongs to is settled
-  pub settled-rows : (needed : Needed) (key : Value A) (leaves : List (Held A)) (i : ℕ) (old new : Held A) → old ≡ get_or leaves i old → Placed key leaves i → new.rows ≡ settle_key needed key old.rows
-      → rows_in (set leaves i new) ≡ settle_key needed key (rows_in leaves)
-  settled-rows needed key leaves i old new at p made =
-      ap joined (map-set (λ h. h.rows) leaves i new)
-      ∙ settle-in needed key (pages_of leaves) i old.rows new.rows (omega (arith, p.range, length-map leaves (λ (h : Held A). h.rows))) (page-at leaves i old at) p.before p.after made
-
-  no-rows : (rows : VersionedRows A) → has_keys rows ≡ false → rows ≡ []
-  no-rows [] e = refl
-  no-rows (r ∷ rs) e = absurd (true≢false e)
-
-  -- it goes where it has no key
-  pub dropped-rows : (leaves : List (Held A)) (i : ℕ) (h : Held A) → i < length leaves → has_keys h.rows ≡ false → rows_in (take i (set leaves i h) ++ drop (suc i) (set leaves i h)) ≡ rows_in (set leaves i h)
-  dropped-rows [] i h lt none = absurd (omega arith)
-  dropped-rows (l ∷ ls) zero h lt none = ap (λ rows. rows ++ rows_in ls) (sym (no-rows h.rows none))
-  dropped-rows (l ∷ ls) (suc i) h lt none = ap (λ rest. l.rows ++ rest) (dropped-rows ls i h (omega arith) none)
-
-  -- what holds of all pages but the one that goes
-  pub dropped-all : (P : Held A → Type 0) (leaves : List (Held A)) (i : ℕ) (h : Held A) → i < length leaves → AllByRecursion P leaves → AllByRecursion P (take i (set leaves i h) ++ drop (suc i) (set leaves i h))
-  dropped-all P [] i h lt all = absurd (omega arith)
-  dropped-all P (l ∷ ls) zero h lt all = all.1
-  dropped-all P (l ∷ ls) (suc i) h lt all = (all.0, dropped-all P ls i h (omega arith) all.1)
-
-  -- the pages stay laid out
-  have-keys : (leaves : List (Held A)) → AllByRecursion (λ h. has_keys h.rows ≡ true) leaves → AllByRecursion (λ page. has_keys page ≡ true) (pages_of leaves)
-  have-keys [] all = tt
-  have-keys (h ∷ hs) all = (all.0, have-keys hs all.1)
-
-  keys-had : (leaves : List (Held A)) → AllByRecursion (λ page. has_keys page ≡ true) (pages_of leaves) → AllByRecursion (λ h. has_keys h.rows ≡ true) leaves
-  keys-had [] all = tt
-  keys-had (h ∷ hs) all = (all.0, keys-had hs all.1)
-
-  pub settled-laid_out : (needed : Needed) (key : Value A) (leaves : List (Held A)) (i : ℕ) (h : Held A) → has_keys h.rows ≡ true → rows_in (set leaves i h) ≡ settle_key needed key (rows_in leaves) → AreLaidOut (pages_of leaves) → AreLaidOut (pages_of (set leaves i h))
-  settled-laid_out needed key leaves i h has made laid = (
-    subst IsInOrder (sym made) (settle-in_order needed key (rows_in leaves) laid.0),
-    have-keys (set leaves i h) (all-set (λ (l : Held A). has_keys l.rows ≡ true) leaves i h has (keys-had leaves laid.1)),
-  )
-
-  pub dropped-laid_out : (needed : Needed) (key : Value A) (leaves left : List (Held A)) (i : ℕ) (h : Held A) → i < length leaves → has_keys h.rows ≡ false → left ≡ take i (set leaves i h) ++ drop (suc i) (set leaves i h)
-      → rows_in (set leaves i h) ≡ settle_key needed key (rows_in leaves) → AreLaidOut (pages_of leaves) → AreLaidOut (pages_of left)
-  dropped-laid_out needed key leaves left i h lt none is made laid = subst (λ ls. AreLaidOut (pages_of ls)) (sym is) (
-    subst IsInOrder (sym (dropped-rows leaves i h lt none ∙ made)) (settle-in_order needed key (rows_in leaves) laid.0),
-    have-keys (take i (set leaves i h) ++ drop (suc i) (set leaves i h)) (dropped-all (λ (l : Held A). has_keys l.rows ≡ true) leaves i h lt (keys-had leaves laid.1)),
-  )
 
   -- ---- a fresh key stands in a page that nobody shares
 
@@ -195,11 +136,11 @@ module _ {A : Type 0} where
       by_key true is rest = let it : r ≡ k = cc in subst (λ x. is_from commit x ≡ false) it (below-not_from commit r below.0)
       by_key false is rest = rest is
 
-  pub own-key : (key : Value A) (leaves : List (Held A)) (i : ℕ) (h : Held A) → h ≡ get_or leaves i h → Placed key leaves i → IsFreshIn key leaves → IsOwnKey key h
-  own-key key leaves i h at p fresh = λ shared. go (found key h.rows) refl (element-at (IsUndoable fresh.commit) leaves i h p.range at fresh.undoable shared)
+  pub own-key : (key : Value A) (leaves : List (Held A)) (i : ℕ) (h : Held A) → i < length leaves → h ≡ get_or leaves i h → IsPlaced chain_key (λ h. h.rows) key leaves i → IsFreshIn key leaves → IsOwnKey key h
+  own-key key leaves i h lt at p fresh = λ shared. go (found key h.rows) refl (all-get (IsUndoable fresh.commit) leaves i h lt at fresh.undoable shared)
     where
       in_all : found key h.rows ≡ found key (rows_in leaves)
-      in_all = find-in key (pages_of leaves) i h.rows (omega (arith, p.range, length-map leaves (λ (l : Held A). l.rows))) (page-at leaves i h at) p.before p.after
+      in_all = find-in chain_key (λ h. h.rows) key leaves i h lt at p
 
       go : (o : Option (KeyVersions A)) → found key h.rows ≡ o → RowsAreBelow fresh.commit h.rows → found key h.rows ≡ None
       go None e below = e

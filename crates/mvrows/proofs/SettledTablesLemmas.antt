@@ -12,14 +12,13 @@ use Rattle.value.specs.Order.{value_cmp, value_cmp-total}
 use Rattle.value.specs.declared.value.Value.{Value}
 use Rattle.schema.specs.declared.changes.Change.{Change}
 use Rattle.schema.specs.Plain.{same}
+use Rattle.schema.proofs.PageLemmas.{drop-item}
+use Rattle.schema.proofs.PagedLemmas.{all-get, all-set}
 use Rattle.mvrows.specs.Versions.{Version, VersionedRows, versions_of}
 use Rattle.mvrows.specs.Installing.{first_version, newer, put_version, install_change, installed}
 use Rattle.mvrows.specs.Settling.{Needed, found, settle_key, settle_change, settled}
 use Rattle.mvrows.specs.Fresh.{is_from, IsFresh, AreFresh}
 use Rattle.mvrows.specs.HeldRows.{Held, rows_in, rows_held, AreUndoable}
-use Rattle.mvrows.proofs.VersionLemmas.{all-set}
-use Rattle.mvrows.proofs.PageLemmas.{drop-item}
-use Rattle.mvrows.proofs.HeldLemmas.{element-at}
 use Rattle.mvrows.proofs.SettlingLemmas.{set-kept}
 
 module _ {A : Type 0} where
@@ -120,7 +119,7 @@ module _ {A : Type 0} where
       → AreFresh xs tables → AreFresh xs (set tables t h)
   fresh-set xs tables t old h lt at undo stays f = record {
     commit = f.commit;
-    undoable = all-set (AreUndoable f.commit) tables t h (undo f.commit (element-at (AreUndoable f.commit) tables t old lt at f.undoable)) f.undoable;
+    undoable = all-set (AreUndoable f.commit) tables t h (undo f.commit (all-get (AreUndoable f.commit) tables t old lt at f.undoable)) f.undoable;
     fresh = subst (λ ts. AllByRecursion (IsFreshChange f.commit ts) xs) (sym (map-set rows_in tables t h)) (each xs f.fresh);
   }
     where
@@ -135,7 +134,7 @@ module _ {A : Type 0} where
   -- ---- all of them, one after another
 
   pub fresh-item : (xs : List (Change A)) (i : ℕ) (x : Change A) (tables : List (List (Held A))) → i < length xs → x ≡ get_or xs i x → AreFresh xs tables → AreFresh (x ∷ []) tables
-  fresh-item xs i x tables lt at f = record { commit = f.commit; undoable = f.undoable; fresh = (element-at (IsFreshChange f.commit (rows_held tables)) xs i x lt at f.fresh, tt) }
+  fresh-item xs i x tables lt at f = record { commit = f.commit; undoable = f.undoable; fresh = (all-get (IsFreshChange f.commit (rows_held tables)) xs i x lt at f.fresh, tt) }
 
   pub settled-step : (needed : Needed) (xs : List (Change A)) (i : ℕ) (x : Change A) (old new : List (List (Held A))) (whole : List (VersionedRows A)) → i < length xs → x ≡ get_or xs i x → rows_held new ≡ settle_change needed x (rows_held old)
       → settled needed (drop i xs) (rows_held old) ≡ whole → settled needed (drop (i + 1) xs) (rows_held new) ≡ whole

@@ -13,12 +13,13 @@ use Rattle.value.specs.declared.value.Value.{Value}
 use Rattle.schema.specs.declared.changes.Change.{Change}
 use Rattle.schema.specs.Plain.{same}
 use Rattle.schema.proofs.PlainLemmas.{same_value}
+use Rattle.schema.proofs.PagedLemmas.{all-set}
 use Rattle.mvrows.specs.Versions.{Version, KeyVersions, VersionedRows, versions_of, IsInOrder, AreInOrder, shown_fields, shown_row, shown_rows, shown, newest_version, newest_in, newest, RowsAreBelow, TablesAreBelow}
 use Rattle.mvrows.specs.Fresh.{is_from, IsFresh}
 use Rattle.mvrows.specs.Pruning.{if_row, pruned_versions, are_some, has_version, IsPruned, KeepsNewest}
 use Rattle.mvrows.specs.Settling.{Needed, settled_versions, settled_key, found, if_version, settle_key, settle_change, settled, MayBeRead, AreSettled, AreFew, KeysHaveFew}
 use Rattle.mvrows.specs.HeldRows.{AllVersioned, AreVersioned}
-use Rattle.mvrows.proofs.VersionLemmas.{IsLeast, all-set, all-get_or, get_or-map, table_in_order}
+use Rattle.mvrows.proofs.VersionLemmas.{IsLeast, all-get_or, get_or-map, table_in_order}
 use Rattle.mvrows.proofs.ReadLemmas.{IsReadOf, read-first, read-some, shown-settled_versions, settled-one_left, settled-few, settled_versions-below, newest-settled_versions}
 
 -- what a table keeps, all tables keep where one is changed

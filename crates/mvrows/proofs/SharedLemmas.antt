@@ -1,20 +1,16 @@
 -- A table that views share whole: it has no page for itself, and what is made of it has the same rows.
 use Rattle.std.proofs.Common.{◌≡◌, refl, sym, ap, subst, ◌∙◌, ℕ, true≢false, true, List, [], ◌∷◌, ◌++◌, Option, Some, None}
 use Rattle.std.specs.Prelude.{IfSome}
-use Rattle.std.specs.List.{AllByRecursion}
 use Rattle.value.specs.declared.value.Value.{Value}
+use Rattle.schema.proofs.PagedLemmas.{all-cut, all-join}
 use Rattle.mvrows.specs.Versions.{KeyVersions, AreBelow, RowsAreBelow}
 use Rattle.mvrows.specs.Pruning.{has_version}
 use Rattle.mvrows.specs.Settling.{Needed, found, settle_key}
 use Rattle.mvrows.specs.Fresh.{is_from, IsFreshIn}
 use Rattle.mvrows.specs.HeldRows.{Held, rows_in, undone, undone_in, AreUndoable, own_pruned_in, AllVersioned}
 use Rattle.mvrows.specs.SharedTable.{all_shared}
-use Rattle.mvrows.proofs.HeldLemmas.{all-append, before-below, undone-kept}
+use Rattle.mvrows.proofs.HeldLemmas.{before-below, undone-kept}
 use Rattle.mvrows.proofs.SettledPageLemmas.{settle-missing, rows-not_from}
-
-all-join : {X : Type 0} (P : X → Type 0) (xs ys : List X) → AllByRecursion P xs → AllByRecursion P ys → AllByRecursion P (xs ++ ys)
-all-join P [] ys all more = more
-all-join P (x ∷ xs) ys all more = (all.0, all-join P xs ys all.1 more)
 
 module _ {A : Type 0} where
   -- ---- what a shared table shows
@@ -40,7 +36,7 @@ module _ {A : Type 0} where
   below-undoable : (commit : ℕ) (leaves : List (Held A)) → RowsAreBelow commit (rows_in leaves) → AreUndoable commit leaves
   below-undoable commit [] below = tt
   below-undoable commit (h ∷ hs) below =
-      let parts = all-append (λ k. AreBelow commit k.versions) h.rows (rows_in hs) below in
+      let parts = all-cut (λ k. AreBelow commit k.versions) h.rows (rows_in hs) below in
       ((λ shared. parts.0), below-undoable commit hs parts.1)
 
   undone-below : (commit : ℕ) (h : Held A) → AllVersioned h.rows → RowsAreBelow commit h.rows → undone commit h ≡ h.rows
@@ -49,8 +45,8 @@ module _ {A : Type 0} where
   below-undone : (commit : ℕ) (leaves : List (Held A)) → AllVersioned (rows_in leaves) → RowsAreBelow commit (rows_in leaves) → undone_in commit leaves ≡ rows_in leaves
   below-undone commit [] versioned below = refl
   below-undone commit (h ∷ hs) versioned below =
-      let have = all-append (λ k. has_version k ≡ true) h.rows (rows_in hs) versioned in
-      let parts = all-append (λ k. AreBelow commit k.versions) h.rows (rows_in hs) below in
+      let have = all-cut (λ k. has_version k ≡ true) h.rows (rows_in hs) versioned in
+      let parts = all-cut (λ k. AreBelow commit k.versions) h.rows (rows_in hs) below in
       λ i. undone-below commit h have.0 parts.0 i ++ below-undone commit hs have.1 parts.1 i
 
   pub lent-undone : (commit : ℕ) (leaves more : List (Held A)) → rows_in more ≡ rows_in leaves → AllVersioned (rows_in (all_shared leaves)) → AreUndoable commit (all_shared leaves) → undone_in commit more ≡ undone_in commit (all_shared leaves)

@@ -15,6 +15,7 @@ use Rattle.schema.specs.declared.changes.Change.{Change}
 use Rattle.schema.specs.declared.tables.Tables.{Tables}
 use Rattle.schema.specs.Plain.{changed, put_in, put_all, rows_of}
 use Rattle.schema.specs.Rows.{Rows}
+use Rattle.schema.proofs.PagedLemmas.{all-set}
 use Rattle.mvrows.specs.Versions.{Version, VersionedRows, versions_of, IsInOrder, AreInOrder, shown_fields, shown_row, shown_rows, shown, RowsAreBelow, TablesAreBelow}
 use Rattle.mvrows.specs.Installing.{opened_row, opened, first_version, newer, put_version, install_change, installed}
 
@@ -23,11 +24,6 @@ pub get_or-map : {X Y : Type 0} (f : X → Y) (xs : List X) (i : ℕ) (d : X) �
 get_or-map f [] i d = refl
 get_or-map f (x ∷ xs) zero d = refl
 get_or-map f (x ∷ xs) (suc i) d = get_or-map f xs i d
-
-pub all-set : {X : Type 0} (P : X → Type 0) (xs : List X) (i : ℕ) (y : X) → P y → AllByRecursion P xs → AllByRecursion P (set xs i y)
-all-set P [] i y p all = all
-all-set P (x ∷ xs) zero y p all = (p, all.1)
-all-set P (x ∷ xs) (suc i) y p all = (all.0, all-set P xs i y p all.1)
 
 pub all-get_or : {X : Type 0} (P : X → Type 0) (xs : List X) (i : ℕ) (d : X) → P d → AllByRecursion P xs → P (get_or xs i d)
 all-get_or P [] i d p all = p

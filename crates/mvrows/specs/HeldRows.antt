@@ -1,11 +1,9 @@
 -- A table's keys with their versions, page by page, and which pages it has for itself.
-use Rattle.std.specs.Prelude.{◌≡◌, ℕ, Bool, true, false, not, if◌then◌else◌, List, [], ◌∷◌, map}
-use Rattle.std.specs.Borrow.{Bor}
-use Rattle.std.specs.List.{AllByRecursion, flat_map, list_all}
+use Rattle.std.specs.Prelude.{◌≡◌, ℕ, Bool, true, false, if◌then◌else◌, List, map}
+use Rattle.std.specs.List.{AllByRecursion, flat_map}
 use Rattle.value.specs.declared.key.Key.{Key}
-use Rattle.schema.specs.declared.reader.Bound.{Bound}
-use Rattle.schema.specs.Rows.{is_within}
-use Rattle.mvrows.specs.Versions.{VersionedRows, IsInOrder, RowsAreBelow}
+use Rattle.schema.specs.Pages as pages
+use Rattle.mvrows.specs.Versions.{KeyVersions, VersionedRows, RowsAreBelow}
 use Rattle.mvrows.specs.Pruning.{has_version, pruned_rows}
 use Rattle.mvrows.specs.TakenBack.{rows_before}
 
@@ -15,17 +13,17 @@ pub record Held (A : Type 0) : Type 0 where
   pub rows : VersionedRows A
 
 module _ {A : Type 0} where
+  -- the key of versions
+  abbrev pub chain_key : KeyVersions A → Key A
+  chain_key k = k.key
+
   -- the pages of a table, whoever has them
   abbrev pub pages_of : List (Held A) → List (VersionedRows A)
   pages_of leaves = map (λ h. h.rows) leaves
 
-  -- pages one after another
-  abbrev pub joined : List (VersionedRows A) → VersionedRows A
-  joined pages = flat_map (λ page. page) pages
-
   -- the keys of a table with their versions
   abbrev pub rows_in : List (Held A) → VersionedRows A
-  rows_in leaves = joined (pages_of leaves)
+  rows_in leaves = flat_map (λ h. h.rows) leaves
 
   -- those of each table
   abbrev pub rows_held : List (List (Held A)) → List (VersionedRows A)
@@ -33,16 +31,11 @@ module _ {A : Type 0} where
 
   -- a page has a key
   abbrev pub has_keys : VersionedRows A → Bool
-  has_keys [] = false
-  has_keys (k ∷ ks) = true
+  has_keys rows = pages.has_items rows
 
   -- keys rise over all pages, and each page has one
-  abbrev pub AreLaidOut : List (VersionedRows A) → Type 0
-  AreLaidOut pages = IsInOrder (joined pages) × AllByRecursion (λ page. has_keys page ≡ true) pages
-
-  -- no key of a page is within a bound
-  abbrev pub is_before : Bound (Bor (Key A)) → VersionedRows A → Bool
-  is_before bound page = list_all (λ k. not (is_within bound k.key)) page
+  abbrev pub AreLaidOut : List (Held A) → Type 0
+  AreLaidOut leaves = pages.AreLaidOut chain_key (λ h. h.rows) leaves
 
   -- what is left of a page where the versions of an unfinished commit are taken back: a table puts such versions into its own pages alone
   abbrev pub undone : ℕ → Held A → VersionedRows A
@@ -50,7 +43,7 @@ module _ {A : Type 0} where
 
   -- of all pages
   abbrev pub undone_in : ℕ → List (Held A) → VersionedRows A
-  undone_in commit leaves = joined (map (undone commit) leaves)
+  undone_in commit leaves = flat_map (undone commit) leaves
 
   -- what others share has no such version
   abbrev pub IsUndoable : ℕ → Held A → Type 0
@@ -65,7 +58,7 @@ module _ {A : Type 0} where
 
   -- of all pages
   abbrev pub own_pruned_in : ℕ → List (Held A) → VersionedRows A
-  own_pruned_in oldest leaves = joined (map (own_pruned oldest) leaves)
+  own_pruned_in oldest leaves = flat_map (own_pruned oldest) leaves
 
   -- each key has a version
   abbrev pub AllVersioned : VersionedRows A → Type 0

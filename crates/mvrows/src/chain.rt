@@ -13,6 +13,7 @@ ghost use Rattle.mvrows.specs.TakenBack.{was_there, taken_back};
 
 use crate::version_list::{Stored, VersionList};
 use schema::changes::Change;
+use schema::paged::Keyed;
 use schema::row::{Row, copy_all};
 use std::alloc::{Allocator, Global};
 use std::marker::Model;
@@ -44,6 +45,16 @@ impl<A: Allocator> Model for Chain<A> {
     ghost Value = { KeyVersions A };
 
     ghost view = { λ c. kept_versions c.kept };
+}
+
+impl<A: Allocator> Keyed<A> for Chain<A> {
+    ghost use Rattle.mvrows.specs.HeldRows.{chain_key};
+
+    ghost key_of = { λ c. chain_key c };
+
+    fn key(&self) -> &Key<A> {
+        key_of(&self.kept)
+    }
 }
 
 // A key with the version that a commit left of it, alone: the fields beside it, if any.

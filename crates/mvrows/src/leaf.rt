@@ -9,8 +9,10 @@ ghost use Rattle.mvrows.specs.HeldRows.{undone, IsUndoable, own_pruned, has_keys
 ghost use Rattle.mvrows.specs.Settling.{settle_key};
 ghost use Rattle.mvrows.specs.Fresh.{IsOwnKey};
 
+use crate::chain::Chain;
 use crate::page::Page;
 use schema::changes::Change;
+use schema::paged::Paged;
 use std::alloc::{Allocator, Global};
 use std::marker::Model;
 use std::mem;
@@ -40,6 +42,16 @@ impl<A: Allocator> Model for Leaf<A> {
     ghost Value = { Held A };
 
     ghost view = { λ t. held t.holder };
+}
+
+impl<A: Allocator> Paged<A> for Leaf<A> {
+    type Item = Chain<A>;
+
+    ghost items_of = { λ h. h.rows };
+
+    fn items(&self) -> &[Chain<A>] {
+        self.page().chains()
+    }
 }
 
 // The page that nobody else has, out of a holder; a copy of it where views share it.

@@ -1,25 +1,26 @@
 //! Keys with their versions, side by side: what views share of a table.
 
-ghost use Rattle.std.specs.Prelude.{◌≡◌, ◌≤◌, ◌++◌, ◌∷◌, [], true, false, not, length, take, drop, slice_get, map, filter, find, OnOk, OnErr, IfOk, IfErr, IsTrue};
+ghost use Rattle.std.specs.Prelude.{◌≡◌, ◌≤◌, ◌++◌, ◌∷◌, [], true, false, length, take, drop, slice_get, map, filter, find, OnOk, OnErr, IfOk, IfErr, IsTrue};
 ghost use Rattle.std.specs.List.{AllByRecursion};
-ghost use Rattle.std.specs.Option.{option_copied, option_map_or};
+ghost use Rattle.std.specs.Option.{option_copied};
 ghost use Rattle.std.specs.Ordering.{is_le};
 ghost use Rattle.value.specs.Order.{value_cmp};
 ghost use Rattle.value.specs.Refusals.{out_of_memory};
 ghost use Rattle.schema.specs.Plain.{same};
-ghost use Rattle.schema.specs.Rows.{HasTable, is_within, next_row, rows_within};
+ghost use Rattle.schema.specs.Rows.{HasTable, next_row, rows_within};
 ghost use Rattle.schema.specs.Walking.{lent};
 ghost use Rattle.mvrows.specs.Versions.{IsInOrder, shown_rows};
 ghost use Rattle.mvrows.specs.Installing.{put_version, opened_row, first_version};
 ghost use Rattle.mvrows.specs.Pruning.{pruned_key, has_version, pruned_rows};
 ghost use Rattle.mvrows.specs.Settling.{settle_key};
 ghost use Rattle.mvrows.specs.TakenBack.{was_there, taken_back, rows_before};
-ghost use Rattle.mvrows.specs.HeldRows.{is_before, has_keys};
+ghost use Rattle.mvrows.specs.HeldRows.{has_keys};
 ghost use Rattle.mvrows.specs.Copied.{with_rows};
 
 use crate::chain::Chain;
 use schema::catalog::TableNo;
 use schema::changes::Change;
+use schema::paged::{self, is_at, start};
 use schema::reader::Bound;
 use schema::row::Row;
 use schema::tables::Tables;
@@ -27,6 +28,7 @@ use std::alloc::{Allocator, Global};
 use std::marker::Model;
 use value::key::Key;
 use value::refusal::Refusal;
+use value::value::Value;
 
 /// How many keys a page has at most.
 const MOST_KEYS: usize = 64;
@@ -46,38 +48,6 @@ impl<A: Allocator> Model for Page<A> {
     ghost view = { λ p. p.chains.items };
 
     ghost invariant = { λ p. IsInOrder p.chains.items };
-}
-
-// Whether a key comes before all that a bound lets in.
-fn comes_before<A: Allocator>(key: &Key<A>, bound: Bound<&Key<A>>) -> bool
-    ensures { result ≡ not (is_within bound.entry key.now) }
-{
-    match bound {
-        Bound::Start => false,
-        Bound::From(first) => !first.cmp(key).is_le(),
-        Bound::After(before) => !before.cmp(key).is_lt(),
-    }
-}
-
-// The place of the first key within a bound, of keys in key order.
-fn start<A: Allocator>(chains: &[Chain<A>], bound: Bound<&Key<A>>) -> usize
-    requires { IsInOrder chains.now }
-    ensures within_length { result ≤ length chains.now }
-    ensures before { AllByRecursion (λ k. is_within bound.entry k.key ≡ false) (take result chains.now) }
-    ensures within { AllByRecursion (λ k. is_within bound.entry k.key ≡ true) (drop result chains.now) }
-{
-    chains.partition_point(
-        |chain: &Chain<A>| -> bool
-            ensures { result ≡ not (is_within bound.entry chain.now.key) }
-        { comes_before(chain.key(), bound) },
-    )
-}
-
-// What stands at a place.
-fn at<A: Allocator>(chains: &[Chain<A>], place: usize) -> Option<&Chain<A>>
-    ensures { option_copied result ≡ slice_get chains.now place }
-{
-    chains.get(place)
 }
 
 // The first row that a snapshot shows.
@@ -146,23 +116,6 @@ fn drop_empty<A: Allocator>(chains: &mut Vec<Chain<A>, A>)
     chains.retain(|chain| chain.has_version());
 }
 
-// Whether this is the key.
-fn is_of<A: Allocator>(chain: &Chain<A>, key: &Key<A>) -> bool
-    ensures { result ≡ same key.now chain.now.key }
-{
-    key.cmp(chain.key()).is_eq()
-}
-
-// Whether a key stands at a place.
-fn is_at<A: Allocator>(chains: &[Chain<A>], place: usize, key: &Key<A>) -> bool
-    ensures { result ≡ option_map_or (λ k. same key.now k.key) (slice_get chains.now place) false }
-{
-    match at(chains, place) {
-        Some(chain) => is_of(chain, key),
-        None => false,
-    }
-}
-
 // Puts in a newer version of a change's key at its place.
 fn put<A: Allocator + Copy>(
     alloc: A,
@@ -181,7 +134,7 @@ fn put<A: Allocator + Copy>(
     ensures err { OnErr result (chains.new.items ≡ chains.old.items) }
     ensures memory { IfErr result (λ e. e ≡ out_of_memory) }
 {
-    if is_at(chains.as_slice(), place, change.key()) {
+    if is_at(chains.as_slice(), place, change.key().value()) {
         let chain = &mut chains[place];
         chain.put(alloc, number, change.fields())
     } else {
@@ -205,7 +158,7 @@ fn settle<A: Allocator>(
     ensures { chains.new.items ≡ settle_key (record { oldest = oldest; snapshots = snapshots.now }) key.now
         chains.old.items }
 {
-    if !is_at(chains.as_slice(), place, key) {
+    if !is_at(chains.as_slice(), place, key.value()) {
         return;
     }
     let chain = &mut chains[place];
@@ -224,15 +177,16 @@ impl<A: Allocator> Page<A> {
         }
     }
 
-    /// The keys rise. Nothing is done.
-    pub fn in_order(&self)
-        ensures { IsInOrder self.now }
+    /// Its keys with their versions.
+    pub fn chains(&self) -> &[Chain<A>]
+        ensures rows { result.now ≡ self.now }
+        ensures ordered { IsInOrder self.now }
     {
-        let _chains = &self.chains;
+        self.chains.as_slice()
     }
 
     /// The row of the least key within a bound that a snapshot shows.
-    pub fn next_row(&self, snapshot: u64, bound: Bound<&Key<A>>) -> Option<&Row<A>>
+    pub fn next_row(&self, snapshot: u64, bound: Bound<&Value<A>>) -> Option<&Row<A>>
         ensures { option_copied result ≡ next_row (shown_rows snapshot self.now) bound.entry }
     {
         let chains = self.chains.as_slice();
@@ -245,7 +199,7 @@ impl<A: Allocator> Page<A> {
     pub fn push_rows<'p>(
         &'p self,
         snapshot: u64,
-        bound: Bound<&Key<A>>,
+        bound: Bound<&Value<A>>,
         most: usize,
         rows: &mut Vec<&'p Row<A>, A>,
     ) -> Result<(), Refusal>
@@ -263,22 +217,7 @@ impl<A: Allocator> Page<A> {
     pub fn find(&self, key: &Key<A>) -> Option<&Chain<A>>
         ensures { option_copied result ≡ find (λ k. same key.now k.key) self.now }
     {
-        let chains = self.chains.as_slice();
-        let place = start(chains, Bound::From(key));
-        match at(chains, place) {
-            Some(chain) => { if is_of(chain, key) { Some(chain) } else { None } }
-            None => None,
-        }
-    }
-
-    /// Whether no key is within a bound.
-    pub fn is_before(&self, bound: Bound<&Key<A>>) -> bool
-        ensures { result ≡ is_before bound.entry self.now }
-    {
-        match self.chains.last() {
-            Some(chain) => comes_before(chain.key(), bound),
-            None => true,
-        }
+        paged::find(self.chains.as_slice(), key.value())
     }
 
     /// Whether there is a key.
@@ -321,7 +260,7 @@ impl<A: Allocator> Page<A> {
         ensures err { OnErr result (self.new ≡ self.old) }
         ensures memory { IfErr result (λ e. e ≡ out_of_memory) }
     {
-        let place = start(self.chains.as_slice(), Bound::From(change.key()));
+        let place = start(self.chains.as_slice(), Bound::From(change.key().value()));
         put(alloc, &mut self.chains, place, number, change)
     }
 
@@ -348,8 +287,7 @@ impl<A: Allocator> Page<A> {
         ensures err { OnErr result (self.new ≡ self.old) }
         ensures memory { IfErr result (λ e. e ≡ out_of_memory) }
     {
-        let half = self.chains.len() / 2;
-        let chains = self.chains.split_off(half)?;
+        let chains = paged::cut(&mut self.chains)?;
         Ok(Page { chains })
     }
 
@@ -379,7 +317,7 @@ impl<A: Allocator> Page<A> {
     pub fn settle(&mut self, oldest: u64, snapshots: &[u64], key: &Key<A>)
         ensures { self.new ≡ settle_key (record { oldest = oldest; snapshots = snapshots.now }) key.now self.old }
     {
-        let place = start(self.chains.as_slice(), Bound::From(key));
+        let place = start(self.chains.as_slice(), Bound::From(key.value()));
         settle(&mut self.chains, place, oldest, snapshots, key);
     }
 

@@ -1,15 +1,12 @@
 //! The pages of a table, in key order.
 
-ghost use Rattle.std.specs.Prelude.{ℕ, ◌≡◌, ◌≤◌, ◌<◌, ◌+◌, ◌++◌, [], true, false, length, take, drop, map, filter, find, slice_index_or, slice_set, OnOk, OnErr, IfOk, IfErr, IsTrue};
+ghost use Rattle.std.specs.Prelude.{ℕ, ◌≡◌, ◌≤◌, ◌<◌, ◌+◌, ◌++◌, [], true, false, length, take, map, filter, find, slice_index_or, slice_set, OnOk, OnErr, IfOk, IfErr, IsTrue};
 ghost use Rattle.std.specs.List.{AllByRecursion};
 ghost use Rattle.std.specs.Option.{option_copied};
-ghost use Rattle.std.specs.Ordering.{is_le};
-ghost use Rattle.std.specs.declared.cmp.Ordering.TheVariants.{Less};
-ghost use Rattle.value.specs.Order.{value_cmp};
 ghost use Rattle.value.specs.Refusals.{out_of_memory};
 ghost use Rattle.value.specs.declared.value.Value.{Value};
 ghost use Rattle.schema.specs.Plain.{rows_of, same};
-ghost use Rattle.schema.specs.Rows.{HasTable, IsInKeyOrder, is_within, next_row, row_of, rows_within};
+ghost use Rattle.schema.specs.Rows.{HasTable, next_row, row_of, rows_within};
 ghost use Rattle.schema.specs.Walking.{lent};
 ghost use Rattle.mvrows.specs.Versions.{IsInOrder, shown_rows};
 ghost use Rattle.mvrows.specs.Installing.{opened_row, put_version};
@@ -17,13 +14,14 @@ ghost use Rattle.mvrows.specs.Pruning.{pruned_rows};
 ghost use Rattle.mvrows.specs.Copied.{with_rows};
 ghost use Rattle.mvrows.specs.Fresh.{IsFresh, IsFreshIn};
 ghost use Rattle.mvrows.specs.Settling.{settle_key};
-ghost use Rattle.mvrows.specs.HeldRows.{pages_of, joined, rows_in, has_keys, AreLaidOut, is_before, undone, undone_in, AreUndoable, own_pruned, own_pruned_in, AllVersioned};
+ghost use Rattle.mvrows.specs.HeldRows.{pages_of, rows_in, has_keys, AreLaidOut, undone, undone_in, AreUndoable, own_pruned, own_pruned_in, AllVersioned};
 
 use crate::chain::Chain;
 use crate::leaf::Leaf;
 use crate::page::Page;
 use schema::catalog::TableNo;
 use schema::changes::Change;
+use schema::paged::{find_among, first_page, place_near};
 use schema::reader::Bound;
 use schema::row::Row;
 use schema::table::Table as Plain;
@@ -32,6 +30,7 @@ use std::alloc::{Allocator, Global};
 use std::marker::Model;
 use value::key::Key;
 use value::refusal::Refusal;
+use value::value::Value;
 
 /// The keys of a table with their versions, page by page.
 #[derive(Drop)]
@@ -44,115 +43,20 @@ pub(crate) struct Table<A: Allocator = Global> {
 
 impl<A: Allocator> Model for Table<A> {
     ghost use Rattle.std.specs.Prelude.{List};
-    ghost use Rattle.mvrows.specs.HeldRows.{Held, pages_of, AreLaidOut};
+    ghost use Rattle.mvrows.specs.HeldRows.{Held, AreLaidOut};
 
     ghost Value = { List (Held A) };
 
     ghost view = { λ t. t.leaves.items };
 
-    ghost invariant = { λ t. AreLaidOut (pages_of t.leaves.items) };
-}
-
-// The place of the first page with a key within a bound.
-fn start<A: Allocator>(leaves: &[Leaf<A>], bound: Bound<&Key<A>>) -> usize
-    requires { AreLaidOut (pages_of leaves.now) }
-    ensures within_length { result ≤ length leaves.now }
-    ensures before { AllByRecursion (λ page. is_before bound.entry page ≡ true) (take result (pages_of leaves.now)) }
-    ensures within { AllByRecursion (λ page. is_before bound.entry page ≡ false) (drop result (pages_of leaves.now)) }
-{
-    leaves.partition_point(
-        |leaf: &Leaf<A>| -> bool
-            ensures { result ≡ is_before bound.entry leaf.now.rows }
-        { leaf.page().is_before(bound) },
-    )
-}
-
-// The place of the page that a key belongs to.
-fn place_of<A: Allocator>(leaves: &[Leaf<A>], key: &Key<A>) -> usize
-    requires laid_out { AreLaidOut (pages_of leaves.now) }
-    requires some { 0 < length leaves.now }
-    ensures range { result < length leaves.now }
-    ensures before { AllByRecursion (λ k. is_le (value_cmp key.now k.key) ≡ false)
-        (joined (take result (pages_of leaves.now))) }
-    ensures after { AllByRecursion (λ l. value_cmp key.now l ≡ Less)
-        (map (λ k. k.key) (joined (drop (result + 1) (pages_of leaves.now)))) }
-{
-    let from = start(leaves, Bound::From(key));
-    if from < leaves.len() {
-        from
-    } else {
-        leaves.len() - 1
-    }
-}
-
-// Whether no key of the page at a place is within a bound.
-fn is_before_at<A: Allocator>(leaves: &[Leaf<A>], place: usize, bound: Bound<&Key<A>>) -> bool
-    requires { place < length leaves.now }
-    ensures { result ≡ is_before bound.entry (slice_index_or (pages_of leaves.now) place []) }
-{
-    let leaf = &leaves[place];
-    leaf.page().is_before(bound)
-}
-
-// Whether a key is known to be above those of the pages before a place.
-fn is_above_those_before<A: Allocator>(leaves: &[Leaf<A>], place: usize, key: &Key<A>) -> bool
-    requires laid_out { AreLaidOut (pages_of leaves.now) }
-    requires range { place < length leaves.now }
-    ensures { IsTrue result → AllByRecursion (λ k. is_le (value_cmp key.now k.key) ≡ false)
-        (joined (take place (pages_of leaves.now))) }
-{
-    place == 0 || is_before_at(leaves, place - 1, Bound::From(key))
-}
-
-// Whether a key is known to be below those of the pages behind a place.
-fn is_below_those_behind<A: Allocator>(leaves: &[Leaf<A>], place: usize, key: &Key<A>) -> bool
-    requires laid_out { AreLaidOut (pages_of leaves.now) }
-    requires range { place < length leaves.now }
-    ensures { IsTrue result → AllByRecursion (λ l. value_cmp key.now l ≡ Less)
-        (map (λ k. k.key) (joined (drop (place + 1) (pages_of leaves.now)))) }
-{
-    place + 1 == leaves.len() || !is_before_at(leaves, place, Bound::From(key))
-}
-
-// Whether a key is known to belong to the page at a place.
-fn belongs_to<A: Allocator>(leaves: &[Leaf<A>], place: usize, key: &Key<A>) -> bool
-    requires { AreLaidOut (pages_of leaves.now) }
-    ensures range { IsTrue result → place < length leaves.now }
-    ensures before { IsTrue result → AllByRecursion (λ k. is_le (value_cmp key.now k.key) ≡ false)
-        (joined (take place (pages_of leaves.now))) }
-    ensures after { IsTrue result → AllByRecursion (λ l. value_cmp key.now l ≡ Less)
-        (map (λ k. k.key) (joined (drop (place + 1) (pages_of leaves.now)))) }
-{
-    place < leaves.len()
-        && is_above_those_before(leaves, place, key)
-        && is_below_those_behind(leaves, place, key)
-}
-
-// The place of the page that a key belongs to, which is asked for first at a place and behind it: changes mostly come
-// in key order.
-fn place_near<A: Allocator>(leaves: &[Leaf<A>], near: usize, key: &Key<A>) -> usize
-    requires laid_out { AreLaidOut (pages_of leaves.now) }
-    requires some { 0 < length leaves.now }
-    ensures range { result < length leaves.now }
-    ensures before { AllByRecursion (λ k. is_le (value_cmp key.now k.key) ≡ false)
-        (joined (take result (pages_of leaves.now))) }
-    ensures after { AllByRecursion (λ l. value_cmp key.now l ≡ Less)
-        (map (λ k. k.key) (joined (drop (result + 1) (pages_of leaves.now)))) }
-{
-    if belongs_to(leaves, near, key) {
-        return near;
-    }
-    if near < leaves.len() && belongs_to(leaves, near + 1, key) {
-        return near + 1;
-    }
-    place_of(leaves, key)
+    ghost invariant = { λ t. AreLaidOut t.leaves.items };
 }
 
 // The row of the least key within a bound that a snapshot shows of some pages.
 fn next_in<'l, A: Allocator>(
     leaves: &'l [Leaf<A>],
     snapshot: u64,
-    bound: Bound<&Key<A>>,
+    bound: Bound<&Value<A>>,
 ) -> Option<&'l Row<A>>
     ensures { option_copied result ≡ next_row (shown_rows snapshot (rows_in leaves.now)) bound.entry }
 {
@@ -168,7 +72,7 @@ fn next_in<'l, A: Allocator>(
 fn push_rows_in<'l, A: Allocator>(
     leaves: &'l [Leaf<A>],
     snapshot: u64,
-    bound: Bound<&Key<A>>,
+    bound: Bound<&Value<A>>,
     most: usize,
     rows: &mut Vec<&'l Row<A>, A>,
 ) -> Result<(), Refusal>
@@ -206,9 +110,9 @@ fn copy_all_shown<A: Allocator + Copy>(
 
 // Puts a page at the end, if it has a key.
 fn push_page<A: Allocator>(leaves: &mut Vec<Leaf<A>, A>, page: Page<A>) -> Result<(), Refusal>
-    requires { AllByRecursion (λ page. has_keys page ≡ true) (pages_of leaves.old.items) }
+    requires { AllByRecursion (λ h. has_keys h.rows ≡ true) leaves.old.items }
     ensures ok { OnOk result (rows_in leaves.new.items ≡ rows_in leaves.old.items ++ page) }
-    ensures keys { AllByRecursion (λ page. has_keys page ≡ true) (pages_of leaves.new.items) }
+    ensures keys { AllByRecursion (λ h. has_keys h.rows ≡ true) leaves.new.items }
     ensures memory { IfErr result (λ e. e ≡ out_of_memory) }
 {
     if page.has_keys() {
@@ -223,9 +127,9 @@ fn with_room<A: Allocator + Copy>(
     leaves: &mut Vec<Leaf<A>, A>,
     page: Page<A>,
 ) -> Result<Page<A>, Refusal>
-    requires { AllByRecursion (λ page. has_keys page ≡ true) (pages_of leaves.old.items) }
+    requires { AllByRecursion (λ h. has_keys h.rows ≡ true) leaves.old.items }
     ensures ok { IfOk result (λ next. rows_in leaves.new.items ++ next ≡ rows_in leaves.old.items ++ page) }
-    ensures keys { AllByRecursion (λ page. has_keys page ≡ true) (pages_of leaves.new.items) }
+    ensures keys { AllByRecursion (λ h. has_keys h.rows ≡ true) leaves.new.items }
     ensures memory { IfErr result (λ e. e ≡ out_of_memory) }
 {
     if page.is_full() {
@@ -243,11 +147,11 @@ fn push_opened<A: Allocator + Copy>(
     page: Page<A>,
     rows: Vec<Row<A>, A>,
 ) -> Result<Page<A>, Refusal>
-    requires keys { AllByRecursion (λ page. has_keys page ≡ true) (pages_of leaves.old.items) }
+    requires keys { AllByRecursion (λ h. has_keys h.rows ≡ true) leaves.old.items }
     requires ordered { IsInOrder (rows_in leaves.old.items ++ (page ++ map opened_row rows.items)) }
     ensures ok { IfOk result (λ next. rows_in leaves.new.items ++ next ≡
         rows_in leaves.old.items ++ (page ++ map opened_row rows.items)) }
-    ensures keys { AllByRecursion (λ page. has_keys page ≡ true) (pages_of leaves.new.items) }
+    ensures keys { AllByRecursion (λ h. has_keys h.rows ≡ true) leaves.new.items }
     ensures memory { IfErr result (λ e. e ≡ out_of_memory) }
 {
     let mut page = page;
@@ -261,7 +165,7 @@ fn push_opened<A: Allocator + Copy>(
 // The pages of the opening: of each row of a table, moved.
 fn open_pages<A: Allocator + Copy>(alloc: A, rows: Plain<A>) -> Result<Vec<Leaf<A>, A>, Refusal>
     ensures ok { IfOk result (λ leaves. rows_in leaves.items ≡ map opened_row rows) }
-    ensures laid_out { IfOk result (λ leaves. AreLaidOut (pages_of leaves.items)) }
+    ensures laid_out { IfOk result (λ leaves. AreLaidOut leaves.items) }
     ensures memory { IfErr result (λ e. e ≡ out_of_memory) }
 {
     let mut leaves = Vec::new(alloc);
@@ -281,9 +185,9 @@ fn cut<A: Allocator + Copy>(
 ) -> Result<(), Refusal>
     requires range { place < length leaves.old.items }
     requires two { 2 ≤ length (slice_index_or (pages_of leaves.old.items) place []) }
-    requires laid_out { AreLaidOut (pages_of leaves.old.items) }
+    requires laid_out { AreLaidOut leaves.old.items }
     ensures rows { rows_in leaves.new.items ≡ rows_in leaves.old.items }
-    ensures laid_out { AreLaidOut (pages_of leaves.new.items) }
+    ensures laid_out { AreLaidOut leaves.new.items }
     ensures some { 0 < length leaves.new.items }
     ensures undo { (commit : ℕ) → AllVersioned (rows_in leaves.old.items) → AreUndoable commit leaves.old.items →
         undone_in commit leaves.new.items ≡ undone_in commit leaves.old.items }
@@ -313,10 +217,10 @@ fn make_room<A: Allocator + Copy>(
     place: usize,
     key: &Key<A>,
 ) -> Result<(), Refusal>
-    requires laid_out { AreLaidOut (pages_of leaves.old.items) }
+    requires laid_out { AreLaidOut leaves.old.items }
     requires range { place < length leaves.old.items }
     ensures rows { rows_in leaves.new.items ≡ rows_in leaves.old.items }
-    ensures laid_out { AreLaidOut (pages_of leaves.new.items) }
+    ensures laid_out { AreLaidOut leaves.new.items }
     ensures some { 0 < length leaves.new.items }
     ensures undo { (commit : ℕ) → AllVersioned (rows_in leaves.old.items) → AreUndoable commit leaves.old.items →
         undone_in commit leaves.new.items ≡ undone_in commit leaves.old.items }
@@ -338,19 +242,19 @@ fn put<A: Allocator + Copy>(
     commit: u64,
     change: &Change<A>,
 ) -> Result<(), Refusal>
-    requires laid_out { AreLaidOut (pages_of leaves.old.items) }
+    requires laid_out { AreLaidOut leaves.old.items }
     requires some { 0 < length leaves.old.items }
     ensures ok { OnOk result (rows_in leaves.new.items ≡
         put_version change.now.key (record { number = commit; fields = change.now.fields })
         (rows_in leaves.old.items)) }
     ensures err { OnErr result (rows_in leaves.new.items ≡ rows_in leaves.old.items) }
-    ensures laid_out { AreLaidOut (pages_of leaves.new.items) }
+    ensures laid_out { AreLaidOut leaves.new.items }
     ensures undo { AllVersioned (rows_in leaves.old.items) → AreUndoable commit leaves.old.items →
         undone_in commit leaves.new.items ≡ undone_in commit leaves.old.items }
     ensures undoable { AreUndoable commit leaves.old.items → AreUndoable commit leaves.new.items }
     ensures memory { IfErr result (λ e. e ≡ out_of_memory) }
 {
-    let place = place_near(leaves.as_slice(), near, change.key());
+    let place = place_near(leaves.as_slice(), near, change.key().value());
     let leaf = &mut leaves[place];
     leaf.put(alloc, commit, change)
 }
@@ -367,7 +271,7 @@ fn put_first<A: Allocator + Copy>(
         put_version change.now.key (record { number = commit; fields = change.now.fields })
         (rows_in leaves.old.items)) }
     ensures err { OnErr result (leaves.new.items ≡ leaves.old.items) }
-    ensures laid_out { OnOk result (AreLaidOut (pages_of leaves.new.items)) }
+    ensures laid_out { OnOk result (AreLaidOut leaves.new.items) }
     ensures undo { OnOk result (undone_in commit leaves.new.items ≡ undone_in commit leaves.old.items) }
     ensures undoable { OnOk result (AreUndoable commit leaves.new.items) }
     ensures memory { IfErr result (λ e. e ≡ out_of_memory) }
@@ -385,19 +289,19 @@ fn put_more<A: Allocator + Copy>(
     commit: u64,
     change: &Change<A>,
 ) -> Result<(), Refusal>
-    requires laid_out { AreLaidOut (pages_of leaves.old.items) }
+    requires laid_out { AreLaidOut leaves.old.items }
     requires some { 0 < length leaves.old.items }
     ensures ok { OnOk result (rows_in leaves.new.items ≡
         put_version change.now.key (record { number = commit; fields = change.now.fields })
         (rows_in leaves.old.items)) }
     ensures err { OnErr result (rows_in leaves.new.items ≡ rows_in leaves.old.items) }
-    ensures laid_out { AreLaidOut (pages_of leaves.new.items) }
+    ensures laid_out { AreLaidOut leaves.new.items }
     ensures undo { AllVersioned (rows_in leaves.old.items) → AreUndoable commit leaves.old.items →
         undone_in commit leaves.new.items ≡ undone_in commit leaves.old.items }
     ensures undoable { AreUndoable commit leaves.old.items → AreUndoable commit leaves.new.items }
     ensures memory { IfErr result (λ e. e ≡ out_of_memory) }
 {
-    let place = place_near(leaves.as_slice(), *near, change.key());
+    let place = place_near(leaves.as_slice(), *near, change.key().value());
     *near = place;
     make_room(alloc, leaves, place, change.key())?;
     put(alloc, leaves, place, commit, change)
@@ -446,15 +350,15 @@ fn settle<A: Allocator>(
     snapshots: &[u64],
     key: &Key<A>,
 )
-    requires laid_out { AreLaidOut (pages_of leaves.old.items) }
+    requires laid_out { AreLaidOut leaves.old.items }
     requires some { 0 < length leaves.old.items }
     requires fresh { IsFreshIn key.now leaves.old.items }
     ensures rows { rows_in leaves.new.items ≡ settle_key (record { oldest = oldest; snapshots = snapshots.now }) key.now
         (rows_in leaves.old.items) }
-    ensures laid_out { AreLaidOut (pages_of leaves.new.items) }
+    ensures laid_out { AreLaidOut leaves.new.items }
     ensures undoable { (commit : ℕ) → AreUndoable commit leaves.old.items → AreUndoable commit leaves.new.items }
 {
-    let place = place_near(leaves.as_slice(), *near, key);
+    let place = place_near(leaves.as_slice(), *near, key.value());
     *near = place;
     let leaf = &mut leaves[place];
     leaf.settle(oldest, snapshots, key);
@@ -522,13 +426,13 @@ fn share_around<A: Allocator + Copy>(
     near: usize,
     key: &Key<A>,
 )
-    requires { AreLaidOut (pages_of leaves.old.items) }
+    requires { AreLaidOut leaves.old.items }
     ensures { pages_of leaves.new.items ≡ pages_of leaves.old.items }
 {
     if leaves.is_empty() {
         return;
     }
-    let place = place_near(leaves.as_slice(), near, key);
+    let place = place_near(leaves.as_slice(), near, key.value());
     share_before(alloc, leaves, place);
     share_from(alloc, leaves, place);
 }
@@ -567,9 +471,9 @@ impl<A: Allocator> Table<A> {
     pub fn next_row(&self, snapshot: u64, bound: Bound<&Key<A>>) -> Option<&Row<A>>
         ensures { option_copied result ≡ next_row (shown_rows snapshot (rows_in self.now)) bound.entry }
     {
+        let bound = bound.of_values();
         let leaves = self.leaves.as_slice();
-        let from = start(leaves, bound);
-        let (_, within) = leaves.split_at(from);
+        let (_, within) = leaves.split_at(first_page(leaves, bound));
         next_in(within, snapshot, bound)
     }
 
@@ -585,8 +489,9 @@ impl<A: Allocator> Table<A> {
             take most (rows_within (shown_rows snapshot (rows_in self.now)) bound.entry)) }
         ensures err { IfErr result (λ e. e ≡ out_of_memory) }
     {
+        let bound = bound.of_values();
         let leaves = self.leaves.as_slice();
-        let (_, within) = leaves.split_at(start(leaves, bound));
+        let (_, within) = leaves.split_at(first_page(leaves, bound));
         let mut rows = Vec::new(alloc);
         push_rows_in(within, snapshot, bound, most, &mut rows)?;
         Ok(rows)
@@ -596,12 +501,7 @@ impl<A: Allocator> Table<A> {
     pub fn find(&self, key: &Key<A>) -> Option<&Chain<A>>
         ensures { option_copied result ≡ find (λ k. same key.now k.key) (rows_in self.now) }
     {
-        let leaves = self.leaves.as_slice();
-        if leaves.is_empty() {
-            return None;
-        }
-        let leaf = &leaves[place_of(leaves, key)];
-        leaf.page().find(key)
+        find_among(self.leaves.as_slice(), key.value())
     }
 
     /// The row of a key that a snapshot shows.

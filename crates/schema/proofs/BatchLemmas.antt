@@ -8,9 +8,10 @@ use Rattle.value.specs.declared.key.Key.{Key}
 use Rattle.value.proofs.Basics.{drop_next}
 use Rattle.schema.specs.declared.row.Row.{Row}
 use Rattle.schema.specs.declared.reader.Bound.{Bound}
-use Rattle.schema.specs.Paged.{joined, is_before}
+use Rattle.schema.specs.Paged.{row_key, joined, is_before}
 use Rattle.schema.specs.Rows.{Rows, is_within, rows_within}
 use Rattle.schema.specs.Walking.{lent}
+use Rattle.schema.proofs.PageLemmas.{drop-item}
 use Rattle.schema.proofs.PagedLemmas.{pages_before}
 
 -- ---- the first so many
@@ -53,7 +54,7 @@ module _ {A : Type 0} where
       ap (λ ps. rows_within (joined ps) bound) (sym (take-append-drop i pages))
       ∙ ap (λ rows. rows_within rows bound) (flat_map-append (λ page. page) (take i pages) (drop i pages))
       ∙ within_append bound (joined (take i pages)) (joined (drop i pages))
-      ∙ ap (λ rows. rows ++ rows_within (joined (drop i pages)) bound) (none_within bound (joined (take i pages)) (pages_before bound (take i pages) early)))
+      ∙ ap (λ rows. rows ++ rows_within (joined (drop i pages)) bound) (none_within bound (joined (take i pages)) (pages_before row_key (λ page. page) bound (take i pages) early)))
 
   -- one page more
   pub page_pushed : (i most : ℕ) (bound : Bound (Bor (Key A))) (pages : List (Rows A)) (page : Rows A) (old new : List (Bor (Row A))) (total : Rows A) → i < length pages → page ≡ get_or pages i page

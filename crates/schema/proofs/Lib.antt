@@ -1,14 +1,17 @@
 mod AddingLemmas
 pub mod BatchLemmas
 pub mod ChangingLemmas
+pub mod FindLemmas
 pub mod InsertingLemmas
 mod KeyedLemmas
 mod LevelsLemmas
 pub mod LiteralLemmas
 mod MadeLemmas
 mod NamedLemmas
+mod NextLemmas
 pub mod PageLemmas
-mod PagedLemmas
+pub mod PagedLemmas
+mod PutLemmas
 pub mod RowsInOrder
 pub mod PlainLemmas
 pub mod SoundLemmas

@@ -10,6 +10,7 @@ pub mod Levels
 pub mod Named
 pub mod Names
 pub mod Paged
+pub mod Pages
 pub mod Plain
 pub mod Rows
 pub mod Walking

@@ -6,6 +6,7 @@ pub mod catalog;
 pub mod changes;
 pub mod definition;
 pub mod names;
+pub mod paged;
 pub mod reader;
 pub mod row;
 pub mod table;

@@ -26,7 +26,7 @@ pub enum Bound<K> {
 
 impl<'k, A: Allocator> Bound<&'k Key<A>> {
     /// The same, of the value of its key.
-    pub(crate) fn of_values(self) -> Bound<&'k Value<A>>
+    pub fn of_values(self) -> Bound<&'k Value<A>>
         ensures next { (rows : Rows A) → next_row rows result ≡ next_row rows self.entry }
         ensures within { (rows : Rows A) → rows_within rows result ≡ rows_within rows self.entry }
     {

@@ -3,6 +3,7 @@
 ghost use Rattle.std.specs.Prelude.{◌≡◌, ◌+◌, ◌-◌, ◌<◌, ◌≤◌, ◌∷◌, length, slice_get, Some, IfOk, IfErr};
 ghost use Rattle.value.specs.Refusals.{out_of_memory};
 
+use crate::paged::Keyed;
 use std::alloc::{Allocator, Global};
 use std::marker::Model;
 use value::key::Key;
@@ -25,6 +26,16 @@ impl<A: Allocator> Model for Row<A> {
     ghost Value = { Datum A × List (Datum A) };
 
     ghost view = { λ r. (r.key, r.fields.items) };
+}
+
+impl<A: Allocator> Keyed<A> for Row<A> {
+    ghost use Rattle.schema.specs.Paged.{row_key};
+
+    ghost key_of = { λ r. row_key r };
+
+    fn key(&self) -> &Key<A> {
+        &self.key
+    }
 }
 
 impl<A: Allocator> Row<A> {

@@ -1,14 +1,13 @@
 //! The rows of one table by key, page by page.
 
-ghost use Rattle.std.specs.Prelude.{◌≡◌, ◌≤◌, ◌<◌, ◌+◌, ◌++◌, ◌∷◌, [], None, true, false, length, take, drop, map, is_some, slice_get, slice_index_or, OnOk, OnErr, IfOk, IfErr, IsTrue};
+ghost use Rattle.std.specs.Prelude.{◌≡◌, ◌≤◌, ◌<◌, ◌+◌, ◌++◌, [], None, true, false, length, take, is_some, slice_index_or, OnOk, OnErr, IfOk, IfErr, IsTrue};
 ghost use Rattle.std.specs.FinMap.{find};
 ghost use Rattle.std.specs.List.{AllByRecursion};
 ghost use Rattle.std.specs.Option.{option_copied};
 ghost use Rattle.std.specs.Ordering.{is_le};
-ghost use Rattle.std.specs.declared.cmp.Ordering.TheVariants.{Less};
 ghost use Rattle.value.specs.Order.{value_cmp};
 ghost use Rattle.value.specs.Refusals.{out_of_memory};
-ghost use Rattle.schema.specs.Paged.{joined, has_rows, AreLaidOut, is_before};
+ghost use Rattle.schema.specs.Paged.{joined, AreLaidOut};
 ghost use Rattle.schema.specs.Plain.{changed};
 ghost use Rattle.schema.specs.declared.row.Row.{Row};
 ghost use Rattle.schema.specs.Rows.{IsInKeyOrder, row_of, next_row, put_row, rows_within};
@@ -16,10 +15,11 @@ ghost use Rattle.schema.specs.Walking.{lent};
 
 mod page;
 
+use crate::paged::{at, find_among, first_page, place_of};
 use crate::reader::Bound;
 use crate::row::{Row, copy_all};
 pub use page::Page;
-use page::{full_room, is_of};
+use page::full_room;
 use std::alloc::{AllocError, Allocator, Global};
 use std::marker::Model;
 use value::key::Key;
@@ -48,27 +48,6 @@ impl<A: Allocator> Model for Table<A> {
     ghost invariant = { λ t. AreLaidOut t.pages.items × (t.count ≡ length (joined t.pages.items)) };
 }
 
-// The place of the first page with a row within a bound.
-fn start<A: Allocator>(pages: &[Page<A>], bound: Bound<&Value<A>>) -> usize
-    requires { AreLaidOut pages.now }
-    ensures within_length { result ≤ length pages.now }
-    ensures before { AllByRecursion (λ page. is_before bound.entry page ≡ true) (take result pages.now) }
-    ensures within { AllByRecursion (λ page. is_before bound.entry page ≡ false) (drop result pages.now) }
-{
-    pages.partition_point(
-        |page: &Page<A>| -> bool
-            ensures { result ≡ is_before bound.entry page.now }
-        { page.is_before(bound) },
-    )
-}
-
-// What stands at a place.
-fn at<A: Allocator>(pages: &[Page<A>], place: usize) -> Option<&Page<A>>
-    ensures { option_copied result ≡ slice_get pages.now place }
-{
-    pages.get(place)
-}
-
 // Appends the rows within a bound of some pages, up to so many in all.
 fn push_rows_in<'p, A: Allocator>(
     pages: &'p [Page<A>],
@@ -88,23 +67,6 @@ fn push_rows_in<'p, A: Allocator>(
         page.push_rows(bound, most, rows)?;
     }
     Ok(())
-}
-
-// The place of the page that a key belongs to.
-fn place_of<A: Allocator>(pages: &[Page<A>], key: &Value<A>) -> usize
-    requires laid_out { AreLaidOut pages.now }
-    requires some { 0 < length pages.now }
-    ensures range { result < length pages.now }
-    ensures before { AllByRecursion (λ row. is_le (value_cmp key.now row.0) ≡ false) (joined (take result pages.now)) }
-    ensures after { AllByRecursion (λ l. value_cmp key.now l ≡ Less)
-        (map (λ row. row.0) (joined (drop (result + 1) pages.now))) }
-{
-    let from = start(pages, Bound::From(key));
-    if from < pages.len() {
-        from
-    } else {
-        pages.len() - 1
-    }
 }
 
 // Whether a key comes behind all rows.
@@ -312,7 +274,7 @@ impl<A: Allocator> Table<A> {
         ensures ordered { IsInKeyOrder self.now }
     {
         let pages = self.pages.as_slice();
-        match at(pages, start(pages, bound)) {
+        match at(pages, first_page(pages, bound)) {
             Some(page) => page.next_row(bound),
             None => None,
         }
@@ -322,10 +284,7 @@ impl<A: Allocator> Table<A> {
     fn find(&self, key: &Value<A>) -> Option<&Row<A>>
         ensures { option_copied result ≡ row_of self.now key.now }
     {
-        match self.first_within(Bound::From(key)) {
-            Some(row) => { if is_of(row, key) { Some(row) } else { None } }
-            None => None,
-        }
+        find_among(self.pages.as_slice(), key)
     }
 
     /// The row of a key.
@@ -375,7 +334,7 @@ impl<A: Allocator> Table<A> {
     {
         let bound = after.of_values();
         let pages = self.pages.as_slice();
-        let (_, within) = pages.split_at(start(pages, bound));
+        let (_, within) = pages.split_at(first_page(pages, bound));
         let mut rows = Vec::new(alloc);
         push_rows_in(within, bound, most, &mut rows)?;
         Ok(rows)

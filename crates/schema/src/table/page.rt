@@ -1,16 +1,17 @@
 //! A page: rows of a table side by side, in key order.
 
-ghost use Rattle.std.specs.Prelude.{◌≡◌, ◌≤◌, ◌<◌, ◌++◌, ◌∷◌, [], None, true, false, not, length, take, drop, slice_get, OnOk, OnErr, IfOk, IfErr, IsTrue};
-ghost use Rattle.std.specs.List.{AllByRecursion, list_all};
-ghost use Rattle.std.specs.Option.{option_copied, option_map_or};
+ghost use Rattle.std.specs.Prelude.{◌≡◌, ◌≤◌, ◌<◌, ◌++◌, ◌∷◌, [], None, true, false, length, take, drop, OnOk, OnErr, IfOk, IfErr, IsTrue};
+ghost use Rattle.std.specs.List.{AllByRecursion};
+ghost use Rattle.std.specs.Option.{option_copied};
 ghost use Rattle.std.specs.Ordering.{is_le};
 ghost use Rattle.value.specs.Order.{value_cmp};
 ghost use Rattle.value.specs.Refusals.{out_of_memory};
 ghost use Rattle.schema.specs.Paged.{has_rows, is_before};
-ghost use Rattle.schema.specs.Plain.{changed, same};
-ghost use Rattle.schema.specs.Rows.{IsInKeyOrder, is_within, next_row, put_row, rows_within};
+ghost use Rattle.schema.specs.Plain.{changed};
+ghost use Rattle.schema.specs.Rows.{IsInKeyOrder, next_row, put_row, rows_within};
 ghost use Rattle.schema.specs.Walking.{lent};
 
+use crate::paged::{self, Paged, at, is_at, start};
 use crate::reader::Bound;
 use crate::row::Row;
 use std::alloc::{Allocator, Global};
@@ -38,38 +39,6 @@ impl<A: Allocator> Model for Page<A> {
     ghost invariant = { λ p. IsInKeyOrder p.rows.items };
 }
 
-// Whether a key comes before all that a bound lets in.
-fn comes_before<A: Allocator>(key: &Value<A>, bound: Bound<&Value<A>>) -> bool
-    ensures { result ≡ not (is_within bound.entry key.now) }
-{
-    match bound {
-        Bound::Start => false,
-        Bound::From(first) => !first.cmp(key).is_le(),
-        Bound::After(before) => !before.cmp(key).is_lt(),
-    }
-}
-
-// The place of the first row within a bound.
-fn start<A: Allocator>(rows: &[Row<A>], bound: Bound<&Value<A>>) -> usize
-    requires { IsInKeyOrder rows.now }
-    ensures within_length { result ≤ length rows.now }
-    ensures before { AllByRecursion (λ row. is_within bound.entry row.0 ≡ false) (take result rows.now) }
-    ensures within { AllByRecursion (λ row. is_within bound.entry row.0 ≡ true) (drop result rows.now) }
-{
-    rows.partition_point(
-        |row: &Row<A>| -> bool
-            ensures { result ≡ not (is_within bound.entry row.now.0) }
-        { comes_before(row.key().value(), bound) },
-    )
-}
-
-// What stands at a place.
-fn at<A: Allocator>(rows: &[Row<A>], place: usize) -> Option<&Row<A>>
-    ensures { option_copied result ≡ slice_get rows.now place }
-{
-    rows.get(place)
-}
-
 // Appends rows, up to so many in all.
 fn push_all<'p, A: Allocator>(
     page: &'p [Row<A>],
@@ -87,23 +56,6 @@ fn push_all<'p, A: Allocator>(
         rows.push(row)?;
     }
     Ok(())
-}
-
-/// Whether this is the row of a key.
-pub(crate) fn is_of<A: Allocator>(row: &Row<A>, key: &Value<A>) -> bool
-    ensures { result ≡ same key.now row.now.0 }
-{
-    key.cmp(row.key().value()).is_eq()
-}
-
-// Whether the row of a key stands at a place.
-fn is_at<A: Allocator>(rows: &[Row<A>], place: usize, key: &Value<A>) -> bool
-    ensures { result ≡ option_map_or (λ row. same key.now row.0) (slice_get rows.now place) false }
-{
-    match at(rows, place) {
-        Some(row) => is_of(row, key),
-        None => false,
-    }
 }
 
 // Puts a row in at its place, over any of its key.
@@ -136,6 +88,16 @@ fn remove<A: Allocator>(rows: &mut Vec<Row<A>, A>, place: usize, key: &Value<A>)
     }
 }
 
+impl<A: Allocator> Paged<A> for Page<A> {
+    type Item = Row<A>;
+
+    ghost items_of = { λ p. p };
+
+    fn items(&self) -> &[Row<A>] {
+        self.rows()
+    }
+}
+
 impl<A: Allocator> Page<A> {
     /// A page of one row, with room for some more.
     pub fn of(alloc: A, row: Row<A>, room: usize) -> Result<Page<A>, Refusal>
@@ -159,10 +121,7 @@ impl<A: Allocator> Page<A> {
     pub fn is_before(&self, bound: Bound<&Value<A>>) -> bool
         ensures { result ≡ is_before bound.entry self.now }
     {
-        match self.rows.last() {
-            Some(row) => comes_before(row.key().value(), bound),
-            None => true,
-        }
+        paged::is_before(self.rows.as_slice(), bound)
     }
 
     /// The row of the least key within a bound.
@@ -243,8 +202,7 @@ impl<A: Allocator> Page<A> {
         ensures err { OnErr result (self.new ≡ self.old) }
         ensures memory { IfErr result (λ e. e ≡ out_of_memory) }
     {
-        let half = self.rows.len() / 2;
-        let rows = self.rows.split_off(half)?;
+        let rows = paged::cut(&mut self.rows)?;
         Ok(Page { rows })
     }
 

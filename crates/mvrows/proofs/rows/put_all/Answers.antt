@@ -1,5 +1,5 @@
 use Rattle.std.proofs.Common.{sym, subst, arith, take}
-use Rattle.mvrows.proofs.PageLemmas.{take-item}
+use Rattle.schema.proofs.PageLemmas.{take-item}
 use Rattle.mvrows.proofs.HeldLemmas.{UnderWay, under_way-more}
 use Rattle.mvrows.proofs.rows.put_all.Goals as goal
 

@@ -1,7 +1,8 @@
 use Rattle.std.proofs.Common.{arith, ◌<◌, length, ◌∙◌}
 use Rattle.mvrows.specs.HeldRows.{AreUndoable, undone_in, AllVersioned}
 use Rattle.mvrows.proofs.PageLemmas.{on_ok}
-use Rattle.mvrows.proofs.HeldLemmas.{held-set, same-set, rows-at, element-at, versioned-set}
+use Rattle.schema.proofs.PagedLemmas.{all-get}
+use Rattle.mvrows.proofs.HeldLemmas.{held-set, same-set, rows-at, versioned-set}
 use Rattle.mvrows.proofs.rows.put_change.Goals as goal
 
 pub returns-then-place-len-clause-ok : goal.returns-then-place-len-clause-ok
@@ -17,7 +18,7 @@ returns-then-place-len-clause-undo g c =
     same-set (undone_in c.args.commit) c.args.tables.now.items c.place-place.result c.put.new.self c.index_mut-table.result.now c.index_mut-table.ensures.value
     (c.put.ensures.undo
     (rows-at AllVersioned c.args.tables.now.items c.place-place.result c.index_mut-table.result.now lt c.index_mut-table.ensures.value c.requires.versioned)
-    (element-at (AreUndoable c.args.commit) c.args.tables.now.items c.place-place.result c.index_mut-table.result.now lt c.index_mut-table.ensures.value c.requires.undoable))
+    (all-get (AreUndoable c.args.commit) c.args.tables.now.items c.place-place.result c.index_mut-table.result.now lt c.index_mut-table.ensures.value c.requires.undoable))
 
 pub returns-then-place-len-clause-versioned : goal.returns-then-place-len-clause-versioned
 returns-then-place-len-clause-versioned g c =

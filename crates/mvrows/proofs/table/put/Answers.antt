@@ -1,40 +1,35 @@
-use Rattle.std.proofs.Common.{ap}
-use Rattle.mvrows.specs.HeldRows.{Held, joined, undone, IsUndoable}
-use Rattle.mvrows.proofs.VersionLemmas.{all-set}
-use Rattle.mvrows.proofs.PageLemmas.{on_ok}
-use Rattle.mvrows.proofs.HeldLemmas.{same-set, element-at}
-use Rattle.mvrows.proofs.LeavesLemmas.{placed, put-ok, put-laid_out, versioned-page, on_err}
+use Rattle.std.proofs.Common.{subst, length, ◌<◌, ◌∙◌}
+use Rattle.schema.proofs.PagedLemmas.{placed, same-in, answered-ok, answered-err, answered-laid_out, all-get, all-set}
+use Rattle.mvrows.specs.HeldRows.{chain_key, undone, IsUndoable}
+use Rattle.mvrows.proofs.JoinedLemmas.{put-local, put-has_keys}
+use Rattle.mvrows.proofs.LeavesLemmas.{versioned-page}
 use Rattle.mvrows.proofs.table.put.Goals as goal
 
 pub returns-clause-ok : goal.returns-clause-ok
 returns-clause-ok g c =
-    let p = placed c.args.change.now.key c.key.result.now c.args.leaves.now.items c.as_slice.result.now c.place_near-place.result c.as_slice.ensures.value c.key.ensures (record { range = c.place_near-place.ensures.range; before = c.place_near-place.ensures.before; after = c.place_near-place.ensures.after }) in
-    on_ok c.put.result _ _
-    (λ made. put-ok c.args.change.now.key (record { number = c.args.commit; fields = c.args.change.now.fields }) c.args.leaves.now.items c.place_near-place.result c.index_mut-leaf.result.now c.put.new.self c.index_mut-leaf.ensures.value p made)
-    c.put.ensures.ok
+    let p = placed chain_key (λ h. h.rows) c.args.change.now.key c.value.result.now c.args.leaves.now.items c.as_slice.result.now c.place_near-place.result c.as_slice.ensures.value (c.value.ensures.value ∙ c.key.ensures) c.place_near-place.ensures.placed in
+    let range = subst (λ hs. c.place_near-place.result < length hs) c.as_slice.ensures.value c.place_near-place.ensures.range in
+    answered-ok chain_key (λ h. h.rows) c.put.result c.args.change.now.key _ c.args.leaves.now.items c.place_near-place.result c.index_mut-leaf.result.now c.put.new.self (put-local c.args.change.now.key (record { number = c.args.commit; fields = c.args.change.now.fields })) p range c.index_mut-leaf.ensures.value c.put.ensures.ok
 
 pub returns-clause-err : goal.returns-clause-err
 returns-clause-err g c =
-    on_err c.put.result _ _
-    (λ same. ap joined (same-set (λ (h : Held _). h.rows) c.args.leaves.now.items c.place_near-place.result c.put.new.self c.index_mut-leaf.result.now c.index_mut-leaf.ensures.value same))
-    c.put.ensures.err
+    let range = subst (λ hs. c.place_near-place.result < length hs) c.as_slice.ensures.value c.place_near-place.ensures.range in
+    answered-err chain_key (λ h. h.rows) c.put.result c.args.leaves.now.items c.place_near-place.result c.index_mut-leaf.result.now c.put.new.self range c.index_mut-leaf.ensures.value c.put.ensures.err
 
 pub returns-clause-laid_out : goal.returns-clause-laid_out
 returns-clause-laid_out g c =
-    let p = placed c.args.change.now.key c.key.result.now c.args.leaves.now.items c.as_slice.result.now c.place_near-place.result c.as_slice.ensures.value c.key.ensures (record { range = c.place_near-place.ensures.range; before = c.place_near-place.ensures.before; after = c.place_near-place.ensures.after }) in
-    put-laid_out c.put.result c.args.change.now.key (record { number = c.args.commit; fields = c.args.change.now.fields }) c.args.leaves.now.items c.place_near-place.result c.index_mut-leaf.result.now c.put.new.self c.index_mut-leaf.ensures.value p c.put.ensures.ok c.put.ensures.err c.requires.laid_out
+    let p = placed chain_key (λ h. h.rows) c.args.change.now.key c.value.result.now c.args.leaves.now.items c.as_slice.result.now c.place_near-place.result c.as_slice.ensures.value (c.value.ensures.value ∙ c.key.ensures) c.place_near-place.ensures.placed in
+    let range = subst (λ hs. c.place_near-place.result < length hs) c.as_slice.ensures.value c.place_near-place.ensures.range in
+    answered-laid_out chain_key (λ h. h.rows) c.put.result c.args.change.now.key _ c.args.leaves.now.items c.place_near-place.result c.index_mut-leaf.result.now c.put.new.self (put-local c.args.change.now.key (record { number = c.args.commit; fields = c.args.change.now.fields })) (put-has_keys c.args.change.now.key (record { number = c.args.commit; fields = c.args.change.now.fields })) p range c.index_mut-leaf.ensures.value c.put.ensures.ok c.put.ensures.err c.requires.laid_out
 
 pub returns-clause-undo : goal.returns-clause-undo
 returns-clause-undo g c = λ versioned undoable.
-    let p = placed c.args.change.now.key c.key.result.now c.args.leaves.now.items c.as_slice.result.now c.place_near-place.result c.as_slice.ensures.value c.key.ensures (record { range = c.place_near-place.ensures.range; before = c.place_near-place.ensures.before; after = c.place_near-place.ensures.after }) in
-    ap joined (same-set (undone c.args.commit) c.args.leaves.now.items c.place_near-place.result c.put.new.self c.index_mut-leaf.result.now c.index_mut-leaf.ensures.value
-    (c.put.ensures.undo
-    (versioned-page c.args.leaves.now.items c.place_near-place.result c.index_mut-leaf.result.now p.range c.index_mut-leaf.ensures.value versioned)
-    (element-at (IsUndoable c.args.commit) c.args.leaves.now.items c.place_near-place.result c.index_mut-leaf.result.now p.range c.index_mut-leaf.ensures.value undoable)))
+    let range = subst (λ hs. c.place_near-place.result < length hs) c.as_slice.ensures.value c.place_near-place.ensures.range in
+    same-in chain_key (undone c.args.commit) c.args.leaves.now.items c.place_near-place.result c.index_mut-leaf.result.now c.put.new.self range c.index_mut-leaf.ensures.value
+    (c.put.ensures.undo (versioned-page c.args.leaves.now.items c.place_near-place.result c.index_mut-leaf.result.now range c.index_mut-leaf.ensures.value versioned) (all-get (IsUndoable c.args.commit) c.args.leaves.now.items c.place_near-place.result c.index_mut-leaf.result.now range c.index_mut-leaf.ensures.value undoable))
 
 pub returns-clause-undoable : goal.returns-clause-undoable
 returns-clause-undoable g c = λ undoable.
-    let p = placed c.args.change.now.key c.key.result.now c.args.leaves.now.items c.as_slice.result.now c.place_near-place.result c.as_slice.ensures.value c.key.ensures (record { range = c.place_near-place.ensures.range; before = c.place_near-place.ensures.before; after = c.place_near-place.ensures.after }) in
+    let range = subst (λ hs. c.place_near-place.result < length hs) c.as_slice.ensures.value c.place_near-place.ensures.range in
     all-set (IsUndoable c.args.commit) c.args.leaves.now.items c.place_near-place.result c.put.new.self
-    (c.put.ensures.undoable (element-at (IsUndoable c.args.commit) c.args.leaves.now.items c.place_near-place.result c.index_mut-leaf.result.now p.range c.index_mut-leaf.ensures.value undoable))
-    undoable
+    (c.put.ensures.undoable (all-get (IsUndoable c.args.commit) c.args.leaves.now.items c.place_near-place.result c.index_mut-leaf.result.now range c.index_mut-leaf.ensures.value undoable)) undoable

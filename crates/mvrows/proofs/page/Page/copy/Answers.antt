@@ -1,5 +1,5 @@
 use Rattle.std.proofs.Common.{ap, sym, arith, ◌++◌, ◌∷◌, [], take, ◌∙◌}
-use Rattle.mvrows.proofs.PageLemmas.{take-item}
+use Rattle.schema.proofs.PageLemmas.{take-item}
 use Rattle.mvrows.proofs.page.Page.copy.Goals as goal
 
 pub loop-chain-preserved : goal.loop-chain-preserved

@@ -1,9 +1,11 @@
-use Rattle.std.proofs.Common.{sym, subst, ◌≡◌, true, false, take, drop}
+use Rattle.std.proofs.Common.{sym, subst, ◌≡◌, true, false, take, drop, ◌∙◌}
 use Rattle.std.specs.List.{AllByRecursion}
 use Rattle.std.specs.Ordering.{is_le}
 use Rattle.value.specs.Order.{value_cmp}
 use Rattle.mvrows.specs.Versions.{KeyVersions, IsInOrder}
-use Rattle.mvrows.proofs.PageLemmas.{put-keeps}
+use Rattle.schema.proofs.PagedLemmas.{local-keeps}
+use Rattle.mvrows.specs.HeldRows.{chain_key}
+use Rattle.mvrows.proofs.JoinedLemmas.{put-local}
 use Rattle.mvrows.proofs.page.Page.put.Goals as goal
 
 pub start-place-requires : goal.start-place-requires
@@ -12,13 +14,13 @@ start-place-requires g c = subst IsInOrder (sym c.as_slice.ensures.value) c.self
 pub put-requires-clause-before : goal.put-requires-clause-before
 put-requires-clause-before g c =
     subst (λ rs. AllByRecursion (λ (k : KeyVersions _). is_le (value_cmp c.args.change.now.key k.key) ≡ false) (take c.start-place.result rs)) c.as_slice.ensures.value
-    (subst (λ x. AllByRecursion (λ (k : KeyVersions _). is_le (value_cmp x k.key) ≡ false) (take c.start-place.result c.as_slice.result.now)) c.key.ensures c.start-place.ensures.before)
+    (subst (λ x. AllByRecursion (λ (k : KeyVersions _). is_le (value_cmp x k.key) ≡ false) (take c.start-place.result c.as_slice.result.now)) (c.value.ensures.value ∙ c.key.ensures) c.start-place.ensures.before)
 
 pub put-requires-clause-within : goal.put-requires-clause-within
 put-requires-clause-within g c =
     subst (λ rs. AllByRecursion (λ (k : KeyVersions _). is_le (value_cmp c.args.change.now.key k.key) ≡ true) (drop c.start-place.result rs)) c.as_slice.ensures.value
-    (subst (λ x. AllByRecursion (λ (k : KeyVersions _). is_le (value_cmp x k.key) ≡ true) (drop c.start-place.result c.as_slice.result.now)) c.key.ensures c.start-place.ensures.within)
+    (subst (λ x. AllByRecursion (λ (k : KeyVersions _). is_le (value_cmp x k.key) ≡ true) (drop c.start-place.result c.as_slice.result.now)) (c.value.ensures.value ∙ c.key.ensures) c.start-place.ensures.within)
 
 pub invariant_of-self : goal.invariant_of-self
 invariant_of-self g c =
-    put-keeps c.put.result c.args.change.now.key (record { number = c.args.number; fields = c.args.change.now.fields }) c.self.inside.chains.items c.put.new.chains.items c.put.ensures.ok c.put.ensures.err c.self.invariant
+    local-keeps chain_key c.put.result c.args.change.now.key _ c.self.inside.chains.items c.put.new.chains.items (put-local c.args.change.now.key (record { number = c.args.number; fields = c.args.change.now.fields })) c.put.ensures.ok c.put.ensures.err c.self.invariant

@@ -1,14 +1,15 @@
 use Rattle.std.proofs.Common.{ap, sym, subst, arith, length, ◌≤◌, ◌∙◌}
 use Rattle.std.proofs.lemmas.List.{take_all}
-use Rattle.mvrows.specs.HeldRows.{pages_of, joined, rows_in, AreLaidOut}
+use Rattle.mvrows.specs.HeldRows.{pages_of, rows_in}
+use Rattle.mvrows.proofs.LeavesLemmas.{same-rows, same-pages_laid_out}
 use Rattle.mvrows.proofs.table.Table.lend.Goals as goal
 
 pub invariant_of-result : goal.invariant_of-result
 invariant_of-result g c =
     let past : length c.deref-leaf-items.result.now ≤ c.loop-leaf.leaf-index = omega (arith, c.loop-leaf-test.false, c.loop-leaf.auto.leaf-index-end) in
-    subst AreLaidOut (sym (c.loop-leaf.invariant ∙ ap pages_of (take_all c.loop-leaf.leaf-index c.deref-leaf-items.result.now past ∙ c.deref-leaf-items.ensures.value))) c.self.invariant
+    same-pages_laid_out c.self.inside.leaves.items c.loop-leaf.leaves.items (c.loop-leaf.invariant ∙ ap pages_of (take_all c.loop-leaf.leaf-index c.deref-leaf-items.result.now past ∙ c.deref-leaf-items.ensures.value)) c.self.invariant
 
 pub returns-clause-ok : goal.returns-clause-ok
 returns-clause-ok g c =
     let past : length c.deref-leaf-items.result.now ≤ c.loop-leaf.leaf-index = omega (arith, c.loop-leaf-test.false, c.loop-leaf.auto.leaf-index-end) in
-    ap joined (c.loop-leaf.invariant ∙ ap pages_of (take_all c.loop-leaf.leaf-index c.deref-leaf-items.result.now past ∙ c.deref-leaf-items.ensures.value)) ∙ ap rows_in c.self.view_is
+    same-rows c.self.inside.leaves.items c.loop-leaf.leaves.items (c.loop-leaf.invariant ∙ ap pages_of (take_all c.loop-leaf.leaf-index c.deref-leaf-items.result.now past ∙ c.deref-leaf-items.ensures.value)) ∙ ap rows_in c.self.view_is

@@ -1,6 +1,6 @@
 use Rattle.std.proofs.Common.{ap, sym, subst, length, is_some, ◌∙◌}
 use Rattle.schema.specs.Rows.{row_of, IsInKeyOrder}
-use Rattle.schema.proofs.PagedLemmas.{count-over, found-some, counted}
+use Rattle.schema.proofs.NextLemmas.{count-over, found-some, counted}
 use Rattle.schema.proofs.table.Table.count_with.Goals as goal
 
 pub returns-then-is_some-clause-ok : goal.returns-then-is_some-clause-ok

@@ -1,14 +1,10 @@
-use Rattle.std.proofs.Common.{ap, sym, cond, Some, None, ◌∙◌}
-use Rattle.schema.proofs.PagedLemmas.{row_of-next, row_of-none}
+use Rattle.std.proofs.Common.{ap, ◌∙◌}
+use Rattle.schema.specs.Paged.{joined}
+use Rattle.schema.specs.Rows.{row_of}
 use Rattle.schema.proofs.table.Table.find.Goals as goal
 
-pub returns-then-is_of : goal.returns-then-is_of
-returns-then-is_of g c =
-    sym (row_of-next c.args.key c.args.self.now c.in-Some.row.now c.in-Some.ensures.ordered (sym c.in-Some.ensures.row) ∙ ap (λ b. cond b (Some c.in-Some.row.now) None) (sym c.if-is_of.ensures))
-
-pub returns-else-is_of : goal.returns-else-is_of
-returns-else-is_of g c =
-    sym (row_of-next c.args.key c.args.self.now c.in-Some.row.now c.in-Some.ensures.ordered (sym c.in-Some.ensures.row) ∙ ap (λ b. cond b (Some c.in-Some.row.now) None) (sym c.if-is_of.ensures))
-
-pub returns-in-None : goal.returns-in-None
-returns-in-None g c = row_of-none c.args.key c.args.self.now (sym c.in-None.ensures.row)
+pub returns : goal.returns
+returns g c =
+    c.find_among.ensures
+    ∙ ap (λ pages. row_of (joined pages) c.args.key.now) c.as_slice.ensures.value
+    ∙ ap (λ rows. row_of rows c.args.key.now) c.self.view_is

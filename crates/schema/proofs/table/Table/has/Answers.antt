@@ -1,5 +1,5 @@
 use Rattle.std.proofs.Common.{◌∙◌}
-use Rattle.schema.proofs.PagedLemmas.{found-some, has-found}
+use Rattle.schema.proofs.NextLemmas.{found-some, has-found}
 use Rattle.schema.proofs.table.Table.has.Goals as goal
 
 pub returns : goal.returns

@@ -10,7 +10,7 @@ returns-clause-rows g c =
     let bound = c.of_values-bound.result in
     let within =
     ap (λ ps. rows_within (joined ps) bound) c.split_at.ensures.back
-    ∙ within_pages bound c.as_slice-pages.result.now c.start.result c.start.ensures.before
+    ∙ within_pages bound c.as_slice-pages.result.now c.first_page.result c.first_page.ensures.before
     ∙ ap (λ ps. rows_within (joined ps) bound) c.as_slice-pages.ensures.value
     ∙ ap (λ rows. rows_within rows bound) c.self.view_is
     ∙ c.of_values-bound.ensures.within c.args.self.now in

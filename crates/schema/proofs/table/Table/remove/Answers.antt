@@ -3,7 +3,7 @@ use Rattle.std.specs.FinMap.{find}
 use Rattle.value.specs.Order.{value_cmp}
 use Rattle.schema.specs.Plain.{changed}
 use Rattle.schema.specs.Paged.{joined}
-use Rattle.schema.proofs.PagedLemmas.{count-gone, gone-absent}
+use Rattle.schema.proofs.NextLemmas.{count-gone, gone-absent}
 use Rattle.schema.proofs.table.Table.remove.Goals as goal
 
 pub invariant_of-self : goal.invariant_of-self

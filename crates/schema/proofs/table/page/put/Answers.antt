@@ -3,7 +3,7 @@ use Rattle.std.specs.Prelude.{slice_get, false}
 use Rattle.std.specs.Option.{option_map_or}
 use Rattle.schema.specs.Plain.{same}
 use Rattle.schema.specs.declared.row.Row.{Row}
-use Rattle.schema.proofs.PageLemmas.{put-over, put-new}
+use Rattle.schema.proofs.PutLemmas.{put-over, put-new}
 use Rattle.schema.proofs.table.page.put.Goals as goal
 
 pub returns-then-is_at-clause-ok : goal.returns-then-is_at-clause-ok

@@ -3,7 +3,7 @@ use Rattle.std.specs.Prelude.{slice_get, false}
 use Rattle.std.specs.Option.{option_map_or}
 use Rattle.schema.specs.Plain.{same}
 use Rattle.schema.specs.declared.row.Row.{Row}
-use Rattle.schema.proofs.PageLemmas.{gone-at, gone-missing}
+use Rattle.schema.proofs.PutLemmas.{gone-at, gone-missing}
 use Rattle.schema.proofs.table.page.remove.Goals as goal
 
 pub returns-then-is_at : goal.returns-then-is_at

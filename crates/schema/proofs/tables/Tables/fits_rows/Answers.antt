@@ -2,7 +2,7 @@ use Rattle.std.proofs.Common.{ap, not, ◌&&◌, ◌∙◌}
 use Rattle.std.specs.List.{list_all}
 use Rattle.schema.specs.declared.row.Row.{Row}
 use Rattle.schema.specs.Plain.{is_null, cells, fits_columns}
-use Rattle.schema.proofs.PagedLemmas.{list_all-joined}
+use Rattle.schema.proofs.NextLemmas.{list_all-joined}
 use Rattle.schema.proofs.tables.Tables.fits_rows.Goals as goal
 
 pub returns-clause-rows : goal.returns-clause-rows

@@ -1,6 +1,6 @@
 use Rattle.std.proofs.Common.{ap, sym, ◌∙◌}
 use Rattle.schema.specs.Rows.{next_row}
-use Rattle.schema.proofs.PageLemmas.{next-at}
+use Rattle.schema.proofs.PutLemmas.{next-at}
 use Rattle.schema.proofs.table.page.Page.next_row.Goals as goal
 
 pub returns : goal.returns

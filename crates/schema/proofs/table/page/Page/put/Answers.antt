@@ -4,7 +4,9 @@ use Rattle.std.specs.Ordering.{is_le}
 use Rattle.value.specs.Order.{value_cmp}
 use Rattle.schema.specs.declared.row.Row.{Row}
 use Rattle.schema.specs.Rows.{IsInKeyOrder}
-use Rattle.schema.proofs.PageLemmas.{put-keeps}
+use Rattle.schema.specs.Paged.{row_key}
+use Rattle.schema.proofs.PagedLemmas.{local-keeps}
+use Rattle.schema.proofs.PutLemmas.{put-local}
 use Rattle.schema.proofs.table.page.Page.put.Goals as goal
 
 pub start-place-requires : goal.start-place-requires
@@ -21,4 +23,4 @@ put-requires-clause-within g c =
     (subst (λ x. AllByRecursion (λ (r : Row _). is_le (value_cmp x r.0) ≡ true) (drop c.start-place.result c.as_slice.result.now)) (c.value.ensures.value ∙ c.key.ensures) c.start-place.ensures.within)
 
 pub invariant_of-self : goal.invariant_of-self
-invariant_of-self g c = put-keeps c.put.result c.args.row c.self.inside.rows.items c.put.new.rows.items c.put.ensures.ok c.put.ensures.err c.self.invariant
+invariant_of-self g c = local-keeps row_key c.put.result c.args.row.0 _ c.self.inside.rows.items c.put.new.rows.items (put-local c.args.row) c.put.ensures.ok c.put.ensures.err c.self.invariant

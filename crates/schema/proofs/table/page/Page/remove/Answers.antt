@@ -1,6 +1,6 @@
 use Rattle.std.proofs.Common.{sym, subst}
 use Rattle.schema.specs.Rows.{IsInKeyOrder}
-use Rattle.schema.proofs.PageLemmas.{gone-in_order}
+use Rattle.schema.proofs.PutLemmas.{gone-in_order}
 use Rattle.schema.proofs.table.page.Page.remove.Goals as goal
 
 pub invariant_of-self : goal.invariant_of-self
