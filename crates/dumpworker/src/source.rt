@@ -6,6 +6,7 @@ ghost use Rattle.value.specs.Refusals.{out_of_memory};
 ghost use Rattle.dumpplan.specs.Pieces.{piece_texts, IsPieceOf};
 
 use crate::encode::encode_piece;
+use collector::{Collector, Device};
 use dumpplan::Plan;
 use schema::catalog::Catalog;
 use schema::walk::RowsReader;
@@ -53,6 +54,20 @@ impl<'a, R: RowsReader<A>, A: Allocator> Source<'a, R, A> {
         ensures { result ≡ length self.now }
     {
         self.plan.count()
+    }
+
+    /// A collector of the pieces, to which none is offered yet. Where memory is refused, the device comes back as it was.
+    pub(crate) fn collector<W: Device>(
+        &self,
+        alloc: A,
+        device: &'a mut W,
+    ) -> Result<Collector<'a, R, W, A>, &'a mut W>
+        ensures texts { IfOk result (λ c. c.texts ≡ self.now) }
+        ensures device { IfOk result (λ c. (c.name ≡ device.entry.ghost_name) × (c.before ≡ W.taken device.old) ×
+            (c.failures_before ≡ W.failures device.old)) }
+        ensures err { IfErr result (λ e. (e.ghost_name ≡ device.entry.ghost_name) × (e.now ≡ device.old)) }
+    {
+        Collector::new(alloc, self.reader, self.catalog, self.plan, device)
     }
 
     /// The text of the piece of a number.

@@ -18,95 +18,109 @@ use std::thread::Threads;
 // More than any plan has pieces.
 const DRAWS: u64 = 1 << 57;
 
-// Draws pieces until there are none, or the shelf is stopped. Gives its right back, with all that it
-// has drawn.
-fn work<A, R, W, G, T, D>(
-    rt: &T,
-    alloc: A,
-    source: &Source<'_, R, A>,
-    shelf: &Mutex<Shelf<'_, R, W, A, D>>,
-    counter: &Counter<A>,
-    mut drawer: Drawer,
-    gate: &G,
-) -> (Drawer, Result<(), Stopped>)
-where
-    A: Allocator + Copy,
-    R: RowsReader<A>,
-    W: Device,
-    G: Gate,
-    T: Wait,
-    D: Job,
-    requires texts { source.now ≡ D.texts }
-    requires table { drawer.seat.table_id ≡ counter.now.table.shared.table_id }
-    requires draws { 2 ^ 57 ≤ drawer.seat.me.0.left }
-    ensures { OnOk result.1 (HasNoneLeft (length source.now) result.0.seat.me.0) }
-{
-    for _ in 0..DRAWS {
-        let index = counter.draw(&mut drawer);
-        if index >= source.count() {
-            return (drawer, Ok(()));
-        }
-        let number = index + 1;
-        gate.before(number);
-        let made = source.text(alloc, number);
-        let taken = shelf.lock(rt).take(number, made);
-        gate.after(number);
-        if let Err(stopped) = taken {
-            return (drawer, Err(stopped));
-        }
-    }
-    (drawer, Ok(()))
+/// How many workers a dump has, and what each of them works with.
+#[derive(Drop)]
+pub(crate) struct Workers<'w, T, G, A: Allocator> {
+    pub(crate) rt: &'w T,
+    pub(crate) alloc: A,
+    pub(crate) jobs: Jobs,
+    /// It is asked about each piece.
+    pub(crate) gate: &'w G,
 }
 
-/// Lets as many workers work as there are jobs. The calling thread is one; one that isn't started is left out.
-pub(crate) fn work_in_scope<A, R, W, G, T, D>(
-    rt: &T,
-    alloc: A,
-    source: &Source<'_, R, A>,
-    shelf: &Mutex<Shelf<'_, R, W, A, D>>,
-    counter: &Counter<A>,
-    mut drawer: Drawer,
-    jobs: Jobs,
-    gate: &G,
-)
+impl<'w, T, G, A> Workers<'w, T, G, A>
+where
+    A: Allocator + Copy,
+    G: Gate,
+    T: Wait,
+{
+    // Draws pieces until there are none, or the shelf is stopped. Gives its right back, with all that it
+    // has drawn.
+    fn work<R, W, D>(
+        &self,
+        source: &Source<'_, R, A>,
+        shelf: &Mutex<Shelf<'_, R, W, A, D>>,
+        counter: &Counter<A>,
+        mut drawer: Drawer,
+    ) -> (Drawer, Result<(), Stopped>)
+    where
+        R: RowsReader<A>,
+        W: Device,
+        D: Job,
+        requires texts { source.now ≡ D.texts }
+        requires table { drawer.seat.table_id ≡ counter.now.table.shared.table_id }
+        requires draws { 2 ^ 57 ≤ drawer.seat.me.0.left }
+        ensures { OnOk result.1 (HasNoneLeft (length source.now) result.0.seat.me.0) }
+    {
+        for _ in 0..DRAWS {
+            let index = counter.draw(&mut drawer);
+            if index >= source.count() {
+                return (drawer, Ok(()));
+            }
+            let number = index + 1;
+            self.gate.before(number);
+            let made = source.text(self.alloc, number);
+            let taken = shelf.lock(self.rt).take(number, made);
+            self.gate.after(number);
+            if let Err(stopped) = taken {
+                return (drawer, Err(stopped));
+            }
+        }
+        (drawer, Ok(()))
+    }
+}
+
+impl<'w, T, G, A> Workers<'w, T, G, A>
 where
     A: Allocator + Copy + Send + Sync,
-    R: RowsReader<A> + Sync,
-    W: Device + Send,
     G: Gate,
     T: Threads + Wait + Sync,
-    D: Job + Send + Sync,
-    requires texts { source.now ≡ D.texts }
-    requires table { drawer.seat.table_id ≡ counter.now.table.shared.table_id }
-    requires draws { drawer.seat.me.0 ≡ first_hand }
 {
-    let jobs = jobs.get();
-    thread::scope(
-        thread::scope_env(),
-        rt,
-        move |scope|
-            requires texts { source.now ≡ D.texts }
-            requires table { drawer.seat.table_id ≡ counter.now.table.shared.table_id }
-            requires draws { drawer.seat.me.0 ≡ first_hand }
-            requires jobs { (1 ≤ jobs) × (jobs ≤ 64) }
-            requires bounds { IsSend A.row × IsSync A.row × Frees A.Allocator A.dealloc_token × IsSync R.row ×
-                IsSend W.row × IsSync G.row × IsSync T.row × IsSend D.row × IsSync D.row }
-        {
-            for _ in 1..jobs {
-                let other = counter.another(&mut drawer);
-                let _ = scope.spawn(
-                    move ||
-                        requires texts { source.now ≡ D.texts }
-                        requires table { other.seat.table_id ≡ counter.now.table.shared.table_id }
-                        requires draws { other.seat.me.0.left ≡ 2 ^ 57 }
-                        requires bounds { IsSend A.row × IsSync A.row × Frees A.Allocator A.dealloc_token ×
-                            IsSync R.row × IsSend W.row × IsSync G.row × IsSync T.row × IsSend D.row × IsSync D.row }
-                    {
-                        let _ = work(rt, alloc, source, shelf, counter, other, gate);
-                    },
-                );
-            }
-            let _ = work(rt, alloc, source, shelf, counter, drawer, gate);
-        },
-    );
+    /// Lets as many workers work as there are jobs. The calling thread is one; one that isn't started is left out.
+    pub(crate) fn work_in_scope<R, W, D>(
+        &self,
+        source: &Source<'_, R, A>,
+        shelf: &Mutex<Shelf<'_, R, W, A, D>>,
+        counter: &Counter<A>,
+        mut drawer: Drawer,
+    )
+    where
+        R: RowsReader<A> + Sync,
+        W: Device + Send,
+        D: Job + Send + Sync,
+        requires texts { source.now ≡ D.texts }
+        requires table { drawer.seat.table_id ≡ counter.now.table.shared.table_id }
+        requires draws { drawer.seat.me.0 ≡ first_hand }
+    {
+        let jobs = self.jobs.get();
+        thread::scope(
+            thread::scope_env(),
+            self.rt,
+            move |scope|
+                requires texts { source.now ≡ D.texts }
+                requires table { drawer.seat.table_id ≡ counter.now.table.shared.table_id }
+                requires draws { drawer.seat.me.0 ≡ first_hand }
+                requires jobs { (1 ≤ jobs) × (jobs ≤ 64) }
+                requires bounds { IsSend A.row × IsSync A.row × Frees A.Allocator A.dealloc_token × IsSync R.row ×
+                    IsSend W.row × IsSync G.row × IsSync T.row × IsSend D.row × IsSync D.row }
+            {
+                for _ in 1..jobs {
+                    let other = counter.another(&mut drawer);
+                    let _ = scope.spawn(
+                        move ||
+                            requires texts { source.now ≡ D.texts }
+                            requires table { other.seat.table_id ≡ counter.now.table.shared.table_id }
+                            requires draws { other.seat.me.0.left ≡ 2 ^ 57 }
+                            requires bounds { IsSend A.row × IsSync A.row × Frees A.Allocator A.dealloc_token ×
+                                IsSync R.row × IsSend W.row × IsSync G.row × IsSync T.row × IsSend D.row ×
+                                IsSync D.row }
+                        {
+                            let _ = self.work(source, shelf, counter, other);
+                        },
+                    );
+                }
+                let _ = self.work(source, shelf, counter, drawer);
+            },
+        );
+    }
 }

@@ -1,9 +1,8 @@
 //! A dump's way from the tables to the device.
 
 ghost use Rattle.std.specs.Prelude.{◌≡◌, length, Err};
-ghost use Rattle.std.specs.List.{AllByRecursion};
 ghost use Rattle.dumpplan.specs.Lines.{dump_text};
-ghost use Rattle.dumpplan.specs.Pieces.{joined, piece_texts, IsPieceOf};
+ghost use Rattle.dumpplan.specs.Pieces.{joined};
 ghost use Rattle.dumpworker.specs.Dumped.{Dumped};
 
 use crate::counter::Counter;
@@ -11,9 +10,9 @@ use crate::ending::ended;
 use crate::fault::DumpFault;
 use crate::shelf::{Job, Shelf};
 use crate::source::Source;
-use crate::workers::work_in_scope;
-use collector::{Collector, Device};
-use dumpplan::{Gate, Jobs, PieceRows, Plan, plan};
+use crate::workers::Workers;
+use collector::Device;
+use dumpplan::{Gate, Jobs, PieceRows, plan};
 use schema::catalog::Catalog;
 use schema::walk::RowsReader;
 use std::alloc::Allocator;
@@ -26,16 +25,11 @@ struct Lent<'a, W: Device> {
     device: &'a mut W,
 }
 
-// Writes the pieces of a plan. How it ended goes into the answer, which is out of memory at first.
+// Writes the pieces of a dump. How it ended goes into the answer, which is out of memory at first.
 fn write_pieces<'a, A, R, W, G, T, D>(
-    rt: &T,
-    alloc: A,
-    reader: &'a R,
-    catalog: &'a Catalog<A>,
-    plan: &'a Plan<A>,
-    jobs: Jobs,
+    workers: &Workers<'_, T, G, A>,
+    source: &Source<'a, R, A>,
     lent: Lent<'a, W>,
-    gate: &G,
     answer: &mut Result<(), DumpFault>,
 ) -> Lent<'a, W>
 where
@@ -46,9 +40,7 @@ where
     T: Threads + Wait + Sync,
     D: Job + Send + Sync,
     requires unknown { answer.old ≡ Err DumpFault.Memory }
-    requires counted { length (R.tables reader.now) ≡ length catalog.now }
-    requires known { AllByRecursion (IsPieceOf (length catalog.now)) plan.now }
-    requires texts { piece_texts catalog.now (R.tables reader.now) plan.now ≡ D.texts }
+    requires texts { source.now ≡ D.texts }
     requires name { lent.device.ghost_name ≡ D.name }
     requires before { (W.taken lent.device.now ≡ D.before) × (W.failures lent.device.now ≡ D.failures) }
     ensures name { result.device.ghost_name ≡ lent.entry.device.ghost_name }
@@ -56,16 +48,15 @@ where
         (W.failures result.device.now) }
 {
     let Lent { device } = lent;
-    let Ok((counter, drawer)) = Counter::new(alloc) else {
+    let Ok((counter, drawer)) = Counter::new(workers.alloc) else {
         return Lent { device };
     };
-    let collector = match Collector::new(alloc, reader, catalog, plan, device) {
+    let collector = match source.collector(workers.alloc, device) {
         Ok(collector) => collector,
         Err(device) => return Lent { device },
     };
-    let source = Source::new(reader, catalog, plan);
     let shelf: Mutex<Shelf<'a, R, W, A, D>> = Mutex::new(Shelf::new(collector));
-    work_in_scope(rt, alloc, &source, &shelf, &counter, drawer, jobs, gate);
+    workers.work_in_scope(source, &shelf, &counter, drawer);
     let collector = shelf.into_inner().into_collector();
     *answer = ended(&collector);
     Lent {
@@ -97,16 +88,18 @@ where
         result (W.taken device.new) (W.failures device.new) }
 {
     let plan = plan(alloc, reader, catalog, piece_rows)?;
-    let mut answer = Err(DumpFault::Memory);
-    let Lent { device: _ } = write_pieces::<A, R, W, G, T, Brand>(
+    let source = Source::new(reader, catalog, &plan);
+    let workers = Workers {
         rt,
         alloc,
-        reader,
-        catalog,
-        &plan,
         jobs,
-        Lent { device },
         gate,
+    };
+    let mut answer = Err(DumpFault::Memory);
+    let Lent { device: _ } = write_pieces::<A, R, W, G, T, Brand>(
+        &workers,
+        &source,
+        Lent { device },
         &mut answer,
     );
     answer

@@ -13,4 +13,4 @@ module _ {A : Type 0} where
   -- The pass that knew p knows q: its statement was answered; or it has seen more, and here are the tables that its session's transaction sees.
   abbrev pub IsFirstHold : Opening A → ℕ → Known A → Statement A → FirstHold A → Known A → Type 0
   IsFirstHold o most p q (Replied r) k = IsCall most p (Run q) r k
-  IsFirstHold o most p q (Reads statement reader) k = (statement ≡ q) × (k.session ≡ p.session) × (k.mine ≡ p.mine) × (reader_answer o k.seen k.session ≡ Ok reader)
+  IsFirstHold o most p q (Reads reading) k = (reading.statement ≡ q) × (k.session ≡ p.session) × (k.mine ≡ p.mine) × (reader_answer o k.seen k.session ≡ Ok reading.reader)

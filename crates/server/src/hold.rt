@@ -5,11 +5,18 @@ use statement::reply::Reply;
 use statement::statement::Statement;
 use std::alloc::{Allocator, Global};
 
+/// A SELECT, and the tables that it is to be evaluated on.
+#[derive(Drop)]
+pub(crate) struct Reading<A: Allocator = Global> {
+    pub(crate) statement: Statement<A>,
+    pub(crate) reader: SessionReader<A>,
+}
+
 /// What the first hold of the lock gives for a SELECT.
 #[derive(Drop)]
 pub(crate) enum FirstHold<A: Allocator = Global> {
     /// It is answered already.
     Replied(Reply<A>),
-    /// It is to be evaluated on these tables.
-    Reads(Statement<A>, SessionReader<A>),
+    /// It is to be evaluated.
+    Reads(Reading<A>),
 }

@@ -11,7 +11,7 @@ ghost use Rattle.server.specs.Doings.{IsAllowedFor, IsFoundSince, action_of};
 ghost use Rattle.server.specs.Holds.{IsFirstHold};
 
 use crate::doing::{Doing, do_event};
-use crate::hold::FirstHold;
+use crate::hold::{FirstHold, Reading};
 use history::event::Action;
 use mvrows::view::View;
 use pass::keeper::Keeper;
@@ -122,7 +122,7 @@ impl<'w, J: Naming<A>, A: Allocator> Locked<'w, J, A> {
         ensures hold { IsFirstHold J.opening J.most pass.old statement result pass.new }
     {
         match self.reader(alloc, pass) {
-            Ok(reader) => FirstHold::Reads(statement, reader),
+            Ok(reader) => FirstHold::Reads(Reading { statement, reader }),
             Err(refusal) if refusal.code == Code::OutOfMemory => {
                 FirstHold::Replied(Reply::Refused(Refusal::of_code(Code::OutOfMemory)))
             }

@@ -11,7 +11,7 @@ ghost use Rattle.request.specs.Requests.{asked};
 ghost use Rattle.server.specs.Calls.{IsCall};
 
 use crate::entrance::go_on;
-use crate::hold::FirstHold;
+use crate::hold::{FirstHold, Reading};
 use crate::shared::Server;
 use dumpplan::Gate;
 use history::event::Action;
@@ -148,9 +148,7 @@ impl<'w, J: Naming<A>, A: Allocator> Server<'w, J, A> {
         let held = go_on(rt, &self.locked).begin_read(alloc, pass, statement);
         match held {
             FirstHold::Replied(reply) => reply,
-            FirstHold::Reads(statement, reader) => {
-                self.read_on(rt, alloc, pass, statement, reader, gate)
-            }
+            FirstHold::Reads(reading) => self.read_on(rt, alloc, pass, reading, gate),
         }
     }
 
@@ -160,22 +158,22 @@ impl<'w, J: Naming<A>, A: Allocator> Server<'w, J, A> {
         rt: &R,
         alloc: A,
         pass: &mut Pass<'w, J, A>,
-        statement: Statement<A>,
-        reader: SessionReader<A>,
+        reading: Reading<A>,
         gate: &G,
     ) -> Reply<A>
     where
         A: Copy,
-        requires fits { Fits J.opening.catalog statement }
-        requires reads { writes statement ≡ false }
-        requires read { reader_answer J.opening pass.old.seen pass.old.session ≡ Ok reader }
+        requires fits { Fits J.opening.catalog reading.statement }
+        requires reads { writes reading.statement ≡ false }
+        requires read { reader_answer J.opening pass.old.seen pass.old.session ≡ Ok reading.reader }
         ensures seen { HasSeen J.opening pass.old pass.new }
-        ensures call { IsCall J.most pass.old (Action.Run statement) result pass.new }
+        ensures call { IsCall J.most pass.old (Action.Run reading.statement) result pass.new }
     {
         // Nothing happens here: the call tells the prover what every pass keeps true.
         let _session = pass.session();
         readers_are_sound::<A>();
         readers_stay::<A>();
+        let Reading { statement, reader } = reading;
         gate.before(1);
         let found = found_on(alloc, &self.catalog, &statement, &reader);
         // While it is kept, a COMMIT copies the pages that it changes.

@@ -10,8 +10,8 @@ use Rattle.server.proofs.shared.Server.read_on.Goals as goal
 pub finish_read-requires-clause-found : goal.finish_read-requires-clause-found
 finish_read-requires-clause-found g c = λ more X legal none e.
     c.in-Ok.ensures.ok
-    ∙ ap (λ (d : Catalog). (outcome d c.args.statement c.args.reader).reply) c.args.self.now.catalog_is
-    ∙ ap (λ (Y : Tables _). (outcome g.J.Naming.opening.catalog c.args.statement Y).reply) (sym (c.readers_stay.ensures g.J.Naming.opening c.args.pass.now.seen more c.args.pass.now.session c.args.reader X legal none c.requires.read e))
+    ∙ ap (λ (d : Catalog). (outcome d c.args.reading.statement c.args.reading.reader).reply) c.args.self.now.catalog_is
+    ∙ ap (λ (Y : Tables _). (outcome g.J.Naming.opening.catalog c.args.reading.statement Y).reply) (sym (c.readers_stay.ensures g.J.Naming.opening c.args.pass.now.seen more c.args.pass.now.session c.args.reading.reader X legal none c.requires.read e))
 
 pub returns-in-Err-clause-call : goal.returns-in-Err-clause-call
 returns-in-Err-clause-call g c = (refl, inr (record { reason = inl (refl, ap Refused c.in-Err.ensures.memory); mine = refl }))

@@ -6,7 +6,8 @@ use Rattle.dumpworker.proofs.Crossing.{Shelf-send}
 use Rattle.dumpworker.proofs.source.Source.TheSendSync as source
 use Rattle.dumpworker.proofs.counter.Counter.TheSendSync as counter
 use Rattle.dumpworker.proofs.counter.Drawer.TheSendSync as drawer
-use Rattle.dumpworker.proofs.workers.fn.work_in_scope.scope.Goals as goal
+use Rattle.dumpworker.proofs.workers.Workers.TheSendSync as workers
+use Rattle.dumpworker.proofs.workers.fn.Workers.work_in_scope.scope.Goals as goal
 
 pub work-requires-clause-draws : goal.work-requires-clause-draws
 work-requires-clause-draws g c κs within =
@@ -32,4 +33,4 @@ spawn-requires-send-F g c κs within =
     let sync_t = b.6 in
     let send_d = b.7 in
     let sync_d = b.8 in
-    search (sendable, heap.crosses, over.crosses, Shelf-send, source.the_sync, counter.the_sync, drawer.the_send) depth 60 fits 1000
+    search (sendable, heap.crosses, over.crosses, Shelf-send, source.the_sync, counter.the_sync, drawer.the_send, workers.the_sync) depth 60 fits 1000
