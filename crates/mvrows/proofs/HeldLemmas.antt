@@ -10,11 +10,11 @@ use Rattle.std.proofs.lemmas.Bool.{le-leb, lt-leb}
 use Rattle.std.proofs.lemmas.List.{map-set, set-get_or, drop_more, drop_all, take_all, take_more_set, drop-set-lt, map-append, append-nil, take-append-drop}
 use Rattle.value.specs.Order.{value_cmp}
 use Rattle.value.specs.declared.value.Value.{Value}
+use Rattle.value.proofs.Basics.{all-parts, all-set}
 use Rattle.schema.specs.declared.row.Row.{Row}
 use Rattle.schema.specs.declared.changes.Change.{Change}
 use Rattle.schema.specs.declared.tables.Tables.{Tables}
 use Rattle.schema.specs.Rows.{IsInKeyOrder}
-use Rattle.schema.proofs.PagedLemmas.{all-cut, all-set}
 use Rattle.mvrows.specs.Versions.{Version, KeyVersions, VersionedRows, IsInOrder, AreInOrder, versions_of, AreBelow, RowsAreBelow, TablesAreBelow}
 use Rattle.mvrows.specs.Installing.{opened_row, opened, first_version, newer, put_version, install_change, installed}
 use Rattle.mvrows.specs.Pruning.{has_version, pruned_key, pruned}
@@ -155,7 +155,7 @@ module _ {A : Type 0} where
   leaves_undoable : (commit : ℕ) (leaves : List (Held A)) → RowsAreBelow commit (rows_in leaves) → AreUndoable commit leaves
   leaves_undoable commit [] below = tt
   leaves_undoable commit (h ∷ hs) below =
-      let parts = all-cut (λ k. AreBelow commit k.versions) h.rows (rows_in hs) below in
+      let parts = all-parts (λ k. AreBelow commit k.versions) h.rows (rows_in hs) below in
       ((λ shared. parts.0), leaves_undoable commit hs parts.1)
 
   pub undoable-below : (commit : ℕ) (tables : List (List (Held A))) → TablesAreBelow commit (rows_held tables) → AllByRecursion (AreUndoable commit) tables
@@ -165,8 +165,8 @@ module _ {A : Type 0} where
   leaves_undone : (commit : ℕ) (leaves : List (Held A)) → AllVersioned (rows_in leaves) → RowsAreBelow commit (rows_in leaves) → undone_in commit leaves ≡ rows_in leaves
   leaves_undone commit [] versioned below = refl
   leaves_undone commit (h ∷ hs) versioned below =
-      let all = all-cut (λ k. has_version k ≡ true) h.rows (rows_in hs) versioned in
-      let parts = all-cut (λ k. AreBelow commit k.versions) h.rows (rows_in hs) below in
+      let all = all-parts (λ k. has_version k ≡ true) h.rows (rows_in hs) versioned in
+      let parts = all-parts (λ k. AreBelow commit k.versions) h.rows (rows_in hs) below in
       λ i. go h.own all.0 parts.0 i ++ leaves_undone commit hs all.1 parts.1 i
     where
       go : (b : Bool) → AllVersioned h.rows → RowsAreBelow commit h.rows → cond b (rows_before commit h.rows) h.rows ≡ h.rows

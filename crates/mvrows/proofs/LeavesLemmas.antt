@@ -7,12 +7,13 @@ use Rattle.std.proofs.lemmas.List.{map-append, append-nil, drop_all}
 use Rattle.std.proofs.lemmas.List.Elements.{filter-append}
 use Rattle.value.specs.declared.value.Value.{Value}
 use Rattle.value.specs.declared.key.Key.{Key}
+use Rattle.value.proofs.Basics.{all-get, all-parts}
 use Rattle.schema.specs.declared.row.Row.{Row}
 use Rattle.schema.specs.declared.reader.Bound.{Bound}
 use Rattle.schema.specs.Paged.{joined as all_of}
 use Rattle.schema.specs.Rows.{next_row}
 use Rattle.schema.proofs.PageLemmas.{one-in_order, drop-item}
-use Rattle.schema.proofs.PagedLemmas.{Below, least-append, least-join, in_order-cut, in_order-join, cut_pages, cut-flat, cut-all, same-in, all-cut, all-get}
+use Rattle.schema.proofs.PagedLemmas.{Below, least-append, least-join, in_order-cut, in_order-join, cut_pages, cut-flat, cut-all, same-in}
 use Rattle.mvrows.specs.Versions.{Version, VersionedRows, IsInOrder, shown_rows}
 use Rattle.mvrows.specs.Installing.{opened_row, first_version, put_version}
 use Rattle.mvrows.specs.Pruning.{has_version, pruned_key, pruned_rows, pruned_versions}
@@ -61,8 +62,8 @@ module _ {A : Type 0} where
   -- what holds of all keys holds of a page's
   pub versioned-page : (leaves : List (Held A)) (i : ℕ) (h : Held A) → i < length leaves → h ≡ get_or leaves i h → AllVersioned (rows_in leaves) → AllVersioned h.rows
   versioned-page [] i h lt at all = absurd (omega arith)
-  versioned-page (g ∷ gs) zero h lt at all = subst (λ x. AllVersioned x.rows) (sym at) (all-cut (λ k. has_version k ≡ true) g.rows (rows_in gs) all).0
-  versioned-page (g ∷ gs) (suc i) h lt at all = versioned-page gs i h (omega arith) at (all-cut (λ k. has_version k ≡ true) g.rows (rows_in gs) all).1
+  versioned-page (g ∷ gs) zero h lt at all = subst (λ x. AllVersioned x.rows) (sym at) (all-parts (λ k. has_version k ≡ true) g.rows (rows_in gs) all).0
+  versioned-page (g ∷ gs) (suc i) h lt at all = versioned-page gs i h (omega arith) at (all-parts (λ k. has_version k ≡ true) g.rows (rows_in gs) all).1
 
   -- ---- a page cut in two
 

@@ -10,11 +10,12 @@ use Rattle.std.proofs.lemmas.Bool.{lt-leb}
 use Rattle.std.proofs.lemmas.List.{set_split, take-append-drop}
 use Rattle.value.specs.Order.{value_cmp}
 use Rattle.value.specs.declared.value.Value.{Value}
+use Rattle.value.proofs.Basics.{all-get}
 use Rattle.schema.specs.Pages.{IsPlaced}
 use Rattle.schema.specs.Plain.{same}
 use Rattle.schema.proofs.FindLemmas.{find-in}
 use Rattle.schema.proofs.PageLemmas.{greater, less, equal, slice_get-none, slice_get-item, below-passed}
-use Rattle.schema.proofs.PagedLemmas.{IsLocal, local-parted, all-get}
+use Rattle.schema.proofs.PagedLemmas.{IsLocal, local-parted}
 use Rattle.mvrows.specs.Versions.{Version, KeyVersions, VersionedRows, AreBelow, RowsAreBelow}
 use Rattle.mvrows.specs.Pruning.{has_version}
 use Rattle.mvrows.specs.Settling.{Needed, found, if_version, settled_key, settle_key}

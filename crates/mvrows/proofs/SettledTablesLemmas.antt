@@ -10,10 +10,10 @@ use Rattle.std.proofs.lemmas.Cmp.{tied_itself}
 use Rattle.std.proofs.lemmas.List.{map-set}
 use Rattle.value.specs.Order.{value_cmp, value_cmp-total}
 use Rattle.value.specs.declared.value.Value.{Value}
+use Rattle.value.proofs.Basics.{all-get, all-set}
 use Rattle.schema.specs.declared.changes.Change.{Change}
 use Rattle.schema.specs.Plain.{same}
 use Rattle.schema.proofs.PageLemmas.{drop-item}
-use Rattle.schema.proofs.PagedLemmas.{all-get, all-set}
 use Rattle.mvrows.specs.Versions.{Version, VersionedRows, versions_of}
 use Rattle.mvrows.specs.Installing.{first_version, newer, put_version, install_change, installed}
 use Rattle.mvrows.specs.Settling.{Needed, found, settle_key, settle_change, settled}

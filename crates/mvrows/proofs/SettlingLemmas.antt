@@ -10,10 +10,10 @@ use Rattle.std.specs.declared.cmp.Ordering.TheVariants.{Less, Equal, Greater}
 use Rattle.std.proofs.lemmas.List.{map-set, set-get_or, length-set}
 use Rattle.value.specs.Order.{value_cmp, value_cmp-total}
 use Rattle.value.specs.declared.value.Value.{Value}
+use Rattle.value.proofs.Basics.{all-set}
 use Rattle.schema.specs.declared.changes.Change.{Change}
 use Rattle.schema.specs.Plain.{same}
 use Rattle.schema.proofs.PlainLemmas.{same_value}
-use Rattle.schema.proofs.PagedLemmas.{all-set}
 use Rattle.mvrows.specs.Versions.{Version, KeyVersions, VersionedRows, versions_of, IsInOrder, AreInOrder, shown_fields, shown_row, shown_rows, shown, newest_version, newest_in, newest, RowsAreBelow, TablesAreBelow}
 use Rattle.mvrows.specs.Fresh.{is_from, IsFresh}
 use Rattle.mvrows.specs.Pruning.{if_row, pruned_versions, are_some, has_version, IsPruned, KeepsNewest}

@@ -2,7 +2,7 @@
 use Rattle.std.proofs.Common.{◌≡◌, refl, sym, ap, subst, ◌∙◌, ℕ, true≢false, true, List, [], ◌∷◌, ◌++◌, Option, Some, None}
 use Rattle.std.specs.Prelude.{IfSome}
 use Rattle.value.specs.declared.value.Value.{Value}
-use Rattle.schema.proofs.PagedLemmas.{all-cut, all-join}
+use Rattle.value.proofs.Basics.{all-append, all-parts}
 use Rattle.mvrows.specs.Versions.{KeyVersions, AreBelow, RowsAreBelow}
 use Rattle.mvrows.specs.Pruning.{has_version}
 use Rattle.mvrows.specs.Settling.{Needed, found, settle_key}
@@ -29,14 +29,14 @@ module _ {A : Type 0} where
 
   shared-below : (commit : ℕ) (leaves : List (Held A)) → AreUndoable commit (all_shared leaves) → RowsAreBelow commit (rows_in leaves)
   shared-below commit [] undoable = tt
-  shared-below commit (h ∷ hs) undoable = all-join (λ k. AreBelow commit k.versions) h.rows (rows_in hs) (undoable.0 refl) (shared-below commit hs undoable.1)
+  shared-below commit (h ∷ hs) undoable = all-append (λ k. AreBelow commit k.versions) h.rows (rows_in hs) (undoable.0 refl) (shared-below commit hs undoable.1)
 
   -- ---- a table of the same rows
 
   below-undoable : (commit : ℕ) (leaves : List (Held A)) → RowsAreBelow commit (rows_in leaves) → AreUndoable commit leaves
   below-undoable commit [] below = tt
   below-undoable commit (h ∷ hs) below =
-      let parts = all-cut (λ k. AreBelow commit k.versions) h.rows (rows_in hs) below in
+      let parts = all-parts (λ k. AreBelow commit k.versions) h.rows (rows_in hs) below in
       ((λ shared. parts.0), below-undoable commit hs parts.1)
 
   undone-below : (commit : ℕ) (h : Held A) → AllVersioned h.rows → RowsAreBelow commit h.rows → undone commit h ≡ h.rows
@@ -45,8 +45,8 @@ module _ {A : Type 0} where
   below-undone : (commit : ℕ) (leaves : List (Held A)) → AllVersioned (rows_in leaves) → RowsAreBelow commit (rows_in leaves) → undone_in commit leaves ≡ rows_in leaves
   below-undone commit [] versioned below = refl
   below-undone commit (h ∷ hs) versioned below =
-      let have = all-cut (λ k. has_version k ≡ true) h.rows (rows_in hs) versioned in
-      let parts = all-cut (λ k. AreBelow commit k.versions) h.rows (rows_in hs) below in
+      let have = all-parts (λ k. has_version k ≡ true) h.rows (rows_in hs) versioned in
+      let parts = all-parts (λ k. AreBelow commit k.versions) h.rows (rows_in hs) below in
       λ i. undone-below commit h have.0 parts.0 i ++ below-undone commit hs have.1 parts.1 i
 
   pub lent-undone : (commit : ℕ) (leaves more : List (Held A)) → rows_in more ≡ rows_in leaves → AllVersioned (rows_in (all_shared leaves)) → AreUndoable commit (all_shared leaves) → undone_in commit more ≡ undone_in commit (all_shared leaves)

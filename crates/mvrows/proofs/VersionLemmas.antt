@@ -11,11 +11,11 @@ use Rattle.std.proofs.lemmas.List.{map-set, set-get_or}
 use Rattle.std.proofs.Math.Dec.{leb-zero}
 use Rattle.value.specs.Order.{value_cmp, value_cmp-total, value_cmp-exact}
 use Rattle.value.specs.declared.value.Value.{Value}
+use Rattle.value.proofs.Basics.{all-set}
 use Rattle.schema.specs.declared.changes.Change.{Change}
 use Rattle.schema.specs.declared.tables.Tables.{Tables}
 use Rattle.schema.specs.Plain.{changed, put_in, put_all, rows_of}
 use Rattle.schema.specs.Rows.{Rows}
-use Rattle.schema.proofs.PagedLemmas.{all-set}
 use Rattle.mvrows.specs.Versions.{Version, VersionedRows, versions_of, IsInOrder, AreInOrder, shown_fields, shown_row, shown_rows, shown, RowsAreBelow, TablesAreBelow}
 use Rattle.mvrows.specs.Installing.{opened_row, opened, first_version, newer, put_version, install_change, installed}
 

@@ -1,16 +1,18 @@
 -- What has keys, in key order: where a bound stands among it.
 use Rattle.std.proofs.Common.{suc, zero, ◌≡◌, refl, sym, ap, subst, ◌∙◌, ℕ, ◌+◌, ◌-◌, ◌<◌, ◌≤◌, Bool, true, false, true≢false, not, ◌&&◌, List, [], ◌∷◌, ◌++◌, take, drop, length, Some, None, get_or, arith, Bor}
 use Rattle.std.specs.Prelude.{slice_get}
-use Rattle.std.specs.List.{AllByRecursion, AllWithin}
+use Rattle.std.specs.List.{AllByRecursion}
 use Rattle.std.specs.List.Sorted.{IsStrictlySortedBy, IsPartitionedBy, IsPartitionPoint}
 use Rattle.std.specs.Option.{option_map_or}
 use Rattle.std.specs.Ordering.{is_eq, is_le}
 use Rattle.std.specs.declared.cmp.Ordering.{Ordering}
 use Rattle.std.specs.declared.cmp.Ordering.TheVariants.{Less, Equal, Greater}
 use Rattle.std.proofs.lemmas.List.{take_more, drop_more}
+use Rattle.std.proofs.lemmas.Bool.{not-true}
 use Rattle.value.specs.Order.{value_cmp, value_cmp-total, value_cmp-exact}
 use Rattle.value.specs.declared.key.Key.{Key}
 use Rattle.value.specs.declared.value.Value.{Value}
+use Rattle.value.proofs.Basics.{all-at, all-drop, all-take, all-weaker}
 use Rattle.schema.specs.declared.reader.Bound.{Bound}
 use Rattle.schema.specs.Pages.{has_items, IsInOrder, IsLeast, is_before}
 use Rattle.schema.specs.Rows.{is_within}
@@ -22,11 +24,6 @@ abbrev pub Pairwise : {X : Type 0} → (X → X → Type 0) → List X → Type 
 Pairwise R [] = Unit {0}
 Pairwise R (x ∷ xs) = AllByRecursion (R x) xs × Pairwise R xs
 
-all-at : {X : Type 0} (P : X → Type 0) (xs : List X) (i : ℕ) (d : X) → i < length xs → AllByRecursion P xs → P (get_or xs i d)
-all-at P [] i d lt all = absurd (omega arith)
-all-at P (x ∷ xs) zero d lt all = all.0
-all-at P (x ∷ xs) (suc i) d lt all = all-at P xs i d (omega arith) all.1
-
 pub partitioned-pairwise : {X : Type 0} (p : X → Bool) (R : X → X → Type 0) → ((x y : X) → R x y → p y ≡ true → p x ≡ true) → (xs : List X) → Pairwise R xs → IsPartitionedBy p xs
 partitioned-pairwise p R step [] pairs = λ i j d le lt yes. absurd (omega arith)
 partitioned-pairwise {X} p R step (x ∷ xs) pairs = go (partitioned-pairwise p R step xs pairs.1)
@@ -36,25 +33,6 @@ partitioned-pairwise {X} p R step (x ∷ xs) pairs = go (partitioned-pairwise p 
     go rest zero (suc j) d le lt passes = step x (get_or xs j d) (all-at (R x) xs j d (omega arith) pairs.0) passes
     go rest (suc i) zero d le lt passes = absurd (omega arith)
     go rest (suc i) (suc j) d le lt passes = rest i j d (omega arith) (omega arith) passes
-
-pub all-take : {X : Type 0} (P : X → Type 0) (i : ℕ) (xs : List X) → i ≤ length xs → AllWithin P xs 0 i → AllByRecursion P (take i xs)
-all-take P zero xs le h = tt
-all-take P (suc i) [] le h = tt
-all-take P (suc i) (x ∷ xs) le h = (h 0 x (omega arith) (omega arith), all-take P i xs (omega arith) (λ k d low high. h (suc k) d (omega arith) (omega arith)))
-
-pub all-drop : {X : Type 0} (P : X → Type 0) (i : ℕ) (xs : List X) → AllWithin P xs i (length xs) → AllByRecursion P (drop i xs)
-all-drop P zero [] h = tt
-all-drop P zero (x ∷ xs) h = (h 0 x (omega arith) (omega arith), all-drop P zero xs (λ k d low high. h (suc k) d (omega arith) (omega arith)))
-all-drop P (suc i) [] h = tt
-all-drop P (suc i) (x ∷ xs) h = all-drop P i xs (λ k d low high. h (suc k) d (omega arith) (omega arith))
-
-all-weaker : {X : Type 0} (P Q : X → Type 0) → ((x : X) → P x → Q x) → (xs : List X) → AllByRecursion P xs → AllByRecursion Q xs
-all-weaker P Q step [] all = tt
-all-weaker P Q step (x ∷ xs) all = (step x all.0, all-weaker P Q step xs all.1)
-
-pub not-true : (b : Bool) → not b ≡ true → b ≡ false
-not-true true e = sym e
-not-true false e = refl
 
 not-false : (b : Bool) → not b ≡ false → b ≡ true
 not-false true e = refl

@@ -2,41 +2,26 @@
 use Rattle.std.proofs.Common.{suc, zero, ◌≡◌, refl, sym, ap, subst, ◌∙◌, ℕ, ◌+◌, ◌-◌, ◌<◌, ◌≤◌, Bool, true, false, true≢false, not, ◌&&◌, List, [], ◌∷◌, ◌++◌, take, drop, length, Some, None, get_or, set, arith, Bor, add-one, append_assoc}
 use Rattle.std.specs.Prelude.{slice_get, Result, Ok, Err, OnOk, OnErr}
 use Rattle.std.specs.List.{AllByRecursion, flat_map}
+use Rattle.std.specs.Option.{option_map_or}
 use Rattle.std.specs.List.Sorted.{IsStrictlySortedBy, IsPartitionedBy, IsPartitionPoint}
 use Rattle.std.specs.Ordering.{is_le}
 use Rattle.std.specs.declared.cmp.Ordering.{Ordering}
 use Rattle.std.specs.declared.cmp.Ordering.TheVariants.{Less, Equal, Greater}
 use Rattle.std.proofs.lemmas.List.{drop_all, take_all, append-nil, take-append-drop}
 use Rattle.std.proofs.lemmas.List.Concat.{flat_map-append}
+use Rattle.std.proofs.lemmas.Bool.{and_parts, not-true}
 use Rattle.value.specs.Order.{value_cmp, value_cmp-exact}
 use Rattle.value.specs.declared.key.Key.{Key}
 use Rattle.value.specs.declared.value.Value.{Value}
+use Rattle.value.proofs.Basics.{all-append, all-drop, all-get, all-parts, all-set, all-take, all-take_less}
 use Rattle.schema.specs.declared.reader.Bound.{Bound}
 use Rattle.schema.specs.declared.reader.Bound.TheVariants.{From}
 use Rattle.schema.specs.Pages.{has_items, IsInOrder, IsLeast, IsBehind, is_before, AreLaidOut, IsPlaced}
 use Rattle.schema.specs.Rows.{is_within}
 use Rattle.schema.proofs.RowsInOrder.{later_within}
-use Rattle.schema.proofs.PageLemmas.{Pairwise, partitioned-pairwise, all-take, all-drop, not-true, least-trans, slice_get-below, last_none}
+use Rattle.schema.proofs.PageLemmas.{Pairwise, partitioned-pairwise, least-trans, slice_get-below, last_none}
 
 -- ---- lists
-
-pub all-join : {X : Type 0} (P : X → Type 0) (xs ys : List X) → AllByRecursion P xs → AllByRecursion P ys → AllByRecursion P (xs ++ ys)
-all-join P [] ys first second = second
-all-join P (x ∷ xs) ys first second = (first.0, all-join P xs ys first.1 second)
-
-pub all-cut : {X : Type 0} (P : X → Type 0) (xs ys : List X) → AllByRecursion P (xs ++ ys) → AllByRecursion P xs × AllByRecursion P ys
-all-cut P [] ys all = (tt, all)
-all-cut P (x ∷ xs) ys all = let rest = all-cut P xs ys all.1 in ((all.0, rest.0), rest.1)
-
-pub all-set : {X : Type 0} (P : X → Type 0) (xs : List X) (i : ℕ) (y : X) → P y → AllByRecursion P xs → AllByRecursion P (set xs i y)
-all-set P [] i y p all = all
-all-set P (x ∷ xs) zero y p all = (p, all.1)
-all-set P (x ∷ xs) (suc i) y p all = (all.0, all-set P xs i y p all.1)
-
-pub all-get : {X : Type 0} (P : X → Type 0) (xs : List X) (i : ℕ) (x : X) → i < length xs → x ≡ get_or xs i x → AllByRecursion P xs → P x
-all-get P [] i x lt at all = absurd (omega arith)
-all-get P (y ∷ ys) zero x lt at all = subst P (sym at) all.0
-all-get P (y ∷ ys) (suc i) x lt at all = all-get P ys i x (omega arith) at all.1
 
 -- one page, and what stands before and after it
 flat-split_suc : {X Y : Type 0} (f : X → List Y) (xs : List X) (i : ℕ) (x : X) → i < length xs → x ≡ get_or xs i x → flat_map f xs ≡ flat_map f (take i xs) ++ (f x ++ flat_map f (drop (suc i) xs))
@@ -90,19 +75,12 @@ left-all P [] (suc i) x all = tt
 left-all P (y ∷ ys) zero x all = all.1
 left-all P (y ∷ ys) (suc i) x all = (all.0, left-all P ys i x all.1)
 
-and-parts : (b d : Bool) → (b && d) ≡ true → (b ≡ true) × (d ≡ true)
-and-parts true d e = (refl, e)
-and-parts false d e = absurd (true≢false (sym e))
-
-all-take_less : {X : Type 0} (P : X → Type 0) (i j : ℕ) (xs : List X) → i ≤ j → AllByRecursion P (take j xs) → AllByRecursion P (take i xs)
-all-take_less P zero j xs le all = tt
-all-take_less P (suc i) zero xs le all = absurd (omega arith)
-all-take_less P (suc i) (suc j) [] le all = tt
-all-take_less P (suc i) (suc j) (x ∷ xs) le all = (all.0, all-take_less P i j xs (omega arith) all.1)
-
 pub no_items : {T : Type 0} (items : List T) → has_items items ≡ false → items ≡ []
 no_items [] e = refl
 no_items (x ∷ xs) e = absurd (true≢false e)
+
+less_one : (i : ℕ) → suc i - 1 ≡ i
+less_one i = omega arith
 
 module _ {A T : Type 0} (key : T → Value A) where
   -- ---- the order of two runs
@@ -160,7 +138,7 @@ module _ {A T : Type 0} (key : T → Value A) where
   before-later bound xs (y ∷ ys) below some early = go xs below
     where
       first : is_within bound (key y) ≡ false
-      first = not-true (is_within bound (key y)) (and-parts (not (is_within bound (key y))) (is_before key bound ys) early).0
+      first = not-true (is_within bound (key y)) (and_parts (not (is_within bound (key y))) (is_before key bound ys) early).0
 
       go : (rest : List T) → Below rest (y ∷ ys) → is_before key bound rest ≡ true
       go [] small = refl
@@ -169,7 +147,7 @@ module _ {A T : Type 0} (key : T → Value A) where
   page_before : (bound : Bound (Bor (Key A))) (page : List T) → is_before key bound page ≡ true → AllByRecursion (λ x. is_within bound (key x) ≡ false) page
   page_before bound [] early = tt
   page_before bound (x ∷ xs) early =
-      let parts = and-parts (not (is_within bound (key x))) (is_before key bound xs) early in
+      let parts = and_parts (not (is_within bound (key x))) (is_before key bound xs) early in
       (not-true (is_within bound (key x)) parts.0, page_before bound xs parts.1)
 
   -- the keys after a page with a key that isn't below this one are above it
@@ -210,7 +188,7 @@ module _ {A T H : Type 0} (key : T → Value A) (items : H → List T) where
 
   pub pages_before : (bound : Bound (Bor (Key A))) (pages : List H) → AllByRecursion (λ page. is_before key bound (items page) ≡ true) pages → AllByRecursion (λ x. is_within bound (key x) ≡ false) (joined pages)
   pages_before bound [] early = tt
-  pages_before bound (page ∷ pages) early = all-join (λ x. is_within bound (key x) ≡ false) (items page) (joined pages) (page_before key bound (items page) early.0) (pages_before bound pages early.1)
+  pages_before bound (page ∷ pages) early = all-append (λ x. is_within bound (key x) ≡ false) (items page) (joined pages) (page_before key bound (items page) early.0) (pages_before bound pages early.1)
 
   rest_laid_out : (page : H) (pages : List H) → AreLaidOut key items (page ∷ pages) → AreLaidOut key items pages
   rest_laid_out page pages laid = ((in_order-cut key (items page) (joined pages) laid.0).second, laid.1.1)
@@ -259,35 +237,45 @@ module _ {A T H : Type 0} (key : T → Value A) (items : H → List T) where
     after = place-after_last k.now pages (i + 1) past;
   }
 
-  -- where no item of a page is within a bound, none of those before it is
-  pub early-take : (bound : Bound (Bor (Key A))) (pages : List H) (i : ℕ) (page : H) → AreLaidOut key items pages → slice_get pages i ≡ Some page → is_before key bound (items page) ≡ true → AllByRecursion (λ h. is_before key bound (items h) ≡ true) (take (suc i) pages)
-  early-take bound [] i page laid at early = cc
-  early-take bound (p ∷ ps) zero page laid at early = let same : p ≡ page = cc in (subst (λ q. is_before key bound (items q) ≡ true) (sym same) early, tt)
-  early-take bound (p ∷ []) (suc i) page laid at early = cc
-  early-take bound (p ∷ q ∷ ps) (suc i) page laid at early =
-      let rest = early-take bound (q ∷ ps) i page (rest_laid_out p (q ∷ ps) laid) at early in
+  -- whether a page stands at a place, and no item of it is within a bound
+  abbrev early_at : Bound (Bor (Key A)) → List H → ℕ → Bool
+  early_at bound pages i = option_map_or (λ page. is_before key bound (items page)) (slice_get pages i) false
+
+  -- then none of those before it is
+  early-take : (bound : Bound (Bor (Key A))) (pages : List H) (i : ℕ) → AreLaidOut key items pages → early_at bound pages i ≡ true → AllByRecursion (λ h. is_before key bound (items h) ≡ true) (take (suc i) pages)
+  early-take bound [] i laid early = absurd (true≢false (sym early))
+  early-take bound (p ∷ ps) zero laid early = (early, tt)
+  early-take bound (p ∷ []) (suc i) laid early = absurd (true≢false (sym early))
+  early-take bound (p ∷ q ∷ ps) (suc i) laid early =
+      let rest = early-take bound (q ∷ ps) i (rest_laid_out p (q ∷ ps) laid) early in
       let below = below-append key (items p) (items q) (joined ps) (in_order-cut key (items p) (joined (q ∷ ps)) laid.0).below in
       (before-later key bound (items p) (items q) below.0 laid.1.1.0 rest.0, rest)
 
   -- to the page behind one that is before it, or a later one
-  pub place-above : (k : Bor (Key A)) (pages : List H) (i : ℕ) (page : H) → AreLaidOut key items pages → 0 < i → slice_get pages (i - 1) ≡ Some page → is_before key (From k) (items page) ≡ true → IsBehind key k.now (joined (take i pages))
-  place-above k pages i page laid some at early =
-      pages_before (From k) (take i pages) (subst (λ n. AllByRecursion (λ h. is_before key (From k) (items h) ≡ true) (take n pages)) (omega (arith, some)) (early-take (From k) pages (i - 1) page laid at early))
+  place-above_suc : (k : Bor (Key A)) (pages : List H) (i : ℕ) → AreLaidOut key items pages → early_at (From k) pages i ≡ true → IsBehind key k.now (joined (take (suc i) pages))
+  place-above_suc k pages i laid early = pages_before (From k) (take (suc i) pages) (early-take (From k) pages i laid early)
 
-  place-below_suc : (k : Bor (Key A)) (pages : List H) (i : ℕ) (page : H) → AreLaidOut key items pages → slice_get pages i ≡ Some page → is_before key (From k) (items page) ≡ false → IsLeast key k.now (joined (drop (suc i) pages))
-  place-below_suc k [] i page laid at late = cc
-  place-below_suc k (p ∷ ps) zero page laid at late = let same : p ≡ page = cc in strict-after key k (items p) (joined ps) (in_order-cut key (items p) (joined ps) laid.0).below (subst (λ q. is_before key (From k) (items q) ≡ false) (sym same) late)
-  place-below_suc k (p ∷ ps) (suc i) page laid at late = place-below_suc k ps i page (rest_laid_out p ps laid) at late
+  pub place-above : (k : Bor (Key A)) (pages : List H) (i : ℕ) → AreLaidOut key items pages → 0 < i → early_at (From k) pages (i - 1) ≡ true → IsBehind key k.now (joined (take i pages))
+  place-above k pages zero laid some early = absurd (omega arith)
+  place-above k pages (suc i) laid some early = place-above_suc k pages i laid (subst (λ n. early_at (From k) pages n ≡ true) (less_one i) early)
+
+  place-below_suc : (k : Bor (Key A)) (pages : List H) (i : ℕ) → AreLaidOut key items pages → i < length pages → early_at (From k) pages i ≡ false → IsLeast key k.now (joined (drop (suc i) pages))
+  place-below_suc k [] i laid lt late = absurd (omega arith)
+  place-below_suc k (p ∷ ps) zero laid lt late = strict-after key k (items p) (joined ps) (in_order-cut key (items p) (joined ps) laid.0).below late
+  place-below_suc k (p ∷ ps) (suc i) laid lt late = place-below_suc k ps i (rest_laid_out p ps laid) (omega arith) late
 
   -- to one that isn't before it, or an earlier one
-  pub place-below : (k : Bor (Key A)) (pages : List H) (i : ℕ) (page : H) → AreLaidOut key items pages → slice_get pages i ≡ Some page → is_before key (From k) (items page) ≡ false → IsLeast key k.now (joined (drop (i + 1) pages))
-  place-below k pages i page laid at late = rw add-one (place-below_suc k pages i page laid at late)
+  pub place-below : (k : Bor (Key A)) (pages : List H) (i : ℕ) → AreLaidOut key items pages → i < length pages → early_at (From k) pages i ≡ false → IsLeast key k.now (joined (drop (i + 1) pages))
+  place-below k pages i laid lt late = rw add-one (place-below_suc k pages i laid lt late)
+
+  pub place-below_last : (k : Value A) (pages : List H) (i : ℕ) → i + 1 ≡ length pages → IsLeast key k (joined (drop (i + 1) pages))
+  place-below_last k pages i last = place-after_last k pages (i + 1) (omega (arith, last))
 
   -- a key behind the last page is behind all
   pub last-behind : (k : Bor (Key A)) (pages : List H) (page : H) → AreLaidOut key items pages → slice_get pages (length pages - 1) ≡ Some page → is_before key (From k) (items page) ≡ true → IsBehind key k.now (joined pages)
   last-behind k pages page laid at early =
       let lt = slice_get-below pages (length pages - 1) page at in
-      subst (λ hs. IsBehind key k.now (joined hs)) (take_all (length pages) pages (omega arith)) (place-above k pages (length pages) page laid (omega (arith, lt)) at early)
+      subst (λ hs. IsBehind key k.now (joined hs)) (take_all (length pages) pages (omega arith)) (place-above k pages (length pages) laid (omega (arith, lt)) (rw at early))
 
   pub none-behind : (k : Value A) (pages : List H) → slice_get pages (length pages - 1) ≡ None → IsBehind key k (joined pages)
   none-behind k pages at = subst (λ ps. IsBehind key k (joined ps)) (sym (last_none pages at)) tt
@@ -296,8 +284,8 @@ module _ {A T H : Type 0} (key : T → Value A) (items : H → List T) where
   pub behind-placed : (k : Value A) (pages : List H) (i : ℕ) (page : H) → i < length pages → length pages ≤ i + 1 → page ≡ get_or pages i page → IsBehind key k (joined pages) → IsPlaced key items k pages i × IsBehind key k (items page)
   behind-placed k pages i page lt past at behind =
       let test : T → Type 0 = λ x. is_le (value_cmp k (key x)) ≡ false in
-      let parts = all-cut test (joined (take i pages)) (items page ++ joined (drop (i + 1) pages)) (subst (IsBehind key k) (flat-split items pages i page lt at) behind) in
-      (record { before = parts.0; after = place-after_last k pages (i + 1) past }, (all-cut test (items page) (joined (drop (i + 1) pages)) parts.1).0)
+      let parts = all-parts test (joined (take i pages)) (items page ++ joined (drop (i + 1) pages)) (subst (IsBehind key k) (flat-split items pages i page lt at) behind) in
+      (record { before = parts.0; after = place-after_last k pages (i + 1) past }, (all-parts test (items page) (joined (drop (i + 1) pages)) parts.1).0)
 
   -- as a look-up of an equal key in an equal list tells it
   pub placed : (k l : Value A) (pages lent : List H) (i : ℕ) → lent ≡ pages → l ≡ k → IsPlaced key items l lent i → IsPlaced key items k pages i
@@ -364,7 +352,7 @@ module _ {A T H : Type 0} (key : T → Value A) (items : H → List T) where
   pub pushed-laid_out : (pages new : List H) (page : H) → new ≡ pages ++ page ∷ [] → IsInOrder key (joined pages ++ items page) → Filled page → AreLaidOut key items pages → AreLaidOut key items new
   pushed-laid_out pages new page push sorted some laid = (
     subst (IsInOrder key) (sym (pushed pages new page push)) sorted,
-    subst (AllByRecursion Filled) (sym push) (all-join Filled pages (page ∷ []) laid.1 (some, tt)),
+    subst (AllByRecursion Filled) (sym push) (all-append Filled pages (page ∷ []) laid.1 (some, tt)),
   )
 
   pub none-laid_out : (pages : List H) → pages ≡ [] → AreLaidOut key items pages

@@ -154,7 +154,11 @@ pub fn place_of<A: Allocator, P: Paged<A>>(pages: &[P], key: &Value<A>) -> usize
 }
 
 // Whether a page stands at a place, and none of its items is within a bound.
-fn is_before_at<A: Allocator, P: Paged<A>>(pages: &[P], place: usize, bound: Bound<&Value<A>>) -> bool
+fn is_before_at<A: Allocator, P: Paged<A>>(
+    pages: &[P],
+    place: usize,
+    bound: Bound<&Value<A>>,
+) -> bool
     ensures { result ≡ option_map_or (λ page. is_before P.Item.key_of bound.entry (P.items_of page))
         (slice_get pages.now place) false }
 {
@@ -165,7 +169,11 @@ fn is_before_at<A: Allocator, P: Paged<A>>(pages: &[P], place: usize, bound: Bou
 }
 
 // Whether a key is known to be above all items of the pages before a place.
-fn is_above_those_before<A: Allocator, P: Paged<A>>(pages: &[P], place: usize, key: &Value<A>) -> bool
+fn is_above_those_before<A: Allocator, P: Paged<A>>(
+    pages: &[P],
+    place: usize,
+    key: &Value<A>,
+) -> bool
     requires { AreLaidOut P.Item.key_of P.items_of pages.now }
     ensures { IsTrue result → IsBehind P.Item.key_of key.now (flat_map P.items_of (take place pages.now)) }
 {
@@ -173,7 +181,11 @@ fn is_above_those_before<A: Allocator, P: Paged<A>>(pages: &[P], place: usize, k
 }
 
 // Whether a key is known to be below all items of the pages behind a place.
-fn is_below_those_behind<A: Allocator, P: Paged<A>>(pages: &[P], place: usize, key: &Value<A>) -> bool
+fn is_below_those_behind<A: Allocator, P: Paged<A>>(
+    pages: &[P],
+    place: usize,
+    key: &Value<A>,
+) -> bool
     requires laid_out { AreLaidOut P.Item.key_of P.items_of pages.now }
     requires range { place < length pages.now }
     ensures { IsTrue result → IsLeast P.Item.key_of key.now (flat_map P.items_of (drop (place + 1) pages.now)) }

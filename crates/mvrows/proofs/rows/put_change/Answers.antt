@@ -1,7 +1,7 @@
 use Rattle.std.proofs.Common.{arith, ◌<◌, length, ◌∙◌}
+use Rattle.value.proofs.Basics.{all-get}
 use Rattle.mvrows.specs.HeldRows.{AreUndoable, undone_in, AllVersioned}
 use Rattle.mvrows.proofs.PageLemmas.{on_ok}
-use Rattle.schema.proofs.PagedLemmas.{all-get}
 use Rattle.mvrows.proofs.HeldLemmas.{held-set, same-set, rows-at, versioned-set}
 use Rattle.mvrows.proofs.rows.put_change.Goals as goal
 

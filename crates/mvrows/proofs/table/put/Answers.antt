@@ -1,5 +1,6 @@
 use Rattle.std.proofs.Common.{subst, length, ◌<◌, ◌∙◌}
-use Rattle.schema.proofs.PagedLemmas.{placed, same-in, answered-ok, answered-err, answered-laid_out, all-get, all-set}
+use Rattle.value.proofs.Basics.{all-get, all-set}
+use Rattle.schema.proofs.PagedLemmas.{placed, same-in, answered-ok, answered-err, answered-laid_out}
 use Rattle.mvrows.specs.HeldRows.{chain_key, undone, IsUndoable}
 use Rattle.mvrows.proofs.JoinedLemmas.{put-local, put-has_keys}
 use Rattle.mvrows.proofs.LeavesLemmas.{versioned-page}

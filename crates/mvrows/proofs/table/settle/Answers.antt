@@ -1,5 +1,6 @@
 use Rattle.std.proofs.Common.{sym, subst, length, ◌<◌, ◌∙◌}
-use Rattle.schema.proofs.PagedLemmas.{placed, changed-in, changed-laid_out, gone-in, gone-laid_out, all-get, all-set}
+use Rattle.value.proofs.Basics.{all-get, all-set}
+use Rattle.schema.proofs.PagedLemmas.{placed, changed-in, changed-laid_out, gone-in, gone-laid_out}
 use Rattle.mvrows.specs.Settling.{settle_key}
 use Rattle.mvrows.specs.HeldRows.{chain_key, IsUndoable}
 use Rattle.mvrows.proofs.SettledPageLemmas.{own-key, settle-local, settled-undoable}
