@@ -11,6 +11,7 @@ use dumpplan::{Jobs, NoGate};
 use orders::search::{Answer, Found, search};
 use orders::stop::{Stop, find_stop};
 use program::files::{Files, ReadError};
+use program::machine::Machine;
 use restore::restore;
 use schema::catalog::Catalog;
 use schema::tables::Tables;
@@ -18,14 +19,6 @@ use std::alloc::{Allocator, Global};
 use std::thread::Threads;
 use transcript::traces::{Traces, read_traces};
 use value::text::Text;
-
-/// The threads, the memory and the files that a transcript is checked with.
-#[derive(Drop)]
-pub(crate) struct Machine<'m, F, T, A> {
-    pub(crate) rt: &'m T,
-    pub(crate) alloc: A,
-    pub(crate) files: &'m F,
-}
 
 /// What was found of a transcript: the tables that it begins with, what was recorded, and the answer.
 #[derive(Drop)]

@@ -4,14 +4,15 @@ ghost use Rattle.std.specs.Prelude.{◌≡◌, ◌≤◌};
 ghost use Rattle.command_check.specs.Statuses as spec;
 
 use crate::fault::{Fault, tell};
-use crate::judge::{Judgement, Machine, judge, read_path};
+use crate::judge::{Judgement, judge, read_path};
 use crate::task::{Task, read_words};
 use crate::telling::{judgement_text, write_all};
 use clap::Error;
 use clap::error::ErrorKind;
 use orders::search::Answer;
 use program::files::Files;
-use std::alloc::{Allocator, Global};
+use program::machine::Machine;
+use std::alloc::Allocator;
 use std::io::Write;
 use std::thread::Threads;
 use transcript::opening::{Opening, read_opening};
@@ -94,16 +95,13 @@ fn tell_words<W: Write, E: Write>(error: &Error, out: &mut W, err: &mut E) -> u8
     }
 }
 
-/// Does what the words behind `pgserial check` ask for, over these files, and gives the exit status: 0 where some order
+/// Does what the words behind `pgserial check` ask for, and gives the exit status: 0 where some order
 /// explains what the transcript tells, 5 where none does, 4 where the steps ran out; 1 where the transcript or its dump
 /// is refused, or it was out of memory; 2 for mistaken words; 3 where a file or standard output failed. The order and
 /// the answer are written to `out`, why there is none to `err`.
 pub fn check_words<A, F, W, E, T>(
-    rt: &T,
-    words_memory: Global,
-    alloc: A,
+    machine: &Machine<'_, F, T, A>,
     words: &[&str],
-    files: &F,
     out: &mut W,
     err: &mut E,
 ) -> u8
@@ -115,18 +113,12 @@ where
     T: Threads + Sync,
     ensures within { result ≤ 5 }
 {
-    let task = match read_words(words_memory, words) {
+    let task = match read_words(machine.words_memory, words) {
         Ok(task) => task,
         Err(error) => return tell_words(&error, out, err),
     };
-    match read_path(alloc, files, task.transcript) {
-        Ok(text) => check_text(
-            &Machine { rt, alloc, files },
-            text.as_slice(),
-            task,
-            out,
-            err,
-        ),
+    match read_path(machine.alloc, machine.files, task.transcript) {
+        Ok(text) => check_text(machine, text.as_slice(), task, out, err),
         Err(fault) => tell(fault, err),
     }
 }

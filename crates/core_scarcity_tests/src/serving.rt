@@ -10,7 +10,7 @@ use crate::trial::{Keeping, Trial, refusal_of};
 use crate::worked::{SCRIPTS, script_at};
 use backup::{BackupFault, dump_safe};
 use dumpplan::{Jobs, NoGate, PieceRows};
-use dumpworker::dump;
+use dumpworker::{Workers, dump};
 use history::base::Base;
 use mvrows::view::View;
 use pass::token::Pass;
@@ -21,7 +21,7 @@ use schema::catalog::Catalog;
 use schema::tables::Tables;
 use script::printing::reply_text;
 use serial::laws::views_are_sound;
-use server::shared::Server;
+use server::shared::{Limits, Server};
 use statement::reply::Reply;
 use std::alloc::{Allocator, Global};
 use std::marker::Brand;
@@ -102,10 +102,17 @@ where
     }
     let view = view?;
     let jobs = Jobs::new(1).ok_or(not_asked())?;
-    let rows = PieceRows::new(9).ok_or(not_asked())?;
+    let piece_rows = PieceRows::new(9).ok_or(not_asked())?;
     let mut device = Keeping::new(rt, memory.inner);
     let catalog = server.catalog();
-    match dump(rt, alloc, &view, catalog, jobs, rows, &mut device, &NoGate) {
+    let workers = Workers {
+        rt,
+        alloc,
+        jobs,
+        piece_rows,
+        gate: &NoGate,
+    };
+    match dump(&workers, &view, catalog, &mut device) {
         Ok(()) => Ok(device.taken),
         Err(fault) => Err(refusal_of(BackupFault::Dump(fault))),
     }
@@ -125,10 +132,17 @@ where
     R: Abort + Threads + Wait + Sync,
 {
     let jobs = Jobs::new(2).ok_or(not_asked())?;
-    let rows = PieceRows::new(1).ok_or(not_asked())?;
+    let piece_rows = PieceRows::new(1).ok_or(not_asked())?;
     let mut device = Keeping::new(rt, memory.inner);
     let start = trial.begin(memory);
-    let done = dump_safe(rt, alloc, server, pass, jobs, rows, &mut device, &NoGate);
+    let workers = Workers {
+        rt,
+        alloc,
+        jobs,
+        piece_rows,
+        gate: &NoGate,
+    };
+    let done = dump_safe(&workers, server, pass, &mut device);
     if !trial.end(memory, start) {
         return Err(not_asked());
     }
@@ -237,8 +251,7 @@ where
 fn serve<J, A, R>(
     rt: &R,
     given: (&Memory, A),
-    word: &HistoryWord<A>,
-    first: FirstSeat<A>,
+    named: (&HistoryWord<A>, FirstSeat<A>),
     opening: (Catalog<A>, Tables<A>),
     place: usize,
     out: (&mut Vec<u8>, &mut Trial),
@@ -247,8 +260,8 @@ where
     J: Naming<A>,
     A: Allocator + Copy + Send + Sync,
     R: Abort + Threads + Wait + Sync,
-    requires word { word.now ≡ record { table = J.table; opening = J.opening } }
-    requires first { first ≡ J.table }
+    requires word { named.0.now ≡ record { table = J.table; opening = J.opening } }
+    requires first { named.1 ≡ J.table }
     requires opening { J.opening ≡ record { catalog = opening.0; tables = opening.1; base = zero_base } }
     requires most { J.most ≡ 40 }
     requires sound { IsTrue (is_sound opening.0 opening.1) }
@@ -256,9 +269,14 @@ where
     let script = script_at(place)?;
     let (text, trial) = out;
     let (memory, alloc) = given;
+    let (word, first) = named;
     let (catalog, tables) = opening;
+    let limits = Limits {
+        events: 40,
+        sessions: 4,
+    };
     let start = trial.begin(memory);
-    let opened = Server::<J, A>::open(alloc, word, first, catalog, tables, 40, 4);
+    let opened = Server::<J, A>::open(alloc, word, first, catalog, tables, limits);
     let takes = trial.end(memory, start);
     let is_opened = opened.is_ok();
     match opened {
@@ -281,7 +299,7 @@ fn serve_anew<R: Abort + Threads + Wait + Sync>(
     let (creates, _lines) = script_at(place)?.split_once("\n>").ok_or(not_asked())?;
     let opening = opening(memory, creates)?;
     let (word, first) = HistoryWord::new(memory, &opening.0, &opening.1, Base::zero())?;
-    serve::<Brand, _, _>(rt, (memory, memory), &word, first, opening, place, out)
+    serve::<Brand, _, _>(rt, (memory, memory), (&word, first), opening, place, out)
 }
 
 // What stands before the lines of the script at a place.

@@ -6,7 +6,7 @@ use crate::fixture::{
 use crate::flaky::Flaky;
 use crate::gates::{Counting, Holding, Meeting};
 use dumpplan::{Gate, Jobs, NoGate, PieceRows};
-use dumpworker::{DumpFault, dump, dump_one};
+use dumpworker::{DumpFault, Workers, dump, dump_one};
 use schema::catalog::Catalog;
 use schema::tables::Tables;
 use std::alloc::Global;
@@ -24,12 +24,19 @@ pub fn writes<R: Abort + Threads + Wait + Sync, G: Gate>(
     (jobs, rows): (u32, u32),
     gate: &G,
 ) -> Result<(), Refusal> {
-    let (Some(jobs), Some(rows)) = (Jobs::new(jobs), PieceRows::new(rows)) else {
+    let (Some(jobs), Some(piece_rows)) = (Jobs::new(jobs), PieceRows::new(rows)) else {
         return Err(not_a_case());
+    };
+    let workers = Workers {
+        rt,
+        alloc,
+        jobs,
+        piece_rows,
+        gate,
     };
     let mut device = Flaky::new(rt, alloc, 0, false);
     assert!(rt; tables.count() == catalog.len());
-    let done = dump(rt, alloc, tables, catalog, jobs, rows, &mut device, gate);
+    let done = dump(&workers, tables, catalog, &mut device);
     assert!(rt; done.is_ok() && device.taken.as_slice() == text.as_bytes());
     Ok(())
 }
@@ -99,12 +106,19 @@ fn fails_at<R: Abort + Threads + Wait + Sync>(
     rt: &R,
     alloc: Global,
     (catalog, tables): &(Catalog, Tables),
-    (jobs, rows): (Jobs, PieceRows),
+    (jobs, piece_rows): (Jobs, PieceRows),
     (failing, is_bytewise): (u64, bool),
 ) -> bool {
+    let workers = Workers {
+        rt,
+        alloc,
+        jobs,
+        piece_rows,
+        gate: &NoGate,
+    };
     let mut device = Flaky::new(rt, alloc, failing, is_bytewise);
     assert!(rt; tables.count() == catalog.len());
-    let done = dump(rt, alloc, tables, catalog, jobs, rows, &mut device, &NoGate);
+    let done = dump(&workers, tables, catalog, &mut device);
     let wanted = match device.failures {
         0 => Ok(()),
         _ => Err(DumpFault::Device),

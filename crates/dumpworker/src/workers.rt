@@ -8,9 +8,9 @@ use crate::counter::{Counter, Drawer};
 use crate::shelf::{Job, Shelf, Stopped};
 use crate::source::Source;
 use collector::Device;
-use dumpplan::{Gate, Jobs};
+use dumpplan::{Gate, Jobs, PieceRows};
 use schema::walk::RowsReader;
-use std::alloc::Allocator;
+use std::alloc::{Allocator, Global};
 use std::sync::{Mutex, Wait};
 use std::thread;
 use std::thread::Threads;
@@ -18,14 +18,15 @@ use std::thread::Threads;
 // More than any plan has pieces.
 const DRAWS: u64 = 1 << 57;
 
-/// How many workers a dump has, and what each of them works with.
+/// How many workers write a dump, in pieces of how many rows, and what each of them works with.
 #[derive(Drop)]
-pub(crate) struct Workers<'w, T, G, A: Allocator> {
-    pub(crate) rt: &'w T,
-    pub(crate) alloc: A,
-    pub(crate) jobs: Jobs,
+pub struct Workers<'w, T, G, A: Allocator = Global> {
+    pub rt: &'w T,
+    pub alloc: A,
+    pub jobs: Jobs,
+    pub piece_rows: PieceRows,
     /// It is asked about each piece.
-    pub(crate) gate: &'w G,
+    pub gate: &'w G,
 }
 
 impl<'w, T, G, A> Workers<'w, T, G, A>

@@ -12,7 +12,7 @@ use crate::shelf::{Job, Shelf};
 use crate::source::Source;
 use crate::workers::Workers;
 use collector::Device;
-use dumpplan::{Gate, Jobs, PieceRows, plan};
+use dumpplan::{Gate, plan};
 use schema::catalog::Catalog;
 use schema::walk::RowsReader;
 use std::alloc::Allocator;
@@ -68,14 +68,10 @@ where
 /// the others are started; one that the machine doesn't start is left out. After a fault the device has a beginning of
 /// the text.
 pub fn dump<A, R, W, G, T>(
-    rt: &T,
-    alloc: A,
+    workers: &Workers<'_, T, G, A>,
     reader: &R,
     catalog: &Catalog<A>,
-    jobs: Jobs,
-    piece_rows: PieceRows,
     device: &mut W,
-    gate: &G,
 ) -> Result<(), DumpFault>
 where
     A: Allocator + Copy + Send + Sync,
@@ -87,17 +83,11 @@ where
     ensures { Dumped (dump_text catalog.now (R.tables reader.now)) (W.taken device.old) (W.failures device.old)
         result (W.taken device.new) (W.failures device.new) }
 {
-    let plan = plan(alloc, reader, catalog, piece_rows)?;
+    let plan = plan(workers.alloc, reader, catalog, workers.piece_rows)?;
     let source = Source::new(reader, catalog, &plan);
-    let workers = Workers {
-        rt,
-        alloc,
-        jobs,
-        gate,
-    };
     let mut answer = Err(DumpFault::Memory);
     let Lent { device: _ } = write_pieces::<A, R, W, G, T, Brand>(
-        &workers,
+        workers,
         &source,
         Lent { device },
         &mut answer,

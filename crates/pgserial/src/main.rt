@@ -128,7 +128,7 @@ fn do_words<R: Threads + Wait + Sync, W: Write, E: Write>(
         other_commands: OTHER_COMMANDS,
     };
     match command {
-        "check" => check_words(rt, alloc, alloc, rest, files, out, err),
+        "check" => check_words(&machine, rest, out, err),
         "draw" => draw_words(&machine, rest, out, err),
         "explore" => explore_words(&machine, rest, out, err),
         "shell" => shell(&machine, rest, out, err),

@@ -19,7 +19,7 @@ use crate::machine::Machine;
 use crate::output::{Printer, print_whole};
 use crate::progress::Stage;
 use dumpplan::{Gate, Jobs, PieceRows};
-use dumpworker::{DumpFault, dump};
+use dumpworker::{DumpFault, Workers, dump};
 use itoa::Buffer;
 use restore::restore;
 use schema::catalog::{Catalog, TableNo};
@@ -151,11 +151,15 @@ where
         let Ok(mut file) = self.files.create(self.alloc, out) else {
             return Err(Fault::DumpOutOfMemory);
         };
-        let rows = piece_rows();
         let shown = self.files.watch(Stage::Writing);
-        let dumped = dump(
-            self.rt, self.alloc, tables, catalog, jobs, rows, &mut file, &shown,
-        );
+        let workers = Workers {
+            rt: self.rt,
+            alloc: self.alloc,
+            jobs,
+            piece_rows: piece_rows(),
+            gate: &shown,
+        };
+        let dumped = dump(&workers, tables, catalog, &mut file);
         shown.clear();
         match dumped {
             Ok(()) => keep_file(&mut file, out),

@@ -15,7 +15,7 @@ use crate::keeping::keep_dumped;
 use crate::machine::Machine;
 use backup::{BackupFault, dump_session};
 use dumpplan::NoGate;
-use dumpworker::DumpFault;
+use dumpworker::{DumpFault, Workers};
 use history::event::Event;
 use history::session_id::SessionId;
 use request::request::Request;
@@ -109,16 +109,14 @@ where
         ensures whole { OnOk result (IsWhole core.now session [] (F.Out.taken file.new)) }
         ensures sound { OnOk result (F.Out.failures file.new ≡ 0) }
     {
-        dump_session(
-            self.rt,
-            self.alloc,
-            core,
-            session,
-            request.jobs,
-            request.rows,
-            file,
-            &NoGate,
-        )
+        let workers = Workers {
+            rt: self.rt,
+            alloc: self.alloc,
+            jobs: request.jobs,
+            piece_rows: request.rows,
+            gate: &NoGate,
+        };
+        dump_session(&workers, core, session, file)
     }
 
     // Dumps a session's safe snapshot to a path's file, which is kept where it is whole.

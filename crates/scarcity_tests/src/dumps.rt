@@ -6,7 +6,7 @@ use crate::driver::{Memory, is_out_of_memory};
 use crate::fixture::{Database, not_asked, some_tables};
 use collector::{Device, DeviceError};
 use dumpplan::{Jobs, NoGate, PieceRows};
-use dumpworker::{DumpFault, dump};
+use dumpworker::{DumpFault, Workers, dump};
 use scarce::Scarce;
 use schema::catalog::TableNo;
 use schema::row::Row;
@@ -120,21 +120,19 @@ pub fn dumped<A: Allocator + Copy + Send + Sync, R: Abort + Threads + Wait + Syn
     (lent, jobs): (&Database<A>, Jobs),
     text: &[u8],
 ) -> Result<Vec<u8>, Refusal> {
-    let rows = PieceRows::new(7).ok_or(not_asked())?;
+    let piece_rows = PieceRows::new(7).ok_or(not_asked())?;
+    let workers = Workers {
+        rt,
+        alloc,
+        jobs,
+        piece_rows,
+        gate: &NoGate,
+    };
     let mut device = Keeping::new(rt, ample);
     if !is_whole(lent) {
         return Err(not_asked());
     }
-    let done = dump(
-        rt,
-        alloc,
-        &lent.tables,
-        &lent.catalog,
-        jobs,
-        rows,
-        &mut device,
-        &NoGate,
-    );
+    let done = dump(&workers, &lent.tables, &lent.catalog, &mut device);
     match done {
         Ok(()) => Ok(device.taken),
         Err(DumpFault::Memory) if text.starts_with(device.taken.as_slice()) => {

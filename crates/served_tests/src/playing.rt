@@ -114,20 +114,36 @@ fn told<'w, J: Naming<Global>, R: Threads + Wait + Abort + Sync>(
     }
 }
 
+/// A session's part in a script: how its lines begin, the lines of all sessions, and where it waits.
+#[derive(Clone, Copy)]
+pub(crate) struct Part<'p> {
+    session: &'p str,
+    script: &'p str,
+    barrier: &'p Barrier,
+}
+
+impl<'p> Part<'p> {
+    pub(crate) fn new(session: &'p str, script: &'p str, barrier: &'p Barrier) -> Part<'p> {
+        Part {
+            session,
+            script,
+            barrier,
+        }
+    }
+}
+
 /// Plays the lines of a session. An answer that isn't the line's ends the program, whoever waits.
 pub(crate) fn play<'w, J: Naming<Global>, R: Threads + Wait + Abort + Sync>(
     rt: &R,
     alloc: Global,
     server: &Server<'w, J>,
     pass: &mut Pass<'w, J>,
-    session: &str,
-    script: &str,
-    barrier: &Barrier,
+    part: Part<'_>,
 ) {
-    for line in script.lines() {
+    for line in part.script.lines() {
         let (asked, want) = line.rsplit_once(": ").unwrap_or((line, "no answer"));
-        if let Some(asked) = asked.strip_prefix(session) {
-            let is_so = told(rt, alloc, server, pass, asked, barrier) == want;
+        if let Some(asked) = asked.strip_prefix(part.session) {
+            let is_so = told(rt, alloc, server, pass, asked, part.barrier) == want;
             assert!(rt; is_so, "{line}");
         }
     }
@@ -139,11 +155,9 @@ fn play_on<'w, J: Naming<Global>, R: Threads + Wait + Abort + Sync>(
     alloc: Global,
     server: &Server<'w, J>,
     mut pass: Pass<'w, J>,
-    session: &str,
-    script: &str,
-    barrier: &Barrier,
+    part: Part<'_>,
 ) -> Pass<'w, J> {
-    play(rt, alloc, server, &mut pass, session, script, barrier);
+    play(rt, alloc, server, &mut pass, part);
     pass
 }
 
@@ -152,15 +166,14 @@ fn play_two<'w, J: Naming<Global> + Send + Sync, R: Threads + Wait + Abort + Syn
     rt: &R,
     alloc: Global,
     server: &Server<'w, J>,
-    two: Pass<'w, J>,
-    three: Pass<'w, J>,
+    (two, three): (Pass<'w, J>, Pass<'w, J>),
     script: &str,
     barrier: &Barrier,
 ) -> (Pass<'w, J>, Pass<'w, J>) {
     join(
         rt,
-        move || play_on(rt, alloc, server, two, "2 ", script, barrier),
-        move || play_on(rt, alloc, server, three, "3 ", script, barrier),
+        move || play_on(rt, alloc, server, two, Part::new("2 ", script, barrier)),
+        move || play_on(rt, alloc, server, three, Part::new("3 ", script, barrier)),
     )
 }
 
@@ -175,7 +188,7 @@ pub(crate) fn play_three<'w, J: Naming<Global> + Send + Sync, R: Threads + Wait 
 ) -> (Pass<'w, J>, (Pass<'w, J>, Pass<'w, J>)) {
     join(
         rt,
-        move || play_on(rt, alloc, server, one, "1 ", script, barrier),
-        move || play_two(rt, alloc, server, two, three, script, barrier),
+        move || play_on(rt, alloc, server, one, Part::new("1 ", script, barrier)),
+        move || play_two(rt, alloc, server, (two, three), script, barrier),
     )
 }

@@ -5,13 +5,13 @@ ghost use Rattle.schema.specs.Plain.{is_sound};
 ghost use Rattle.history.specs.Opening.{zero_base};
 
 use crate::fixture::{Barrier, not_asked, opening};
-use crate::playing::{play, play_three};
+use crate::playing::{Part, play, play_three};
 use history::base::Base;
 use pass::token::Pass;
 use pass::word::{FirstSeat, HistoryWord, Naming};
 use schema::catalog::Catalog;
 use schema::tables::Tables;
-use server::shared::Server;
+use server::shared::{Limits, Server};
 use session::sessions::Core;
 use std::alloc::Global;
 use std::marker::Brand;
@@ -286,7 +286,7 @@ fn sessions_on_threads(rt: HostRuntime) -> Result<(), Refusal> {
         assert!(rt; are_played(script), "{script}");
         let (catalog, tables) = opening(alloc, &["a", "b"])?;
         let (word, first) = HistoryWord::new(alloc, &catalog, &tables, Base::zero())?;
-        play_script::<Brand, _>(&rt, alloc, &word, first, catalog, tables, place);
+        play_script::<Brand, _>(&rt, alloc, &word, first, (catalog, tables), place);
     }
     Ok(())
 }
@@ -332,17 +332,21 @@ fn play_script<J: Naming<Global> + Send + Sync, R: Threads + Wait + Abort + Sync
     alloc: Global,
     word: &HistoryWord,
     first: FirstSeat,
-    catalog: Catalog,
-    tables: Tables,
+    opening: (Catalog, Tables),
     place: usize,
 )
     requires word { word.now ≡ record { table = J.table; opening = J.opening } }
     requires first { first ≡ J.table }
-    requires opening { J.opening ≡ record { catalog = catalog; tables = tables; base = zero_base } }
+    requires opening { J.opening ≡ record { catalog = opening.0; tables = opening.1; base = zero_base } }
     requires most { J.most ≡ 100 }
-    requires sound { IsTrue (is_sound catalog tables) }
+    requires sound { IsTrue (is_sound opening.0 opening.1) }
 {
-    match Server::<J>::open(alloc, word, first, catalog, tables, 100, 3) {
+    let (catalog, tables) = opening;
+    let limits = Limits {
+        events: 100,
+        sessions: 3,
+    };
+    match Server::<J>::open(alloc, word, first, catalog, tables, limits) {
         Ok(opened) => play_opened(rt, alloc, opened, script_at(place)),
         Err(_) => panic!(rt; "no server"),
     }
@@ -377,7 +381,7 @@ fn play_alone<'w, J: Naming<Global>, R: Threads + Wait + Abort + Sync>(
     assert!(rt; passes.len() == 1);
     let barrier = Barrier::open();
     for pass in &mut passes {
-        play(rt, alloc, &server, pass, "1 ", script, &barrier);
+        play(rt, alloc, &server, pass, Part::new("1 ", script, &barrier));
     }
     server.close(passes)
 }
@@ -397,7 +401,11 @@ fn one_row<J: Naming<Global>, R: Threads + Wait + Abort + Sync>(
     requires most { J.most ≡ 100 }
     requires sound { IsTrue (is_sound catalog tables) }
 {
-    match Server::<J>::open(alloc, word, first, catalog, tables, 100, 1) {
+    let limits = Limits {
+        events: 100,
+        sessions: 1,
+    };
+    match Server::<J>::open(alloc, word, first, catalog, tables, limits) {
         Ok(opened) => {
             let script =
                 "1 BEGIN: begun\n1 INSERT INTO a VALUES (7): inserted\n1 COMMIT: committed";

@@ -5,7 +5,7 @@ ghost use Rattle.std.specs.Prelude.{◌≡◌, length, IfOk};
 use crate::fixture::{Barrier, Tape};
 use backup::dump_safe;
 use dumpplan::{Jobs, PieceRows};
-use dumpworker::dump;
+use dumpworker::{Workers, dump};
 use mvrows::view::View;
 use pass::token::Pass;
 use pass::word::Naming;
@@ -87,11 +87,18 @@ pub(crate) fn dumped<'w, J: Naming<Global>, R: Threads + Wait + Abort + Sync>(
     barrier: &Barrier,
 ) -> &'static str {
     let (jobs, rows) = jobs_and_rows;
-    let (Some(jobs), Some(rows)) = (Jobs::new(jobs), PieceRows::new(rows)) else {
+    let (Some(jobs), Some(piece_rows)) = (Jobs::new(jobs), PieceRows::new(rows)) else {
         return "no jobs";
     };
+    let workers = Workers {
+        rt,
+        alloc,
+        jobs,
+        piece_rows,
+        gate: barrier,
+    };
     let mut tape = Tape::new(rt, alloc);
-    match dump_safe(rt, alloc, server, pass, jobs, rows, &mut tape, barrier) {
+    match dump_safe(&workers, server, pass, &mut tape) {
         Ok(()) => word_of(tape.taken.as_slice()),
         Err(_) => "refused",
     }
@@ -121,12 +128,19 @@ pub(crate) fn viewed<'w, J: Naming<Global>, R: Threads + Wait + Abort + Sync>(
     let Ok(view) = view_of(rt, alloc, server, pass) else {
         return "refused";
     };
-    let (Some(jobs), Some(rows)) = (Jobs::new(1), PieceRows::new(9)) else {
+    let (Some(jobs), Some(piece_rows)) = (Jobs::new(1), PieceRows::new(9)) else {
         return "no jobs";
+    };
+    let workers = Workers {
+        rt,
+        alloc,
+        jobs,
+        piece_rows,
+        gate: barrier,
     };
     let mut tape = Tape::new(rt, alloc);
     let catalog = server.catalog();
-    match dump(rt, alloc, &view, catalog, jobs, rows, &mut tape, barrier) {
+    match dump(&workers, &view, catalog, &mut tape) {
         Ok(()) => word_of(tape.taken.as_slice()),
         Err(_) => "refused",
     }

@@ -40,6 +40,13 @@ pub struct Server<'w, J: Naming<A>, A: Allocator = Global> {
     ghost catalog_is: { catalog ≡ J.opening.catalog },
 }
 
+/// How many events and sessions a server has room for.
+#[derive(Clone, Copy, Debug, PartialEq, Eq)]
+pub struct Limits {
+    pub events: u32,
+    pub sessions: u32,
+}
+
 // Whether there can't be so many sessions.
 fn is_no_count_of_sessions(sessions: u32) -> bool
     ensures { result ≡ is_no_count sessions }
@@ -93,25 +100,25 @@ impl<'w, J: Naming<A>, A: Allocator> Server<'w, J, A> {
         first: FirstSeat<A>,
         catalog: Catalog<A>,
         tables: Tables<A>,
-        max_events: u32,
-        sessions: u32,
+        limits: Limits,
     ) -> Result<(Server<'w, J, A>, Vec<Pass<'w, J, A>, A>), Refusal>
     where
         A: Copy,
         requires word { word.now ≡ record { table = J.table; opening = J.opening } }
         requires first { first ≡ J.table }
         requires opening { J.opening ≡ record { catalog = catalog; tables = tables; base = zero_base } }
-        requires most { J.most ≡ max_events }
+        requires most { J.most ≡ limits.events }
         requires sound { IsTrue (is_sound catalog tables) }
-        ensures opened { IfOk result (λ opened. AreOpened sessions opened.1.items) }
-        ensures within { IfOk result (λ opened. (max_events == 0 || is_no_count sessions) ≡ false) }
-        ensures refused { IfErr result (λ e. e ≡ opening_refusal (max_events == 0 || is_no_count sessions)) }
+        ensures opened { IfOk result (λ opened. AreOpened limits.sessions opened.1.items) }
+        ensures within { IfOk result (λ opened. (limits.events == 0 || is_no_count limits.sessions) ≡ false) }
+        ensures refused { IfErr result (λ e. e ≡
+            opening_refusal (limits.events == 0 || is_no_count limits.sessions)) }
     {
-        if max_events == 0 || is_no_count_of_sessions(sessions) {
+        if limits.events == 0 || is_no_count_of_sessions(limits.sessions) {
             return Err(Refusal::of_code(Code::ProgramLimitExceeded));
         }
-        let core = Core::open(alloc, catalog, tables, max_events)?;
-        match Server::on(alloc, word, first, core, sessions) {
+        let core = Core::open(alloc, catalog, tables, limits.events)?;
+        match Server::on(alloc, word, first, core, limits.sessions) {
             Ok(opened) => Ok(opened),
             Err((_core, refusal)) => Err(refusal),
         }

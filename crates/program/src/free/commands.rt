@@ -15,7 +15,7 @@ use crate::keeping::keep_dumped;
 use crate::sessions::printed_reply;
 use backup::{BackupFault, dump_safe};
 use dumpplan::NoGate;
-use dumpworker::DumpFault;
+use dumpworker::{DumpFault, Workers};
 use history::session_id::SessionId;
 use pass::token::Pass;
 use pass::word::Naming;
@@ -96,16 +96,14 @@ where
         ensures session { pass.new.session ≡ pass.old.session }
         ensures mine { pass.new.mine ≡ pass.old.mine }
     {
-        dump_safe(
-            self.rt,
-            self.alloc,
-            self.server,
-            pass,
-            request.jobs,
-            request.rows,
-            file,
-            &NoGate,
-        )
+        let workers = Workers {
+            rt: self.rt,
+            alloc: self.alloc,
+            jobs: request.jobs,
+            piece_rows: request.rows,
+            gate: &NoGate,
+        };
+        dump_safe(&workers, self.server, pass, file)
     }
 
     // Dumps the safe snapshot of a pass's session to a path's file, which is kept where it is whole.

@@ -19,7 +19,7 @@ use pass::word::{FirstSeat, HistoryWord, Naming};
 use schema::catalog::Catalog;
 use schema::tables::Tables;
 use script::script::{Line, Step};
-use server::shared::Server;
+use server::shared::{Limits, Server};
 use session::sessions::Core;
 use std::alloc::{AllocError, Global};
 use std::marker::Brand;
@@ -226,8 +226,11 @@ where
         is_checked,
         lines,
     } = beginning;
-    let sessions = greatest_session(lines);
-    let opened = Server::<J>::open(alloc, word, first, catalog, tables, most_events, sessions);
+    let limits = Limits {
+        events: most_events,
+        sessions: greatest_session(lines),
+    };
+    let opened = Server::<J>::open(alloc, word, first, catalog, tables, limits);
     let Ok((server, passes)) = opened else {
         return Err(Fault::ScriptOutOfMemory);
     };
