@@ -1,10 +1,15 @@
 //! What is told of a faulty line of a dump, for a person.
 
+ghost use Rattle.std.specs.Prelude.{◌<◌, length};
+
 use value::refusal::Code;
 
-/// What is wrong with a line of a dump, by its code.
-pub(crate) fn words_of_dump(line: u64, code: Code) -> &'static str {
+/// What is wrong with a line of a dump, by its code: a few words, without an end of line.
+pub fn words_of_dump(line: u64, code: Code) -> &'static str
+    ensures { 0 < length result.now }
+{
     match code {
+        Code::OutOfMemory => "out of memory",
         Code::BadCopyFileFormat if line == 1 => {
             "not a dump of pgserial: its first line is `-- dump 2` or `-- dump 1`"
         }

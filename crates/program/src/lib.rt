@@ -6,7 +6,7 @@ pub mod arguments;
 mod dumping;
 mod explaining;
 mod fault;
-mod faulty;
+pub mod faulty;
 pub mod files;
 mod free;
 pub mod host;
