@@ -5,7 +5,6 @@ pub mod Dumps
 pub mod Ends
 pub mod Files
 pub mod Freely
-pub mod Lines
 pub mod Outcomes
 pub mod Printed
 pub mod Restored

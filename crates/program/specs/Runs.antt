@@ -2,6 +2,7 @@
 use Rattle.std.specs.Prelude.{◌≡◌, ◌⊎◌, ℕ, true, List, [], ◌++◌, Option, Some, None, Ok, Err, codes, slice_get, take}
 use Rattle.value.specs.declared.refusal.Refusal.{Refusal}
 use Rattle.value.specs.Codes.{sqlstate}
+use Rattle.asking.specs.Asking.{Tells}
 use Rattle.history.specs.Events.{world}
 use Rattle.history.specs.Opening.{Recorded, zero_base}
 use Rattle.schema.specs.Definition.{Catalog}
@@ -20,7 +21,6 @@ use Rattle.script.specs.Scripts.{Said, said}
 use Rattle.program.specs.Beginnings.{BeginsWith, IsUnbegun}
 use Rattle.program.specs.Dumps.{IsDumped, TellsDump, TellsDumpAt}
 use Rattle.program.specs.Files.{IsAllOf, IsFileFault, Writing, read_of}
-use Rattle.program.specs.Lines.{Tells}
 use Rattle.ordering.specs.Orders.{check_line, order_lines}
 use Rattle.program.specs.Printed.{Adds, IsFlushed, Printed, Prints}
 use Rattle.program.specs.Steps.{AreDone}

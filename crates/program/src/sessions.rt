@@ -2,8 +2,8 @@
 
 ghost use Rattle.std.specs.Prelude.{◌≡◌, ◌⊎◌, [], Err, IfErr, IfOk, OnOk};
 ghost use Rattle.backup.specs.Backed.{IsWhole};
+ghost use Rattle.asking.specs.Asking.{Tells};
 ghost use Rattle.program.specs.Dumps.{IsDumped, IsDumpedAt, TellsDumpAt};
-ghost use Rattle.program.specs.Lines.{Replies, Tells};
 ghost use Rattle.program.specs.Files.{IsFileFault, IsWritten};
 ghost use Rattle.program.specs.Runs.{Checkpoints, EndsBy, TellsCommandAt};
 ghost use Rattle.script.specs.Printing.{reply_text};
@@ -13,10 +13,10 @@ use crate::fault::Fault;
 use crate::files::Files;
 use crate::keeping::keep_dumped;
 use crate::machine::Machine;
+use asking::reply_to;
 use backup::{BackupFault, dump_session};
 use dumpplan::NoGate;
 use dumpworker::{DumpFault, Workers};
-use history::event::Event;
 use history::session_id::SessionId;
 use request::request::Request;
 use script::command::{Command, DumpRequest};
@@ -40,22 +40,6 @@ pub(crate) fn printed_reply<A: Allocator>(
     match reply_text(alloc, session, reply) {
         Ok(text) => Ok(text),
         Err(_) => Err(Fault::ScriptOutOfMemory),
-    }
-}
-
-// The reply to what a session asks for. Where memory is wanting to parse a text, that is told to the
-// session alone.
-fn reply_to<A: Allocator + Copy>(
-    alloc: A,
-    core: &mut Core<A>,
-    session: SessionId,
-    request: &Request<A>,
-) -> Reply<A>
-    ensures { Replies core.old core.new session request.now result }
-{
-    match request.action(alloc, core.history().catalog()) {
-        Ok(action) => core.step(alloc, Event { session, action }),
-        Err(refusal) => Reply::Refused(refusal),
     }
 }
 

@@ -3,11 +3,11 @@
 ghost use Rattle.std.specs.Prelude.{◌≡◌, [], IfOk, IfErr, OnErr};
 ghost use Rattle.session.specs.Core.{IsCheckpoint};
 ghost use Rattle.value.specs.Refusals.{out_of_memory};
-ghost use Rattle.retold.specs.Retold.{IsRemarked, Replies, Retells};
+ghost use Rattle.retold.specs.Retold.{IsRemarked, Retells};
 ghost use Rattle.explain.specs.Remarks.{AreRemarks};
 
+use asking::reply_to;
 use explain::account::why;
-use history::event::Event;
 use history::list::History;
 use history::session_id::SessionId;
 use request::request::Request;
@@ -31,22 +31,6 @@ impl<A: Allocator> Model for Course<A> {
     ghost Value = { Recorded A };
 
     ghost view = { λ c. c.core };
-}
-
-// The reply to what a session asks for. Where memory is wanting to parse a text, that is told to the
-// session alone.
-fn reply_to<A: Allocator + Copy>(
-    alloc: A,
-    core: &mut Core<A>,
-    session: SessionId,
-    request: &Request<A>,
-) -> Reply<A>
-    ensures { Replies core.old core.new session request.now result }
-{
-    match request.action(alloc, core.history().catalog()) {
-        Ok(action) => core.step(alloc, Event { session, action }),
-        Err(refusal) => Reply::Refused(refusal),
-    }
 }
 
 // Why a reply refuses what was asked for, if it is for the sake of other transactions.
