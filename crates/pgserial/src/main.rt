@@ -8,9 +8,9 @@ use command_check::words::check_words;
 use command_draw::words::draw_words;
 use command_explore::words::explore_words;
 use command_prompt::words::prompt_words;
+use command_run::manner::Manner;
+use command_run::words::told_words;
 use command_shell::words::shell_words;
-use command_transcript::words::transcript_words;
-use command_why::words::why_words;
 use conversation::streams::Streams;
 use program::host::HostFiles;
 use program::machine::Machine;
@@ -132,8 +132,12 @@ fn do_words<R: Threads + Wait + Sync, W: Write, E: Write>(
         "draw" => draw_words(&machine, rest, out, err),
         "explore" => explore_words(&machine, rest, out, err),
         "shell" => shell(&machine, rest, out, err),
-        "run" if rest.contains(&"--why") => why_words(&machine, rest, out, err),
-        "run" if rest.contains(&"--transcript") => transcript_words(&machine, rest, out, err),
+        "run" if rest.contains(&"--why") => {
+            told_words(&machine, Manner::Why, rest, out, err)
+        },
+        "run" if rest.contains(&"--transcript") => {
+            told_words(&machine, Manner::Transcript, rest, out, err)
+        },
         _ => run_words(&machine, words, out, err),
     }
 }

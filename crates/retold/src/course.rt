@@ -3,6 +3,7 @@
 ghost use Rattle.std.specs.Prelude.{◌≡◌, [], IfOk, IfErr, OnErr};
 ghost use Rattle.session.specs.Core.{IsCheckpoint};
 ghost use Rattle.value.specs.Refusals.{out_of_memory};
+ghost use Rattle.asking.specs.Asking.{Tells};
 ghost use Rattle.retold.specs.Retold.{IsRemarked, Retells};
 ghost use Rattle.explain.specs.Remarks.{AreRemarks};
 
@@ -126,6 +127,22 @@ impl<A: Allocator> Course<A> {
         self.note(line)?;
         let (history, lines) = (self.core.history(), self.lines.as_slice());
         remarked(alloc, history, lines, session, &reply)
+    }
+
+    /// Does what a session asks for, and tells its reply as it is printed.
+    pub fn reply(
+        &mut self,
+        alloc: A,
+        session: SessionId,
+        request: &Request<A>,
+    ) -> Result<Vec<u8, A>, Refusal>
+    where
+        A: Copy,
+        ensures told { IfOk result (λ text. Tells self.old self.new session request.now text.items) }
+        ensures memory { IfErr result (λ e. e ≡ out_of_memory) }
+    {
+        let reply = reply_to(alloc, &mut self.core, session, request);
+        Ok(reply_text(alloc, session, &reply)?)
     }
 
     /// Lets the history go on from the tables that it has come to, with room for so many events more;
