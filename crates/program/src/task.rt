@@ -103,6 +103,7 @@ fn pgserial<'w>(alloc: Global, other_commands: &'w str) -> Result<Command<'w>, A
 {
     let run_command = Command::new(alloc, "run")
         .about("Do the session lines of a script, and print each reply")
+        .after_help(other_commands)
         .arg(script(alloc))?
         .arg(events(alloc))?
         .arg(free(alloc))?
