@@ -35,7 +35,6 @@ set-same [] i x e = refl
 set-same (z ∷ zs) zero x e = ap (λ w. w ∷ zs) (sym (same_Some z x e))
 set-same (z ∷ zs) (suc i) x e = ap (λ ws. z ∷ ws) (set-same zs i x e)
 
-
 module _ {A : Type 0} where
   -- ---- rows by key
 

@@ -132,9 +132,7 @@ fn do_words<R: Threads + Wait + Sync, W: Write, E: Write>(
         "draw" => draw_words(&machine, rest, out, err),
         "explore" => explore_words(&machine, rest, out, err),
         "shell" => shell(&machine, rest, out, err),
-        "run" if rest.contains(&"--why") => {
-            told_words(&machine, Manner::Why, rest, out, err)
-        },
+        "run" if rest.contains(&"--why") => { told_words(&machine, Manner::Why, rest, out, err) },
         "run" if rest.contains(&"--transcript") => {
             told_words(&machine, Manner::Transcript, rest, out, err)
         },
