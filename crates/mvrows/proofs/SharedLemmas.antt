@@ -8,7 +8,10 @@ use Rattle.mvrows.specs.Pruning.{has_version}
 use Rattle.mvrows.specs.Settling.{Needed, found, settle_key}
 use Rattle.mvrows.specs.Fresh.{is_from, IsFreshIn}
 use Rattle.mvrows.specs.HeldRows.{Held, rows_in, undone, undone_in, AreUndoable, own_pruned_in, AllVersioned}
-use Rattle.mvrows.specs.SharedTable.{all_shared}
+use Rattle.mvrows.specs.Owned.{is_own, value_in}
+use Rattle.mvrows.specs.SharedTable.{all_shared, held_table}
+use Rattle.mvrows.specs.declared.owned.Owned.{Owned}
+use Rattle.mvrows.specs.declared.owned.Owned.TheVariants.{Own, Shared}
 use Rattle.mvrows.proofs.HeldLemmas.{before-below, undone-kept}
 use Rattle.mvrows.proofs.SettledPageLemmas.{settle-missing, rows-not_from}
 
@@ -49,13 +52,24 @@ module _ {A : Type 0} where
       let parts = all-parts (λ k. AreBelow commit k.versions) h.rows (rows_in hs) below in
       λ i. undone-below commit h have.0 parts.0 i ++ below-undone commit hs have.1 parts.1 i
 
-  pub lent-undone : (commit : ℕ) (leaves more : List (Held A)) → rows_in more ≡ rows_in leaves → AllVersioned (rows_in (all_shared leaves)) → AreUndoable commit (all_shared leaves) → undone_in commit more ≡ undone_in commit (all_shared leaves)
+  lent-undone : (commit : ℕ) (leaves more : List (Held A)) → rows_in more ≡ rows_in leaves → AllVersioned (rows_in (all_shared leaves)) → AreUndoable commit (all_shared leaves) → undone_in commit more ≡ undone_in commit (all_shared leaves)
   lent-undone commit leaves more same versioned undoable =
       below-undone commit more (subst AllVersioned (shared-rows leaves ∙ sym same) versioned) (subst (RowsAreBelow commit) (sym same) (shared-below commit leaves undoable))
       ∙ same ∙ sym (shared-undone commit leaves)
 
-  pub lent-undoable : (commit : ℕ) (leaves more : List (Held A)) → rows_in more ≡ rows_in leaves → AreUndoable commit (all_shared leaves) → AreUndoable commit more
-  lent-undoable commit leaves more same undoable = below-undoable commit more (subst (RowsAreBelow commit) (sym same) (shared-below commit leaves undoable))
+  -- ---- a table that is taken out for a change
+
+  pub held-rows : (table : Owned (List (Held A)) A) → rows_in (held_table table) ≡ rows_in (value_in table)
+  held-rows (Own table) = refl
+  held-rows (Shared table) = shared-rows table.value
+
+  pub taken-undo : (commit : ℕ) (table : Owned (List (Held A)) A) (taken : List (Held A)) → (is_own table ≡ true → taken ≡ value_in table) → rows_in taken ≡ rows_in (value_in table) → AllVersioned (rows_in (held_table table)) → AreUndoable commit (held_table table) → undone_in commit taken ≡ undone_in commit (held_table table)
+  taken-undo commit (Own table) taken own same versioned undoable = ap (undone_in commit) (own refl)
+  taken-undo commit (Shared table) taken own same versioned undoable = lent-undone commit table.value taken same versioned undoable
+
+  pub taken-undoable : (commit : ℕ) (table : Owned (List (Held A)) A) (taken : List (Held A)) → (is_own table ≡ true → taken ≡ value_in table) → rows_in taken ≡ rows_in (value_in table) → AreUndoable commit (held_table table) → AreUndoable commit taken
+  taken-undoable commit (Own table) taken own same undoable = subst (AreUndoable commit) (sym (own refl)) undoable
+  taken-undoable commit (Shared table) taken own same undoable = below-undoable commit taken (subst (RowsAreBelow commit) (sym same) (shared-below commit table.value undoable))
 
   -- ---- a fresh key isn't in a table that is shared
 

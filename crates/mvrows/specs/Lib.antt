@@ -6,6 +6,7 @@ pub mod HeldRows
 pub mod Installing
 pub mod Kept
 pub mod Laws
+pub mod Owned
 pub mod Pruning
 pub mod Settling
 pub mod SharedTable

@@ -1,7 +1,7 @@
 -- A table, and whether views share it whole.
 use Rattle.std.specs.Prelude.{false, List, map}
-use Rattle.mvrows.specs.declared.shared.Owner.{Owner}
-use Rattle.mvrows.specs.declared.shared.Owner.TheVariants.{Own, Shared}
+use Rattle.mvrows.specs.declared.owned.Owned.{Owned}
+use Rattle.mvrows.specs.declared.owned.Owned.TheVariants.{Own, Shared}
 use Rattle.mvrows.specs.HeldRows.{Held}
 
 module _ {A : Type 0} where
@@ -14,6 +14,6 @@ module _ {A : Type 0} where
   all_shared leaves = map not_own leaves
 
   -- The pages of a table; where views share the table, they share each page.
-  abbrev pub held_table : Owner A → List (Held A)
+  abbrev pub held_table : Owned (List (Held A)) A → List (Held A)
   held_table (Own table) = table
   held_table (Shared table) = all_shared table.value

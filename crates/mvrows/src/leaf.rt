@@ -10,29 +10,20 @@ ghost use Rattle.mvrows.specs.Settling.{settle_key};
 ghost use Rattle.mvrows.specs.Fresh.{IsOwnKey};
 
 use crate::chain::Chain;
+use crate::owned::Owned;
 use crate::page::Page;
 use schema::changes::Change;
 use schema::paged::Paged;
 use std::alloc::{Allocator, Global};
 use std::marker::Model;
-use std::mem;
-use std::sync::Arc;
 use value::key::Key;
 use value::refusal::Refusal;
-
-// Who has a page: nobody else, or views too.
-#[derive(Drop)]
-#[derive_where(Debug)]
-enum Holder<A: Allocator = Global> {
-    Own(Page<A>),
-    Shared(Arc<Page<A>, A>),
-}
 
 /// A page of a table. It changes its own, and a copy of what views share.
 #[derive(Drop)]
 #[derive_where(Debug)]
 pub(crate) struct Leaf<A: Allocator = Global> {
-    holder: Holder<A>,
+    page: Owned<Page<A>, A>,
 }
 
 impl<A: Allocator> Model for Leaf<A> {
@@ -41,7 +32,7 @@ impl<A: Allocator> Model for Leaf<A> {
 
     ghost Value = { Held A };
 
-    ghost view = { λ t. held t.holder };
+    ghost view = { λ t. held t.page };
 }
 
 impl<A: Allocator> Paged<A> for Leaf<A> {
@@ -54,22 +45,16 @@ impl<A: Allocator> Paged<A> for Leaf<A> {
     }
 }
 
-// The page that nobody else has, out of a holder; a copy of it where views share it.
-fn owned<A: Allocator + Copy>(alloc: A, holder: Holder<A>) -> Result<Page<A>, (Holder<A>, Refusal)>
-    ensures ok { IfOk result (λ page. page ≡ (held holder).rows) }
-    ensures err { IfErr result (λ e. e.0 ≡ holder) }
-    ensures memory { IfErr result (λ e. e.1 ≡ out_of_memory) }
+// Moves the upper half of a page out, into one that nobody else has.
+fn cut<A: Allocator + Copy>(page: &mut Page<A>) -> Result<Leaf<A>, Refusal>
+    requires { 2 ≤ length page.old }
+    ensures parts { IfOk result (λ upper. page.new ++ upper.rows ≡ page.old) }
+    ensures own { IfOk result (λ upper. upper.own ≡ true) }
+    ensures keys { IfOk result (λ upper. (has_keys page.new ≡ true) × (has_keys upper.rows ≡ true)) }
+    ensures err { OnErr result (page.new ≡ page.old) }
+    ensures memory { IfErr result (λ e. e ≡ out_of_memory) }
 {
-    match holder {
-        Holder::Own(page) => Ok(page),
-        Holder::Shared(shared) => match Arc::try_unwrap(shared) {
-            Ok(page) => Ok(page),
-            Err(shared) => match shared.copy(alloc) {
-                Ok(page) => Ok(page),
-                Err(refusal) => Err((Holder::Shared(shared), refusal)),
-            },
-        },
-    }
+    Ok(Leaf::of(page.cut()?))
 }
 
 impl<A: Allocator> Leaf<A> {
@@ -78,7 +63,7 @@ impl<A: Allocator> Leaf<A> {
         ensures { result ≡ record { own = true; rows = page } }
     {
         Leaf {
-            holder: Holder::Own(page),
+            page: Owned::Own(page),
         }
     }
 
@@ -86,67 +71,7 @@ impl<A: Allocator> Leaf<A> {
     pub fn page(&self) -> &Page<A>
         ensures { result.now ≡ self.now.rows }
     {
-        match &self.holder {
-            Holder::Own(page) => page,
-            Holder::Shared(shared) => shared,
-        }
-    }
-
-    // Takes the page for itself: a copy, where views share it.
-    fn own(&mut self, alloc: A) -> Result<(), Refusal>
-    where
-        A: Copy,
-        ensures ok { OnOk result (self.new ≡ record self.old { own = true }) }
-        ensures err { OnErr result (self.new ≡ self.old) }
-        ensures memory { IfErr result (λ e. e ≡ out_of_memory) }
-    {
-        let holder = mem::replace(&mut self.holder, Holder::Own(Page::new(alloc)));
-        match owned(alloc, holder) {
-            Ok(page) => {
-                self.holder = Holder::Own(page);
-                Ok(())
-            }
-            Err((holder, refusal)) => {
-                self.holder = holder;
-                Err(refusal)
-            }
-        }
-    }
-
-    // Puts a newer version of a change's key into its own.
-    fn put_own(&mut self, alloc: A, commit: u64, change: &Change<A>) -> Result<(), Refusal>
-    where
-        A: Copy,
-        requires { self.old.own ≡ true }
-        ensures own { self.new.own ≡ true }
-        ensures ok { OnOk result (self.new.rows ≡ put_version change.now.key
-            (record { number = commit; fields = change.now.fields }) self.old.rows) }
-        ensures err { OnErr result (self.new.rows ≡ self.old.rows) }
-        ensures memory { IfErr result (λ e. e ≡ out_of_memory) }
-    {
-        match &mut self.holder {
-            Holder::Own(page) => page.put(alloc, commit, change),
-            Holder::Shared(_) => Ok(()),
-        }
-    }
-
-    // Moves the upper half of its own page out.
-    fn cut_own(&mut self, alloc: A) -> Result<Leaf<A>, Refusal>
-    where
-        A: Copy,
-        requires own { self.old.own ≡ true }
-        requires two { 2 ≤ length self.old.rows }
-        ensures parts { IfOk result (λ upper. self.new.rows ++ upper.rows ≡ self.old.rows) }
-        ensures own { self.new.own ≡ true }
-        ensures own_upper { IfOk result (λ upper. upper.own ≡ true) }
-        ensures keys { IfOk result (λ upper. (has_keys self.new.rows ≡ true) × (has_keys upper.rows ≡ true)) }
-        ensures err { OnErr result (self.new ≡ self.old) }
-        ensures memory { IfErr result (λ e. e ≡ out_of_memory) }
-    {
-        match &mut self.holder {
-            Holder::Own(page) => Ok(Leaf::of(page.cut()?)),
-            Holder::Shared(_) => Ok(Leaf::of(Page::new(alloc))),
-        }
+        self.page.get()
     }
 
     /// Puts in a newer version of a change's key.
@@ -161,17 +86,19 @@ impl<A: Allocator> Leaf<A> {
         ensures undoable { IsUndoable commit self.old → IsUndoable commit self.new }
         ensures memory { IfErr result (λ e. e ≡ out_of_memory) }
     {
-        self.own(alloc)?;
-        self.put_own(alloc, commit, change)
+        let mut page = self.page.take(alloc)?;
+        let put = page.put(alloc, commit, change);
+        self.page = Owned::Own(page);
+        put
     }
 
     /// Takes back the versions of a commit that wasn't finished.
     pub fn take_back(&mut self, commit: u64)
         ensures { self.new.rows ≡ undone commit self.old }
     {
-        match &mut self.holder {
-            Holder::Own(page) => page.take_back(commit),
-            Holder::Shared(_) => {}
+        match &mut self.page {
+            Owned::Own(page) => page.take_back(commit),
+            Owned::Shared(_) => {}
         }
     }
 
@@ -186,7 +113,7 @@ impl<A: Allocator> Leaf<A> {
         if self.page().is_pruned(oldest) {
             Ok(())
         } else {
-            self.own(alloc)
+            self.page.own(alloc)
         }
     }
 
@@ -194,9 +121,9 @@ impl<A: Allocator> Leaf<A> {
     pub fn prune(&mut self, oldest: u64)
         ensures { self.new.rows ≡ own_pruned oldest self.old }
     {
-        match &mut self.holder {
-            Holder::Own(page) => page.prune(oldest),
-            Holder::Shared(_) => {}
+        match &mut self.page {
+            Owned::Own(page) => page.prune(oldest),
+            Owned::Shared(_) => {}
         }
     }
 
@@ -207,9 +134,9 @@ impl<A: Allocator> Leaf<A> {
             self.old.rows }
         ensures own { self.new.own ≡ self.old.own }
     {
-        match &mut self.holder {
-            Holder::Own(page) => page.settle(oldest, snapshots, key),
-            Holder::Shared(_) => {}
+        match &mut self.page {
+            Owned::Own(page) => page.settle(oldest, snapshots, key),
+            Owned::Shared(_) => {}
         }
     }
 
@@ -219,15 +146,14 @@ impl<A: Allocator> Leaf<A> {
         A: Copy,
         ensures { self.new.rows ≡ self.old.rows }
     {
-        let holder = mem::replace(&mut self.holder, Holder::Own(Page::new(alloc)));
-        self.holder = shared(alloc, holder);
+        self.page.share(alloc);
     }
 
     /// Whether nobody else has the page.
     pub fn is_own(&self) -> bool
         ensures { result ≡ self.now.own }
     {
-        matches!(self.holder, Holder::Own(_))
+        self.page.is_own()
     }
 
     /// Whether the page has a key.
@@ -248,10 +174,10 @@ impl<A: Allocator> Leaf<A> {
         ensures err { OnErr result ((self.new ≡ self.old) ⊎ (self.new ≡ record self.old { own = true })) }
         ensures memory { IfErr result (λ e. e ≡ out_of_memory) }
     {
-        match self.own(alloc) {
-            Ok(()) => self.cut_own(alloc),
-            Err(refusal) => Err(refusal),
-        }
+        let mut page = self.page.take(alloc)?;
+        let upper = cut(&mut page);
+        self.page = Owned::Own(page);
+        upper
     }
 
     /// The same page, shared; a copy of it where it could not be shared before.
@@ -261,23 +187,7 @@ impl<A: Allocator> Leaf<A> {
         ensures ok { IfOk result (λ leaf. leaf.rows ≡ self.now.rows) }
         ensures err { IfErr result (λ e. e ≡ out_of_memory) }
     {
-        let holder = match &self.holder {
-            Holder::Own(page) => Holder::Own(page.copy(alloc)?),
-            Holder::Shared(shared) => Holder::Shared(Arc::try_clone(shared)?),
-        };
-        Ok(Leaf { holder })
-    }
-}
-
-// The page of a holder, shared where there is memory for that.
-fn shared<A: Allocator + Copy>(alloc: A, holder: Holder<A>) -> Holder<A>
-    ensures { (held result).rows ≡ (held holder).rows }
-{
-    match holder {
-        Holder::Own(page) => match Arc::new(alloc, page) {
-            Ok(shared) => Holder::Shared(shared),
-            Err(failed) => Holder::Own(failed.value),
-        },
-        Holder::Shared(shared) => Holder::Shared(shared),
+        let page = self.page.lend(alloc)?;
+        Ok(Leaf { page })
     }
 }

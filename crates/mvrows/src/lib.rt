@@ -6,6 +6,7 @@ pub mod at;
 mod chain;
 pub mod laws;
 mod leaf;
+mod owned;
 mod page;
 pub mod rows;
 mod shared;

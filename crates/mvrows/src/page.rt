@@ -18,6 +18,7 @@ ghost use Rattle.mvrows.specs.HeldRows.{has_keys};
 ghost use Rattle.mvrows.specs.Copied.{with_rows};
 
 use crate::chain::Chain;
+use crate::owned::Copied;
 use schema::catalog::TableNo;
 use schema::changes::Change;
 use schema::paged::{self, is_at, start};
@@ -48,6 +49,24 @@ impl<A: Allocator> Model for Page<A> {
     ghost view = { λ p. p.chains.items };
 
     ghost invariant = { λ p. IsInOrder p.chains.items };
+}
+
+impl<A: Allocator + Copy> Copied<A> for Page<A> {
+    ghost keys_of = { λ p. p };
+
+    fn new(alloc: A) -> Page<A> {
+        Page {
+            chains: Vec::new(alloc),
+        }
+    }
+
+    fn copy(&self, alloc: A) -> Result<Page<A>, Refusal> {
+        let mut chains = Vec::with_capacity(alloc, self.chains.len())?;
+        for chain in &self.chains {
+            chains.push(chain.copy(alloc)?)?;
+        }
+        Ok(Page { chains })
+    }
 }
 
 // The first row that a snapshot shows.
@@ -169,14 +188,6 @@ fn settle<A: Allocator>(
 }
 
 impl<A: Allocator> Page<A> {
-    pub fn new(alloc: A) -> Page<A>
-        ensures { result ≡ [] }
-    {
-        Page {
-            chains: Vec::new(alloc),
-        }
-    }
-
     /// Its keys with their versions.
     pub fn chains(&self) -> &[Chain<A>]
         ensures rows { result.now ≡ self.now }
@@ -349,19 +360,5 @@ impl<A: Allocator> Page<A> {
             }
         }
         Ok(())
-    }
-
-    /// Equal keys with equal versions.
-    pub fn copy(&self, alloc: A) -> Result<Page<A>, Refusal>
-    where
-        A: Copy,
-        ensures ok { IfOk result (λ p. p ≡ self.now) }
-        ensures err { IfErr result (λ e. e ≡ out_of_memory) }
-    {
-        let mut chains = Vec::with_capacity(alloc, self.chains.len())?;
-        for chain in &self.chains {
-            chains.push(chain.copy(alloc)?)?;
-        }
-        Ok(Page { chains })
     }
 }

@@ -10,29 +10,20 @@ ghost use Rattle.mvrows.specs.Settling.{settle_key};
 ghost use Rattle.mvrows.specs.HeldRows.{rows_in, undone_in, AreUndoable, own_pruned_in, AllVersioned};
 ghost use Rattle.mvrows.specs.SharedTable.{held_table};
 
+use crate::owned::Owned;
 use crate::table::Table;
 use schema::changes::Change;
 use std::alloc::{Allocator, Global};
 use std::marker::Model;
-use std::mem;
-use std::sync::Arc;
 use value::key::Key;
 use value::refusal::Refusal;
-
-// Who has a table: nobody else, or views too.
-#[derive(Drop)]
-#[derive_where(Debug)]
-enum Owner<A: Allocator = Global> {
-    Own(Table<A>),
-    Shared(Arc<Table<A>, A>),
-}
 
 /// A table with the versions of its keys. A view takes a share of it, whatever its size. A change goes to a table that
 /// nobody else has: where a view has this one, to another list of the same pages.
 #[derive(Drop)]
 #[derive_where(Debug)]
 pub(crate) struct SharedTable<A: Allocator = Global> {
-    owner: Owner<A>,
+    table: Owned<Table<A>, A>,
 }
 
 impl<A: Allocator> Model for SharedTable<A> {
@@ -42,44 +33,7 @@ impl<A: Allocator> Model for SharedTable<A> {
 
     ghost Value = { List (Held A) };
 
-    ghost view = { λ t. held_table t.owner };
-}
-
-// The table that nobody else has, out of its owner; another of the same pages where views share it.
-fn owned<A: Allocator + Copy>(alloc: A, owner: Owner<A>) -> Result<Table<A>, (Owner<A>, Refusal)>
-    ensures rows { IfOk result (λ table. rows_in table ≡ rows_in (held_table owner)) }
-    ensures undo { (commit : ℕ) →
-        IfOk result
-        (λ table. AllVersioned (rows_in (held_table owner)) → AreUndoable commit (held_table owner) →
-        undone_in commit table ≡ undone_in commit (held_table owner)) }
-    ensures undoable { (commit : ℕ) →
-        IfOk result (λ table. AreUndoable commit (held_table owner) → AreUndoable commit table) }
-    ensures err { IfErr result (λ e. e.0 ≡ owner) }
-    ensures memory { IfErr result (λ e. e.1 ≡ out_of_memory) }
-{
-    match owner {
-        Owner::Own(table) => Ok(table),
-        Owner::Shared(shared) => match Arc::try_unwrap(shared) {
-            Ok(table) => Ok(table),
-            Err(shared) => match shared.lend(alloc) {
-                Ok(table) => Ok(table),
-                Err(refusal) => Err((Owner::Shared(shared), refusal)),
-            },
-        },
-    }
-}
-
-// The table of an owner, shared where there is memory for that.
-fn shared<A: Allocator + Copy>(alloc: A, owner: Owner<A>) -> Owner<A>
-    ensures { rows_in (held_table result) ≡ rows_in (held_table owner) }
-{
-    match owner {
-        Owner::Own(table) => match Arc::new(alloc, table) {
-            Ok(shared) => Owner::Shared(shared),
-            Err(failed) => Owner::Own(failed.value),
-        },
-        Owner::Shared(shared) => Owner::Shared(shared),
-    }
+    ghost view = { λ t. held_table t.table };
 }
 
 impl<A: Allocator> SharedTable<A> {
@@ -88,7 +42,7 @@ impl<A: Allocator> SharedTable<A> {
         ensures { result ≡ table }
     {
         SharedTable {
-            owner: Owner::Own(table),
+            table: Owned::Own(table),
         }
     }
 
@@ -96,34 +50,7 @@ impl<A: Allocator> SharedTable<A> {
     pub fn table(&self) -> &Table<A>
         ensures { rows_in result.now ≡ rows_in self.now }
     {
-        match &self.owner {
-            Owner::Own(table) => table,
-            Owner::Shared(shared) => shared,
-        }
-    }
-
-    // Moves the table out, to be changed and put back: a table of its own.
-    fn take(&mut self, alloc: A) -> Result<Table<A>, Refusal>
-    where
-        A: Copy,
-        ensures rows { IfOk result (λ table. rows_in table ≡ rows_in self.old) }
-        ensures undo { (commit : ℕ) →
-            IfOk result
-            (λ table. AllVersioned (rows_in self.old) → AreUndoable commit self.old → undone_in commit table ≡
-            undone_in commit self.old) }
-        ensures undoable { (commit : ℕ) →
-            IfOk result (λ table. AreUndoable commit self.old → AreUndoable commit table) }
-        ensures err { OnErr result (self.new ≡ self.old) }
-        ensures memory { IfErr result (λ e. e ≡ out_of_memory) }
-    {
-        let owner = mem::replace(&mut self.owner, Owner::Own(Table::new(alloc)));
-        match owned(alloc, owner) {
-            Ok(table) => Ok(table),
-            Err((owner, refusal)) => {
-                self.owner = owner;
-                Err(refusal)
-            }
-        }
+        self.table.get()
     }
 
     /// Puts in a newer version of a change's key.
@@ -139,9 +66,9 @@ impl<A: Allocator> SharedTable<A> {
         ensures undoable { AreUndoable commit self.old → AreUndoable commit self.new }
         ensures memory { IfErr result (λ e. e ≡ out_of_memory) }
     {
-        let mut table = self.take(alloc)?;
+        let mut table = self.table.take(alloc)?;
         let put = table.put(alloc, commit, change);
-        self.owner = Owner::Own(table);
+        self.table = Owned::Own(table);
         put
     }
 
@@ -149,9 +76,9 @@ impl<A: Allocator> SharedTable<A> {
     pub fn take_back(&mut self, commit: u64)
         ensures { rows_in self.new ≡ undone_in commit self.old }
     {
-        match &mut self.owner {
-            Owner::Own(table) => table.take_back(commit),
-            Owner::Shared(_) => {}
+        match &mut self.table {
+            Owned::Own(table) => table.take_back(commit),
+            Owned::Shared(_) => {}
         }
     }
 
@@ -163,9 +90,9 @@ impl<A: Allocator> SharedTable<A> {
         ensures ok { OnOk result (own_pruned_in oldest self.new ≡ pruned_rows oldest (rows_in self.old)) }
         ensures memory { IfErr result (λ e. e ≡ out_of_memory) }
     {
-        let mut table = self.take(alloc)?;
+        let mut table = self.table.take(alloc)?;
         let made = table.make_prunable(alloc, oldest);
-        self.owner = Owner::Own(table);
+        self.table = Owned::Own(table);
         made
     }
 
@@ -173,9 +100,9 @@ impl<A: Allocator> SharedTable<A> {
     pub fn prune(&mut self, oldest: u64)
         ensures { rows_in self.new ≡ own_pruned_in oldest self.old }
     {
-        match &mut self.owner {
-            Owner::Own(table) => table.prune(oldest),
-            Owner::Shared(_) => {}
+        match &mut self.table {
+            Owned::Own(table) => table.prune(oldest),
+            Owned::Shared(_) => {}
         }
     }
 
@@ -188,9 +115,9 @@ impl<A: Allocator> SharedTable<A> {
         ensures fresh { (commit : ℕ) (k : Value A) → IsFresh commit k (rows_in self.old) →
             IsFresh commit k (rows_in self.new) }
     {
-        match &mut self.owner {
-            Owner::Own(table) => table.settle(oldest, snapshots, key),
-            Owner::Shared(_) => {}
+        match &mut self.table {
+            Owned::Own(table) => table.settle(oldest, snapshots, key),
+            Owned::Shared(_) => {}
         }
     }
 
@@ -200,9 +127,9 @@ impl<A: Allocator> SharedTable<A> {
         A: Copy,
         ensures { rows_in self.new ≡ rows_in self.old }
     {
-        match &mut self.owner {
-            Owner::Own(table) => table.share(alloc, key),
-            Owner::Shared(_) => {}
+        match &mut self.table {
+            Owned::Own(table) => table.share(alloc, key),
+            Owned::Shared(_) => {}
         }
     }
 
@@ -212,9 +139,9 @@ impl<A: Allocator> SharedTable<A> {
         A: Copy,
         ensures { rows_in self.new ≡ rows_in self.old }
     {
-        match &mut self.owner {
-            Owner::Own(table) => table.share_all(alloc),
-            Owner::Shared(_) => {}
+        match &mut self.table {
+            Owned::Own(table) => table.share_all(alloc),
+            Owned::Shared(_) => {}
         }
     }
 
@@ -224,8 +151,7 @@ impl<A: Allocator> SharedTable<A> {
         A: Copy,
         ensures { rows_in self.new ≡ rows_in self.old }
     {
-        let owner = mem::replace(&mut self.owner, Owner::Own(Table::new(alloc)));
-        self.owner = shared(alloc, owner);
+        self.table.share(alloc);
     }
 
     /// A share of the table; another of the same pages where it could not be shared before.
@@ -235,10 +161,7 @@ impl<A: Allocator> SharedTable<A> {
         ensures ok { IfOk result (λ table. rows_in table ≡ rows_in self.now) }
         ensures err { IfErr result (λ e. e ≡ out_of_memory) }
     {
-        let owner = match &self.owner {
-            Owner::Own(table) => Owner::Own(table.lend(alloc)?),
-            Owner::Shared(shared) => Owner::Shared(Arc::try_clone(shared)?),
-        };
-        Ok(SharedTable { owner })
+        let table = self.table.lend(alloc)?;
+        Ok(SharedTable { table })
     }
 }

@@ -18,6 +18,7 @@ ghost use Rattle.mvrows.specs.HeldRows.{pages_of, rows_in, has_keys, AreLaidOut,
 
 use crate::chain::Chain;
 use crate::leaf::Leaf;
+use crate::owned::Copied;
 use crate::page::Page;
 use schema::catalog::TableNo;
 use schema::changes::Change;
@@ -50,6 +51,26 @@ impl<A: Allocator> Model for Table<A> {
     ghost view = { λ t. t.leaves.items };
 
     ghost invariant = { λ t. AreLaidOut t.leaves.items };
+}
+
+impl<A: Allocator + Copy> Copied<A> for Table<A> {
+    ghost keys_of = { rows_in };
+
+    fn new(alloc: A) -> Table<A> {
+        Table {
+            leaves: Vec::new(alloc),
+            near: 0,
+        }
+    }
+
+    // The same pages, shared; copies of those that could not be shared before.
+    fn copy(&self, alloc: A) -> Result<Table<A>, Refusal> {
+        let mut leaves = Vec::with_capacity(alloc, self.leaves.len())?;
+        for leaf in &self.leaves {
+            leaves.push(leaf.lend(alloc)?)?;
+        }
+        Ok(Table { leaves, near: 0 })
+    }
 }
 
 // The row of the least key within a bound that a snapshot shows of some pages.
@@ -438,16 +459,6 @@ fn share_around<A: Allocator + Copy>(
 }
 
 impl<A: Allocator> Table<A> {
-    /// A table without rows.
-    pub fn new(alloc: A) -> Table<A>
-        ensures { result ≡ [] }
-    {
-        Table {
-            leaves: Vec::new(alloc),
-            near: 0,
-        }
-    }
-
     /// The opening of a table. Its rows are moved, page by page, and no page of theirs stays longer than that.
     pub fn open(alloc: A, rows: Plain<A>) -> Result<Table<A>, Refusal>
     where
@@ -611,19 +622,5 @@ impl<A: Allocator> Table<A> {
         ensures { rows_in self.new ≡ rows_in self.old }
     {
         share_all(alloc, &mut self.leaves);
-    }
-
-    /// The same pages, shared; copies of those that could not be shared before.
-    pub fn lend(&self, alloc: A) -> Result<Table<A>, Refusal>
-    where
-        A: Copy,
-        ensures ok { IfOk result (λ table. rows_in table ≡ rows_in self.now) }
-        ensures err { IfErr result (λ e. e ≡ out_of_memory) }
-    {
-        let mut leaves = Vec::with_capacity(alloc, self.leaves.len())?;
-        for leaf in &self.leaves {
-            leaves.push(leaf.lend(alloc)?)?;
-        }
-        Ok(Table { leaves, near: 0 })
     }
 }

@@ -2,7 +2,7 @@ use Rattle.std.proofs.Common.{ap, sym, ◌∙◌}
 use Rattle.mvrows.specs.Settling.{settle_key}
 use Rattle.mvrows.specs.Held.{held}
 use Rattle.mvrows.specs.HeldRows.{Held}
-use Rattle.mvrows.specs.declared.leaf.Holder.{Holder}
+use Rattle.mvrows.specs.declared.owned.Owned.{Owned}
 use Rattle.mvrows.proofs.SettledPageLemmas.{settle-shared}
 use Rattle.mvrows.proofs.leaf.Leaf.settle.Goals.{in-Own, in-Shared}
 use Rattle.mvrows.proofs.leaf.Leaf.settle.Goals as goal
@@ -10,9 +10,9 @@ use Rattle.mvrows.proofs.leaf.Leaf.settle.Goals as goal
 pub returns-clause-rows : goal.returns-clause-rows
 returns-clause-rows g c = elim c.match-self.branch [
   | in-Own w ↦
-      ap (λ s. (held s.holder).rows) w.self-inside-is ∙ w.settle.ensures
-      ∙ ap (settle_key (record { oldest = c.args.oldest; snapshots = c.args.snapshots.now }) c.args.key.now) (sym (ap (λ (h : Holder _). (held h).rows) w.in-Own.is) ∙ ap (λ (h : Held _). h.rows) c.self.view_is)
+      ap (λ s. (held s.page).rows) w.self-inside-is ∙ w.settle.ensures
+      ∙ ap (settle_key (record { oldest = c.args.oldest; snapshots = c.args.snapshots.now }) c.args.key.now) (sym (ap (λ (h : Owned _ _). (held h).rows) w.in-Own.is) ∙ ap (λ (h : Held _). h.rows) c.self.view_is)
   | in-Shared w ↦
-      ap (λ s. (held s.holder).rows) w.self-inside-is ∙ ap (λ (h : Held _). h.rows) c.self.view_is
-      ∙ settle-shared (record { oldest = c.args.oldest; snapshots = c.args.snapshots.now }) c.args.key.now c.args.self.now (sym (ap (λ (h : Held _). h.own) c.self.view_is) ∙ ap (λ (h : Holder _). (held h).own) w.in-Shared.is) c.requires
+      ap (λ s. (held s.page).rows) w.self-inside-is ∙ ap (λ (h : Held _). h.rows) c.self.view_is
+      ∙ settle-shared (record { oldest = c.args.oldest; snapshots = c.args.snapshots.now }) c.args.key.now c.args.self.now (sym (ap (λ (h : Held _). h.own) c.self.view_is) ∙ ap (λ (h : Owned _ _). (held h).own) w.in-Shared.is) c.requires
 ]

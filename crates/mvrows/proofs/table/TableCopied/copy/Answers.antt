@@ -1,8 +1,8 @@
-use Rattle.std.proofs.Common.{ap, sym, subst, arith, length, ◌≤◌, ◌∙◌}
+use Rattle.std.proofs.Common.{ap, arith, length, ◌≤◌, ◌∙◌}
 use Rattle.std.proofs.lemmas.List.{take_all}
 use Rattle.mvrows.specs.HeldRows.{pages_of, rows_in}
 use Rattle.mvrows.proofs.LeavesLemmas.{same-rows, same-pages_laid_out}
-use Rattle.mvrows.proofs.table.Table.lend.Goals as goal
+use Rattle.mvrows.proofs.table.TableCopied.copy.Goals as goal
 
 pub invariant_of-result : goal.invariant_of-result
 invariant_of-result g c =

@@ -1,6 +1,6 @@
 use Rattle.std.proofs.Common.{ap, sym, arith, ◌++◌, ◌∷◌, [], take, ◌∙◌}
 use Rattle.schema.proofs.PageLemmas.{take-item}
-use Rattle.mvrows.proofs.page.Page.copy.Goals as goal
+use Rattle.mvrows.proofs.page.PageCopied.copy.Goals as goal
 
 pub loop-chain-preserved : goal.loop-chain-preserved
 loop-chain-preserved g c =

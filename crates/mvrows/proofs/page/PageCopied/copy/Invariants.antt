@@ -1,5 +1,5 @@
 use Rattle.std.proofs.Common.{◌≡◌, take}
-use Rattle.mvrows.proofs.page.Page.copy.Given as goal
+use Rattle.mvrows.proofs.page.PageCopied.copy.Given as goal
 
 -- the keys so far
 abbrev pub invariant-loop-chain : goal.invariant-loop-chain

@@ -1,6 +1,6 @@
 use Rattle.std.proofs.Common.{◌≡◌, take}
 use Rattle.mvrows.specs.HeldRows.{pages_of}
-use Rattle.mvrows.proofs.table.Table.lend.Given as goal
+use Rattle.mvrows.proofs.table.TableCopied.copy.Given as goal
 
 -- the pages so far
 abbrev pub invariant-loop-leaf : goal.invariant-loop-leaf
