@@ -27,16 +27,16 @@ use Rattle.history.specs.Transactions.{Txn, World, commits, is_owed, is_quiet, t
 use Rattle.history.specs.Events.{follows, run, start, world}
 use Rattle.history.specs.Checkpoint.{base_after, opening_after}
 use Rattle.history.specs.Serial.{keys_by_commit}
-use Rattle.history.specs.Answer.{Allowed, answer, checkpoint_answer, reply_in, reply_of}
+use Rattle.history.specs.Answer.{Allowed, answer, checkpoint_answer, reply_in}
 use Rattle.history.specs.Needed.{kept_of}
 use Rattle.serial.proofs.legal.Histories.{Legal-push, Legal-start}
 use Rattle.serial.proofs.legal.AlwaysSound.{always_sound}
 use Rattle.serial.proofs.needed.Replies.{owed_stays}
 use Rattle.mvrows.specs.Versions.{VersionedRows, shown, shown_rows}
 use Rattle.transactions.specs.declared.answers.answered.Answered.{Answered}
-use Rattle.transactions.specs.Answers.{both}
 use Rattle.transactions.specs.Ledger.{Ledger, committed_by, kept, kept_after, kept_current, ready_for, world_on}
 use Rattle.transactions.specs.Keys.{committed_at, keyed}
+use Rattle.transactions.specs.Steps.{IsStepped}
 use Rattle.transactions.specs.Versions.{StayShown, is_owed_at, versions_at}
 use Rattle.transactions.specs.Views.{are_quiet}
 use Rattle.session.specs.Core.{HoldsKeys, HoldsRows, IsKept, is_commit, recorded}
@@ -93,14 +93,13 @@ module _ {A : Type 0} where
       abbrev pub event : Reply A → Record A
       event g = record { session = s; action = a; reply = g }
 
-      -- given and m are what a step of the world answers and leaves
-      module _ (given : Answered A) (m : Ledger A) (answers : (X : Tables A) → given ≡ both (reply_of (world_on c X l) (ready_for (versions_at rows) a (kept_current c X l s)) a))
-          (leaves : (X : Tables A) → m ≡ kept_after (world_on c X l) s a given.reply (ready_for (versions_at rows) a (kept_current c X l s))) where
+      -- what a step of the world answers and leaves
+      module _ (given : Answered A) (m : Ledger A) (more : List (VersionedRows A)) (stepped : IsStepped c s a (kept_current c [] l s) l rows given m more) where
         pub replied : given.reply ≡ answer h.opening h.records s a
-        replied = ap (λ (y : Answered A). y.reply) (answers []) ∙ reply_is h l k rows held c [] p s a
+        replied = ap (λ (y : Answered A). y.reply) (stepped.reply []) ∙ reply_is h l k rows held c [] p s a
 
         pub recorded_so : given.recorded ≡ given.reply
-        recorded_so = ap (λ (y : Answered A). y.recorded) (answers []) ∙ sym (ap (λ (y : Answered A). y.reply) (answers []))
+        recorded_so = ap (λ (y : Answered A). y.recorded) (stepped.reply []) ∙ sym (ap (λ (y : Answered A). y.reply) (stepped.reply []))
 
         pub due : given.reply ≡ reply_in (w h l k) s a
         unfolding answer
@@ -110,7 +109,7 @@ module _ {A : Type 0} where
         world_is = run_push (start h.opening) h.records (event given.recorded) ∙ ap (λ g. follows (w h l k) (event g)) (recorded_so ∙ due)
 
         after : After h l k s a fits m
-        after = subst (After h l k s a fits) (sym (leaves [] ∙ ap (λ g. kept_after (world_on c [] l) s a g (ready_for (versions_at rows) a (kept_current c [] l s))) due))
+        after = subst (After h l k s a fits) (sym (stepped.world [] ∙ ap (λ g. kept_after (world_on c [] l) s a g (ready_for (versions_at rows) a (kept_current c [] l s))) due))
             (comes_after h l k s a fits c [] p (versions_at rows) (λ t e. has_own h l k rows held s t e))
 
         pub kept_now : IsKept (recorded h s a given.recorded) m
@@ -121,11 +120,11 @@ module _ {A : Type 0} where
         }
 
         -- the versions
-        pub rows_now : (more : List (VersionedRows A)) → StayShown l rows (committed_by a given.reply (kept_current c [] l s)) m more → HoldsRows (recorded h s a given.recorded) m more
-        rows_now more stay = record {
-          current = stay.current;
+        pub rows_now : HoldsRows (recorded h s a given.recorded) m more
+        rows_now = record {
+          current = stepped.versions.current;
           shown = λ n above. shown_next h l k s a fits rows held m more after.0 c [] p
-              (subst (λ g. StayShown l rows (committed_by a g (kept_current c [] l s)) m more) due stay) n above ∙ sym (ap (λ (v : World A). tables_at v n) world_is);
+              (subst (λ g. StayShown l rows (committed_by a g (kept_current c [] l s)) m more) due stepped.versions) n above ∙ sym (ap (λ (v : World A). tables_at v n) world_is);
         }
 
         -- what the event committed
@@ -142,9 +141,9 @@ module _ {A : Type 0} where
                 ∙ none_committed (w h l k) (good h l k) (event (reply_in (w h l k) s a)) e))
 
         -- the keys with that of what it committed
-        pub keys_now : (ks more : List (TxnNo × SerialKey)) (room capacity : ℕ) → HoldsKeys h ks room → length h.records < h.most
-            → map keyed more ≡ map keyed ks ++ cond (is_commit a) (option_to_list (committed_at m.place m.txns)) [] → length more ≤ length ks + 1 → capacity ≡ room → HoldsKeys (recorded h s a given.recorded) more capacity
-        keys_now ks more room capacity keys few e n q = record {
+        pub keys_now : (ks js : List (TxnNo × SerialKey)) (room capacity : ℕ) → HoldsKeys h ks room → length h.records < h.most
+            → map keyed js ≡ map keyed ks ++ cond (is_commit a) (option_to_list (committed_at m.place m.txns)) [] → length js ≤ length ks + 1 → capacity ≡ room → HoldsKeys (recorded h s a given.recorded) js capacity
+        keys_now ks js room capacity keys few e n q = record {
           keys = e ∙ ap (λ xs. map keyed ks ++ xs) by_commit ∙ ap (λ xs. xs ++ option_to_list (committed_at m.place m.txns)) keys.keys ∙ ap (λ o. keys_by_commit (w h l k) ++ option_to_list o) last_is
               ∙ sym (keys_push h.opening h.records (event given.recorded) kept_now.legal (ap (λ (v : World A). v.place) world_is ∙ follows_place (w h l k) (event (reply_in (w h l k) s a))));
           few = let i : length (h.records ++ event given.recorded ∷ []) ≡ length h.records + 1 = length_push h.records (event given.recorded) in let j = keys.few in omega (arith, i, j, n);

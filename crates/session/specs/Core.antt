@@ -56,6 +56,12 @@ module _ {A : Type 0} where
   abbrev pub HasRoom : Recorded A → Type 0
   HasRoom h = length h.records < h.most
 
+  -- The action of session s came to this, where the history had room, and the history h has become k: the answer of the definitions, recorded;
+  -- or an action that takes memory got none, and nothing has changed.
+  abbrev pub IsAdvanced : Recorded A → Recorded A → ℕ → Action A → Result (Reply A) Refusal → Type 0
+  IsAdvanced h k s a (Ok r) = (r ≡ answer h.opening h.records s a) × (k ≡ recorded h s a r)
+  IsAdvanced h k s a (Err e) = (takes_memory a ≡ true) × (e ≡ out_of_memory) × (k ≡ h)
+
   -- The action of session s was answered with r, and the history h has become k: the answer of the definitions, recorded;
   -- or the history is full or, where the action takes memory, there is none, and nothing has changed.
   abbrev pub IsStep : Recorded A → Recorded A → ℕ → Action A → Reply A → Type 0

@@ -5,12 +5,12 @@ ghost use Rattle.std.specs.Option.{option_to_list};
 ghost use Rattle.value.specs.Refusals.{AnswersOrNoMemory, of_code, out_of_memory};
 ghost use Rattle.schema.specs.Plain.{is_sound};
 ghost use Rattle.history.specs.Opening.{opening_refusal, zero_base};
-ghost use Rattle.history.specs.Answer.{Allowed, answer, checkpoint_answer, view_answer};
+ghost use Rattle.history.specs.Answer.{Allowed, checkpoint_answer, view_answer};
 ghost use Rattle.transactions.specs.Courses.{takes_memory};
 ghost use Rattle.transactions.specs.Keys.{committed_at, keyed};
 ghost use Rattle.transactions.specs.Views.{are_quiet};
 ghost use Rattle.mvrows.specs.Installing.{opened};
-ghost use Rattle.session.specs.Core.{HasRoom, HoldsRows, IsCheckpoint, IsKept, IsStep, from_opening, is_commit, recorded};
+ghost use Rattle.session.specs.Core.{HasRoom, HoldsRows, IsAdvanced, IsCheckpoint, IsKept, IsStep, from_opening, is_commit};
 ghost use Rattle.session.specs.Polling.{after_commit};
 
 mod committed;
@@ -31,6 +31,7 @@ use schema::tables::Tables;
 use statement::reply::Reply;
 use std::alloc::{Allocator, Global};
 use std::marker::Model;
+use transactions::step::Told;
 use transactions::world::World;
 use value::refusal::{Code, Refusal, TxnNo};
 
@@ -287,11 +288,7 @@ impl<A: Allocator> Core<A> {
         A: Copy,
         requires room { HasRoom self.old }
         requires allowed { Allowed self.old.opening.catalog event.action }
-        ensures reply { IfOk result (λ r. r ≡ answer self.old.opening self.old.records event.session event.action) }
-        ensures history { IfOk result (λ r. self.new ≡ recorded self.old event.session event.action r) }
-        ensures err { OnErr result (self.new ≡ self.old) }
-        ensures memory { IfErr result (λ e. e ≡ out_of_memory) }
-        ensures taken { OnErr result (takes_memory event.action ≡ true) }
+        ensures { IsAdvanced self.old self.new event.session event.action result }
     {
         let Event { session, action } = event;
         let spoilt = polls_spoilt(
@@ -301,14 +298,14 @@ impl<A: Allocator> Core<A> {
             session,
             &action,
         );
-        let answered = self.world.step(
-            alloc,
-            self.history.catalog(),
-            &mut self.rows,
-            session,
-            &action,
+        let told = Told {
+            action: &action,
             spoilt,
-        )?;
+        };
+        let catalog = self.history.catalog();
+        let answered = self
+            .world
+            .step(alloc, catalog, &mut self.rows, session, &told)?;
         add_last(&mut self.keys, &mut self.unspoilt, &self.world, &action);
         keep_snapshot(&mut self.unspoilt, &self.world, session, &action);
         self.history.push(Record {
@@ -326,11 +323,7 @@ impl<A: Allocator> Core<A> {
         A: Copy,
         requires room { HasRoom self.old }
         requires allowed { Allowed self.old.opening.catalog event.action }
-        ensures reply { IfOk result (λ r. r ≡ answer self.old.opening self.old.records event.session event.action) }
-        ensures history { IfOk result (λ r. self.new ≡ recorded self.old event.session event.action r) }
-        ensures err { OnErr result (self.new ≡ self.old) }
-        ensures memory { IfErr result (λ e. e ≡ out_of_memory) }
-        ensures taken { OnErr result (takes_memory event.action ≡ true) }
+        ensures { IsAdvanced self.old self.new event.session event.action result }
     {
         self.prepare(alloc, &event.action)?;
         let ends = matches!(event.action, Action::Commit | Action::Rollback);

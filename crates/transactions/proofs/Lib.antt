@@ -13,3 +13,4 @@ pub mod OwedLemmas
 pub mod CommitLemmas
 pub mod RunLemmas
 pub mod InstallLemmas
+pub mod StepLemmas

@@ -9,6 +9,7 @@ pub mod Merged
 pub mod Polls
 pub mod Runs
 pub mod Standings
+pub mod Steps
 pub mod Stretches
 pub mod Structures
 pub mod Versions

@@ -9,6 +9,6 @@ pub mod ends;
 pub mod exports;
 pub mod kept;
 pub mod statements;
-mod step;
+pub mod step;
 pub mod transaction;
 pub mod world;

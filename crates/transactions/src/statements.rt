@@ -5,3 +5,4 @@ pub mod reader;
 pub mod reads;
 pub(crate) mod record;
 pub mod run;
+pub mod versions;

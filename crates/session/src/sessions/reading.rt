@@ -1,11 +1,11 @@
 //! SELECTs in two halves: what a session's transaction sees, and the event with the reply that was found there.
 
-ghost use Rattle.std.specs.Prelude.{◌≡◌, false, Ok, IfOk, IfErr, OnErr};
-ghost use Rattle.value.specs.Refusals.{AnswersOrNoMemory, out_of_memory};
+ghost use Rattle.std.specs.Prelude.{◌≡◌, false};
+ghost use Rattle.value.specs.Refusals.{AnswersOrNoMemory};
 ghost use Rattle.statement.specs.Evaluation.{writes};
 ghost use Rattle.statement.specs.Fits.{Fits};
-ghost use Rattle.history.specs.Answer.{answer, reader_answer};
-ghost use Rattle.session.specs.Core.{HasRoom, IsFoundReply, IsStep, recorded};
+ghost use Rattle.history.specs.Answer.{reader_answer};
+ghost use Rattle.session.specs.Core.{HasRoom, IsAdvanced, IsFoundReply, IsStep};
 
 use crate::sessions::Core;
 use history::event::{Action, Record};
@@ -14,6 +14,7 @@ use statement::reply::Reply;
 use statement::statement::Statement;
 use std::alloc::Allocator;
 use transactions::statements::reader::SessionReader;
+use transactions::statements::versions::TableVersions;
 use value::refusal::{Code, Refusal};
 
 impl<A: Allocator> Core<A> {
@@ -43,20 +44,16 @@ impl<A: Allocator> Core<A> {
         requires fits { Fits self.old.opening.catalog statement }
         requires reads { writes statement ≡ false }
         requires found { IsFoundReply self.old.opening self.old.records session statement found }
-        ensures reply { IfOk result (λ r. r ≡ answer self.old.opening self.old.records session (Action.Run statement)) }
-        ensures history { IfOk result (λ r. self.new ≡ recorded self.old session (Action.Run statement) r) }
-        ensures err { OnErr result (self.new ≡ self.old) }
-        ensures memory { IfErr result (λ e. e ≡ out_of_memory) }
+        ensures { IsAdvanced self.old self.new session (Action.Run statement) result }
     {
         let action = Action::Run(statement);
-        let answered = self.world.record(
-            alloc,
-            self.history.catalog(),
-            &self.rows,
-            session,
-            &action,
-            found,
-        )?;
+        let versions = TableVersions {
+            catalog: self.history.catalog(),
+            rows: &self.rows,
+        };
+        let answered = self
+            .world
+            .record(alloc, &versions, session, &action, found)?;
         self.history.push(Record {
             session,
             action,

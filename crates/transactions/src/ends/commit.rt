@@ -37,6 +37,16 @@ use statement::reply::Reply;
 use std::alloc::Allocator;
 use value::refusal::{Cause, Refusal};
 
+// What the versions of a commit are put in by.
+#[derive(Drop)]
+struct Installing<'i> {
+    // The number of the commit.
+    number: u64,
+    // The least snapshot that may still be read, and those below the commit that may.
+    oldest: u64,
+    snapshots: &'i [u64],
+}
+
 // The first of these causes that has this number in its middle.
 fn cause_of(causes: &[Cause], number: u64) -> Option<Cause>
     ensures { result ≡ find (λ c. c.b.0 == number) causes.now }
@@ -188,60 +198,65 @@ fn snapshots_with<A: Allocator>(
     snapshots
 }
 
-// Puts in the versions of a commit, of each key the last. Of the others of its keys those stay that
-// snapshots show which may still be read: none below the oldest, and below the commit these alone. The
-// changes stay.
-fn install<A: Allocator + Copy>(
-    alloc: A,
-    rows: &mut Rows<A>,
-    oldest: u64,
-    snapshots: &[u64],
-    number: u64,
-    changes: &mut OwnChanges<A>,
-) -> Result<(), Refusal>
-    requires order { AreInOrder rows.old }
-    requires below { TablesAreBelow number rows.old }
-    ensures ok { OnOk result (IsInstalled (record { oldest = oldest; snapshots = snapshots.now }) number changes.old
-        rows.old rows.new) }
-    ensures err { OnErr result (rows.new ≡ rows.old) }
-    ensures same { changes.new ≡ changes.old }
-    ensures memory { IfErr result (λ e. e ≡ out_of_memory) }
-{
-    if changes.is_merged() {
-        return rows.install(alloc, oldest, snapshots, number, changes.as_slice());
+impl Installing<'_> {
+    // Puts in the versions of a commit, of each key the last. Of the others of its keys those stay that
+    // snapshots show which may still be read: none below the oldest, and below the commit these alone. The
+    // changes stay.
+    fn install<A: Allocator + Copy>(
+        &self,
+        alloc: A,
+        rows: &mut Rows<A>,
+        changes: &mut OwnChanges<A>,
+    ) -> Result<(), Refusal>
+        requires order { AreInOrder rows.old }
+        requires below { TablesAreBelow self.now.number rows.old }
+        ensures ok { OnOk result (IsInstalled
+            (record { oldest = self.now.oldest; snapshots = self.now.snapshots.now }) self.now.number changes.old
+            rows.old rows.new) }
+        ensures err { OnErr result (rows.new ≡ rows.old) }
+        ensures same { changes.new ≡ changes.old }
+        ensures memory { IfErr result (λ e. e ≡ out_of_memory) }
+    {
+        if changes.is_merged() {
+            return rows.install(
+                alloc,
+                self.oldest,
+                self.snapshots,
+                self.number,
+                changes.as_slice(),
+            );
+        }
+        let last = changes.last_changes(alloc)?;
+        rows.install(
+            alloc,
+            self.oldest,
+            self.snapshots,
+            self.number,
+            last.as_slice(),
+        )
     }
-    let last = changes.last_changes(alloc)?;
-    rows.install(alloc, oldest, snapshots, number, last.as_slice())
-}
 
-// Puts in the versions of the commit of the transaction at a place. The transactions stay.
-fn install_at<A: Allocator + Copy>(
-    alloc: A,
-    rows: &mut Rows<A>,
-    oldest: u64,
-    snapshots: &[u64],
-    number: u64,
-    transactions: &mut Vec<Transaction<A>, A>,
-    at: usize,
-) -> Result<(), Refusal>
-    requires within { at < length transactions.old.items }
-    requires order { AreInOrder rows.old }
-    requires below { TablesAreBelow number rows.old }
-    ensures ok { OnOk result (IsInstalled (record { oldest = oldest; snapshots = snapshots.now }) number
-        (txn_at transactions.old.items at).changes rows.old rows.new) }
-    ensures err { OnErr result (rows.new ≡ rows.old) }
-    ensures same { transactions.new.items ≡ transactions.old.items }
-    ensures memory { IfErr result (λ e. e ≡ out_of_memory) }
-{
-    let committer = &mut transactions[at];
-    install(
-        alloc,
-        rows,
-        oldest,
-        snapshots,
-        number,
-        &mut committer.changes,
-    )
+    // Puts in the versions of the commit of the transaction at a place. The transactions stay.
+    fn install_at<A: Allocator + Copy>(
+        &self,
+        alloc: A,
+        rows: &mut Rows<A>,
+        transactions: &mut Vec<Transaction<A>, A>,
+        at: usize,
+    ) -> Result<(), Refusal>
+        requires within { at < length transactions.old.items }
+        requires order { AreInOrder rows.old }
+        requires below { TablesAreBelow self.now.number rows.old }
+        ensures ok { OnOk result (IsInstalled
+            (record { oldest = self.now.oldest; snapshots = self.now.snapshots.now }) self.now.number
+            (txn_at transactions.old.items at).changes rows.old rows.new) }
+        ensures err { OnErr result (rows.new ≡ rows.old) }
+        ensures same { transactions.new.items ≡ transactions.old.items }
+        ensures memory { IfErr result (λ e. e ≡ out_of_memory) }
+    {
+        let committer = &mut transactions[at];
+        self.install(alloc, rows, &mut committer.changes)
+    }
 }
 
 // The answer to a COMMIT, by the structure that it would make.
@@ -374,15 +389,12 @@ impl<A: Allocator> World<A> {
         let number = self.commits() + 1;
         let snapshots = self.snapshots_after(alloc, at, committed)?;
         let causes = self.dooms_of(alloc, at)?;
-        install_at(
-            alloc,
-            rows,
-            oldest,
-            snapshots.as_slice(),
+        let installing = Installing {
             number,
-            &mut self.transactions,
-            at,
-        )?;
+            oldest,
+            snapshots: snapshots.as_slice(),
+        };
+        installing.install_at(alloc, rows, &mut self.transactions, at)?;
         self.turn_committer(at, committed, causes.as_slice());
         Ok(())
     }

@@ -1,27 +1,26 @@
 //! Statements that only read, whose replies were found before.
 
-ghost use Rattle.std.specs.Prelude.{◌≡◌, ◌+◌, ◌^◌, ◌<◌, [], length, true, false, Some, IfOk, IfErr, OnErr, OnOk};
+ghost use Rattle.std.specs.Prelude.{◌≡◌, ◌+◌, ◌^◌, ◌<◌, [], length, true, false, Some, IfOk, IfErr, OnErr};
 ghost use Rattle.value.specs.Refusals.{out_of_memory};
 ghost use Rattle.statement.specs.Evaluation.{answers, writes};
 ghost use Rattle.schema.specs.declared.tables.Tables.{Tables as AnyTables};
 ghost use Rattle.statement.specs.Fits.{Fits};
 ghost use Rattle.history.specs.Transactions.{is_open};
-ghost use Rattle.history.specs.Answer.{Allowed, reply_of, run_reply};
-ghost use Rattle.transactions.specs.Answers.{both};
-ghost use Rattle.transactions.specs.Ledger.{after_owned, kept_after, kept_current, ready, ready_for, txn_at, with_own, world_on};
+ghost use Rattle.history.specs.Answer.{Allowed};
+ghost use Rattle.transactions.specs.Ledger.{kept_current, ready, ready_for, txn_at, with_own, world_on};
 ghost use Rattle.transactions.specs.Runs.{IsFound, IsFoundFor, IsRan, only_reads};
-ghost use Rattle.transactions.specs.Versions.{AreCurrent, HasSameCommits, StayShown, versions_at};
+ghost use Rattle.transactions.specs.Steps.{HasRun, IsStepped, IsUndone};
+ghost use Rattle.transactions.specs.Versions.{AreCurrent, versions_at};
 
 use crate::answers::answered::Answered;
 use crate::exports::snapshots::find_current;
 use crate::statements::run::Ran;
+use crate::statements::versions::TableVersions;
 use crate::step::is_active;
 use crate::transaction::Transaction;
 use crate::world::World;
 use history::event::Action;
 use history::session_id::SessionId;
-use mvrows::rows::Rows;
-use schema::catalog::Catalog;
 use statement::outcome::{Marks, Outcome, Writes};
 use statement::reply::Reply;
 use statement::statement::Statement;
@@ -44,20 +43,20 @@ impl<A: Allocator> World<A> {
     fn ran_before(
         &self,
         alloc: A,
-        catalog: &Catalog<A>,
-        rows: &Rows<A>,
+        versions: &TableVersions<'_, A>,
         transaction: &Transaction<A>,
         statement: &Statement<A>,
         reply: Reply<A>,
     ) -> Result<Ran<A>, Refusal>
     where
         A: Copy,
-        requires fits { Fits catalog.now statement.now }
+        requires fits { Fits versions.now.catalog.now statement.now }
         requires reads { writes statement.now ≡ false }
-        requires found { IsFound catalog.now (with_own (versions_at rows.now) transaction.now) statement.now reply }
+        requires found { IsFound versions.now.catalog.now
+            (with_own (versions_at versions.now.rows.now) transaction.now) statement.now reply }
         ensures ok { IfOk result (λ r. (X : AnyTables A) →
-            IsRan (world_on catalog.now X self.now) (with_own (versions_at rows.now) transaction.now)
-            statement.now r) }
+            IsRan (world_on versions.now.catalog.now X self.now)
+            (with_own (versions_at versions.now.rows.now) transaction.now) statement.now r) }
         ensures memory { IfErr result (λ e. e ≡ out_of_memory) }
     {
         if transaction.must_wait() {
@@ -65,7 +64,7 @@ impl<A: Allocator> World<A> {
         }
         self.weigh(
             alloc,
-            catalog,
+            versions.catalog,
             transaction,
             statement,
             outcome_of(alloc, reply),
@@ -76,8 +75,7 @@ impl<A: Allocator> World<A> {
     fn record_open(
         &mut self,
         alloc: A,
-        catalog: &Catalog<A>,
-        rows: &Rows<A>,
+        versions: &TableVersions<'_, A>,
         at: usize,
         statement: &Statement<A>,
         reply: Reply<A>,
@@ -87,22 +85,17 @@ impl<A: Allocator> World<A> {
         requires within { at < length self.old.txns }
         requires room { self.old.place + 1 < 2 ^ 64 }
         requires open { is_open (txn_at self.old.txns at).standing ≡ true }
-        requires fits { Fits catalog.now statement.now }
+        requires fits { Fits versions.now.catalog.now statement.now }
         requires reads { writes statement.now ≡ false }
-        requires found { IsFound catalog.now (with_own (versions_at rows.now) (txn_at self.old.txns at))
-            statement.now reply }
-        ensures reply { IfOk result (λ r. (X : AnyTables A) → r ≡
-            both (run_reply (world_on catalog.now X self.old)
-            (with_own (versions_at rows.now) (txn_at self.old.txns at)) statement.now)) }
-        ensures world { IfOk result (λ r. (X : AnyTables A) → self.new ≡
-            after_owned (world_on catalog.now X self.old) (Action.Run statement.now) r.reply
-            (with_own (versions_at rows.now) (txn_at self.old.txns at))) }
-        ensures log { OnOk result (HasSameCommits self.old self.new) }
+        requires found { IsFound versions.now.catalog.now
+            (with_own (versions_at versions.now.rows.now) (txn_at self.old.txns at)) statement.now reply }
+        ensures ok { IfOk result (λ r. HasRun versions.now.catalog.now (versions_at versions.now.rows.now)
+            (txn_at self.old.txns at) statement.now self.old r self.new) }
         ensures err { OnErr result (self.new ≡ self.old) }
         ensures memory { IfErr result (λ e. e ≡ out_of_memory) }
     {
         let transaction = &self.transactions[at];
-        match self.ran_before(alloc, catalog, rows, transaction, statement, reply)? {
+        match self.ran_before(alloc, versions, transaction, statement, reply)? {
             Ran::Refused(refusal) => Ok(self.refuse(at, refusal)),
             Ran::Done(reply, recorded, added) => {
                 self.add(alloc, at, added)?;
@@ -115,8 +108,7 @@ impl<A: Allocator> World<A> {
     fn record_owned(
         &mut self,
         alloc: A,
-        catalog: &Catalog<A>,
-        rows: &Rows<A>,
+        versions: &TableVersions<'_, A>,
         at: usize,
         action: &Action<A>,
         reply: Reply<A>,
@@ -125,27 +117,20 @@ impl<A: Allocator> World<A> {
         A: Copy,
         requires within { at < length self.old.txns }
         requires room { self.old.place + 1 < 2 ^ 64 }
-        requires current { AreCurrent self.old rows.now }
-        requires allowed { Allowed catalog.now action.now }
+        requires current { AreCurrent self.old versions.now.rows.now }
+        requires allowed { Allowed versions.now.catalog.now action.now }
         requires reads { only_reads action.now ≡ true }
-        requires found { IsFoundFor catalog.now
-            (Some (ready (versions_at rows.now) action.now (txn_at self.old.txns at)))
+        requires found { IsFoundFor versions.now.catalog.now
+            (Some (ready (versions_at versions.now.rows.now) action.now (txn_at self.old.txns at)))
             action.now reply }
-        ensures reply { IfOk result (λ r. (X : AnyTables A) → r ≡
-            both (reply_of (world_on catalog.now X self.old)
-            (Some (ready (versions_at rows.now) action.now (txn_at self.old.txns at))) action.now)) }
-        ensures world { IfOk result (λ r. (X : AnyTables A) → self.new ≡
-            after_owned (world_on catalog.now X self.old) action.now r.reply
-            (ready (versions_at rows.now) action.now (txn_at self.old.txns at))) }
-        ensures rows { OnOk result (StayShown self.old rows.now [] self.new rows.now) }
-        ensures err { OnErr result (self.new ≡ self.old) }
-        ensures memory { IfErr result (λ e. e ≡ out_of_memory) }
+        ensures ok { IfOk result (λ r. IsStepped versions.now.catalog.now (txn_at self.old.txns at).session action.now
+            (Some (txn_at self.old.txns at)) self.old versions.now.rows.now r self.new versions.now.rows.now) }
+        ensures err { IfErr result (λ e. IsUndone action.now e self.old versions.now.rows.now self.new
+            versions.now.rows.now) }
     {
         if is_active(&self.transactions[at]) {
             match action {
-                Action::Run(statement) => {
-                    self.record_open(alloc, catalog, rows, at, statement, reply)
-                }
+                Action::Run(statement) => self.record_open(alloc, versions, at, statement, reply),
                 _ => Ok(self.settle(at, action, false)),
             }
         } else {
@@ -158,8 +143,7 @@ impl<A: Allocator> World<A> {
     pub fn record(
         &mut self,
         alloc: A,
-        catalog: &Catalog<A>,
-        rows: &Rows<A>,
+        versions: &TableVersions<'_, A>,
         session: SessionId,
         action: &Action<A>,
         reply: Reply<A>,
@@ -167,24 +151,19 @@ impl<A: Allocator> World<A> {
     where
         A: Copy,
         requires room { self.old.place + 1 < 2 ^ 64 }
-        requires current { AreCurrent self.old rows.now }
-        requires allowed { Allowed catalog.now action.now }
+        requires current { AreCurrent self.old versions.now.rows.now }
+        requires allowed { Allowed versions.now.catalog.now action.now }
         requires reads { only_reads action.now ≡ true }
-        requires found { IsFoundFor catalog.now (ready_for (versions_at rows.now) action.now
-            (kept_current catalog.now [] self.old session)) action.now reply }
-        ensures reply { IfOk result (λ r. (X : AnyTables A) → r ≡
-            both (reply_of (world_on catalog.now X self.old)
-            (ready_for (versions_at rows.now) action.now (kept_current catalog.now X self.old session))
-            action.now)) }
-        ensures world { IfOk result (λ r. (X : AnyTables A) → self.new ≡
-            kept_after (world_on catalog.now X self.old) session action.now r.reply
-            (ready_for (versions_at rows.now) action.now (kept_current catalog.now X self.old session))) }
-        ensures rows { OnOk result (StayShown self.old rows.now [] self.new rows.now) }
-        ensures err { OnErr result (self.new ≡ self.old) }
-        ensures memory { IfErr result (λ e. e ≡ out_of_memory) }
+        requires found { IsFoundFor versions.now.catalog.now (ready_for (versions_at versions.now.rows.now) action.now
+            (kept_current versions.now.catalog.now [] self.old session)) action.now reply }
+        ensures ok { IfOk result (λ r. IsStepped versions.now.catalog.now session action.now
+            (kept_current versions.now.catalog.now [] self.old session) self.old versions.now.rows.now r self.new
+            versions.now.rows.now) }
+        ensures err { IfErr result (λ e. IsUndone action.now e self.old versions.now.rows.now self.new
+            versions.now.rows.now) }
     {
         match find_current(self.transactions.as_slice(), self.past.as_slice(), session) {
-            Some(at) => self.record_owned(alloc, catalog, rows, at, action, reply),
+            Some(at) => self.record_owned(alloc, versions, at, action, reply),
             None => self.join(alloc, session, action),
         }
     }

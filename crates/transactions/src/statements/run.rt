@@ -1,6 +1,6 @@
 //! Statements in open transactions.
 
-ghost use Rattle.std.specs.Prelude.{◌≡◌, ◌+◌, ◌^◌, ◌<◌, [], length, true, false, not, ◌&&◌, if◌then◌else◌, ℕ, IfSome, IfNone, IfOk, IfErr, OnErr, OnOk};
+ghost use Rattle.std.specs.Prelude.{◌≡◌, ◌+◌, ◌^◌, ◌<◌, [], length, true, false, not, ◌&&◌, if◌then◌else◌, ℕ, IfSome, IfNone, IfOk, IfErr, OnErr};
 ghost use Rattle.value.specs.Refusals.{out_of_memory};
 ghost use Rattle.statement.specs.Evaluation.{outcome, writes};
 ghost use Rattle.statement.specs.Fits.{Fits};
@@ -8,7 +8,7 @@ ghost use Rattle.statement.specs.Footprint.{footprint as spec_footprint};
 ghost use Rattle.statement.specs.Walk.{are_of};
 ghost use Rattle.history.specs.Transactions.{is_open, is_read_write};
 ghost use Rattle.history.specs.Events.{goes_on};
-ghost use Rattle.history.specs.Answer.{is_refused, run_reply};
+ghost use Rattle.history.specs.Answer.{is_refused};
 ghost use Rattle.mvrows.specs.Versions.{AreInOrder, shown};
 ghost use Rattle.schema.specs.Plain.{put_all};
 ghost use Rattle.schema.specs.Definition.{Catalog as AnyCatalog};
@@ -19,6 +19,7 @@ ghost use Rattle.transactions.specs.Courses.{on_course};
 ghost use Rattle.transactions.specs.Standings.{standing_of};
 ghost use Rattle.transactions.specs.Ledger.{after_owned, kept, txn_at, with_own, world_on};
 ghost use Rattle.transactions.specs.Runs.{HoldsOwn, IsRan, IsWeighed};
+ghost use Rattle.transactions.specs.Steps.{HasRun};
 ghost use Rattle.transactions.specs.Versions.{HasSameCommits, versions_at};
 
 use crate::answers::answered::Answered;
@@ -308,13 +309,8 @@ impl<A: Allocator> World<A> {
         requires order { AreInOrder rows.now }
         requires fits { Fits catalog.now statement.now }
         requires held { HoldsOwn catalog.now (versions_at rows.now) (txn_at self.old.txns at) }
-        ensures reply { IfOk result (λ r. (X : AnyTables A) → r ≡
-            both (run_reply (world_on catalog.now X self.old)
-            (with_own (versions_at rows.now) (txn_at self.old.txns at)) statement.now)) }
-        ensures world { IfOk result (λ r. (X : AnyTables A) → self.new ≡
-            after_owned (world_on catalog.now X self.old) (Action.Run statement.now) r.reply
-            (with_own (versions_at rows.now) (txn_at self.old.txns at))) }
-        ensures log { OnOk result (HasSameCommits self.old self.new) }
+        ensures ok { IfOk result (λ r. HasRun catalog.now (versions_at rows.now) (txn_at self.old.txns at)
+            statement.now self.old r self.new) }
         ensures err { OnErr result (self.new ≡ self.old) }
         ensures memory { IfErr result (λ e. e ≡ out_of_memory) }
     {

@@ -27,26 +27,26 @@ invariant_of-self-2 g c =
     let k = c.self.invariant.0 in
     let fits = subst (λ (x : Recorded _). Fits x.opening.catalog c.args.statement) (sym c.self.view_is) c.requires.fits in
     rw c.push.ensures (
-      kept_now h l k c.self.inside.rows c.self.invariant.2 c.args.session (Run c.args.statement) c.catalog.result.now c.catalog.ensures fits c.in_ok-answered.answered c.record.new.self c.in_ok-answered.ensures.reply c.in_ok-answered.ensures.world,
-      keys_now h l k c.self.inside.rows c.self.invariant.2 c.args.session (Run c.args.statement) c.catalog.result.now c.catalog.ensures fits c.in_ok-answered.answered c.record.new.self c.in_ok-answered.ensures.reply c.in_ok-answered.ensures.world
+      kept_now h l k c.self.inside.rows c.self.invariant.2 c.args.session (Run c.args.statement) c.catalog.result.now c.catalog.ensures fits c.in_ok-answered.answered c.record.new.self c.self.inside.rows c.in_ok-answered.ensures.ok,
+      keys_now h l k c.self.inside.rows c.self.invariant.2 c.args.session (Run c.args.statement) c.catalog.result.now c.catalog.ensures fits c.in_ok-answered.answered c.record.new.self c.self.inside.rows c.in_ok-answered.ensures.ok
           c.self.inside.keys.items c.self.inside.keys.items (vec_capacity c.self.inside.keys) (vec_capacity c.self.inside.keys) c.self.invariant.1 (subst HasRoom (sym c.self.view_is) c.requires.room)
           (sym (append-nil (map keyed c.self.inside.keys.items))) (omega arith) refl,
-      rows_now h l k c.self.inside.rows c.self.invariant.2 c.args.session (Run c.args.statement) c.catalog.result.now c.catalog.ensures fits c.in_ok-answered.answered c.record.new.self c.in_ok-answered.ensures.reply c.in_ok-answered.ensures.world c.self.inside.rows c.in_ok-answered.ensures.rows,
+      rows_now h l k c.self.inside.rows c.self.invariant.2 c.args.session (Run c.args.statement) c.catalog.result.now c.catalog.ensures fits c.in_ok-answered.answered c.record.new.self c.self.inside.rows c.in_ok-answered.ensures.ok,
       c.self.invariant.3,
     )
 
-pub returns-clause-reply : goal.returns-clause-reply
-returns-clause-reply g c =
-    let fits = subst (λ (x : Recorded _). Fits x.opening.catalog c.args.statement) (sym c.self.view_is) c.requires.fits in
-    replied c.self.inside.history c.self.inside.world c.self.invariant.0 c.self.inside.rows c.self.invariant.2 c.args.session (Run c.args.statement) c.catalog.result.now c.catalog.ensures fits
-    c.in_ok-answered.answered c.record.new.self c.in_ok-answered.ensures.reply c.in_ok-answered.ensures.world
-    ∙ ap (λ (h : Recorded _). answer h.opening h.records c.args.session (Run c.args.statement)) c.self.view_is
-
-pub returns-clause-history : goal.returns-clause-history
-returns-clause-history g c =
-    let fits = subst (λ (x : Recorded _). Fits x.opening.catalog c.args.statement) (sym c.self.view_is) c.requires.fits in
-    c.push.ensures
-    ∙ ap (λ r. recorded c.self.inside.history c.args.session (Run c.args.statement) r)
-    (recorded_so c.self.inside.history c.self.inside.world c.self.invariant.0 c.self.inside.rows c.self.invariant.2 c.args.session (Run c.args.statement) c.catalog.result.now c.catalog.ensures fits
-    c.in_ok-answered.answered c.record.new.self c.in_ok-answered.ensures.reply c.in_ok-answered.ensures.world)
-    ∙ ap (λ (h : Recorded _). recorded h c.args.session (Run c.args.statement) c.in_ok-answered.answered.reply) c.self.view_is
+pub returns : goal.returns
+returns g c =
+    let h = c.self.inside.history in
+    let l = c.self.inside.world in
+    let k = c.self.invariant.0 in
+    let s = c.args.session in
+    let a = Run c.args.statement in
+    let given = c.in_ok-answered.answered in
+    let fits = subst (λ (x : Recorded _). Fits x.opening.catalog c.args.statement) (sym c.self.view_is) c.requires.fits in (
+      replied h l k c.self.inside.rows c.self.invariant.2 s a c.catalog.result.now c.catalog.ensures fits given c.record.new.self c.self.inside.rows c.in_ok-answered.ensures.ok
+          ∙ ap (λ (x : Recorded _). answer x.opening x.records s a) c.self.view_is,
+      c.push.ensures
+          ∙ ap (λ y. recorded h s a y) (recorded_so h l k c.self.inside.rows c.self.invariant.2 s a c.catalog.result.now c.catalog.ensures fits given c.record.new.self c.self.inside.rows c.in_ok-answered.ensures.ok)
+          ∙ ap (λ (x : Recorded _). recorded x s a given.reply) c.self.view_is,
+    )

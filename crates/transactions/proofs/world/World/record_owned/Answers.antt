@@ -1,46 +1,39 @@
 use Rattle.std.proofs.Common.{ap, refl, sym, subst, Some, ◌∙◌, ◌≡◌, true, false, get_or}
-use Rattle.std.proofs.lemmas.Result.{on_ok_weaker}
 use Rattle.history.specs.Transactions.{Txn, is_open}
 use Rattle.history.specs.declared.event.Action.TheVariants.{Run}
-use Rattle.transactions.specs.Answers.{both}
-use Rattle.transactions.specs.Ledger.{Ledger, ready, txn_at, world_on}
+use Rattle.transactions.specs.Ledger.{Ledger, ready, txn_at}
 use Rattle.transactions.specs.Runs.{IsFoundFor}
 use Rattle.transactions.specs.Versions.{versions_at}
 use Rattle.transactions.proofs.LedgerLemmas.{txn_at-is}
 use Rattle.transactions.proofs.CommitLemmas.{if_ok_map}
-use Rattle.transactions.proofs.InstallLemmas.{stay-same}
-use Rattle.transactions.proofs.RunLemmas.{open_ready, over_after, over_reply, runs}
+use Rattle.transactions.proofs.ReadLemmas.{on_err_so}
+use Rattle.transactions.proofs.RunLemmas.{runs}
+use Rattle.transactions.proofs.StepLemmas.{stepped-over, stepped-run, undone}
 use Rattle.transactions.proofs.world.World.record_owned.Goals as goal
 
-pub returns-else-is_active-clause-reply : goal.returns-else-is_active-clause-reply
-returns-else-is_active-clause-reply g c = λ X.
+pub returns-else-is_active-clause-ok : goal.returns-else-is_active-clause-ok
+returns-else-is_active-clause-ok g c =
     let now : Ledger _ = c.args.self.now in
     let found : txn_at now.txns c.args.at ≡ c.index.result.now = txn_at-is now.txns c.args.at c.index.result.now c.requires.within (c.index.ensures ∙ ap (λ (l : Ledger _). get_or l.txns c.args.at c.index.result.now) c.self.view_is) in
     let over : is_open (txn_at now.txns c.args.at).standing ≡ false = ap (λ (t : Txn _). is_open t.standing) found ∙ sym c.is_active.ensures ∙ c.if-is_active.false in
-    c.settle-else-is_active.ensures.reply c.args.catalog.now X ∙ ap both (over_reply (world_on c.args.catalog.now X now) (versions_at c.args.rows.now) c.args.action.now (txn_at now.txns c.args.at) over)
+    stepped-over c.args.versions.now.catalog.now (txn_at now.txns c.args.at).session (txn_at now.txns c.args.at) now c.args.versions.now.rows.now c.requires.current c.args.action.now
+    c.settle-else-is_active.result c.settle-else-is_active.new.self over c.settle-else-is_active.ensures.reply c.settle-else-is_active.ensures.world c.settle-else-is_active.ensures.log
 
-pub returns-else-is_active-clause-world : goal.returns-else-is_active-clause-world
-returns-else-is_active-clause-world g c = λ X.
-    let now : Ledger _ = c.args.self.now in
-    let found : txn_at now.txns c.args.at ≡ c.index.result.now = txn_at-is now.txns c.args.at c.index.result.now c.requires.within (c.index.ensures ∙ ap (λ (l : Ledger _). get_or l.txns c.args.at c.index.result.now) c.self.view_is) in
-    let over : is_open (txn_at now.txns c.args.at).standing ≡ false = ap (λ (t : Txn _). is_open t.standing) found ∙ sym c.is_active.ensures ∙ c.if-is_active.false in
-    c.settle-else-is_active.ensures.world c.args.catalog.now X ∙ over_after (world_on c.args.catalog.now X now) (versions_at c.args.rows.now) c.args.action.now c.settle-else-is_active.result.reply (txn_at now.txns c.args.at) over
-
-pub returns-in-Run-clause-reply : goal.returns-in-Run-clause-reply
-returns-in-Run-clause-reply g c =
+pub returns-in-Run-clause-ok : goal.returns-in-Run-clause-ok
+returns-in-Run-clause-ok g c =
     let now : Ledger _ = c.args.self.now in
     let found : txn_at now.txns c.args.at ≡ c.index.result.now = txn_at-is now.txns c.args.at c.index.result.now c.requires.within (c.index.ensures ∙ ap (λ (l : Ledger _). get_or l.txns c.args.at c.index.result.now) c.self.view_is) in
     let open' : is_open (txn_at now.txns c.args.at).standing ≡ true = ap (λ (t : Txn _). is_open t.standing) found ∙ sym c.is_active.ensures ∙ c.if-is_active.true in
-    rw c.in-Run.is (if_ok_map _ _ c.record_open.result (λ r e X. e X ∙ ap both (open_ready (world_on c.args.catalog.now X now) (versions_at c.args.rows.now) (Run c.in-Run.statement) (txn_at now.txns c.args.at) open')) c.record_open.ensures.reply)
+    rw c.in-Run.is
+    (if_ok_map _ _ c.record_open.result
+    (λ r h. stepped-run c.args.versions.now.catalog.now (txn_at now.txns c.args.at).session (txn_at now.txns c.args.at) now c.args.versions.now.rows.now c.requires.current c.in-Run.statement r c.record_open.new.self open' h)
+    c.record_open.ensures.ok)
 
-pub returns-else-is_active-clause-rows : goal.returns-else-is_active-clause-rows
-returns-else-is_active-clause-rows g c = stay-same c.args.self.now c.settle-else-is_active.new.self c.args.rows.now c.args.rows.now c.settle-else-is_active.ensures.log refl c.requires.current
-
-pub returns-in-Run-clause-rows : goal.returns-in-Run-clause-rows
-returns-in-Run-clause-rows g c = on_ok_weaker c.record_open.result (λ same. stay-same c.args.self.now c.record_open.new.self c.args.rows.now c.args.rows.now same refl c.requires.current) c.record_open.ensures.log
-
-pub returns-in-Run-clause-world : goal.returns-in-Run-clause-world
-returns-in-Run-clause-world g c = rw c.in-Run.is c.record_open.ensures.world
+pub returns-in-Run-clause-err : goal.returns-in-Run-clause-err
+returns-in-Run-clause-err g c =
+    let rows = c.args.versions.now.rows.now in
+    rw c.in-Run.is
+    (undone (Run c.in-Run.statement) c.args.self.now c.record_open.new.self rows rows c.record_open.result (on_err_so _ c.record_open.result refl) c.record_open.ensures.memory c.record_open.ensures.err (on_err_so _ c.record_open.result refl))
 
 pub returns-in_default : goal.returns-in_default
 returns-in_default g c = absurd (runs c.args.action.now c.requires.reads c.in_default.not-Run)
@@ -50,4 +43,4 @@ record_open-requires-clause-found g c =
     let now : Ledger _ = c.args.self.now in
     let found : txn_at now.txns c.args.at ≡ c.index.result.now = txn_at-is now.txns c.args.at c.index.result.now c.requires.within (c.index.ensures ∙ ap (λ (l : Ledger _). get_or l.txns c.args.at c.index.result.now) c.self.view_is) in
     let open' : is_open (txn_at now.txns c.args.at).standing ≡ true = ap (λ (t : Txn _). is_open t.standing) found ∙ sym c.is_active.ensures ∙ c.if-is_active.true in
-    subst (λ a. IsFoundFor c.args.catalog.now (Some (ready (versions_at c.args.rows.now) a (txn_at now.txns c.args.at))) a c.args.reply) c.in-Run.is c.requires.found open'
+    subst (λ a. IsFoundFor c.args.versions.now.catalog.now (Some (ready (versions_at c.args.versions.now.rows.now) a (txn_at now.txns c.args.at))) a c.args.reply) c.in-Run.is c.requires.found open'

@@ -1,69 +1,67 @@
-use Rattle.std.proofs.Common.{ap, refl, sym, subst, ◌∙◌, ◌≡◌, [], true, false, Some, get_or}
+use Rattle.std.proofs.Common.{ap, refl, sym, ◌∙◌, ◌≡◌, true, false, get_or}
 use Rattle.history.specs.Transactions.{Txn, is_open}
 use Rattle.history.specs.declared.event.Action.TheVariants.{Run, Export, Commit}
-use Rattle.transactions.specs.Answers.{both}
-use Rattle.transactions.specs.declared.answers.answered.Answered.{Answered}
-use Rattle.transactions.specs.Ledger.{Ledger, committed_by, txn_at, world_on}
-use Rattle.transactions.specs.Versions.{StayShown, versions_at}
+use Rattle.transactions.specs.Ledger.{Ledger, txn_at}
 use Rattle.transactions.proofs.LedgerLemmas.{txn_at-is}
-use Rattle.transactions.proofs.CommitLemmas.{if_ok_map, on_if_map}
-use Rattle.transactions.proofs.InstallLemmas.{stay-same}
-use Rattle.transactions.proofs.RunLemmas.{open_ready, over_after, over-commits, over_reply}
+use Rattle.transactions.proofs.CommitLemmas.{if_ok_map}
+use Rattle.transactions.proofs.ReadLemmas.{on_err_so}
+use Rattle.transactions.proofs.StepLemmas.{if_done, on_done, simple_else, stepped-commit, stepped-export, stepped-over, stepped-run, stepped-simple, undone}
 use Rattle.transactions.proofs.world.World.step_owned.Goals as goal
 
-pub returns-else-is_active-clause-reply : goal.returns-else-is_active-clause-reply
-returns-else-is_active-clause-reply g c = λ X.
+pub returns-else-is_active-clause-ok : goal.returns-else-is_active-clause-ok
+returns-else-is_active-clause-ok g c =
     let now : Ledger _ = c.args.self.now in
     let found : txn_at now.txns c.args.at ≡ c.index.result.now = txn_at-is now.txns c.args.at c.index.result.now c.requires.within (c.index.ensures ∙ ap (λ (l : Ledger _). get_or l.txns c.args.at c.index.result.now) c.self.view_is) in
     let over : is_open (txn_at now.txns c.args.at).standing ≡ false = ap (λ (t : Txn _). is_open t.standing) found ∙ sym c.is_active.ensures ∙ c.if-is_active.false in
-    c.settle-else-is_active.ensures.reply c.args.catalog.now X ∙ ap both (over_reply (world_on c.args.catalog.now X now) (versions_at c.args.rows.now) c.args.action.now (txn_at now.txns c.args.at) over)
+    stepped-over c.args.catalog.now (txn_at now.txns c.args.at).session (txn_at now.txns c.args.at) now c.args.rows.now c.requires.current c.args.told.now.action.now
+    c.settle-else-is_active.result c.settle-else-is_active.new.self over c.settle-else-is_active.ensures.reply c.settle-else-is_active.ensures.world c.settle-else-is_active.ensures.log
 
-pub returns-else-is_active-clause-world : goal.returns-else-is_active-clause-world
-returns-else-is_active-clause-world g c = λ X.
+pub returns-in_default-clause-ok : goal.returns-in_default-clause-ok
+returns-in_default-clause-ok g c =
     let now : Ledger _ = c.args.self.now in
-    let found : txn_at now.txns c.args.at ≡ c.index.result.now = txn_at-is now.txns c.args.at c.index.result.now c.requires.within (c.index.ensures ∙ ap (λ (l : Ledger _). get_or l.txns c.args.at c.index.result.now) c.self.view_is) in
-    let over : is_open (txn_at now.txns c.args.at).standing ≡ false = ap (λ (t : Txn _). is_open t.standing) found ∙ sym c.is_active.ensures ∙ c.if-is_active.false in
-    c.settle-else-is_active.ensures.world c.args.catalog.now X ∙ over_after (world_on c.args.catalog.now X now) (versions_at c.args.rows.now) c.args.action.now c.settle-else-is_active.result.reply (txn_at now.txns c.args.at) over
+    stepped-simple c.args.catalog.now (txn_at now.txns c.args.at).session (txn_at now.txns c.args.at) now c.args.rows.now c.requires.current c.args.told.now.action.now
+    c.settle.result c.settle.new.self (simple_else _ c.in_default.not-Run c.in_default.not-Export c.in_default.not-Commit) c.settle.ensures.reply c.settle.ensures.world c.settle.ensures.log
 
-pub returns-in-Run-clause-reply : goal.returns-in-Run-clause-reply
-returns-in-Run-clause-reply g c =
-    let now : Ledger _ = c.args.self.now in
-    let found : txn_at now.txns c.args.at ≡ c.index.result.now = txn_at-is now.txns c.args.at c.index.result.now c.requires.within (c.index.ensures ∙ ap (λ (l : Ledger _). get_or l.txns c.args.at c.index.result.now) c.self.view_is) in
-    let open' : is_open (txn_at now.txns c.args.at).standing ≡ true = ap (λ (t : Txn _). is_open t.standing) found ∙ sym c.is_active.ensures ∙ c.if-is_active.true in
-    rw c.in-Run.is (if_ok_map _ _ c.run.result (λ r e X. e X ∙ ap both (open_ready (world_on c.args.catalog.now X now) (versions_at c.args.rows.now) (Run c.in-Run.statement) (txn_at now.txns c.args.at) open')) c.run.ensures.reply)
-
-pub returns-in-Export-clause-reply : goal.returns-in-Export-clause-reply
-returns-in-Export-clause-reply g c =
+pub returns-in-Run-clause-ok : goal.returns-in-Run-clause-ok
+returns-in-Run-clause-ok g c =
     let now : Ledger _ = c.args.self.now in
     let found : txn_at now.txns c.args.at ≡ c.index.result.now = txn_at-is now.txns c.args.at c.index.result.now c.requires.within (c.index.ensures ∙ ap (λ (l : Ledger _). get_or l.txns c.args.at c.index.result.now) c.self.view_is) in
     let open' : is_open (txn_at now.txns c.args.at).standing ≡ true = ap (λ (t : Txn _). is_open t.standing) found ∙ sym c.is_active.ensures ∙ c.if-is_active.true in
-    rw c.in-Export.is (if_ok_map _ _ c.export.result (λ r e X. e c.args.catalog.now X ∙ ap both (open_ready (world_on c.args.catalog.now X now) (versions_at c.args.rows.now) Export (txn_at now.txns c.args.at) open')) c.export.ensures.reply)
+    rw c.in-Run.is
+    (if_ok_map _ _ c.run.result (λ r h. stepped-run c.args.catalog.now (txn_at now.txns c.args.at).session (txn_at now.txns c.args.at) now c.args.rows.now c.requires.current c.in-Run.statement r c.run.new.self open' h) c.run.ensures.ok)
 
-pub returns-in-Commit-clause-reply : goal.returns-in-Commit-clause-reply
-returns-in-Commit-clause-reply g c =
+pub returns-in-Run-clause-err : goal.returns-in-Run-clause-err
+returns-in-Run-clause-err g c =
+    rw c.in-Run.is
+    (undone (Run c.in-Run.statement) c.args.self.now c.run.new.self c.args.rows.now c.args.rows.now c.run.result (on_err_so _ c.run.result refl) c.run.ensures.memory c.run.ensures.err (on_err_so _ c.run.result refl))
+
+pub returns-in-Export-clause-ok : goal.returns-in-Export-clause-ok
+returns-in-Export-clause-ok g c =
     let now : Ledger _ = c.args.self.now in
     let found : txn_at now.txns c.args.at ≡ c.index.result.now = txn_at-is now.txns c.args.at c.index.result.now c.requires.within (c.index.ensures ∙ ap (λ (l : Ledger _). get_or l.txns c.args.at c.index.result.now) c.self.view_is) in
     let open' : is_open (txn_at now.txns c.args.at).standing ≡ true = ap (λ (t : Txn _). is_open t.standing) found ∙ sym c.is_active.ensures ∙ c.if-is_active.true in
-    rw c.in-Commit.is (if_ok_map _ _ c.commit.result (λ r e X. e c.args.catalog.now X ∙ ap both (open_ready (world_on c.args.catalog.now X now) (versions_at c.args.rows.now) Commit (txn_at now.txns c.args.at) open')) c.commit.ensures.reply)
+    rw c.in-Export.is
+    (on_done _ _ _ _ c.export.result (λ r reply world log. stepped-export c.args.catalog.now (txn_at now.txns c.args.at).session (txn_at now.txns c.args.at) now c.args.rows.now c.requires.current r c.export.new.self open' reply world log)
+    c.export.ensures.reply c.export.ensures.world c.export.ensures.log)
 
-pub returns-else-is_active-clause-rows : goal.returns-else-is_active-clause-rows
-returns-else-is_active-clause-rows g c =
+pub returns-in-Export-clause-err : goal.returns-in-Export-clause-err
+returns-in-Export-clause-err g c =
+    rw c.in-Export.is
+    (undone Export c.args.self.now c.export.new.self c.args.rows.now c.args.rows.now c.export.result (on_err_so _ c.export.result refl) c.export.ensures.memory c.export.ensures.err (on_err_so _ c.export.result refl))
+
+pub returns-in-Commit-clause-ok : goal.returns-in-Commit-clause-ok
+returns-in-Commit-clause-ok g c =
     let now : Ledger _ = c.args.self.now in
-    let t = txn_at now.txns c.args.at in
-    let found : t ≡ c.index.result.now = txn_at-is now.txns c.args.at c.index.result.now c.requires.within (c.index.ensures ∙ ap (λ (l : Ledger _). get_or l.txns c.args.at c.index.result.now) c.self.view_is) in
-    let over : is_open t.standing ≡ false = ap (λ (t : Txn _). is_open t.standing) found ∙ sym c.is_active.ensures ∙ c.if-is_active.false in
-    let none : committed_by c.args.action.now c.settle-else-is_active.result.reply (Some t) ≡ [] = ap (λ (r : Answered _). committed_by c.args.action.now r.reply (Some t)) (c.settle-else-is_active.ensures.reply c.args.catalog.now []) ∙ over-commits (world_on c.args.catalog.now [] now) t c.args.action.now (Some t) over in
-    subst (λ xs. StayShown now c.args.rows.now xs c.settle-else-is_active.new.self c.args.rows.now) (sym none)
-    (stay-same now c.settle-else-is_active.new.self c.args.rows.now c.args.rows.now c.settle-else-is_active.ensures.log refl c.requires.current)
+    let found : txn_at now.txns c.args.at ≡ c.index.result.now = txn_at-is now.txns c.args.at c.index.result.now c.requires.within (c.index.ensures ∙ ap (λ (l : Ledger _). get_or l.txns c.args.at c.index.result.now) c.self.view_is) in
+    let open' : is_open (txn_at now.txns c.args.at).standing ≡ true = ap (λ (t : Txn _). is_open t.standing) found ∙ sym c.is_active.ensures ∙ c.if-is_active.true in
+    rw c.in-Commit.is
+    (if_done _ _ _ _ c.commit.result (λ r reply world stay. stepped-commit c.args.catalog.now (txn_at now.txns c.args.at).session (txn_at now.txns c.args.at) now c.args.rows.now c.requires.current r c.commit.new.self c.commit.new.rows open' reply world stay)
+    c.commit.ensures.reply c.commit.ensures.world c.commit.ensures.rows)
 
-pub returns-in-Run-clause-rows : goal.returns-in-Run-clause-rows
-returns-in-Run-clause-rows g c = rw c.in-Run.is (on_if_map _ _ c.run.result (λ r same. stay-same c.args.self.now c.run.new.self c.args.rows.now c.args.rows.now same refl c.requires.current) c.run.ensures.log)
-
-pub returns-in-Export-clause-rows : goal.returns-in-Export-clause-rows
-returns-in-Export-clause-rows g c = rw c.in-Export.is (on_if_map _ _ c.export.result (λ r same. stay-same c.args.self.now c.export.new.self c.args.rows.now c.args.rows.now same refl c.requires.current) c.export.ensures.log)
-
-pub returns-in-Run-clause-world : goal.returns-in-Run-clause-world
-returns-in-Run-clause-world g c = rw c.in-Run.is c.run.ensures.world
+pub returns-in-Commit-clause-err : goal.returns-in-Commit-clause-err
+returns-in-Commit-clause-err g c =
+    rw c.in-Commit.is
+    (undone Commit c.args.self.now c.commit.new.self c.args.rows.now c.commit.new.rows c.commit.result (on_err_so _ c.commit.result refl) c.commit.ensures.memory c.commit.ensures.err c.commit.ensures.rows_err)
 
 pub commit-requires-clause-committer : goal.commit-requires-clause-committer
 commit-requires-clause-committer g c = λ c' X.
