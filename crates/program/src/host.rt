@@ -9,10 +9,12 @@ use crate::late::{LateFile, Opener};
 use crate::progress::{Progress, Stage};
 use crate::reasons::SystemErrors;
 use crate::replacing::NewFile;
+use crate::whole::read_whole;
 use collector::{Device, DeviceError};
 use std::alloc::{AllocError, Allocator, Global};
+use std::fs::File;
 use std::io::{self, ErrorKind, IsTerminal, Read};
-use std::{fs, process};
+use std::process;
 
 /// The files of the machine, through a runtime, and why the system refused one.
 #[derive(Drop)]
@@ -50,15 +52,33 @@ fn error_of(error: &io::Error) -> ReadError {
     }
 }
 
-// All that a reader has left. What comes before it fails isn't that.
-fn read_all<A: Allocator, R: Read>(alloc: A, reader: &mut R) -> Result<Vec<u8, A>, ReadError>
+// All that a reader has left, where so many bytes are expected. What comes before it fails isn't that.
+fn read_all<A: Allocator, R: Read>(
+    alloc: A,
+    reader: &mut R,
+    expected: usize,
+) -> Result<Vec<u8, A>, ReadError>
     ensures { IfOk result (λ bytes. IfSome (R.remaining reader.old) (λ left. bytes.items ≡ left)) }
 {
-    let mut bytes = Vec::new(alloc);
-    if let Err(error) = reader.read_to_end(&mut bytes) {
-        return Err(error_of(&error));
+    match read_whole(alloc, reader, expected) {
+        Ok(bytes) => Ok(bytes),
+        Err(error) => Err(error_of(&error)),
     }
-    Ok(bytes)
+}
+
+// How many bytes a file is expected to have: as many as the system tells, which may be none.
+fn expected_of(file: &File) -> usize {
+    match file.metadata() {
+        Ok(found) => usize::try_from(found.len()).unwrap_or(0),
+        Err(_) => 0,
+    }
+}
+
+// The bytes of a path's file.
+fn read_path(rt: &HostRuntime, path: &str) -> io::Result<Vec<u8>> {
+    let mut file = File::open(rt, path)?;
+    let expected = expected_of(&file);
+    read_whole(rt.alloc(), &mut file, expected)
 }
 
 impl<'r> Device for HostFile<'r> {
@@ -143,7 +163,7 @@ impl<'r> Stored for HostFiles<'r> {
 
 impl<'r> Files<Global> for HostFiles<'r> {
     fn read(&self, _alloc: Global, path: &str) -> Result<Vec<u8>, ReadError> {
-        match fs::read(self.rt, path) {
+        match read_path(self.rt, path) {
             Ok(bytes) => Ok(bytes),
             Err(error) => {
                 self.errors.note(error.kind());
@@ -153,7 +173,7 @@ impl<'r> Files<Global> for HostFiles<'r> {
     }
 
     fn read_input(&self, alloc: Global) -> Result<Vec<u8>, ReadError> {
-        read_all(alloc, &mut self.rt.reader())
+        read_all(alloc, &mut self.rt.reader(), 0)
     }
 
     fn create(&self, alloc: Global, path: &str) -> Result<HostOut<'r>, AllocError> {

@@ -24,6 +24,7 @@ mod sessions;
 pub mod shown;
 mod steps;
 mod task;
+mod whole;
 pub mod words;
 mod workers;
 mod writing;

@@ -1,5 +1,5 @@
 -- The next line of a dump, as the code finds it.
-use Rattle.std.specs.Prelude.{◌≡◌, ℕ, ◌+◌, ◌^◌, ◌<◌, ◌≤◌, length, ◌==◌, Bool, true, false, not, List, ◌∷◌, ◌++◌, map, Some, None, Result, Ok, Err}
+use Rattle.std.specs.Prelude.{◌≡◌, ℕ, ◌+◌, ◌^◌, ◌<◌, ◌≤◌, length, ◌==◌, Bool, true, false, not, List, ◌∷◌, ◌++◌, map, Option, Some, None, Result, Ok, Err, Vec}
 use Rattle.std.specs.List.{list_all}
 use Rattle.std.specs.Borrow.{Bor}
 use Rattle.std.specs.Str.{bytes_eq}
@@ -54,3 +54,9 @@ pub record AreRowLines (first : Line) (rows : List (Bor (List ℕ))) (left : Lin
   pub lines : first.bytes.now ∷ lines_of first.rest.text.now ≡ map (λ line. line.now) rows ++ lines_of left.text.now
   pub number : left.number + 1 ≡ first.rest.number + length rows
   pub rows_alone : list_all is_row_line (map (λ line. line.now) rows) ≡ true
+
+-- the next lines are those of rows, the first of them told by itself, up to the lines that are left; or no row's line is next
+abbrev pub AreFound : {A : Type 0} → ℕ → List ℕ → Option (Line × Vec (Bor (List ℕ)) A × Lines) → Type 0
+AreFound number text None = HasNoRowLine text
+AreFound number text (Some (first, rows, left)) =
+    (first.number ≡ number) × (first.rest.number ≡ number + 1) × (parted 10 text ≡ Some (first.bytes.now, first.rest.text.now)) × AreRowLines first rows.items left × (length left.text.now < length text)

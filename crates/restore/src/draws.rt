@@ -8,6 +8,7 @@ ghost use Rattle.schema.specs.Definition.{Column as AnyColumn};
 ghost use Rattle.schema.specs.declared.tables.Tables.{Tables};
 ghost use Rattle.restore.specs.Rows.{lines_at, IsPiece, AreDrawn, AreAllDrawn, AreAt, ArePieces, AreKnown};
 
+use crate::lines::Ahead;
 use crate::pieces::piece_of;
 use crate::rows::{ReadPiece, read_each};
 use dumpplan::Gate;
@@ -41,6 +42,8 @@ pub struct RoundLines<'l, 'd> {
     pub lines: &'l [&'d [u8]],
     /// The kinds of their values.
     pub kinds: &'l [Kind],
+    /// Where the lines of the round behind it are looked for.
+    pub ahead: Ahead<'d>,
 }
 
 /// Reads the pieces of a round's lines.

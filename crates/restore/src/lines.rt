@@ -4,7 +4,7 @@ ghost use Rattle.std.specs.Prelude.{◌≡◌, ◌+◌, ◌<◌, ◌≤◌, leng
 ghost use Rattle.std.specs.Str.{bytes_eq};
 ghost use Rattle.dumpplan.specs.Lines.{end_of_rows};
 ghost use Rattle.restore.specs.CreateLine.{parted};
-ghost use Rattle.restore.specs.Lines.{IsNextLine, IsEnd, HasNoRowLine, AreRowLines};
+ghost use Rattle.restore.specs.Lines.{IsNextLine, IsEnd, HasNoRowLine, AreRowLines, AreFound};
 ghost use Rattle.restore.specs.declared.error.ReadError.TheVariants as error;
 
 use crate::error::{LineError, ReadError};
@@ -26,6 +26,16 @@ pub struct Line<'d> {
     pub bytes: &'d [u8],
     pub rest: Lines<'d>,
 }
+
+/// What is left of a dump, where lines are looked for ahead of those that are read, and how many are looked for at most.
+#[derive(Clone, Copy)]
+pub struct Ahead<'d> {
+    pub lines: Lines<'d>,
+    pub most: usize,
+}
+
+/// Lines of rows: the first, all of them, and what is left behind them. Nothing where no row's line is next.
+pub type FoundRows<'d, A> = Option<(Line<'d>, Vec<&'d [u8], A>, Lines<'d>)>;
 
 /// The next line, which must be ended by a newline, and the lines after it. A number past those of 64 bits is told as
 /// out of memory: no dump has so many lines.
@@ -85,6 +95,36 @@ pub fn row_lines<'d, A: Allocator>(
         left = rest;
     }
     Ok((rows, left))
+}
+
+/// The lines that are looked for ahead, where the next is a row's.
+pub fn find_rows<'d, A: Allocator>(
+    alloc: A,
+    ahead: Ahead<'d>,
+) -> Result<FoundRows<'d, A>, ReadError>
+    ensures found { IfOk result (λ found. AreFound ahead.entry.lines.number ahead.entry.lines.text.now found) }
+    ensures memory { IfErr result (λ e. e ≡ error.Memory) }
+{
+    let Ahead { lines, most } = ahead;
+    let number = lines.number;
+    let Some((bytes, rest)) = next_row_line(lines)? else {
+        return Ok(None);
+    };
+    let line = Line {
+        number,
+        bytes,
+        rest,
+    };
+    let (rows, left) = row_lines(alloc, line, most)?;
+    Ok(Some((line, rows, left)))
+}
+
+/// How many bytes the first line of a text has.
+pub fn length_of_line(text: &[u8]) -> usize {
+    match parted(b'\n', text) {
+        Some((line, _)) => line.len(),
+        None => text.len(),
+    }
 }
 
 /// Refuses what stands behind the last line.

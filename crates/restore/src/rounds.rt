@@ -7,6 +7,7 @@ ghost use Rattle.restore.specs.Rounds.{AreTaken, AreTakenAndDrawn, IsReady};
 
 use crate::draws::{DrawnPieces, Draws, PieceReader, ReadPieces};
 use crate::error::ReadError;
+use crate::lines::{Ahead, FoundRows, find_rows};
 use crate::pieces::take_pieces;
 use dumpplan::Gate;
 use schema::catalog::{Catalog, Column, TableNo};
@@ -67,20 +68,22 @@ pub fn columns_of<A: Allocator>(catalog: &Catalog<A>, table: TableNo) -> &[Colum
     catalog.table(table).columns()
 }
 
-/// Takes the rows of a round, and then draws pieces of the next.
-pub fn take_and_draw<G: Gate, A: Allocator + Copy>(
+/// Takes the rows of a round, looks for the lines of the round after the next, and then draws pieces of the next.
+pub fn take_and_draw<'d, G: Gate, A: Allocator + Copy>(
     catalog: &Catalog<A>,
     table: TableNo,
     round: Round<A>,
     reader: &PieceReader<'_, '_, G, A>,
     draws: &Draws,
-) -> Result<(Tables<A>, DrawnPieces<A>), ReadError>
+    ahead: Ahead<'d>,
+) -> Result<(Tables<A>, DrawnPieces<A>, FoundRows<'d, A>), ReadError>
     requires has { table < length catalog.now }
     requires ready { IsReady catalog.now table round }
     ensures { AreTakenAndDrawn catalog.now table round (option_copied reader.now.known) reader.now.columns.now
-        reader.now.kinds.now reader.now.lines.now result }
+        reader.now.kinds.now reader.now.lines.now ahead.entry.lines.number ahead.entry.lines.text.now result }
 {
     let tables = take_round(reader.alloc, catalog, table, round)?;
+    let found = find_rows(reader.alloc, ahead)?;
     let drawn = reader.draw_pieces(draws)?;
-    Ok((tables, drawn))
+    Ok((tables, drawn, found))
 }

@@ -2,10 +2,9 @@
 
 ghost use Rattle.std.specs.Prelude.{◌≡◌, ◌⊎◌, ◌+◌, ◌<◌, ◌≤◌, Bool, true, false, None, Some, Err, length, map, IfOk};
 ghost use denote.Param.Send.{IsSend, IsSync, Frees};
-ghost use Rattle.std.specs.Str.{bytes_eq};
 ghost use Rattle.schema.specs.Definition.{columns_of};
 ghost use Rattle.schema.specs.Plain.{is_sound};
-ghost use Rattle.dumpplan.specs.Lines.{end_of_rows};
+ghost use Rattle.restore.specs.Lines.{AreFound, AreRowLines};
 ghost use Rattle.restore.specs.Progress.{read_in_steps};
 ghost use Rattle.restore.specs.Reading.{Before, Within, ended, kinds_of, lines_of, read_lines, read_dump};
 ghost use Rattle.restore.specs.Rounds.{AreTakenAndDrawn, IsReady, IsTurn, IsNextRound};
@@ -16,7 +15,7 @@ use crate::draws::{
     AllDrawn, DrawnPieces, Draws, PIECE_LINES, PieceReader, ReadPieces, RoundLines,
 };
 use crate::error::{ReadError, RestoreFault};
-use crate::lines::{Line, Lines, next_row_line, row_lines};
+use crate::lines::{Ahead, FoundRows, Line, Lines, find_rows, length_of_line};
 use crate::pieces::have_references;
 use crate::reading::{
     empty_tables, read_copy_line, read_count, read_end, read_end_of_rows, read_head,
@@ -33,6 +32,9 @@ use value::kind::Kind;
 
 /// How many pieces of a round there are for each thread at most.
 const SHARE: usize = 16;
+
+/// How many pieces of a table's first round there are for each thread at most.
+const FIRST_SHARE: usize = 4;
 
 /// How many pieces a round has at most.
 const ROUND_PIECES: usize = 128;
@@ -56,13 +58,14 @@ pub struct Workers<'w, R, G, A: Allocator> {
     behind: usize,
 }
 
-// About how many pieces have half of the bytes that are left of a table, where a line has so many. Of a table that is
-// longer than was expected nothing is known.
-fn half_of(left: usize, line: usize) -> usize {
+// About how many pieces have three fifths of the bytes that are left of a table, where a line has so many. The rows of
+// these are taken in less time than the others are read meanwhile. Of a table that is longer than was expected nothing is
+// known.
+fn most_of(left: usize, line: usize) -> usize {
     if left == 0 {
         return ROUND_PIECES;
     }
-    left / 2 / PIECE_LINES / line.max(1)
+    left / 5 * 3 / PIECE_LINES / line.max(1)
 }
 
 impl<'w, R: Threads + Sync, G: Gate, A: Allocator + Copy + Send + Sync> Workers<'w, R, G, A> {
@@ -84,16 +87,22 @@ impl<'w, R: Threads + Sync, G: Gate, A: Allocator + Copy + Send + Sync> Workers<
         self.behind = left.saturating_sub(left / tables.max(1));
     }
 
-    // How many lines the next round has at most. The rows of a table's last are taken when nothing of it is left to read,
-    // so rounds are shorter towards its end.
-    fn most_lines(&self, line: Line<'_>) -> usize {
+    // How many lines a round has at most, where so many bytes are left of the dump, and a line has so many. The rows of a
+    // table's last are taken when nothing of it is left to read, so rounds are shorter towards its end.
+    fn most_lines(&self, left: usize, line: usize) -> usize {
         let jobs = self.jobs.get() as usize;
-        let left = line.rest.text.len().saturating_sub(self.behind);
-        let half = half_of(left, line.bytes.len());
+        let most = most_of(left.saturating_sub(self.behind), line);
         jobs.saturating_mul(self.share)
             .min(ROUND_PIECES)
-            .min(half.max(jobs))
+            .min(most.max(jobs))
             .saturating_mul(PIECE_LINES)
+    }
+
+    // How many lines the first round of a table has at most: few, since they are looked for while no other thread works.
+    fn first_round_lines(&self, lines: Lines<'_>) -> usize {
+        let few = (self.jobs.get() as usize).saturating_mul(FIRST_SHARE * PIECE_LINES);
+        self.most_lines(lines.text.len(), length_of_line(lines.text))
+            .min(few)
     }
 
     // Counts a round of so many lines. The next has twice as many pieces.
@@ -108,15 +117,16 @@ impl<'w, R: Threads + Sync, G: Gate, A: Allocator + Copy + Send + Sync> Workers<
         self.gate
     }
 
-    // The next round, whose pieces other threads draw while this one takes the rows of the round before, and then draws
-    // some too. None of the rows has references: the tables where these would be looked up change meanwhile.
-    fn read_beside<'r>(
+    // The next round, whose pieces other threads draw while this one takes the rows of the round before, looks for the lines
+    // ahead, and then draws some too. None of the rows has references: the tables where these would be looked up change
+    // meanwhile.
+    fn read_beside<'r, 'd>(
         &'r self,
         catalog: &'r Catalog<A>,
         table: TableNo,
-        next: RoundLines<'r, '_>,
+        next: RoundLines<'r, 'd>,
         round: Round<A>,
-    ) -> Result<Round<A>, ReadError>
+    ) -> Result<(Round<A>, FoundRows<'d, A>), ReadError>
         requires has { table < length catalog.now }
         requires ready { IsReady catalog.now table round }
         ensures { IsTurn catalog.now table round next.entry result }
@@ -128,7 +138,9 @@ impl<'w, R: Threads + Sync, G: Gate, A: Allocator + Copy + Send + Sync> Workers<
             before,
             lines,
             kinds,
+            ahead,
         } = next;
+        let (ahead_number, ahead_text, most) = (ahead.lines.number, ahead.lines.text, ahead.most);
         let columns = columns_of(catalog, table);
         let drawn = Draws::new();
         let (draws, others) = (&drawn, self.jobs.get() as usize - 1);
@@ -143,24 +155,29 @@ impl<'w, R: Threads + Sync, G: Gate, A: Allocator + Copy + Send + Sync> Workers<
                 let reader = PieceReader::alone(alloc, columns, kinds, lines, before, gate);
                 reader.draw_by_threads(rt, others, draws)
             },
-            move || -> Result<(Tables<A>, DrawnPieces<A>), ReadError>
+            move || -> Result<(Tables<A>, DrawnPieces<A>, FoundRows<'_, A>), ReadError>
                 requires { (table < length catalog.now) × IsReady catalog.now table round }
                 ensures { AreTakenAndDrawn catalog.entry.now table round None columns.entry.now kinds.entry.now
-                    lines.entry.now result }
+                    lines.entry.now ahead_number ahead_text.entry.now result }
             {
                 let reader = PieceReader::alone(alloc, columns, kinds, lines, before, gate);
-                take_and_draw(catalog, table, round, &reader, draws)
+                let lines = Lines {
+                    number: ahead_number,
+                    text: ahead_text,
+                };
+                take_and_draw(catalog, table, round, &reader, draws, Ahead { lines, most })
             },
         );
-        let (tables, mine) = mine?;
+        let (tables, mine, found) = mine?;
         let theirs = theirs?;
         let reader = PieceReader::alone(alloc, columns, kinds, lines, before, gate);
         let pieces = reader.gather_both(theirs, mine)?;
-        Ok(Round {
+        let round = Round {
             tables,
             number,
             pieces,
-        })
+        };
+        Ok((round, found))
     }
 
     // The pieces of a round, read by as many threads as there are jobs. References are looked up in these tables.
@@ -187,36 +204,38 @@ impl<'w, R: Threads + Sync, G: Gate, A: Allocator + Copy + Send + Sync> Workers<
     }
 
     // The next round, whose lines are read once the rows of the round before are taken: what its rows reference is
-    // looked up in the tables with these.
-    fn read_behind(
+    // looked up in the tables with these. The lines ahead are looked for behind that.
+    fn read_behind<'d>(
         &self,
         catalog: &Catalog<A>,
         table: TableNo,
-        next: RoundLines<'_, '_>,
+        next: RoundLines<'_, 'd>,
         round: Round<A>,
-    ) -> Result<Round<A>, ReadError>
+    ) -> Result<(Round<A>, FoundRows<'d, A>), ReadError>
         requires has { table < length catalog.now }
         requires ready { IsReady catalog.now table round }
         ensures { IsTurn catalog.now table round next.entry result }
     {
-        let (alloc, number) = (self.alloc, next.number);
+        let (alloc, number, ahead) = (self.alloc, next.number, next.ahead);
         let tables = take_round(alloc, catalog, table, round)?;
         let pieces = self.read_pieces(&tables, columns_of(catalog, table), next)?;
-        Ok(Round {
+        let found = find_rows(alloc, ahead)?;
+        let round = Round {
             tables,
             number,
             pieces,
-        })
+        };
+        Ok((round, found))
     }
 
-    // The next round: its lines are read, and the rows of the round before are taken.
-    fn turn(
+    // The next round, and the lines ahead of it: its lines are read, and the rows of the round before are taken.
+    fn turn<'d>(
         &self,
         catalog: &Catalog<A>,
         table: TableNo,
-        next: RoundLines<'_, '_>,
+        next: RoundLines<'_, 'd>,
         round: Round<A>,
-    ) -> Result<Round<A>, ReadError>
+    ) -> Result<(Round<A>, FoundRows<'d, A>), ReadError>
         requires has { table < length catalog.now }
         requires ready { IsReady catalog.now table round }
         ensures { IsTurn catalog.now table round next.entry result }
@@ -228,36 +247,39 @@ impl<'w, R: Threads + Sync, G: Gate, A: Allocator + Copy + Send + Sync> Workers<
         }
     }
 
-    // The next round, of a row's line and those behind it, and the lines that are left. The rows of the round before
-    // are taken.
+    // The next round, of lines that are found; what is left behind it, and the lines that are found there. The rows of the
+    // round before are taken.
     fn next_round<'d>(
         &mut self,
-        line: Line<'d>,
+        found: (Line<'d>, Vec<&'d [u8], A>, Lines<'d>),
         catalog: &Catalog<A>,
         table: TableNo,
         kinds: &[Kind],
         round: Round<A>,
-    ) -> Result<(Lines<'d>, Round<A>), ReadError>
+    ) -> Result<(Lines<'d>, Round<A>, FoundRows<'d, A>), ReadError>
         requires has { table < length catalog.now }
         requires ready { IsReady catalog.now table round }
         requires kinds { kinds.now ≡ kinds_of catalog.now table }
-        requires number { line.rest.number ≡ line.number + 1 }
-        requires row { bytes_eq line.bytes.now end_of_rows ≡ false }
-        ensures begun { IsNextRound catalog.now table round line.entry result }
+        requires number { found.0.rest.number ≡ found.0.number + 1 }
+        requires rows { AreRowLines found.0 found.1.items found.2 }
+        ensures begun { IsNextRound catalog.now table round found.entry.0 result }
         ensures ready { IfOk result (λ x. IsReady catalog.now table x.1) }
-        ensures shorter { IfOk result (λ x. length x.0.text.now ≤ length line.entry.rest.text.now) }
+        ensures left { IfOk result (λ x. x.0 ≡ found.entry.2) }
+        ensures found { IfOk result (λ x. AreFound x.0.number x.0.text.now x.2) }
     {
-        let (lines, left) = row_lines(self.alloc, line, self.most_lines(line))?;
-        let rows = lines.as_slice();
+        let (line, lines, left) = found;
+        let before = self.before;
+        self.count_round(lines.len());
+        let most = self.most_lines(left.text.len(), line.bytes.len());
         let next = RoundLines {
             number: line.number,
-            before: self.before,
-            lines: rows,
+            before,
+            lines: lines.as_slice(),
             kinds,
+            ahead: Ahead { lines: left, most },
         };
-        let round = self.turn(catalog, table, next, round)?;
-        self.count_round(lines.len());
-        Ok((left, round))
+        let (round, found) = self.turn(catalog, table, next, round)?;
+        Ok((left, round, found))
     }
 
     // The rows of a table, and the line behind them.
@@ -280,22 +302,29 @@ impl<'w, R: Threads + Sync, G: Gate, A: Allocator + Copy + Send + Sync> Workers<
         let tables_left = catalog.len().saturating_sub(table.place() as usize);
         self.begin_table(lines.text.len(), tables_left);
         let kinds = kinds_of(self.alloc, catalog.table(table).columns())?;
+        let most = self.first_round_lines(lines);
         let mut round = Round::new(self.alloc, tables, lines.number);
+        let mut found = find_rows(self.alloc, Ahead { lines, most })?;
         loop {
-            let Some((bytes, rest)) = next_row_line(lines)? else {
-                let tables = take_round(self.alloc, catalog, table, round)?;
-                let rest = read_end_of_rows(lines, catalog, &tables, table)?;
-                return Ok((rest, tables));
-            };
-            let number = lines.number;
-            let line = Line {
-                number,
-                bytes,
-                rest,
-            };
-            let (left, next) = self.next_round(line, catalog, table, kinds.as_slice(), round)?;
-            lines = left;
-            round = next;
+            match found {
+                Some(rows) => {
+                    let (left, next, more) = self.next_round(
+                        rows,
+                        catalog,
+                        table,
+                        kinds.as_slice(),
+                        round,
+                    )?;
+                    lines = left;
+                    round = next;
+                    found = more;
+                }
+                None => {
+                    let tables = take_round(self.alloc, catalog, table, round)?;
+                    let rest = read_end_of_rows(lines, catalog, &tables, table)?;
+                    return Ok((rest, tables));
+                }
+            }
         }
     }
 

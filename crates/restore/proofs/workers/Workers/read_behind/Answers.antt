@@ -12,4 +12,4 @@ returns g c =
     let X = c.in_ok-tables.tables in
     let columns = columns_of c.args.catalog.now c.args.table in
     let rise = may_rise (Some X) X columns c.in_ok-pieces.pieces.items (free-still X X columns (still-same X)) (rw c.columns_of.ensures at c.in_ok-pieces.ensures.known) in
-    (c.in_ok-tables.ensures.taken, refl, c.in_ok-pieces.ensures.read, record { same_tables = c.in_ok-tables.ensures.same_tables; rise = rise })
+    (c.in_ok-tables.ensures.taken, refl, c.in_ok-pieces.ensures.read, record { same_tables = c.in_ok-tables.ensures.same_tables; rise = rise }, c.in_ok-found.ensures.found)

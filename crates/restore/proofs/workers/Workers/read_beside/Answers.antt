@@ -7,6 +7,9 @@ use Rattle.restore.proofs.workers.Workers.read_beside.Goals as goal
 pub returns-in_err-tables : goal.returns-in_err-tables
 returns-in_err-tables g c = let p = err_from_is_err_and c.from_residual.result c.from_residual.ensures.1 in rw (p.1, p.2) (rw c.in_err-tables.was at c.join-theirs.ensures.second)
 
+pub returns-in_err-theirs : goal.returns-in_err-theirs
+returns-in_err-theirs g c = let p = err_from_is_err_and c.from_residual-in_err-theirs.result c.from_residual-in_err-theirs.ensures.1 in rw (p.1, p.2) (λ X told next left some waits counted. tt)
+
 pub gather_both-requires-clause-theirs : goal.gather_both-requires-clause-theirs
 gather_both-requires-clause-theirs g c = λ κs lives. let alone = c.alone-reader.ensures in rw (alone.known, alone.columns, alone.kinds, alone.lines) (rw c.in_ok-theirs.was at c.join-theirs.ensures.first)
 
@@ -26,4 +29,5 @@ returns g c =
         same_tables = turn.1;
         rise = may_rise None X columns c.in_ok-pieces.pieces.items (free-nowhere X columns) (rw (alone.known, alone.columns, c.columns_of-columns.ensures) at c.in_ok-pieces.ensures.known);
       },
+      turn.3,
     )
