@@ -56,11 +56,13 @@ module _ {A : Type 0} where
   abbrev pub HasRoom : Recorded A → Type 0
   HasRoom h = length h.records < h.most
 
-  -- The action of session s came to this, where the history had room, and the history h has become k: the answer of the definitions, recorded;
-  -- or an action that takes memory got none, and nothing has changed.
-  abbrev pub IsAdvanced : Recorded A → Recorded A → ℕ → Action A → Result (Reply A) Refusal → Type 0
-  IsAdvanced h k s a (Ok r) = (r ≡ answer h.opening h.records s a) × (k ≡ recorded h s a r)
-  IsAdvanced h k s a (Err e) = (takes_memory a ≡ true) × (e ≡ out_of_memory) × (k ≡ h)
+  -- The action of session s was answered as the definitions say, and the history h has become k, where that is recorded.
+  abbrev pub IsAnswered : Recorded A → Recorded A → ℕ → Action A → Reply A → Type 0
+  IsAnswered h k s a r = (r ≡ answer h.opening h.records s a) × (k ≡ recorded h s a r)
+
+  -- An action that takes memory got none, and the history h is as it was, which is k now.
+  abbrev pub IsLeft : Recorded A → Recorded A → Action A → Refusal → Type 0
+  IsLeft h k a e = (takes_memory a ≡ true) × (e ≡ out_of_memory) × (k ≡ h)
 
   -- The action of session s was answered with r, and the history h has become k: the answer of the definitions, recorded;
   -- or the history is full or, where the action takes memory, there is none, and nothing has changed.

@@ -10,7 +10,7 @@ ghost use Rattle.transactions.specs.Courses.{takes_memory};
 ghost use Rattle.transactions.specs.Keys.{committed_at, keyed};
 ghost use Rattle.transactions.specs.Views.{are_quiet};
 ghost use Rattle.mvrows.specs.Installing.{opened};
-ghost use Rattle.session.specs.Core.{HasRoom, HoldsRows, IsAdvanced, IsCheckpoint, IsKept, IsStep, from_opening, is_commit};
+ghost use Rattle.session.specs.Core.{HasRoom, HoldsRows, IsAnswered, IsCheckpoint, IsKept, IsLeft, IsStep, from_opening, is_commit};
 ghost use Rattle.session.specs.Polling.{after_commit};
 
 mod committed;
@@ -288,7 +288,8 @@ impl<A: Allocator> Core<A> {
         A: Copy,
         requires room { HasRoom self.old }
         requires allowed { Allowed self.old.opening.catalog event.action }
-        ensures { IsAdvanced self.old self.new event.session event.action result }
+        ensures ok { IfOk result (λ r. IsAnswered self.old self.new event.session event.action r) }
+        ensures err { IfErr result (λ e. IsLeft self.old self.new event.action e) }
     {
         let Event { session, action } = event;
         let spoilt = polls_spoilt(
@@ -323,7 +324,8 @@ impl<A: Allocator> Core<A> {
         A: Copy,
         requires room { HasRoom self.old }
         requires allowed { Allowed self.old.opening.catalog event.action }
-        ensures { IsAdvanced self.old self.new event.session event.action result }
+        ensures ok { IfOk result (λ r. IsAnswered self.old self.new event.session event.action r) }
+        ensures err { IfErr result (λ e. IsLeft self.old self.new event.action e) }
     {
         self.prepare(alloc, &event.action)?;
         let ends = matches!(event.action, Action::Commit | Action::Rollback);

@@ -1,11 +1,11 @@
 //! SELECTs in two halves: what a session's transaction sees, and the event with the reply that was found there.
 
-ghost use Rattle.std.specs.Prelude.{◌≡◌, false};
+ghost use Rattle.std.specs.Prelude.{◌≡◌, false, IfOk, IfErr};
 ghost use Rattle.value.specs.Refusals.{AnswersOrNoMemory};
 ghost use Rattle.statement.specs.Evaluation.{writes};
 ghost use Rattle.statement.specs.Fits.{Fits};
 ghost use Rattle.history.specs.Answer.{reader_answer};
-ghost use Rattle.session.specs.Core.{HasRoom, IsAdvanced, IsFoundReply, IsStep};
+ghost use Rattle.session.specs.Core.{HasRoom, IsAnswered, IsFoundReply, IsLeft, IsStep};
 
 use crate::sessions::Core;
 use history::event::{Action, Record};
@@ -44,7 +44,8 @@ impl<A: Allocator> Core<A> {
         requires fits { Fits self.old.opening.catalog statement }
         requires reads { writes statement ≡ false }
         requires found { IsFoundReply self.old.opening self.old.records session statement found }
-        ensures { IsAdvanced self.old self.new session (Action.Run statement) result }
+        ensures ok { IfOk result (λ r. IsAnswered self.old self.new session (Action.Run statement) r) }
+        ensures err { IfErr result (λ e. IsLeft self.old self.new (Action.Run statement) e) }
     {
         let action = Action::Run(statement);
         let versions = TableVersions {

@@ -59,8 +59,8 @@ invariant_of-self-2 g c =
           (none_spoils (recorded h s a given.recorded) m kept c.add_last.new.keys.items (vec_capacity c.add_last.new.keys) keys) c.add_last.ensures.unspoilt c.keep_snapshot.ensures,
     )
 
-pub returns : goal.returns
-returns g c =
+pub returns-clause-ok : goal.returns-clause-ok
+returns-clause-ok g c =
     let h = c.self.inside.history in
     let l = c.self.inside.world in
     let k = c.self.invariant.0 in
@@ -74,3 +74,8 @@ returns g c =
           ∙ ap (λ y. recorded h s a y) (recorded_so h l k c.self.inside.rows c.self.invariant.2 s a c.catalog-catalog.result.now c.catalog-catalog.ensures fits given c.step.new.self c.step.new.rows c.in_ok-answered.ensures.ok)
           ∙ ap (λ (x : Recorded _). recorded x s a given.reply) c.self.view_is,
     )
+
+pub invariant_of-self-in_err-answered : goal.invariant_of-self-in_err-answered
+invariant_of-self-in_err-answered g c =
+    let undone = c.in_err-answered.ensures.err in
+    rw undone.world (rw undone.versions c.self.invariant)

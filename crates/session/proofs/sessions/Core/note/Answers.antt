@@ -35,8 +35,8 @@ invariant_of-self-2 g c =
       c.self.invariant.3,
     )
 
-pub returns : goal.returns
-returns g c =
+pub returns-clause-ok : goal.returns-clause-ok
+returns-clause-ok g c =
     let h = c.self.inside.history in
     let l = c.self.inside.world in
     let k = c.self.invariant.0 in
@@ -50,3 +50,8 @@ returns g c =
           ∙ ap (λ y. recorded h s a y) (recorded_so h l k c.self.inside.rows c.self.invariant.2 s a c.catalog.result.now c.catalog.ensures fits given c.record.new.self c.self.inside.rows c.in_ok-answered.ensures.ok)
           ∙ ap (λ (x : Recorded _). recorded x s a given.reply) c.self.view_is,
     )
+
+pub invariant_of-self-in_err-answered : goal.invariant_of-self-in_err-answered
+invariant_of-self-in_err-answered g c =
+    let undone = c.in_err-answered.ensures.err in
+    rw undone.world c.self.invariant
