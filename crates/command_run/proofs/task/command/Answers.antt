@@ -6,6 +6,6 @@ use Rattle.command_run.proofs.task.command.Goals as goal
 -- the command alone, and then each of its arguments
 pub returns : goal.returns
 returns c =
-    let alone_is : app_of c.no_binary_name.result ≡ alone = rw (c.no_binary_name.ensures, c.in_ok-bin_name.ensures.0, c.about.ensures) (ap (λ (a : App). record a { top = record a.top { no_binary_name = true } }) c.new.ensures.app) in
+    let alone_is : app_of c.no_binary_name.result ≡ alone = rw (c.no_binary_name.ensures, c.in_ok-bin_name.ensures.0, c.about-2.ensures) (ap (λ (a : App). record a { top = record a.top { no_binary_name = true } }) c.new.ensures.app) in
     c.in_ok-run.ensures.shape c.flag.ensures.local
     ∙ ap₂ with_rule (c.in_ok-arg-2.ensures.shape c.events.ensures.local ∙ ap₂ with_rule (c.in_ok-arg.ensures.shape c.script.ensures.local ∙ ap₂ with_rule alone_is c.script.ensures.rule) c.events.ensures.rule) c.flag.ensures.rule

@@ -4,5 +4,5 @@ use Rattle.command_run.proofs.lines.Telling.tell_step.Goals as goal
 pub returns-in-Ok-clause-told : goal.returns-in-Ok-clause-told
 returns-in-Ok-clause-told g c = (c.in_ok-course.reply.items, c.in_ok-course.ensures.done, c.in-Ok.ensures)
 
-pub returns-clause-fault : goal.returns-clause-fault
-returns-clause-fault g c = memory_stops c.args.line.now.step
+pub returns-in-Err-clause-fault : goal.returns-in-Err-clause-fault
+returns-in-Err-clause-fault g c = memory_stops c.args.line.now.step

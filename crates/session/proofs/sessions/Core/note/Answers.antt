@@ -51,7 +51,7 @@ returns-clause-ok g c =
           ∙ ap (λ (x : Recorded _). recorded x s a given.reply) c.self.view_is,
     )
 
-pub invariant_of-self-in_err-answered : goal.invariant_of-self-in_err-answered
-invariant_of-self-in_err-answered g c =
+pub invariant_of-self : goal.invariant_of-self
+invariant_of-self g c =
     let undone = c.in_err-answered.ensures.err in
     rw undone.world c.self.invariant
