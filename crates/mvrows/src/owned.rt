@@ -108,6 +108,7 @@ impl<T: Copied<A>, A: Allocator + Copy> Owned<T, A> {
     /// Takes it for itself: a copy, where views share it.
     pub fn own(&mut self, alloc: A) -> Result<(), Refusal>
         ensures own { OnOk result (is_own self.new ≡ true) }
+        ensures err { OnErr result (self.new ≡ self.old) }
         ensures rows { T.keys_of (value_in self.new) ≡ T.keys_of (value_in self.old) }
         ensures memory { IfErr result (λ e. e ≡ out_of_memory) }
     {

@@ -1,6 +1,6 @@
 //! The lines of a dump.
 
-ghost use Rattle.std.specs.Prelude.{◌≡◌, ◌+◌, ◌<◌, ◌≤◌, length, Some, false, vec_len, IfOk, IfErr, IfSome, IfNone};
+ghost use Rattle.std.specs.Prelude.{◌≡◌, ◌+◌, ◌<◌, ◌≤◌, length, Some, false, vec_len, IfOk, IfErr, IfSome, IfNone, None};
 ghost use Rattle.std.specs.Str.{bytes_eq};
 ghost use Rattle.dumpplan.specs.Lines.{end_of_rows};
 ghost use Rattle.restore.specs.CreateLine.{parted};
@@ -120,7 +120,10 @@ pub fn find_rows<'d, A: Allocator>(
 }
 
 /// How many bytes the first line of a text has.
-pub fn length_of_line(text: &[u8]) -> usize {
+pub fn length_of_line(text: &[u8]) -> usize
+    ensures line { IfSome (parted 10 text.now) (λ p. result ≡ length p.0) }
+    ensures last { parted 10 text.now ≡ None → result ≡ length text.now }
+{
     match parted(b'\n', text) {
         Some((line, _)) => line.len(),
         None => text.len(),
