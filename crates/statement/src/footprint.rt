@@ -246,30 +246,37 @@ pub(crate) fn references<A: Allocator>(column: &Column<A>, table: TableNo) -> bo
     }
 }
 
-// Reads the rows of a table that name a key in one of its columns that reference another, the columns counted from a
-// place on.
-fn read_naming<A: Allocator + Copy>(
-    alloc: A,
+// A key of a table that columns may reference.
+#[derive(Drop)]
+struct Referenced<'k, A: Allocator> {
     table: TableNo,
-    key: &Key<A>,
-    referenced: TableNo,
-    place: u32,
-    columns: &[Column<A>],
-    readings: &mut Vec<Reading<A>, A>,
-) -> Result<(), Refusal>
-    requires { place + length columns.now ≤ 32 }
-    ensures ok { OnOk result (readings.new.items ≡ readings.old.items ++
-        in_table table (rows_naming key.now referenced place columns.now)) }
-    ensures err { IfErr result (λ e. e ≡ out_of_memory) }
-{
-    match columns {
-        [] => Ok(()),
-        [column, more @ ..] => {
-            if references(column, referenced) {
-                let extent = Extent::Referencing(place, key.copy(alloc)?);
-                readings.push(Reading { table, extent })?;
+    key: &'k Key<A>,
+}
+
+impl<'k, A: Allocator + Copy> Referenced<'k, A> {
+    // Reads the rows of a table that name the key in one of its columns that may, the columns counted from a place on.
+    fn read_naming(
+        &self,
+        alloc: A,
+        table: TableNo,
+        place: u32,
+        columns: &[Column<A>],
+        readings: &mut Vec<Reading<A>, A>,
+    ) -> Result<(), Refusal>
+        requires { place + length columns.now ≤ 32 }
+        ensures ok { OnOk result (readings.new.items ≡ readings.old.items ++
+            in_table table (rows_naming self.now.key.now self.now.table place columns.now)) }
+        ensures err { IfErr result (λ e. e ≡ out_of_memory) }
+    {
+        match columns {
+            [] => Ok(()),
+            [column, more @ ..] => {
+                if references(column, self.table) {
+                    let extent = Extent::Referencing(place, self.key.copy(alloc)?);
+                    readings.push(Reading { table, extent })?;
+                }
+                self.read_naming(alloc, table, place + 1, more, readings)
             }
-            read_naming(alloc, table, key, referenced, place + 1, more, readings)
         }
     }
 }
@@ -317,7 +324,13 @@ fn read_columns<A: Allocator + Copy>(
 {
     match gone {
         None => Ok(()),
-        Some(Extent::One(key)) => read_naming(alloc, table, key, referenced, 0, columns, readings),
+        Some(Extent::One(key)) => {
+            let named = Referenced {
+                table: referenced,
+                key,
+            };
+            named.read_naming(alloc, table, 0, columns, readings)
+        }
         Some(Extent::Whole) => read_whole(table, referenced, columns, readings),
         Some(Extent::Range(_, _)) => read_whole(table, referenced, columns, readings),
         Some(Extent::Referencing(_, _)) => read_whole(table, referenced, columns, readings),

@@ -96,104 +96,101 @@ fn at_column(code: Code, place: u32) -> Refusal
     }
 }
 
-// Why a row isn't inserted. These are its values.
-fn inserting_fault<A: Allocator + Copy, R: SnapshotReader<A>>(
-    alloc: A,
-    catalog: &Catalog<A>,
-    reader: &R,
+// Where an INSERT puts a row, and where it looks up what that references.
+#[derive(Drop)]
+struct Inserting<'n, A: Allocator, R> {
+    catalog: &'n Catalog<A>,
+    reader: &'n R,
     table: TableNo,
-    row: &Row<A>,
-    values: &[Value<A>],
-) -> Result<Option<Refusal>, Refusal>
-    requires has { table < length catalog.now }
-    requires held { are_of catalog.now (R.tables reader.now) ≡ true }
-    requires same { values.now ≡ cells row.now }
-    ensures ok { IfOk result (λ found. found ≡ inserting_fault catalog.now table row.now (R.tables reader.now)) }
-    ensures memory { IfErr result (λ e. e ≡ out_of_memory) }
-{
-    let columns = columns_of(catalog, table);
-    match least_null(0, columns, values) {
-        Some(place) => Ok(Some(at_column(Code::NotNullViolation, place))),
-        None => {
-            if has_row(catalog, reader, table, row.key()) {
-                return Ok(Some(at_column(Code::UniqueViolation, 0)));
-            }
-            match least_dangling(alloc, catalog, reader, 0, columns, values)? {
-                Some(place) => Ok(Some(at_column(Code::ForeignKeyViolation, place))),
-                None => Ok(None),
+}
+
+impl<'n, A: Allocator + Copy, R: SnapshotReader<A>> Inserting<'n, A, R> {
+    // Why a row isn't inserted. These are its values.
+    fn fault(&self, alloc: A, row: &Row<A>, values: &[Value<A>]) -> Result<Option<Refusal>, Refusal>
+        requires has { self.now.table < length self.now.catalog.now }
+        requires held { are_of self.now.catalog.now (R.tables self.now.reader.now) ≡ true }
+        requires same { values.now ≡ cells row.now }
+        ensures ok { IfOk result (λ found. found ≡
+            inserting_fault self.now.catalog.now self.now.table row.now (R.tables self.now.reader.now)) }
+        ensures memory { IfErr result (λ e. e ≡ out_of_memory) }
+    {
+        let columns = columns_of(self.catalog, self.table);
+        match least_null(0, columns, values) {
+            Some(place) => Ok(Some(at_column(Code::NotNullViolation, place))),
+            None => {
+                if has_row(self.catalog, self.reader, self.table, row.key()) {
+                    return Ok(Some(at_column(Code::UniqueViolation, 0)));
+                }
+                match least_dangling(alloc, self.catalog, self.reader, 0, columns, values)? {
+                    Some(place) => Ok(Some(at_column(Code::ForeignKeyViolation, place))),
+                    None => Ok(None),
+                }
             }
         }
     }
-}
 
-// Writes a row that is new.
-fn insert_row<A: Allocator + Copy>(
-    alloc: A,
-    catalog: &Catalog<A>,
-    table: TableNo,
-    row: Row<A>,
-) -> Result<Written<A>, Refusal>
-    requires { table < length catalog.now }
-    ensures changes { IfOk result (λ written. written.changes.items ≡ puts table row ∷ []) }
-    ensures marks { IfOk result (λ written. written.marks.items ≡
-        references_of table (columns_of catalog.now table) row.0 (Some row.1)) }
-    ensures memory { IfErr result (λ e. e ≡ out_of_memory) }
-{
-    let mut written = Written::new(alloc);
-    written.insert(alloc, table, columns_of(catalog, table), row)?;
-    Ok(written)
-}
+    // Writes a row that is new.
+    fn write(&self, alloc: A, row: Row<A>) -> Result<Written<A>, Refusal>
+        requires { self.now.table < length self.now.catalog.now }
+        ensures changes { IfOk result (λ written. written.changes.items ≡ puts self.now.table row ∷ []) }
+        ensures marks { IfOk result (λ written. written.marks.items ≡
+            references_of self.now.table (columns_of self.now.catalog.now self.now.table) row.0 (Some row.1)) }
+        ensures memory { IfErr result (λ e. e ≡ out_of_memory) }
+    {
+        let mut written = Written::new(alloc);
+        let columns = columns_of(self.catalog, self.table);
+        written.insert(alloc, self.table, columns, row)?;
+        Ok(written)
+    }
 
-// What an INSERT of a row answers and writes. These are its values.
-fn insert_or_refuse<A: Allocator + Copy, R: SnapshotReader<A>>(
-    alloc: A,
-    catalog: &Catalog<A>,
-    reader: &R,
-    table: TableNo,
-    row: Row<A>,
-    values: &[Value<A>],
-) -> Result<Outcome<A>, Refusal>
-    requires has { table < length catalog.now }
-    requires held { are_of catalog.now (R.tables reader.now) ≡ true }
-    requires same { values.now ≡ cells row }
-    ensures ok { IfOk result (λ outcome. outcome ≡ inserted catalog.now table (cells row) (R.tables reader.now)) }
-    ensures memory { IfErr result (λ e. e ≡ out_of_memory) }
-{
-    match inserting_fault(alloc, catalog, reader, table, &row, values)? {
-        Some(fault) => Ok(answers(alloc, Reply::Refused(fault))),
-        None => {
-            let written = insert_row(alloc, catalog, table, row)?;
-            Ok(written.outcome(Reply::Inserted))
+    // What an INSERT of a row answers and writes. These are its values.
+    fn write_or_refuse(
+        &self,
+        alloc: A,
+        row: Row<A>,
+        values: &[Value<A>],
+    ) -> Result<Outcome<A>, Refusal>
+        requires has { self.now.table < length self.now.catalog.now }
+        requires held { are_of self.now.catalog.now (R.tables self.now.reader.now) ≡ true }
+        requires same { values.now ≡ cells row }
+        ensures ok { IfOk result (λ outcome. outcome ≡
+            inserted self.now.catalog.now self.now.table (cells row) (R.tables self.now.reader.now)) }
+        ensures memory { IfErr result (λ e. e ≡ out_of_memory) }
+    {
+        match self.fault(alloc, &row, values)? {
+            Some(fault) => Ok(answers(alloc, Reply::Refused(fault))),
+            None => {
+                let written = self.write(alloc, row)?;
+                Ok(written.outcome(Reply::Inserted))
+            }
         }
     }
-}
 
-// What an INSERT of these values answers and writes: a key, and the fields beside it.
-fn insert_values<A: Allocator + Copy, R: SnapshotReader<A>>(
-    alloc: A,
-    catalog: &Catalog<A>,
-    reader: &R,
-    table: TableNo,
-    key: &Value<A>,
-    fields: &[Value<A>],
-    values: &[Value<A>],
-) -> Result<Outcome<A>, Refusal>
-    requires has { table < length catalog.now }
-    requires some { 0 < length (columns_of catalog.now table) }
-    requires held { are_of catalog.now (R.tables reader.now) ≡ true }
-    requires same { values.now ≡ key.now ∷ fields.now }
-    ensures ok { IfOk result (λ outcome. outcome ≡
-        inserted catalog.now table (key.now ∷ fields.now) (R.tables reader.now)) }
-    ensures memory { IfErr result (λ e. e ≡ out_of_memory) }
-{
-    match key_of(alloc, key)? {
-        None => {
-            let fault = at_column(Code::NotNullViolation, 0);
-            Ok(answers(alloc, Reply::Refused(fault)))
-        }
-        Some(key) => {
-            let row = Row::new(key, copy_all(alloc, fields)?);
-            insert_or_refuse(alloc, catalog, reader, table, row, values)
+    // What an INSERT of these values answers and writes: a key, and the fields beside it.
+    fn insert(
+        &self,
+        alloc: A,
+        key: &Value<A>,
+        fields: &[Value<A>],
+        values: &[Value<A>],
+    ) -> Result<Outcome<A>, Refusal>
+        requires has { self.now.table < length self.now.catalog.now }
+        requires some { 0 < length (columns_of self.now.catalog.now self.now.table) }
+        requires held { are_of self.now.catalog.now (R.tables self.now.reader.now) ≡ true }
+        requires same { values.now ≡ key.now ∷ fields.now }
+        ensures ok { IfOk result (λ outcome. outcome ≡
+            inserted self.now.catalog.now self.now.table (key.now ∷ fields.now) (R.tables self.now.reader.now)) }
+        ensures memory { IfErr result (λ e. e ≡ out_of_memory) }
+    {
+        match key_of(alloc, key)? {
+            None => {
+                let fault = at_column(Code::NotNullViolation, 0);
+                Ok(answers(alloc, Reply::Refused(fault)))
+            }
+            Some(key) => {
+                let row = Row::new(key, copy_all(alloc, fields)?);
+                self.write_or_refuse(alloc, row, values)
+            }
         }
     }
 }
@@ -212,8 +209,13 @@ pub(super) fn insert<A: Allocator + Copy, R: SnapshotReader<A>>(
     ensures { AnswersOrNoMemory result (Ok (inserted catalog.now table values.now (R.tables reader.now))) }
 {
     let all = values.as_slice();
+    let inserting = Inserting {
+        catalog,
+        reader,
+        table,
+    };
     match all {
         [] => Ok(answers(alloc, Reply::Inserted)),
-        [key, fields @ ..] => insert_values(alloc, catalog, reader, table, key, fields, all),
+        [key, fields @ ..] => inserting.insert(alloc, key, fields, all),
     }
 }

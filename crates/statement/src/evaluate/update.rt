@@ -35,7 +35,8 @@ fn assignment_to<'s, A: Allocator>(
     assignments: &'s [Assignment<A>],
     column: u32,
 ) -> Option<&'s Assignment<A>>
-    ensures { option_copied result ≡ assignment_to assignments.now column }
+    ensures value { option_copied result ≡ assignment_to assignments.now column }
+    ensures at { IfSome result (λ a. a.now.column ≡ column) }
 {
     assignments
         .iter()
@@ -90,23 +91,23 @@ struct Updating<'u, A: Allocator, R> {
 }
 
 impl<'u, A: Allocator + Copy, R: SnapshotReader<A>> Updating<'u, A, R> {
-    // Whether a stage refuses what a source gives to a column.
+    // Whether a stage refuses what an assignment gives to its column.
     fn refuses(
         &self,
         alloc: A,
         stage: Stage,
-        place: u32,
+        assignment: &Assignment<A>,
         column: &Column<A>,
-        source: &Source<A>,
         row: &Row<A>,
     ) -> Result<bool, Refusal>
         requires { are_of self.now.catalog.now (R.tables self.now.reader.now) ≡ true }
-        ensures ok { IfOk result (λ b. b ≡ refuses stage (R.tables self.now.reader.now) place column.now
-            (given row.now source.now)) }
+        ensures ok { IfOk result (λ b. b ≡ refuses stage (R.tables self.now.reader.now) assignment.now.column column.now
+            (given row.now assignment.now.source)) }
         ensures err { IfErr result (λ e. e ≡ out_of_memory) }
     {
+        let source = &assignment.source;
         match stage {
-            Stage::Value => Ok(lacks_value(place, column, source, row)),
+            Stage::Value => Ok(lacks_value(assignment.column, column, source, row)),
             Stage::Range => Ok(gives_too_much(source, row)),
             Stage::Reference => {
                 let is_there = gives_reference(
@@ -138,7 +139,7 @@ impl<'u, A: Allocator + Copy, R: SnapshotReader<A>> Updating<'u, A, R> {
     {
         match assignment_to(self.assignments, place) {
             None => Ok(false),
-            Some(assignment) => self.refuses(alloc, stage, place, column, &assignment.source, row),
+            Some(assignment) => self.refuses(alloc, stage, assignment, column, row),
         }
     }
 

@@ -12,5 +12,5 @@ returns-in-len1-up g c =
     let vs = c.as_slice-all.result.now in
     let some : 0 < length vs = omega arith in
     let all = first_and_rest vs c.key-item.result some c.key-item.is ∙ c.as_slice-all.ensures in
-    subst (λ ws. AnswersOrNoMemory c.insert_values.result (Ok (inserted C c.args.table ws X))) all
-    (answered c.insert_values.result (inserted C c.args.table (c.key-item.result ∷ take (length vs - 1) (drop 1 vs)) X) c.insert_values.ensures.ok c.insert_values.ensures.memory)
+    subst (λ ws. AnswersOrNoMemory c.insert.result (Ok (inserted C c.args.table ws X))) all
+    (answered c.insert.result (inserted C c.args.table (c.key-item.result ∷ take (length vs - 1) (drop 1 vs)) X) c.insert.ensures.ok c.insert.ensures.memory)

@@ -1,5 +1,5 @@
 use Rattle.std.proofs.Common.{length}
-use Rattle.statement.proofs.footprint.+read_naming.Given as goal
+use Rattle.statement.proofs.footprint.Referenced.+read_naming.Given as goal
 
 abbrev pub decreases-read_naming : goal.decreases-read_naming
 decreases-read_naming g l = length l.columns.now
