@@ -7,13 +7,13 @@ use Rattle.std.proofs.lemmas.List.Concat.{flat_map-append}
 use Rattle.std.proofs.lemmas.List.Elements.{filter-append, filter_map-append}
 use Rattle.value.specs.declared.key.Key.{Key}
 use Rattle.value.specs.declared.value.Value.{Value}
+use Rattle.value.proofs.Basics.{drop_next}
 use Rattle.schema.specs.declared.row.Row.{Row}
 use Rattle.schema.specs.declared.reader.Bound.{Bound}
 use Rattle.schema.specs.Pages.{is_before}
 use Rattle.schema.specs.Rows.{Rows, is_within, rows_within}
 use Rattle.schema.specs.Walking.{lent}
 use Rattle.schema.proofs.BatchLemmas.{take_taken, taken_few}
-use Rattle.schema.proofs.PageLemmas.{drop-item}
 use Rattle.schema.proofs.PagedLemmas.{pages_before}
 use Rattle.mvrows.specs.Versions.{KeyVersions, VersionedRows, shown_fields, shown_row, shown_rows}
 use Rattle.mvrows.specs.HeldRows.{Held, chain_key, rows_in}
@@ -30,7 +30,7 @@ module _ {A : Type 0} where
   -- ---- the keys of a page
 
   further : (n i : ℕ) (keys : VersionedRows A) (k : KeyVersions A) (o : Option (Row A)) → i < length keys → k ≡ get_or keys i k → o ≡ shown_row n k → shown_rows n (drop i keys) ≡ cons_option o (shown_rows n (drop (i + 1) keys))
-  further n i keys k o lt at shows = ap (shown_rows n) (drop-item keys i k lt at) ∙ ap (λ p. cons_option p (shown_rows n (drop (i + 1) keys))) (sym shows)
+  further n i keys k o lt at shows = ap (shown_rows n) (drop_next keys i k lt at) ∙ ap (λ p. cons_option p (shown_rows n (drop (i + 1) keys))) (sym shows)
 
   -- a key with a row
   pub row_pushed : (n i most : ℕ) (keys : VersionedRows A) (k : KeyVersions A) (row : Bor (Row A)) (old new : List (Bor (Row A))) (total : Rows A) → i < length keys → k ≡ get_or keys i k → Some row.now ≡ shown_row n k → new ≡ old ++ row ∷ []
@@ -95,7 +95,7 @@ module _ {A : Type 0} where
       let here : Rows A = rows_within (shown_rows n page) bound in
       let rest : Rows A = rows_within (shown_rows n (rows_in (drop (i + 1) leaves))) bound in
       let split : rows_within (shown_rows n (rows_in (drop i leaves))) bound ≡ here ++ rest =
-      ap (λ ls. rows_within (shown_rows n (rows_in ls)) bound) (drop-item leaves i h lt at) ∙ within_append n bound h.rows (rows_in (drop (i + 1) leaves))
+      ap (λ ls. rows_within (shown_rows n (rows_in ls)) bound) (drop_next leaves i h lt at) ∙ within_append n bound h.rows (rows_in (drop (i + 1) leaves))
       ∙ ap (λ p. rows_within (shown_rows n p) bound ++ rest) (sym is) in
       let same : length (lent new) ≡ length new = length-map new (λ row. row.now) in
       let few : length (take most (lent old ++ here)) ≤ most = taken_few most (lent old ++ here) in

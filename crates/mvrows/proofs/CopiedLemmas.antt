@@ -4,30 +4,20 @@ use Rattle.std.specs.List.{AllByRecursion, cons_option}
 use Rattle.std.specs.List.Sorted.{IsStrictlySortedBy}
 use Rattle.std.specs.Ordering.{ordering_reverse}
 use Rattle.std.specs.declared.cmp.Ordering.TheVariants.{Less, Greater}
-use Rattle.std.proofs.lemmas.List.{length-map, length-take-le, map-append, append-nil}
+use Rattle.std.proofs.lemmas.List.{length-map, length-take-le, map-append, append-nil, get_or-set_same, set-set}
 use Rattle.value.specs.Order.{value_cmp, value_cmp-total}
 use Rattle.value.specs.declared.value.Value.{Value}
+use Rattle.value.proofs.Basics.{drop_next, take_next}
 use Rattle.schema.specs.declared.row.Row.{Row}
 use Rattle.schema.specs.declared.tables.Tables.{Tables}
 use Rattle.schema.specs.Plain.{rows_of}
 use Rattle.schema.specs.Rows.{Rows, IsInKeyOrder, put_row}
-use Rattle.schema.proofs.PageLemmas.{take-item, drop-item}
 use Rattle.schema.proofs.PagedLemmas.{pushed}
 use Rattle.mvrows.specs.Versions.{KeyVersions, VersionedRows, IsInOrder, shown_row, shown_rows, shown}
 use Rattle.mvrows.specs.HeldRows.{Held, chain_key, rows_in, rows_held}
 use Rattle.mvrows.specs.Copied.{put_rows, with_rows}
 use Rattle.mvrows.proofs.JoinedLemmas.{shown_rows-append}
 use Rattle.mvrows.proofs.ViewLemmas.{shown-in_order}
-
-set-twice : {X : Type 0} (xs : List X) (i : ℕ) (x y : X) → set (set xs i x) i y ≡ set xs i y
-set-twice [] i x y = refl
-set-twice (z ∷ zs) zero x y = refl
-set-twice (z ∷ zs) (suc i) x y = ap (λ rest. z ∷ rest) (set-twice zs i x y)
-
-get-set : {X : Type 0} (xs : List X) (i : ℕ) (x d : X) → i < length xs → get_or (set xs i x) i d ≡ x
-get-set [] i x d lt = absurd (omega arith)
-get-set (z ∷ zs) zero x d lt = refl
-get-set (z ∷ zs) (suc i) x d lt = get-set zs i x d (omega arith)
 
 module _ {A : Type 0} where
   -- ---- one table
@@ -38,8 +28,8 @@ module _ {A : Type 0} where
 
   with_rows-append : (X : Tables A) (t : ℕ) (xs ys : Rows A) → t < length X → with_rows (with_rows X t xs) t ys ≡ with_rows X t (xs ++ ys)
   with_rows-append X t xs ys lt =
-      set-twice X t (put_rows (rows_of X t) xs) _
-      ∙ ap (λ rows. set X t (put_rows rows ys)) (get-set X t (put_rows (rows_of X t) xs) [] lt)
+      set-set X t (put_rows (rows_of X t) xs) _
+      ∙ ap (λ rows. set X t (put_rows rows ys)) (get_or-set_same X t (put_rows (rows_of X t) xs) [] lt)
       ∙ ap (set X t) (sym (put_rows-append (rows_of X t) xs ys))
 
   -- one more key
@@ -48,17 +38,17 @@ module _ {A : Type 0} where
   key-shown n rows i k row X Y Z t lt at shows has so_far put =
       put ∙ ap (λ W. with_rows W t (row ∷ [])) so_far
       ∙ with_rows-append X t (shown_rows n (take i rows)) (row ∷ []) has
-      ∙ ap (with_rows X t) (sym (ap (shown_rows n) (take-item rows i k lt at) ∙ shown_rows-append n (take i rows) (k ∷ []) ∙ ap (λ o. shown_rows n (take i rows) ++ cons_option o []) shows))
+      ∙ ap (with_rows X t) (sym (ap (shown_rows n) (take_next rows i k lt at) ∙ shown_rows-append n (take i rows) (k ∷ []) ∙ ap (λ o. shown_rows n (take i rows) ++ cons_option o []) shows))
 
   pub key-not_shown : (n : ℕ) (rows : VersionedRows A) (i : ℕ) (k : KeyVersions A) (X Y : Tables A) (t : ℕ) → i < length rows → k ≡ get_or rows i k → shown_row n k ≡ None
       → Y ≡ with_rows X t (shown_rows n (take i rows)) → Y ≡ with_rows X t (shown_rows n (take (i + 1) rows))
   key-not_shown n rows i k X Y t lt at shows so_far =
       so_far
-      ∙ ap (with_rows X t) (sym (ap (shown_rows n) (take-item rows i k lt at) ∙ shown_rows-append n (take i rows) (k ∷ []) ∙ ap (λ o. shown_rows n (take i rows) ++ cons_option o []) shows ∙ append-nil (shown_rows n (take i rows))))
+      ∙ ap (with_rows X t) (sym (ap (shown_rows n) (take_next rows i k lt at) ∙ shown_rows-append n (take i rows) (k ∷ []) ∙ ap (λ o. shown_rows n (take i rows) ++ cons_option o []) shows ∙ append-nil (shown_rows n (take i rows))))
 
   -- one more page
   page-more : (leaves : List (Held A)) (i : ℕ) (h : Held A) → i < length leaves → h ≡ get_or leaves i h → rows_in (take (i + 1) leaves) ≡ rows_in (take i leaves) ++ h.rows
-  page-more leaves i h lt at = pushed chain_key (λ (h : Held A). h.rows) (take i leaves) (take (i + 1) leaves) h (take-item leaves i h lt at)
+  page-more leaves i h lt at = pushed chain_key (λ (h : Held A). h.rows) (take i leaves) (take (i + 1) leaves) h (take_next leaves i h lt at)
 
   pub page-shown : (n : ℕ) (leaves : List (Held A)) (i : ℕ) (h : Held A) (page : VersionedRows A) (X Y Z : Tables A) (t : ℕ) → i < length leaves → h ≡ get_or leaves i h → page ≡ h.rows → t < length X
       → Y ≡ with_rows X t (shown_rows n (rows_in (take i leaves))) → Z ≡ with_rows Y t (shown_rows n page) → Z ≡ with_rows X t (shown_rows n (rows_in (take (i + 1) leaves)))
@@ -127,7 +117,7 @@ module _ {A : Type 0} where
       length-map (rows_held (take i tables)) (shown_rows n) ∙ length-map (take i tables) (λ (t : List (Held A)). rows_in t) ∙ length-take-le i tables (omega (arith, lt))
 
   next-empty : (n i : ℕ) (tables : List (List (Held A))) (old : List (Held A)) → i < length tables → old ≡ get_or tables i old → so_far_copied n i tables ≡ shown n (rows_held (take i tables)) ++ [] ∷ empties (drop (i + 1) tables)
-  next-empty n i tables old lt at = ap (λ ts. shown n (rows_held (take i tables)) ++ empties ts) (drop-item tables i old lt at)
+  next-empty n i tables old lt at = ap (λ ts. shown n (rows_held (take i tables)) ++ empties ts) (drop_next tables i old lt at)
 
   pub table-none : (n i : ℕ) (tables : List (List (Held A))) (old : List (Held A)) (X : Tables A) (t : ℕ) → i < length tables → old ≡ get_or tables i old → t ≡ i → X ≡ so_far_copied n i tables → rows_of X t ≡ []
   table-none n i tables old X t lt at place is =
@@ -141,7 +131,7 @@ module _ {A : Type 0} where
       ∙ ap (λ (Z : Tables A). set Z i (shown_rows n (rows_in old))) (next-empty n i tables old lt at)
       ∙ set-empty (shown n (rows_held (take i tables))) [] (empties (drop (i + 1) tables)) i (shown_rows n (rows_in old)) (done-long n i tables lt)
       ∙ ap (λ done. done ++ empties (drop (i + 1) tables)) (sym (
-      ap (λ ts. shown n (rows_held ts)) (take-item tables i old lt at)
+      ap (λ ts. shown n (rows_held ts)) (take_next tables i old lt at)
       ∙ ap (shown n) (map-append rows_in (take i tables) (old ∷ []))
       ∙ map-append (shown_rows n) (rows_held (take i tables)) (rows_in old ∷ [])))
 

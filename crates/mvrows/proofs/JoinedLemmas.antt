@@ -12,10 +12,10 @@ use Rattle.std.proofs.lemmas.List.Folds.{find-append}
 use Rattle.value.specs.Order.{value_cmp}
 use Rattle.value.specs.declared.key.Key.{Key}
 use Rattle.value.specs.declared.value.Value.{Value}
+use Rattle.value.proofs.Basics.{Greater-from_le}
 use Rattle.schema.specs.declared.reader.Bound.{Bound}
 use Rattle.schema.specs.Pages.{is_before}
 use Rattle.schema.specs.Rows.{is_within, next_row}
-use Rattle.schema.proofs.PageLemmas.{greater}
 use Rattle.schema.proofs.PagedLemmas.{IsLocal, pages_before}
 use Rattle.mvrows.specs.Versions.{Version, VersionedRows, shown_fields, shown_row, shown_rows}
 use Rattle.mvrows.specs.Installing.{first_version, newer, put_version}
@@ -27,7 +27,7 @@ module _ {A : Type 0} where
 
   put-after_run : (key : Value A) (v : Version A) (xs ys : VersionedRows A) → AllByRecursion (λ k. is_le (value_cmp key k.key) ≡ false) xs → put_version key v (xs ++ ys) ≡ xs ++ put_version key v ys
   put-after_run key v [] ys before = refl
-  put-after_run key v (x ∷ xs) ys before = rw (greater (value_cmp key x.key) before.0) (ap (λ rest. x ∷ rest) (put-after_run key v xs ys before.1))
+  put-after_run key v (x ∷ xs) ys before = rw (Greater-from_le (value_cmp key x.key) before.0) (ap (λ rest. x ∷ rest) (put-after_run key v xs ys before.1))
 
   put-first_of : (key : Value A) (v : Version A) (ys : VersionedRows A) → IsLeast key ys → put_version key v ys ≡ first_version key v ∷ ys
   put-first_of key v [] least = refl

@@ -1,18 +1,18 @@
 -- A table's pages, of which it has some for itself, while they are changed, cut and dropped.
 use Rattle.std.proofs.Common.{suc, zero, ◌≡◌, refl, sym, ap, subst, ◌∙◌, ℕ, ◌+◌, ◌<◌, ◌≤◌, Bool, true, false, true≢false, cond, List, [], ◌∷◌, ◌++◌, drop, map, length, Option, Some, None, Bor, get_or, set, arith, inl, inr, append_assoc}
-use Rattle.std.specs.Prelude.{filter, ◌⊎◌, Result, Ok, Err, OnErr}
+use Rattle.std.specs.Prelude.{filter, ◌⊎◌}
 use Rattle.std.specs.List.{AllByRecursion, flat_map}
 use Rattle.std.specs.Option.{option_or}
 use Rattle.std.proofs.lemmas.List.{map-append, append-nil, drop_all}
 use Rattle.std.proofs.lemmas.List.Elements.{filter-append}
 use Rattle.value.specs.declared.value.Value.{Value}
 use Rattle.value.specs.declared.key.Key.{Key}
-use Rattle.value.proofs.Basics.{all-get, all-parts}
+use Rattle.value.proofs.Basics.{all-get, all-parts, drop_next}
 use Rattle.schema.specs.declared.row.Row.{Row}
 use Rattle.schema.specs.declared.reader.Bound.{Bound}
 use Rattle.schema.specs.Paged.{joined as all_of}
 use Rattle.schema.specs.Rows.{next_row}
-use Rattle.schema.proofs.PageLemmas.{one-in_order, drop-item}
+use Rattle.schema.proofs.PageLemmas.{one-in_order}
 use Rattle.schema.proofs.PagedLemmas.{Below, least-append, least-join, in_order-cut, in_order-join, cut_pages, cut-flat, cut-all, same-in}
 use Rattle.mvrows.specs.Versions.{Version, VersionedRows, IsInOrder, shown_rows}
 use Rattle.mvrows.specs.Installing.{opened_row, first_version, put_version}
@@ -41,10 +41,6 @@ flat-map f (x ∷ xs) = ap (λ rest. f x ++ rest) (flat-map f xs)
 
 pub flat-same : {X Y Z : Type 0} (f : X → List Z) (g : Y → List Z) (xs : List X) (ys : List Y) → map f xs ≡ map g ys → flat_map f xs ≡ flat_map g ys
 flat-same f g xs ys same = flat-map f xs ∙ ap (flat_map (λ z. z)) same ∙ sym (flat-map g ys)
-
-pub on_err : {T E : Type 0} (r : Result T E) (P Q : Type 0) → (P → Q) → OnErr r P → OnErr r Q
-on_err (Ok x) P Q f p = p
-on_err (Err e) P Q f p = f p
 
 module _ {A : Type 0} where
   -- ---- tables of the same pages
@@ -297,7 +293,7 @@ module _ {A : Type 0} where
   pub next-here : (n : ℕ) (bound : Bound (Bor (Key A))) (leaves : List (Held A)) (i : ℕ) (h : Held A) (page : VersionedRows A) (row : Row A) → i < length leaves → h ≡ get_or leaves i h → page ≡ h.rows → Some row ≡ next_row (shown_rows n page) bound
       → next_row (shown_rows n (rows_in leaves)) bound ≡ next_row (shown_rows n (rows_in (drop i leaves))) bound → Some row ≡ next_row (shown_rows n (rows_in leaves)) bound
   next-here n bound leaves i h page row lt at is found so_far = sym (
-      so_far ∙ ap (λ ls. next_row (shown_rows n (rows_in ls)) bound) (drop-item leaves i h lt at)
+      so_far ∙ ap (λ ls. next_row (shown_rows n (rows_in ls)) bound) (drop_next leaves i h lt at)
       ∙ next-append n bound h.rows (rows_in (drop (i + 1) leaves))
       ∙ ap (λ p. option_or (next_row (shown_rows n p) bound) (next_row (shown_rows n (rows_in (drop (i + 1) leaves))) bound)) (sym is)
       ∙ ap (λ o. option_or o (next_row (shown_rows n (rows_in (drop (i + 1) leaves))) bound)) (sym found))
@@ -305,7 +301,7 @@ module _ {A : Type 0} where
   pub next-later : (n : ℕ) (bound : Bound (Bor (Key A))) (leaves : List (Held A)) (i : ℕ) (h : Held A) (page : VersionedRows A) → i < length leaves → h ≡ get_or leaves i h → page ≡ h.rows → next_row (shown_rows n page) bound ≡ None
       → next_row (shown_rows n (rows_in leaves)) bound ≡ next_row (shown_rows n (rows_in (drop i leaves))) bound → next_row (shown_rows n (rows_in leaves)) bound ≡ next_row (shown_rows n (rows_in (drop (i + 1) leaves))) bound
   next-later n bound leaves i h page lt at is found so_far =
-      so_far ∙ ap (λ ls. next_row (shown_rows n (rows_in ls)) bound) (drop-item leaves i h lt at)
+      so_far ∙ ap (λ ls. next_row (shown_rows n (rows_in ls)) bound) (drop_next leaves i h lt at)
       ∙ next-append n bound h.rows (rows_in (drop (i + 1) leaves))
       ∙ ap (λ p. option_or (next_row (shown_rows n p) bound) (next_row (shown_rows n (rows_in (drop (i + 1) leaves))) bound)) (sym is)
       ∙ ap (λ o. option_or o (next_row (shown_rows n (rows_in (drop (i + 1) leaves))) bound)) found

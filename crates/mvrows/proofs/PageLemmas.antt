@@ -1,6 +1,7 @@
 -- Keys in key order: where one stands, and what is changed there.
 use Rattle.std.proofs.Common.{suc, zero, ◌≡◌, refl, sym, ap, subst, ◌∙◌, ℕ, ◌+◌, ◌<◌, ◌≤◌, Bool, true, false, cond, List, [], ◌∷◌, ◌++◌, take, drop, map, length, Option, Some, None, get_or, set, Bor, add-one}
-use Rattle.std.specs.Prelude.{slice_get, filter, Result, Ok, Err, OnOk}
+use Rattle.std.proofs.lemmas.Option.{slice_get_within}
+use Rattle.std.specs.Prelude.{slice_get, filter}
 use Rattle.std.specs.List.{AllByRecursion, cons_option}
 use Rattle.std.specs.List.Sorted.{IsStrictlySortedBy}
 use Rattle.std.specs.Option.{option_map, option_map_or}
@@ -10,11 +11,11 @@ use Rattle.std.proofs.lemmas.List.{set_split, drop_all}
 use Rattle.value.specs.Order.{value_cmp}
 use Rattle.value.specs.declared.key.Key.{Key}
 use Rattle.value.specs.declared.value.Value.{Value}
+use Rattle.value.proofs.Basics.{Equal-from_eq, Less-from_le, below-passed, drop_next, slice_get-drop, slice_get-none, slice_get_item}
 use Rattle.schema.specs.declared.row.Row.{Row}
 use Rattle.schema.specs.declared.reader.Bound.{Bound}
 use Rattle.schema.specs.Plain.{same}
 use Rattle.schema.specs.Rows.{is_within, next_row}
-use Rattle.schema.proofs.PageLemmas.{less, equal, slice_get-drop, slice_get-none, slice_get-below, slice_get-item, drop-item, below-passed}
 use Rattle.schema.proofs.PagedLemmas.{local-parted}
 use Rattle.mvrows.specs.Versions.{Version, KeyVersions, VersionedRows, IsInOrder, shown_fields, shown_row, shown_rows}
 use Rattle.mvrows.specs.Installing.{first_version, newer, put_version}
@@ -26,10 +27,6 @@ use Rattle.mvrows.proofs.JoinedLemmas.{put-local}
 -- what stands at a place, and what comes after it
 pub drop-at : {X : Type 0} (xs : List X) (i : ℕ) (x : X) → slice_get xs i ≡ Some x → drop i xs ≡ x ∷ drop (i + 1) xs
 drop-at xs i x e = rw add-one (slice_get-drop xs i x e)
-
-pub on_ok : {T E : Type 0} (r : Result T E) (P Q : Type 0) → (P → Q) → OnOk r P → OnOk r Q
-on_ok (Ok x) P Q f p = f p
-on_ok (Err e) P Q f p = p
 
 module _ {A : Type 0} where
   -- ---- the next row
@@ -55,10 +52,10 @@ module _ {A : Type 0} where
   next_row-from n bound i rows early late = next-early n bound i rows early ∙ next-late n bound (drop i rows) late
 
   pub first-here : (n i : ℕ) (rows : VersionedRows A) (k : KeyVersions A) (row : Row A) → i < length rows → k ≡ get_or rows i k → shown_row n k ≡ Some row → slice_get (shown_rows n rows) 0 ≡ slice_get (shown_rows n (drop i rows)) 0 → slice_get (shown_rows n rows) 0 ≡ Some row
-  first-here n i rows k row lt at shows so_far = so_far ∙ ap (λ ks. slice_get (shown_rows n ks) 0) (drop-item rows i k lt at) ∙ ap (λ o. slice_get (cons_option o (shown_rows n (drop (i + 1) rows))) 0) shows
+  first-here n i rows k row lt at shows so_far = so_far ∙ ap (λ ks. slice_get (shown_rows n ks) 0) (drop_next rows i k lt at) ∙ ap (λ o. slice_get (cons_option o (shown_rows n (drop (i + 1) rows))) 0) shows
 
   pub first-later : (n i : ℕ) (rows : VersionedRows A) (k : KeyVersions A) → i < length rows → k ≡ get_or rows i k → shown_row n k ≡ None → slice_get (shown_rows n rows) 0 ≡ slice_get (shown_rows n (drop i rows)) 0 → slice_get (shown_rows n rows) 0 ≡ slice_get (shown_rows n (drop (i + 1) rows)) 0
-  first-later n i rows k lt at shows so_far = so_far ∙ ap (λ ks. slice_get (shown_rows n ks) 0) (drop-item rows i k lt at) ∙ ap (λ o. slice_get (cons_option o (shown_rows n (drop (i + 1) rows))) 0) shows
+  first-later n i rows k lt at shows so_far = so_far ∙ ap (λ ks. slice_get (shown_rows n ks) 0) (drop_next rows i k lt at) ∙ ap (λ o. slice_get (cons_option o (shown_rows n (drop (i + 1) rows))) 0) shows
 
   pub first-none : (n i : ℕ) (rows : VersionedRows A) → length rows ≤ i → slice_get (shown_rows n rows) 0 ≡ slice_get (shown_rows n (drop i rows)) 0 → slice_get (shown_rows n rows) 0 ≡ None
   first-none n i rows past so_far = so_far ∙ ap (λ ks. slice_get (shown_rows n ks) 0) (drop_all i rows past)
@@ -67,8 +64,8 @@ module _ {A : Type 0} where
 
   pub put-here : (key : Value A) (v : Version A) (i : ℕ) (rows : VersionedRows A) (k : KeyVersions A) → AllByRecursion (λ r. is_le (value_cmp key r.key) ≡ false) (take i rows) → slice_get rows i ≡ Some k → same key k.key ≡ true → set rows i (newer v k) ≡ put_version key v rows
   put-here key v i rows k early at is =
-      let e : put_version key v (k ∷ drop (suc i) rows) ≡ newer v k ∷ drop (suc i) rows = rw (equal (value_cmp key k.key) is) refl in
-      set_split rows i (newer v k) (slice_get-below rows i k at)
+      let e : put_version key v (k ∷ drop (suc i) rows) ≡ newer v k ∷ drop (suc i) rows = rw (Equal-from_eq (value_cmp key k.key) is) refl in
+      set_split rows i (newer v k) (slice_get_within rows i k at)
       ∙ sym (local-parted chain_key key (put_version key v) i rows (put-local key v) early ∙ ap (λ ks. take i rows ++ put_version key v ks) (slice_get-drop rows i k at) ∙ ap (λ ks. take i rows ++ ks) e)
 
   pub put-new : (key : Value A) (v : Version A) (i : ℕ) (rows : VersionedRows A) → AllByRecursion (λ r. is_le (value_cmp key r.key) ≡ false) (take i rows) → AllByRecursion (λ r. is_le (value_cmp key r.key) ≡ true) (drop i rows) → option_map_or (λ k. same key k.key) (slice_get rows i) false ≡ false
@@ -80,7 +77,7 @@ module _ {A : Type 0} where
       go (Some k) at e =
           let cut = slice_get-drop rows i k at in
           let late_here = subst (AllByRecursion (λ (r : KeyVersions A). is_le (value_cmp key r.key) ≡ true)) cut late in
-          let below : value_cmp key k.key ≡ Less = less (value_cmp key k.key) late_here.0 e in
+          let below : value_cmp key k.key ≡ Less = Less-from_le (value_cmp key k.key) late_here.0 e in
           let f : put_version key v (k ∷ drop (suc i) rows) ≡ first_version key v ∷ k ∷ drop (suc i) rows = rw below refl in
           ap (λ ks. take i rows ++ first_version key v ∷ ks) cut
           ∙ sym (local-parted chain_key key (put_version key v) i rows (put-local key v) early ∙ ap (λ ks. take i rows ++ put_version key v ks) cut ∙ ap (λ ks. take i rows ++ ks) f)
@@ -88,7 +85,7 @@ module _ {A : Type 0} where
   pub put-at : (key : Value A) (v : Version A) (i : ℕ) (rows : VersionedRows A) (k more : KeyVersions A) → AllByRecursion (λ r. is_le (value_cmp key r.key) ≡ false) (take i rows) → k ≡ get_or rows i k → option_map_or (λ r. same key r.key) (slice_get rows i) false ≡ true → more ≡ newer v k → set rows i more ≡ put_version key v rows
   put-at key v i rows k more early at is put =
       let lt = below-passed (λ (r : KeyVersions A). same key r.key) rows i is in
-      let here = slice_get-item rows i k lt at in
+      let here = slice_get_item rows i k lt at in
       ap (set rows i) put ∙ put-here key v i rows k early here (sym (ap (λ o. option_map_or (λ (r : KeyVersions A). same key r.key) o false) here) ∙ is)
 
   pub put-inserted : (key : Value A) (v : Version A) (i : ℕ) (rows more : VersionedRows A) (k : KeyVersions A) → AllByRecursion (λ r. is_le (value_cmp key r.key) ≡ false) (take i rows) → AllByRecursion (λ r. is_le (value_cmp key r.key) ≡ true) (drop i rows) → option_map_or (λ r. same key r.key) (slice_get rows i) false ≡ false

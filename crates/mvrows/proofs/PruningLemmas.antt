@@ -6,11 +6,12 @@ use Rattle.std.specs.List.Sorted.{IsStrictlySortedBy}
 use Rattle.std.specs.Option.{option_map, option_and_then}
 use Rattle.std.proofs.lemmas.Bool.{le-leb, leb-true}
 use Rattle.value.specs.declared.value.Value.{Value}
+use Rattle.value.proofs.Basics.{all-filter}
 use Rattle.schema.specs.Plain.{same}
 use Rattle.schema.proofs.PlainLemmas.{same_value}
 use Rattle.mvrows.specs.Versions.{Version, VersionedRows, versions_of, IsInOrder, AreInOrder, shown_fields, shown_rows, shown, newest_version, newest_in, newest, AreBelow, RowsAreBelow, TablesAreBelow}
 use Rattle.mvrows.specs.Pruning.{if_row, pruned_versions, pruned_key, are_some, has_version, pruned_rows, pruned, IsPruned, ArePruned, KeepsNewest}
-use Rattle.mvrows.proofs.VersionLemmas.{IsLeast, all-map, all-filter, get_or-map, table_in_order}
+use Rattle.mvrows.proofs.VersionLemmas.{IsLeast, all-map, get_or-map, table_in_order}
 
 module _ {A : Type 0} where
   -- ---- what is shown

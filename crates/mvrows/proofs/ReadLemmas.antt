@@ -3,44 +3,19 @@ use Rattle.std.proofs.Common.{◌≡◌, refl, sym, ap, ◌∙◌, ℕ, suc, ◌
 use Rattle.std.specs.Prelude.{◌==◌, nat_le, nat_lt, slice_get, filter}
 use Rattle.std.specs.List.{list_any}
 use Rattle.std.specs.Option.{option_map, option_and_then}
-use Rattle.std.proofs.lemmas.Bool.{eqb-true, le-leb, leb-true, leb-false}
-use Rattle.std.proofs.lemmas.Bool.Decides.{nat_tests}
+use Rattle.std.proofs.lemmas.Bool.{eqb-true, le-leb, leb-true, leb-false, and_from, ltb-false, ltb-true, lt-ltb}
+use Rattle.value.proofs.Basics.{any-weaker}
 use Rattle.mvrows.specs.Versions.{Version, version_at, shown_fields, AreBelow}
 use Rattle.mvrows.specs.Pruning.{are_some, pruned_versions, KeepsNewest}
 use Rattle.mvrows.specs.Settling.{Needed, is_shown_to, shown_versions, read_versions, settled_versions}
 use Rattle.mvrows.proofs.PruningLemmas.{shown-pruned_versions, one_left, pruned_versions-below, newest-pruned_versions}
-
-less_is : (a b : ℕ) → a < b → nat_lt a b ≡ true
-less_is a b h = grind (arith, nat_tests)
-
-less_from : (a b : ℕ) → nat_lt a b ≡ true → a < b
-less_from a b h = grind (arith, nat_tests)
-
-not_less_from : (a b : ℕ) → nat_lt a b ≡ false → b ≤ a
-not_less_from a b h = grind (arith, nat_tests)
-
-both : (a b : Bool) → a ≡ true → b ≡ true → (a && b) ≡ true
-both a b p q = ap (λ x. x && b) p ∙ q
-
--- what passes one test passes another
-any-weaker : {X : Type 0} (p q : X → Bool) → ((x : X) → p x ≡ true → q x ≡ true) → (xs : List X) → list_any p xs ≡ true → list_any q xs ≡ true
-any-weaker p q so [] e = e
-any-weaker p q so (x ∷ xs) e = go (p x) refl e (any-weaker p q so xs)
-  where
-    go : (b : Bool) → p x ≡ b → (b || list_any p xs) ≡ true → (list_any p xs ≡ true → list_any q xs ≡ true) → (q x || list_any q xs) ≡ true
-    go true is some rest = ap (λ d. d || list_any q xs) (so x is)
-    go false is some rest = later (q x) (rest some)
-      where
-        later : (d : Bool) → list_any q xs ≡ true → (d || list_any q xs) ≡ true
-        later true r = refl
-        later false r = r
 
 -- a snapshot from a number on, and below another, is one of these
 shown-to : (ss : List ℕ) (number n next : ℕ) → list_any (λ s. s == n) ss ≡ true → number ≤ n → n < next → is_shown_to ss number next ≡ true
 shown-to ss number n next is from below = any-weaker (λ s. s == n) (λ s. nat_le number s && nat_lt s next) one ss is
   where
     one : (s : ℕ) → (s == n) ≡ true → (nat_le number s && nat_lt s next) ≡ true
-    one s e = let same : s ≡ n = eqb-true s n e in both (nat_le number s) (nat_lt s next) (le-leb number s (omega (arith, same, from))) (less_is s next (omega (arith, same, below)))
+    one s e = let same : s ≡ n = eqb-true s n e in and_from (nat_le number s) (nat_lt s next) (le-leb number s (omega (arith, same, from))) (lt-ltb s next (omega (arith, same, below)))
 
 -- ---- how many snapshots are below a number
 
@@ -70,7 +45,7 @@ below-rises m n (s ∷ ss) le = go (nat_lt s m) (nat_lt s n) refl refl (below-ri
     go : (a b : Bool) → nat_lt s m ≡ a → nat_lt s n ≡ b → length (filter (λ x. nat_lt x m) ss) ≤ length (filter (λ x. nat_lt x n) ss)
         → length (cond a (s ∷ filter (λ x. nat_lt x m) ss) (filter (λ x. nat_lt x m) ss)) ≤ length (cond b (s ∷ filter (λ x. nat_lt x n) ss) (filter (λ x. nat_lt x n) ss))
     go true true p q h = omega arith
-    go true false p q h = absurd (let k = less_from s m p in let l = not_less_from s n q in omega arith)
+    go true false p q h = absurd (let k = ltb-true s m p in let l = ltb-false s n q in omega arith)
     go false true p q h = omega arith
     go false false p q h = h
 
@@ -88,11 +63,11 @@ below-more m n (s ∷ ss) e = go (nat_le m s) (nat_lt s m) (nat_lt s n) refl ref
 
     go : (d a b : Bool) → nat_le m s ≡ d → nat_lt s m ≡ a → nat_lt s n ≡ b → ((d && b) || is_shown_to ss m n) ≡ true → (is_shown_to ss m n ≡ true → length (filter (λ x. nat_lt x m) ss) < length (filter (λ x. nat_lt x n) ss))
         → length (cond a (s ∷ filter (λ x. nat_lt x m) ss) (filter (λ x. nat_lt x m) ss)) < length (cond b (s ∷ filter (λ x. nat_lt x n) ss) (filter (λ x. nat_lt x n) ss))
-    go true true b p q r f rest = absurd (let k = leb-true m s p in let l = less_from s m q in omega arith)
-    go true false true p q r f rest = let h = below-rises m n ss (let k = leb-true m s p in let l = less_from s n r in omega arith) in omega arith
+    go true true b p q r f rest = absurd (let k = leb-true m s p in let l = ltb-true s m q in omega arith)
+    go true false true p q r f rest = let h = below-rises m n ss (let k = leb-true m s p in let l = ltb-true s n r in omega arith) in omega arith
     go true false false p q r f rest = rest f
     go false true true p q r f rest = let h = rest f in omega arith
-    go false true false p q r f rest = absurd (let k = less_from s m q in let l = not_less_from s n r in let h = rest f in no-room k l h)
+    go false true false p q r f rest = absurd (let k = ltb-true s m q in let l = ltb-false s n r in let h = rest f in no-room k l h)
       where
         no-room : s < m → n ≤ s → length (filter (λ x. nat_lt x m) ss) < length (filter (λ x. nat_lt x n) ss) → ⊥
         no-room k l h = let g : length (filter (λ x. nat_lt x n) ss) ≤ length (filter (λ x. nat_lt x m) ss) = below-rises n m ss (omega arith) in omega arith

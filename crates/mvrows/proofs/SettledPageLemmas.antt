@@ -10,11 +10,10 @@ use Rattle.std.proofs.lemmas.Bool.{lt-leb}
 use Rattle.std.proofs.lemmas.List.{set_split, take-append-drop}
 use Rattle.value.specs.Order.{value_cmp}
 use Rattle.value.specs.declared.value.Value.{Value}
-use Rattle.value.proofs.Basics.{all-get}
+use Rattle.value.proofs.Basics.{all-get, Equal-from_eq, Greater-from_le, Less-from_le, below-passed, slice_get-none, slice_get_item}
 use Rattle.schema.specs.Pages.{IsPlaced}
 use Rattle.schema.specs.Plain.{same}
 use Rattle.schema.proofs.FindLemmas.{find-in}
-use Rattle.schema.proofs.PageLemmas.{greater, less, equal, slice_get-none, slice_get-item, below-passed}
 use Rattle.schema.proofs.PagedLemmas.{IsLocal, local-parted}
 use Rattle.mvrows.specs.Versions.{Version, KeyVersions, VersionedRows, AreBelow, RowsAreBelow}
 use Rattle.mvrows.specs.Pruning.{has_version}
@@ -42,7 +41,7 @@ module _ {A : Type 0} where
 
   settle-after_run : (needed : Needed) (key : Value A) (xs ys : VersionedRows A) → AllByRecursion (λ k. is_le (value_cmp key k.key) ≡ false) xs → settle_key needed key (xs ++ ys) ≡ xs ++ settle_key needed key ys
   settle-after_run needed key [] ys before = refl
-  settle-after_run needed key (x ∷ xs) ys before = rw (greater (value_cmp key x.key) before.0) (ap (λ rest. x ∷ rest) (settle-after_run needed key xs ys before.1))
+  settle-after_run needed key (x ∷ xs) ys before = rw (Greater-from_le (value_cmp key x.key) before.0) (ap (λ rest. x ∷ rest) (settle-after_run needed key xs ys before.1))
 
   settle-above : (needed : Needed) (key : Value A) (ys : VersionedRows A) → IsLeast key ys → settle_key needed key ys ≡ ys
   settle-above needed key [] least = refl
@@ -69,7 +68,7 @@ module _ {A : Type 0} where
   settle-here : (needed : Needed) (key : Value A) (i : ℕ) (rows : VersionedRows A) (k : KeyVersions A) → AllByRecursion (λ r. is_le (value_cmp key r.key) ≡ false) (take i rows) → slice_get rows i ≡ Some k → same key k.key ≡ true
       → settle_key needed key rows ≡ take i rows ++ if_version (settled_key needed k) (drop (i + 1) rows)
   settle-here needed key i rows k early at is =
-      let e : settle_key needed key (k ∷ drop (i + 1) rows) ≡ if_version (settled_key needed k) (drop (i + 1) rows) = rw (equal (value_cmp key k.key) is) refl in
+      let e : settle_key needed key (k ∷ drop (i + 1) rows) ≡ if_version (settled_key needed k) (drop (i + 1) rows) = rw (Equal-from_eq (value_cmp key k.key) is) refl in
       local-parted chain_key key (settle_key needed key) i rows (settle-local needed key) early ∙ ap (λ ks. take i rows ++ settle_key needed key ks) (drop-at rows i k at) ∙ ap (λ ks. take i rows ++ ks) e
 
   -- a key that isn't at its place isn't there
@@ -82,7 +81,7 @@ module _ {A : Type 0} where
       go (Some k) at e =
           let cut = drop-at rows i k at in
           let late_here = subst (AllByRecursion (λ (r : KeyVersions A). is_le (value_cmp key r.key) ≡ true)) cut late in
-          let below : value_cmp key k.key ≡ Less = less (value_cmp key k.key) late_here.0 e in
+          let below : value_cmp key k.key ≡ Less = Less-from_le (value_cmp key k.key) late_here.0 e in
           let f : settle_key needed key (k ∷ drop (i + 1) rows) ≡ k ∷ drop (i + 1) rows = rw below refl in
           ap (λ ks. take i rows ++ settle_key needed key ks) cut ∙ ap (λ ks. take i rows ++ ks) (f ∙ sym cut)
 
@@ -91,7 +90,7 @@ module _ {A : Type 0} where
       → more ≡ settled_key needed k → has_version more ≡ true → set rows i more ≡ settle_key needed key rows
   settle-kept needed key i rows k more early at is made has =
       let lt = below-passed (λ (r : KeyVersions A). same key r.key) rows i is in
-      let here = slice_get-item rows i k lt at in
+      let here = slice_get_item rows i k lt at in
       let tied : same key k.key ≡ true = sym (ap (λ o. option_map_or (λ (r : KeyVersions A). same key r.key) o false) here) ∙ is in
       let left : if_version (settled_key needed k) (drop (i + 1) rows) ≡ more ∷ drop (i + 1) rows = ap (λ x. if_version x (drop (i + 1) rows)) (sym made) ∙ rw has refl in
       let one_more : suc i ≡ i + 1 = omega arith in
@@ -102,7 +101,7 @@ module _ {A : Type 0} where
       → left ≡ settled_key needed k → has_version left ≡ false → more ≡ take i (set rows i left) ++ drop (suc i) (set rows i left) → more ≡ settle_key needed key rows
   settle-gone needed key i rows more k left early at is made has put =
       let lt = below-passed (λ (r : KeyVersions A). same key r.key) rows i is in
-      let here = slice_get-item rows i k lt at in
+      let here = slice_get_item rows i k lt at in
       let tied : same key k.key ≡ true = sym (ap (λ o. option_map_or (λ (r : KeyVersions A). same key r.key) o false) here) ∙ is in
       let none : if_version (settled_key needed k) (drop (i + 1) rows) ≡ drop (i + 1) rows = ap (λ x. if_version x (drop (i + 1) rows)) (sym made) ∙ rw has refl in
       put ∙ cut-set rows i left lt ∙ sym (settle-here needed key i rows k early here tied ∙ ap (λ ks. take i rows ++ ks) none)

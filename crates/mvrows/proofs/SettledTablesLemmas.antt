@@ -10,10 +10,9 @@ use Rattle.std.proofs.lemmas.Cmp.{tied_itself}
 use Rattle.std.proofs.lemmas.List.{map-set}
 use Rattle.value.specs.Order.{value_cmp, value_cmp-total}
 use Rattle.value.specs.declared.value.Value.{Value}
-use Rattle.value.proofs.Basics.{all-get, all-set}
+use Rattle.value.proofs.Basics.{all-get, all-set, drop_next}
 use Rattle.schema.specs.declared.changes.Change.{Change}
 use Rattle.schema.specs.Plain.{same}
-use Rattle.schema.proofs.PageLemmas.{drop-item}
 use Rattle.mvrows.specs.Versions.{Version, VersionedRows, versions_of}
 use Rattle.mvrows.specs.Installing.{first_version, newer, put_version, install_change, installed}
 use Rattle.mvrows.specs.Settling.{Needed, found, settle_key, settle_change, settled}
@@ -139,4 +138,4 @@ module _ {A : Type 0} where
   pub settled-step : (needed : Needed) (xs : List (Change A)) (i : ℕ) (x : Change A) (old new : List (List (Held A))) (whole : List (VersionedRows A)) → i < length xs → x ≡ get_or xs i x → rows_held new ≡ settle_change needed x (rows_held old)
       → settled needed (drop i xs) (rows_held old) ≡ whole → settled needed (drop (i + 1) xs) (rows_held new) ≡ whole
   settled-step needed xs i x old new whole lt at made so_far =
-      ap (settled needed (drop (i + 1) xs)) made ∙ ap (λ ys. settled needed ys (rows_held old)) (sym (drop-item xs i x lt at)) ∙ so_far
+      ap (settled needed (drop (i + 1) xs)) made ∙ ap (λ ys. settled needed ys (rows_held old)) (sym (drop_next xs i x lt at)) ∙ so_far

@@ -1,6 +1,6 @@
 -- What snapshots show of versions, before and after an install and a pruning.
-use Rattle.std.proofs.Common.{suc, zero, ◌≡◌, refl, sym, ap, subst, ◌∙◌, ℕ, ◌<◌, Bool, true, false, cond, List, [], ◌∷◌, map, Option, Some, None, get_or, set}
-use Rattle.std.specs.Prelude.{nat_le, filter}
+use Rattle.std.proofs.Common.{suc, zero, ◌≡◌, refl, sym, ap, subst, ◌∙◌, ℕ, ◌<◌, true, false, List, [], ◌∷◌, map, Option, Some, None, get_or, set}
+use Rattle.std.specs.Prelude.{nat_le}
 use Rattle.std.specs.List.{AllByRecursion, cons_option}
 use Rattle.std.specs.List.Sorted.{IsStrictlySortedBy}
 use Rattle.std.specs.Option.{option_map}
@@ -33,14 +33,6 @@ all-get_or P (x ∷ xs) (suc i) d p all = all-get_or P xs i d p all.1
 pub all-map : {X : Type 0} (P Q : X → Type 0) (f : X → X) → ((x : X) → P x → Q (f x)) → (xs : List X) → AllByRecursion P xs → AllByRecursion Q (map f xs)
 all-map P Q f step [] all = all
 all-map P Q f step (x ∷ xs) all = (step x all.0, all-map P Q f step xs all.1)
-
-pub all-filter : {X : Type 0} (P : X → Type 0) (p : X → Bool) (xs : List X) → AllByRecursion P xs → AllByRecursion P (filter p xs)
-all-filter P p [] all = all
-all-filter P p (x ∷ xs) all = by_test (p x) (all-filter P p xs all.1)
-  where
-    by_test : (b : Bool) → AllByRecursion P (filter p xs) → AllByRecursion P (cond b (x ∷ filter p xs) (filter p xs))
-    by_test true rest = (all.0, rest)
-    by_test false rest = rest
 
 module _ {A : Type 0} where
   -- ---- the order of keys

@@ -11,7 +11,6 @@ use Rattle.schema.specs.declared.reader.Bound.{Bound}
 use Rattle.schema.specs.Paged.{row_key, joined, is_before}
 use Rattle.schema.specs.Rows.{Rows, is_within, rows_within}
 use Rattle.schema.specs.Walking.{lent}
-use Rattle.schema.proofs.PageLemmas.{drop-item}
 use Rattle.schema.proofs.PagedLemmas.{pages_before}
 
 -- ---- the first so many

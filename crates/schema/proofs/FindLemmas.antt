@@ -9,9 +9,10 @@ use Rattle.std.proofs.lemmas.List.{take-append-drop}
 use Rattle.std.proofs.lemmas.List.Folds.{find-append}
 use Rattle.value.specs.Order.{value_cmp}
 use Rattle.value.specs.declared.value.Value.{Value}
+use Rattle.value.proofs.Basics.{Greater-from_le, Less-from_le, slice_get-drop, slice_get-none}
 use Rattle.schema.specs.Pages.{IsInOrder, IsLeast, IsBehind, IsPlaced}
 use Rattle.schema.specs.Plain.{same}
-use Rattle.schema.proofs.PageLemmas.{greater, less, least-after, in_order-drop, slice_get-drop, slice_get-none}
+use Rattle.schema.proofs.PageLemmas.{least-after, in_order-drop}
 use Rattle.schema.proofs.PagedLemmas.{flat-split}
 
 or-none : {X : Type 0} (o : Option X) → option_or o None ≡ o
@@ -30,7 +31,7 @@ module _ {A T : Type 0} (key : T → Value A) where
   -- nor is one above all
   find-none_before : (k : Value A) (items : List T) → IsBehind key k items → find (is_key k) items ≡ None
   find-none_before k [] behind = refl
-  find-none_before k (x ∷ xs) behind = rw (greater (value_cmp k (key x)) behind.0) (find-none_before k xs behind.1)
+  find-none_before k (x ∷ xs) behind = rw (Greater-from_le (value_cmp k (key x)) behind.0) (find-none_before k xs behind.1)
 
   -- ---- by its place
 
@@ -47,7 +48,7 @@ module _ {A T : Type 0} (key : T → Value A) where
   find-missing k i items x sorted early late at isnt =
       let cut = slice_get-drop items i x at in
       let late_here = subst (AllByRecursion (λ (y : T). is_le (value_cmp k (key y)) ≡ true)) cut late in
-      let below : value_cmp k (key x) ≡ Less = less (value_cmp k (key x)) late_here.0 isnt in
+      let below : value_cmp k (key x) ≡ Less = Less-from_le (value_cmp k (key x)) late_here.0 isnt in
       let none = find-none_above k (x ∷ drop (suc i) items) (least-after key k x (drop (suc i) items) (subst (IsInOrder key) cut (in_order-drop key i items sorted)) below) in
       sym (find-early k i items early ∙ ap (find (is_key k)) cut ∙ none)
 

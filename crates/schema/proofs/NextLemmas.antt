@@ -14,13 +14,14 @@ use Rattle.std.proofs.lemmas.List.Folds.{find-append}
 use Rattle.value.specs.Order.{value_cmp, value_cmp-exact}
 use Rattle.value.specs.declared.key.Key.{Key}
 use Rattle.value.specs.declared.value.Value.{Value}
+use Rattle.value.proofs.Basics.{Greater-from_le, slice_get-drop, slice_get-none}
 use Rattle.schema.specs.declared.row.Row.{Row}
 use Rattle.schema.specs.declared.reader.Bound.{Bound}
 use Rattle.schema.specs.Paged.{row_key, joined, is_before}
 use Rattle.schema.specs.Pages.{IsLeast, IsBehind}
 use Rattle.schema.specs.Plain.{same, changed}
 use Rattle.schema.specs.Rows.{Rows, is_within, next_row, row_of, put_row, IsInKeyOrder}
-use Rattle.schema.proofs.PageLemmas.{greater, least-trans, slice_get-drop, slice_get-none}
+use Rattle.schema.proofs.PageLemmas.{least-trans}
 use Rattle.schema.proofs.PagedLemmas.{pages_before}
 use Rattle.schema.proofs.FindLemmas.{find-none_above}
 use Rattle.schema.proofs.PutLemmas.{gone-none}
@@ -126,7 +127,7 @@ module _ {A : Type 0} where
   count-behind row (r ∷ rs) behind =
       let e : length (put_row rs row) ≡ length rs + 1 = count-behind row rs behind.1 in
       let f : length (r ∷ put_row rs row) ≡ length (r ∷ rs) + 1 = omega (arith, e) in
-      rw (greater (value_cmp row.0 r.0) behind.0) f
+      rw (Greater-from_le (value_cmp row.0 r.0) behind.0) f
 
   gone_count : (k : Value A) (rows : Rows A) → is_some (row_of rows k) ≡ true → IsInKeyOrder rows → length (changed k None rows) + 1 ≡ length rows
   unfolding IsStrictlySortedBy

@@ -1,14 +1,12 @@
 -- What has keys, in key order: where a bound stands among it.
-use Rattle.std.proofs.Common.{suc, zero, ◌≡◌, refl, sym, ap, subst, ◌∙◌, ℕ, ◌+◌, ◌-◌, ◌<◌, ◌≤◌, Bool, true, false, true≢false, not, ◌&&◌, List, [], ◌∷◌, ◌++◌, take, drop, length, Some, None, get_or, arith, Bor}
+use Rattle.std.proofs.Common.{suc, zero, ◌≡◌, refl, sym, ap, subst, ◌∙◌, ℕ, ◌-◌, ◌<◌, ◌≤◌, Bool, true, false, true≢false, not, ◌&&◌, List, [], ◌∷◌, take, drop, length, Some, None, get_or, arith, Bor}
+use Rattle.std.proofs.lemmas.Option.{slice_get_within}
+use Rattle.std.proofs.Math.Bool.{and-true}
 use Rattle.std.specs.Prelude.{slice_get}
 use Rattle.std.specs.List.{AllByRecursion}
 use Rattle.std.specs.List.Sorted.{IsStrictlySortedBy, IsPartitionedBy, IsPartitionPoint}
-use Rattle.std.specs.Option.{option_map_or}
-use Rattle.std.specs.Ordering.{is_eq, is_le}
-use Rattle.std.specs.declared.cmp.Ordering.{Ordering}
-use Rattle.std.specs.declared.cmp.Ordering.TheVariants.{Less, Equal, Greater}
-use Rattle.std.proofs.lemmas.List.{take_more, drop_more}
-use Rattle.std.proofs.lemmas.Bool.{not-true}
+use Rattle.std.specs.declared.cmp.Ordering.TheVariants.{Less, Equal}
+use Rattle.std.proofs.lemmas.Bool.{not-true, not-false}
 use Rattle.value.specs.Order.{value_cmp, value_cmp-total, value_cmp-exact}
 use Rattle.value.specs.declared.key.Key.{Key}
 use Rattle.value.specs.declared.value.Value.{Value}
@@ -33,63 +31,6 @@ partitioned-pairwise {X} p R step (x ∷ xs) pairs = go (partitioned-pairwise p 
     go rest zero (suc j) d le lt passes = step x (get_or xs j d) (all-at (R x) xs j d (omega arith) pairs.0) passes
     go rest (suc i) zero d le lt passes = absurd (omega arith)
     go rest (suc i) (suc j) d le lt passes = rest i j d (omega arith) (omega arith) passes
-
-not-false : (b : Bool) → not b ≡ false → b ≡ true
-not-false true e = refl
-not-false false e = sym e
-
-pub slice_get-drop : {X : Type 0} (xs : List X) (i : ℕ) (x : X) → slice_get xs i ≡ Some x → drop i xs ≡ x ∷ drop (suc i) xs
-slice_get-drop [] i x e = cc
-slice_get-drop (y ∷ ys) zero x e = let same : y ≡ x = cc in ap (λ z. z ∷ ys) same
-slice_get-drop (y ∷ ys) (suc i) x e = slice_get-drop ys i x e
-
-pub slice_get-none : {X : Type 0} (xs : List X) (i : ℕ) → slice_get xs i ≡ None → drop i xs ≡ []
-slice_get-none [] zero e = refl
-slice_get-none [] (suc i) e = refl
-slice_get-none (y ∷ ys) zero e = cc
-slice_get-none (y ∷ ys) (suc i) e = slice_get-none ys i e
-
-pub slice_get-below : {X : Type 0} (xs : List X) (i : ℕ) (x : X) → slice_get xs i ≡ Some x → i < length xs
-slice_get-below [] i x e = cc
-slice_get-below (y ∷ ys) zero x e = omega arith
-slice_get-below (y ∷ ys) (suc i) x e = let lt : i < length ys = slice_get-below ys i x e in omega arith
-
-pub slice_get-item : {X : Type 0} (xs : List X) (i : ℕ) (x : X) → i < length xs → x ≡ get_or xs i x → slice_get xs i ≡ Some x
-slice_get-item [] i x lt is = absurd (omega arith)
-slice_get-item (y ∷ ys) zero x lt is = ap Some (sym is)
-slice_get-item (y ∷ ys) (suc i) x lt is = slice_get-item ys i x (omega arith) is
-
-pub greater : (o : Ordering) → is_le o ≡ false → o ≡ Greater
-greater Less e = cc
-greater Equal e = cc
-greater Greater e = refl
-
-pub less : (o : Ordering) → is_le o ≡ true → is_eq o ≡ false → o ≡ Less
-less Less e f = refl
-less Equal e f = cc
-less Greater e f = cc
-
-pub equal : (o : Ordering) → is_eq o ≡ true → o ≡ Equal
-equal Less e = cc
-equal Equal e = refl
-equal Greater e = cc
-
--- an element of a list, as a read of it gives it
-pub drop-item : {X : Type 0} (xs : List X) (i : ℕ) (x : X) → i < length xs → x ≡ get_or xs i x → drop i xs ≡ x ∷ drop (i + 1) xs
-drop-item xs i x lt is = drop_more xs i x lt ∙ ap (λ y. y ∷ drop (i + 1) xs) (sym is)
-
-pub take-item : {X : Type 0} (xs : List X) (i : ℕ) (x : X) → i < length xs → x ≡ get_or xs i x → take (i + 1) xs ≡ take i xs ++ x ∷ []
-take-item xs i x lt is = take_more xs i x lt ∙ ap (λ y. take i xs ++ y ∷ []) (sym is)
-
--- a test that holds of what stands at a place
-pub below-passed : {X : Type 0} (p : X → Bool) (xs : List X) (i : ℕ) → option_map_or p (slice_get xs i) false ≡ true → i < length xs
-below-passed p [] i e = cc
-below-passed p (y ∷ ys) zero e = omega arith
-below-passed p (y ∷ ys) (suc i) e = let lt : i < length ys = below-passed p ys i e in omega arith
-
-and_true : (b : Bool) → (b && true) ≡ b
-and_true true = refl
-and_true false = refl
 
 pub last_none : {X : Type 0} (xs : List X) → slice_get xs (length xs - 1) ≡ None → xs ≡ []
 last_none [] at = refl
@@ -165,7 +106,7 @@ module _ {A T : Type 0} (key : T → Value A) where
   last-tells : (bound : Bound (Bor (Key A))) (items : List T) (i : ℕ) (x : T) → IsInOrder key items → slice_get items i ≡ Some x → length items ≡ suc i → not (is_within bound (key x)) ≡ is_before key bound items
   unfolding IsStrictlySortedBy
   last-tells bound [] i x sorted at len = cc
-  last-tells bound (y ∷ []) zero x sorted at len = let same : y ≡ x = cc in ap (λ z. not (is_within bound (key z))) (sym same) ∙ sym (and_true (not (is_within bound (key y))))
+  last-tells bound (y ∷ []) zero x sorted at len = let same : y ≡ x = cc in ap (λ z. not (is_within bound (key z))) (sym same) ∙ sym (and-true (not (is_within bound (key y))))
   last-tells bound (y ∷ z ∷ ys) zero x sorted at len = absurd (omega (arith, len))
   last-tells bound (y ∷ ys) (suc i) x sorted at len = go (is_within bound (key y)) refl (last-tells bound ys i x sorted.1 at (omega (arith, len)))
     where
@@ -174,7 +115,7 @@ module _ {A T : Type 0} (key : T → Value A) where
       go true e rest = ap not (later_within bound (key y) (key x) (least-at (key y) ys i x sorted.0 at) e)
 
   pub before-last : (bound : Bound (Bor (Key A))) (items : List T) (x : T) → IsInOrder key items → slice_get items (length items - 1) ≡ Some x → not (is_within bound (key x)) ≡ is_before key bound items
-  before-last bound items x sorted at = let lt = slice_get-below items (length items - 1) x at in last-tells bound items (length items - 1) x sorted at (omega (arith, lt))
+  before-last bound items x sorted at = let lt = slice_get_within items (length items - 1) x at in last-tells bound items (length items - 1) x sorted at (omega (arith, lt))
 
   pub before-none : (bound : Bound (Bor (Key A))) (items : List T) → slice_get items (length items - 1) ≡ None → true ≡ is_before key bound items
   before-none bound items at = ap (is_before key bound) (sym (last_none items at))

@@ -1,5 +1,6 @@
 -- Pages one after another: where a key belongs, and what a change of one page is to all.
 use Rattle.std.proofs.Common.{suc, zero, ◌≡◌, refl, sym, ap, subst, ◌∙◌, ℕ, ◌+◌, ◌-◌, ◌<◌, ◌≤◌, Bool, true, false, true≢false, not, ◌&&◌, List, [], ◌∷◌, ◌++◌, take, drop, length, Some, None, get_or, set, arith, Bor, add-one, append_assoc}
+use Rattle.std.proofs.lemmas.Option.{slice_get_within}
 use Rattle.std.specs.Prelude.{slice_get, Result, Ok, Err, OnOk, OnErr}
 use Rattle.std.specs.List.{AllByRecursion, flat_map}
 use Rattle.std.specs.Option.{option_map_or}
@@ -19,7 +20,7 @@ use Rattle.schema.specs.declared.reader.Bound.TheVariants.{From}
 use Rattle.schema.specs.Pages.{has_items, IsInOrder, IsLeast, IsBehind, is_before, AreLaidOut, IsPlaced}
 use Rattle.schema.specs.Rows.{is_within}
 use Rattle.schema.proofs.RowsInOrder.{later_within}
-use Rattle.schema.proofs.PageLemmas.{Pairwise, partitioned-pairwise, least-trans, slice_get-below, last_none}
+use Rattle.schema.proofs.PageLemmas.{Pairwise, partitioned-pairwise, least-trans, last_none}
 
 -- ---- lists
 
@@ -274,7 +275,7 @@ module _ {A T H : Type 0} (key : T → Value A) (items : H → List T) where
   -- a key behind the last page is behind all
   pub last-behind : (k : Bor (Key A)) (pages : List H) (page : H) → AreLaidOut key items pages → slice_get pages (length pages - 1) ≡ Some page → is_before key (From k) (items page) ≡ true → IsBehind key k.now (joined pages)
   last-behind k pages page laid at early =
-      let lt = slice_get-below pages (length pages - 1) page at in
+      let lt = slice_get_within pages (length pages - 1) page at in
       subst (λ hs. IsBehind key k.now (joined hs)) (take_all (length pages) pages (omega arith)) (place-above k pages (length pages) laid (omega (arith, lt)) (rw at early))
 
   pub none-behind : (k : Value A) (pages : List H) → slice_get pages (length pages - 1) ≡ None → IsBehind key k (joined pages)

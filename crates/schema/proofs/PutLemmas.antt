@@ -1,5 +1,6 @@
 -- Rows in key order: what is put in or taken away, and the next row.
 use Rattle.std.proofs.Common.{suc, zero, ◌≡◌, refl, sym, ap, subst, ◌∙◌, ℕ, ◌+◌, Bool, true, false, not, cond, [], ◌∷◌, ◌++◌, take, drop, Option, Some, None, set, Bor}
+use Rattle.std.proofs.lemmas.Option.{slice_get_within}
 use Rattle.std.specs.Prelude.{slice_get}
 use Rattle.std.specs.List.{AllByRecursion}
 use Rattle.std.specs.List.Sorted.{IsStrictlySortedBy}
@@ -11,13 +12,14 @@ use Rattle.std.proofs.lemmas.List.{set_split, take-append-drop}
 use Rattle.value.specs.Order.{value_cmp, value_cmp-total, value_cmp-exact}
 use Rattle.value.specs.declared.key.Key.{Key}
 use Rattle.value.specs.declared.value.Value.{Value}
+use Rattle.value.proofs.Basics.{Equal-from_eq, Greater-from_le, Less-from_le, slice_get-drop, slice_get-none}
 use Rattle.schema.specs.declared.row.Row.{Row}
 use Rattle.schema.specs.declared.reader.Bound.{Bound}
 use Rattle.schema.specs.Paged.{row_key}
 use Rattle.schema.specs.Pages.{has_items, IsLeast, IsBehind}
 use Rattle.schema.specs.Plain.{same, changed}
 use Rattle.schema.specs.Rows.{Rows, is_within, next_row, put_row, IsInKeyOrder}
-use Rattle.schema.proofs.PageLemmas.{greater, less, equal, least-trans, least-from, least-after, in_order-drop, slice_get-drop, slice_get-none, slice_get-below}
+use Rattle.schema.proofs.PageLemmas.{least-trans, least-from, least-after, in_order-drop}
 use Rattle.schema.proofs.PagedLemmas.{IsLocal, local-parted}
 
 module _ {A : Type 0} where
@@ -67,12 +69,12 @@ module _ {A : Type 0} where
   -- a row whose key is above all of a first run
   pub put-behind : (row : Row A) (xs ys : Rows A) → IsBehind row_key row.0 xs → put_row (xs ++ ys) row ≡ xs ++ put_row ys row
   put-behind row [] ys behind = refl
-  put-behind row (x ∷ xs) ys behind = rw (greater (value_cmp row.0 x.0) behind.0) (ap (λ rest. x ∷ rest) (put-behind row xs ys behind.1))
+  put-behind row (x ∷ xs) ys behind = rw (Greater-from_le (value_cmp row.0 x.0) behind.0) (ap (λ rest. x ∷ rest) (put-behind row xs ys behind.1))
 
   -- above all
   pub put-last : (row : Row A) (xs : Rows A) → IsBehind row_key row.0 xs → put_row xs row ≡ xs ++ row ∷ []
   put-last row [] behind = refl
-  put-last row (x ∷ xs) behind = rw (greater (value_cmp row.0 x.0) behind.0) (ap (λ rest. x ∷ rest) (put-last row xs behind.1))
+  put-last row (x ∷ xs) behind = rw (Greater-from_le (value_cmp row.0 x.0) behind.0) (ap (λ rest. x ∷ rest) (put-last row xs behind.1))
 
   put-first : (row : Row A) (ys : Rows A) → IsLeast row_key row.0 ys → put_row ys row ≡ row ∷ ys
   put-first row [] least = refl
@@ -90,7 +92,7 @@ module _ {A : Type 0} where
 
   pub gone-behind : (k : Value A) (xs ys : Rows A) → IsBehind row_key k xs → changed k None (xs ++ ys) ≡ xs ++ changed k None ys
   gone-behind k [] ys behind = refl
-  gone-behind k (x ∷ xs) ys behind = rw (greater (value_cmp k x.0) behind.0) (ap (λ rest. x ∷ rest) (gone-behind k xs ys behind.1))
+  gone-behind k (x ∷ xs) ys behind = rw (Greater-from_le (value_cmp k x.0) behind.0) (ap (λ rest. x ∷ rest) (gone-behind k xs ys behind.1))
 
   -- rows of greater keys stay
   pub gone-none : (k : Value A) (rows : Rows A) → IsLeast row_key k rows → changed k None rows ≡ rows
@@ -142,13 +144,13 @@ module _ {A : Type 0} where
   -- what stands at a place is the row of a key, or not
   there : (k : Value A) (i : ℕ) (rows : Rows A) (o : Option (Row A)) → slice_get rows i ≡ o → option_map_or (λ r. same k r.0) o false ≡ true → (r : Row A) × (slice_get rows i ≡ Some r) × (value_cmp k r.0 ≡ Equal)
   there k i rows None at is = cc
-  there k i rows (Some r) at is = (r, at, equal (value_cmp k r.0) is)
+  there k i rows (Some r) at is = (r, at, Equal-from_eq (value_cmp k r.0) is)
 
   pub put-over : (row : Row A) (i : ℕ) (rows : Rows A) → IsBehind row_key row.0 (take i rows) → option_map_or (λ r. same row.0 r.0) (slice_get rows i) false ≡ true → set rows i row ≡ put_row rows row
   put-over row i rows early is =
       let found = there row.0 i rows (slice_get rows i) refl is in
       let e : put_row (found.0 ∷ drop (suc i) rows) row ≡ row ∷ drop (suc i) rows = rw found.2 refl in
-      set_split rows i row (slice_get-below rows i found.0 found.1)
+      set_split rows i row (slice_get_within rows i found.0 found.1)
       ∙ sym (local-parted row_key row.0 (λ rs. put_row rs row) i rows (put-local row) early ∙ ap (λ rs. take i rows ++ put_row rs row) (slice_get-drop rows i found.0 found.1) ∙ ap (λ rs. take i rows ++ rs) e)
 
   pub put-new : (row : Row A) (i : ℕ) (rows : Rows A) → IsBehind row_key row.0 (take i rows) → AllByRecursion (λ r. is_le (value_cmp row.0 r.0) ≡ true) (drop i rows) → option_map_or (λ r. same row.0 r.0) (slice_get rows i) false ≡ false
@@ -160,7 +162,7 @@ module _ {A : Type 0} where
       go (Some r) at e =
           let cut = slice_get-drop rows i r at in
           let late_here = subst (AllByRecursion (λ (r : Row A). is_le (value_cmp row.0 r.0) ≡ true)) cut late in
-          let below : value_cmp row.0 r.0 ≡ Less = less (value_cmp row.0 r.0) late_here.0 e in
+          let below : value_cmp row.0 r.0 ≡ Less = Less-from_le (value_cmp row.0 r.0) late_here.0 e in
           let f : put_row (r ∷ drop (suc i) rows) row ≡ row ∷ r ∷ drop (suc i) rows = rw below refl in
           ap (λ rs. take i rows ++ row ∷ rs) cut
           ∙ sym (local-parted row_key row.0 (λ rs. put_row rs row) i rows (put-local row) early ∙ ap (λ rs. take i rows ++ put_row rs row) cut ∙ ap (λ rs. take i rows ++ rs) f)
@@ -182,7 +184,7 @@ module _ {A : Type 0} where
       go (Some r) at e =
           let cut = slice_get-drop rows i r at in
           let late_here = subst (AllByRecursion (λ (r : Row A). is_le (value_cmp k r.0) ≡ true)) cut late in
-          let below : value_cmp k r.0 ≡ Less = less (value_cmp k r.0) late_here.0 e in
+          let below : value_cmp k r.0 ≡ Less = Less-from_le (value_cmp k r.0) late_here.0 e in
           let sorted_here = subst IsInKeyOrder cut (in_order-drop row_key i rows sorted) in
           let least = least-after row_key k r (drop (suc i) rows) sorted_here below in
           sym (local-parted row_key k (changed k None) i rows (gone-local k) early ∙ ap (λ rs. take i rows ++ changed k None rs) cut ∙ ap (λ rs. take i rows ++ rs) (gone-none k (r ∷ drop (suc i) rows) least ∙ sym cut) ∙ take-append-drop i rows)

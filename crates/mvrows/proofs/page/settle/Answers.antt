@@ -1,9 +1,9 @@
 use Rattle.std.proofs.Common.{ap, sym, arith, false, length, ◌<◌, ◌∙◌}
 use Rattle.std.specs.Prelude.{slice_get}
 use Rattle.std.specs.Option.{option_map_or}
+use Rattle.value.proofs.Basics.{below-passed}
 use Rattle.schema.specs.Plain.{same}
 use Rattle.mvrows.specs.Versions.{KeyVersions}
-use Rattle.schema.proofs.PageLemmas.{below-passed}
 use Rattle.mvrows.proofs.SettledPageLemmas.{settle-none, settle-kept, settle-gone}
 use Rattle.mvrows.proofs.page.settle.Goals as goal
 

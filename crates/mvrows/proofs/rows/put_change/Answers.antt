@@ -1,14 +1,14 @@
 use Rattle.std.proofs.Common.{arith, ◌<◌, length, ◌∙◌}
+use Rattle.std.proofs.lemmas.Result.{on_ok_weaker}
 use Rattle.value.proofs.Basics.{all-get}
 use Rattle.mvrows.specs.HeldRows.{AreUndoable, undone_in, AllVersioned}
-use Rattle.mvrows.proofs.PageLemmas.{on_ok}
 use Rattle.mvrows.proofs.HeldLemmas.{held-set, same-set, rows-at, versioned-set}
 use Rattle.mvrows.proofs.rows.put_change.Goals as goal
 
 pub returns-then-place-len-clause-ok : goal.returns-then-place-len-clause-ok
 returns-then-place-len-clause-ok g c =
     let lt : c.place-place.result < length c.args.tables.now.items = omega (arith, c.if-place-len.true, c.len.ensures, c.args.tables.now.ok) in
-    on_ok c.put.result _ _
+    on_ok_weaker c.put.result
     (λ made. held-set c.args.tables.now.items c.place-place.result c.put.new.self c.args.commit c.args.change.now c.index_mut-table.result.now (c.place-place.ensures ∙ c.table.ensures) lt c.index_mut-table.ensures.value made)
     c.put.ensures.ok
 

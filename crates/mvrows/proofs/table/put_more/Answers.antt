@@ -1,16 +1,15 @@
 use Rattle.std.proofs.Common.{ap, sym, subst, ◌∙◌}
+use Rattle.std.proofs.lemmas.Result.{on_ok_weaker, on_err_weaker}
 use Rattle.mvrows.specs.Installing.{put_version}
 use Rattle.mvrows.specs.HeldRows.{AllVersioned}
-use Rattle.mvrows.proofs.PageLemmas.{on_ok}
-use Rattle.mvrows.proofs.LeavesLemmas.{on_err}
 use Rattle.mvrows.proofs.table.put_more.Goals as goal
 
 pub returns-clause-ok : goal.returns-clause-ok
 returns-clause-ok g c =
-    on_ok c.put.result _ _ (λ made. made ∙ ap (put_version c.args.change.now.key (record { number = c.args.commit; fields = c.args.change.now.fields })) c.make_room.ensures.rows) c.put.ensures.ok
+    on_ok_weaker c.put.result (λ made. made ∙ ap (put_version c.args.change.now.key (record { number = c.args.commit; fields = c.args.change.now.fields })) c.make_room.ensures.rows) c.put.ensures.ok
 
 pub returns-clause-err : goal.returns-clause-err
-returns-clause-err g c = on_err c.put.result _ _ (λ same. same ∙ c.make_room.ensures.rows) c.put.ensures.err
+returns-clause-err g c = on_err_weaker c.put.result (λ same. same ∙ c.make_room.ensures.rows) c.put.ensures.err
 
 pub returns-clause-undo : goal.returns-clause-undo
 returns-clause-undo g c = λ versioned undoable.

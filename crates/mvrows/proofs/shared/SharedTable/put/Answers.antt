@@ -1,20 +1,19 @@
 use Rattle.std.proofs.Common.{ap, sym, subst, ◌∙◌}
+use Rattle.std.proofs.lemmas.Result.{on_ok_weaker, on_err_weaker}
 use Rattle.mvrows.specs.Installing.{put_version}
 use Rattle.mvrows.specs.HeldRows.{rows_in, undone_in, AreUndoable, AllVersioned}
-use Rattle.mvrows.proofs.LeavesLemmas.{on_err}
-use Rattle.mvrows.proofs.PageLemmas.{on_ok}
 use Rattle.mvrows.proofs.SharedLemmas.{held-rows, taken-undo, taken-undoable}
 use Rattle.mvrows.proofs.shared.SharedTable.put.Goals as goal
 
 pub returns-clause-ok : goal.returns-clause-ok
 returns-clause-ok g c =
     let same = c.in_ok-table.ensures.rows ∙ sym (held-rows c.self.inside.table) ∙ ap rows_in c.self.view_is in
-    on_ok c.put-put.result _ _ (λ made. made ∙ ap (put_version c.args.change.now.key (record { number = c.args.commit; fields = c.args.change.now.fields })) same) c.put-put.ensures.ok
+    on_ok_weaker c.put-put.result (λ made. made ∙ ap (put_version c.args.change.now.key (record { number = c.args.commit; fields = c.args.change.now.fields })) same) c.put-put.ensures.ok
 
 pub returns-clause-err : goal.returns-clause-err
 returns-clause-err g c =
     let same = c.in_ok-table.ensures.rows ∙ sym (held-rows c.self.inside.table) ∙ ap rows_in c.self.view_is in
-    on_err c.put-put.result _ _ (λ put. put ∙ same) c.put-put.ensures.err
+    on_err_weaker c.put-put.result (λ put. put ∙ same) c.put-put.ensures.err
 
 pub returns-clause-undo : goal.returns-clause-undo
 returns-clause-undo g c = λ versioned undoable.
