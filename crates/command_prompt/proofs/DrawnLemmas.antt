@@ -1,5 +1,5 @@
 -- What is told of a picture.
-use Rattle.std.proofs.Common.{◌≡◌, ◌⊎◌, ℕ, Bool, true, false, List, Result, Ok, Err, IfOk, inl, inr, refl, subst, sym}
+use Rattle.std.proofs.Common.{◌≡◌, ℕ, Bool, true, false, List, Result, Ok, Err, IfOk, inl, inr, refl, subst, sym}
 use Rattle.program.specs.Files.{IsWritten}
 use Rattle.shell.specs.Shells.{Held}
 use Rattle.terminal.specs.declared.attended.Aside.{Aside}

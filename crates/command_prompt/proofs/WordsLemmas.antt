@@ -1,5 +1,5 @@
 -- What was typed at the prompt of session 1.
-use Rattle.std.proofs.Common.{◌≡◌, ◌⊎◌, ℕ, List, [], ◌∷◌, ◌++◌, Option, inl, inr, subst, sym}
+use Rattle.std.proofs.Common.{◌≡◌, ℕ, List, [], ◌∷◌, ◌++◌, Option, inr, subst, sym}
 use Rattle.conversation.specs.Turns.{Turn}
 use Rattle.conversation.specs.Turns.Turn.{Told}
 use Rattle.terminal.specs.Terminals.{At}

@@ -1,5 +1,5 @@
 -- Words that ask for no shell.
-use Rattle.std.proofs.Common.{◌≡◌, ◌⊎◌, ℕ, ◌≤◌, List, Option, Some, None, Result, Ok, Err, IfErr, IfOk, arith, inl, inr, refl, subst}
+use Rattle.std.proofs.Common.{◌≡◌, ◌⊎◌, ℕ, ◌≤◌, List, Option, Result, Ok, Err, IfErr, IfOk, arith, inl, inr, subst}
 use Rattle.clap.specs.Words.{HasKind, IsAmong, Kinds, Text, kind_of}
 use Rattle.clap.specs.declared.error.Error.{Error}
 use Rattle.clap.specs.declared.error.ErrorKind.TheVariants.{DisplayHelp, DisplayVersion, OutOfMemory}

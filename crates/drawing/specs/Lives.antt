@@ -4,7 +4,6 @@ use Rattle.std.specs.List.{find}
 use Rattle.std.specs.Option.{option_map_or}
 use Rattle.value.specs.declared.refusal.Code.{Code}
 use Rattle.value.specs.declared.refusal.Code.TheVariants.{SerializationFailure}
-use Rattle.value.specs.declared.refusal.Refusal.{Refusal}
 use Rattle.statement.specs.declared.reply.Reply.{Reply}
 use Rattle.statement.specs.declared.reply.Reply.TheVariants.{Committed, Refused}
 use Rattle.history.specs.declared.event.Action.{Action}

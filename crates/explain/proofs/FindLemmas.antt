@@ -1,5 +1,5 @@
 -- Walks over lists: the first element that passes.
-use Rattle.std.proofs.Common.{◌≡◌, refl, sym, ap, ◌∙◌, ℕ, ◌-◌, ◌<◌, ◌≤◌, Bool, true, cond, List, ◌∷◌, length, take, drop, get_or, suc, zero, Option, Some, None, arith}
+use Rattle.std.proofs.Common.{◌≡◌, sym, ap, ◌∙◌, ℕ, ◌-◌, ◌<◌, Bool, true, cond, List, ◌∷◌, length, take, drop, get_or, suc, Some, None}
 use Rattle.std.proofs.lemmas.List.Folds.{find-append}
 use Rattle.std.specs.Option.{option_or}
 use Rattle.std.specs.List.{find}

@@ -4,7 +4,6 @@ use Rattle.std.specs.List.{find, list_any}
 use Rattle.value.specs.declared.refusal.Cause.{Cause}
 use Rattle.schema.specs.declared.changes.Change.{Change}
 use Rattle.schema.specs.Plain.{same}
-use Rattle.statement.specs.declared.reply.Reply.{Reply}
 use Rattle.history.specs.declared.event.Action.{Action}
 use Rattle.history.specs.declared.event.Action.TheVariants.{Run, Broken}
 use Rattle.history.specs.declared.event.Record.{Record}

@@ -1,6 +1,5 @@
 -- Lines and events of each session, counted; and the texts of sessions, one after the other.
-use Rattle.std.proofs.Common.{◌≡◌, ◌==◌, refl, sym, ap, subst, ◌∙◌, ℕ, suc, ◌+◌, ◌≤◌, ◌<◌, Bool, cond, get_or, List, [], ◌∷◌, ◌++◌, length, take, Option, Some, None, IfSome, IfNone, arith}
-use Rattle.std.specs.List.{filter}
+use Rattle.std.proofs.Common.{◌≡◌, ◌==◌, refl, sym, ap, ◌∙◌, ℕ, suc, ◌+◌, ◌≤◌, ◌<◌, cond, get_or, List, [], ◌∷◌, ◌++◌, length, take, Option, Some, None, IfSome, IfNone, arith}
 use Rattle.std.proofs.lemmas.List.{length_push}
 use Rattle.std.proofs.lemmas.List.Filters.{length-filter_more}
 use Rattle.history.specs.declared.event.Action.{Action}

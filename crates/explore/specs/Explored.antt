@@ -1,6 +1,6 @@
 -- What is explored: the lines of sessions, in every interleaving, each from the state that one setup has come to.
 -- Source: PostgreSQL's isolation tester (src/test/isolation/README), whose permutations are of its sessions' steps; the setup is done before each.
-use Rattle.std.specs.Prelude.{◌≡◌, ℕ, zero, suc, ◌-◌, ◌==◌, if◌then◌else◌, Option, Some, None, Result, Ok, Err, List, [], ◌∷◌, ◌++◌, length, sum, map}
+use Rattle.std.specs.Prelude.{◌≡◌, ℕ, zero, suc, ◌-◌, ◌==◌, if◌then◌else◌, Option, Some, None, Result, Ok, Err, List, [], ◌∷◌, ◌++◌, length, sum}
 use Rattle.std.specs.List.{filter}
 use Rattle.value.specs.declared.refusal.Refusal.{Refusal}
 use Rattle.history.specs.declared.event.Action.{Action}

@@ -1,5 +1,5 @@
 -- Statements done again, one after the other.
-use Rattle.std.proofs.Common.{◌≡◌, refl, sym, ap, ◌∙◌, subst, ℕ, zero, suc, eqb, slice_get, ◌-◌, ◌≤◌, Bool, true, false, cond, inl, inr, List, [], ◌∷◌, length, map, take, drop, get_or, Option, Some, None, Ok, arith}
+use Rattle.std.proofs.Common.{◌≡◌, refl, sym, ap, ◌∙◌, ℕ, zero, suc, eqb, slice_get, ◌-◌, ◌≤◌, Bool, true, false, cond, inl, inr, List, [], ◌∷◌, length, map, take, drop, get_or, Option, Some, None, Ok, arith}
 use Rattle.std.proofs.lemmas.Bool.{eqb-true, and_parts}
 use Rattle.std.specs.Option.{option_map}
 use Rattle.value.specs.Refusals.{AnswersOrNoMemory}

@@ -5,9 +5,9 @@ use Rattle.std.proofs.lemmas.Option.{same_Some}
 use Rattle.std.specs.List.{AllByRecursion}
 use Rattle.schema.specs.Definition.{Catalog}
 use Rattle.schema.specs.declared.tables.Tables.{Tables}
-use Rattle.orders.specs.Explains.{Trace, Explains, InTurn, InTime, MayFollow, AreApart, Stands, alone, precedes, ended_before}
+use Rattle.orders.specs.Explains.{Trace, Explains, InTurn, InTime, MayFollow, AreApart, Stands, precedes, ended_before}
 use Rattle.orders.specs.Turns.{MayCome}
-use Rattle.orders.specs.Walks.{AllDone, Goes, none_done}
+use Rattle.orders.specs.Walks.{Goes, none_done}
 use Rattle.orders.proofs.PlaceLemmas.{get-set, get-other, get-false, all_at, all_from}
 
 endless : {A : Type 0} (a t : Trace A) → a.end ≡ None → precedes a t ≡ false

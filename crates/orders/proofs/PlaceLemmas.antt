@@ -1,5 +1,5 @@
 -- Places of lists: what is read after a write, and what stands among places.
-use Rattle.std.proofs.Common.{◌≡◌, refl, sym, ap, subst, ℕ, zero, suc, false, inl, inr, List, [], ◌∷◌, length, map, slice_get, slice_set, Option, Some, None}
+use Rattle.std.proofs.Common.{◌≡◌, refl, sym, ap, subst, ℕ, zero, suc, false, inl, inr, List, [], ◌∷◌, map, slice_get, slice_set, Some}
 use Rattle.std.proofs.lemmas.Option.{same_Some}
 use Rattle.std.specs.List.{AllByRecursion}
 use Rattle.orders.specs.Explains.{Stands}

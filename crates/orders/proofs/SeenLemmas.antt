@@ -1,5 +1,5 @@
 -- What is remembered, and tables that are compared.
-use Rattle.std.proofs.Common.{◌≡◌, refl, sym, ap, ◌∙◌, subst, ℕ, zero, suc, ◌<◌, ◌≤◌, Bool, true, false, true≢false, zip, List, [], ◌∷◌, ◌++◌, length, get_or, take, map, slice_get, eqb, Option, Some, None, Bor, arith}
+use Rattle.std.proofs.Common.{◌≡◌, refl, sym, ap, ◌∙◌, subst, ℕ, zero, suc, ◌<◌, Bool, true, false, true≢false, zip, List, [], ◌∷◌, ◌++◌, length, get_or, take, eqb, Bor, arith}
 use Rattle.std.specs.List.{list_all, AllByRecursion}
 use Rattle.std.proofs.lemmas.Bool.{eqb-true, and_parts}
 use Rattle.std.proofs.lemmas.List.{take_all, ext_get_or}

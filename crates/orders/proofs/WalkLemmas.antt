@@ -1,5 +1,5 @@
 -- Steps of a search: what it knows stays true as it goes on, passes over and takes back.
-use Rattle.std.proofs.Common.{◌≡◌, ◌⊎◌, refl, sym, ap, ◌∙◌, subst, ℕ, zero, suc, ◌+◌, ◌-◌, ◌^◌, ◌<◌, ◌≤◌, min, Bool, true, false, true≢false, ◌&&◌, ◌||◌, not, cond, zip, replicate, inl, inr, List, [], ◌∷◌, ◌++◌, map, length, slice_get, slice_set, Option, Some, None, is_some, arith}
+use Rattle.std.proofs.Common.{◌≡◌, ◌⊎◌, refl, sym, ap, ◌∙◌, subst, ℕ, zero, suc, ◌+◌, ◌-◌, ◌<◌, ◌≤◌, Bool, true, false, true≢false, ◌&&◌, ◌||◌, not, cond, zip, replicate, inl, inr, List, [], ◌∷◌, ◌++◌, map, length, slice_get, slice_set, Option, Some, None, is_some, arith}
 use Rattle.std.proofs.lemmas.Bool.{and_parts, not-true, cases_eq, cases_lt}
 use Rattle.std.specs.List.{list_all}
 use Rattle.std.proofs.lemmas.List.{length-replicate}
@@ -16,11 +16,9 @@ use Rattle.statement.proofs.LawsLemmas.{sound_after}
 use Rattle.orders.specs.Explains.{Trace, precedes, Explains, Unexplained, agrees, alone, are_fit, all_fit}
 use Rattle.orders.specs.Turns.{MayCome, are_done, comes, comes_so}
 use Rattle.orders.specs.Undone.{HasRun, put_back}
-use Rattle.orders.specs.Walks.{Passing, Standing, AllDone, Goes, IsDead, AreTried, IsTried, Anything, Comes, IsPath, IsWalk, IsStep, CanCome, NoneCan, HasTurned, HasPopped, HasTakenBack, none_done, gone_on, taken_back, behind, places_of}
+use Rattle.orders.specs.Walks.{Passing, Standing, AllDone, Goes, IsDead, AreTried, IsTried, Anything, Comes, IsPath, IsWalk, IsStep, CanCome, NoneCan, HasTurned, HasPopped, HasTakenBack, none_done, taken_back, behind, places_of}
 use Rattle.orders.specs.Found.{HasGone, progress_of}
-use Rattle.orders.specs.declared.search.Progress.{Progress}
-use Rattle.orders.specs.declared.search.Progress.TheVariants.{More, Found, Exhausted}
-use Rattle.orders.proofs.PlaceLemmas.{get-set, set-back}
+use Rattle.orders.proofs.PlaceLemmas.{set-back}
 use Rattle.orders.proofs.OrderLemmas.{explained-goes, goes-explained}
 
 within-behind : (k i : ℕ) → k < behind i → (k ≡ i → ⊥) → k < i

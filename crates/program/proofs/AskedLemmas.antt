@@ -1,5 +1,5 @@
 -- What arguments give.
-use Rattle.std.proofs.Common.{◌≡◌, ◌⊎◌, ◌^◌, ◌<◌, ◌≤◌, ℕ, Bool, true, false, List, [], ◌∷◌, Option, Some, None, Result, codes, map, inl, inr, refl, sym, ap, subst, unwrap_or, ◌∙◌, arith, true≢false, if◌then◌else◌, Bor, is_some, option_map, length, ◌==◌}
+use Rattle.std.proofs.Common.{◌≡◌, ◌⊎◌, ◌^◌, ◌<◌, ◌≤◌, ℕ, Bool, true, false, List, [], ◌∷◌, Option, Some, None, Result, map, inl, inr, refl, sym, ap, subst, unwrap_or, ◌∙◌, arith, true≢false, if◌then◌else◌, Bor, is_some, option_map, length, ◌==◌}
 use Rattle.std.specs.Str.Parse.{ParsesUnsigned}
 use Rattle.clap.specs.Kinds.{or_else}
 use Rattle.clap.specs.Words.{HasKind, Kinds, ReadsOne, Row, Text, fault_of, kind_of, subcommand_of}

@@ -1,5 +1,5 @@
 -- Writers that are written to after they have failed.
-use Rattle.std.proofs.Common.{◌≡◌, ℕ, List, Option, Some, None, ◌++◌, ◌∙◌, refl, ap}
+use Rattle.std.proofs.Common.{ℕ, List, Option, Some, None, ◌++◌, ◌∙◌, refl, ap}
 use Rattle.std.specs.Io.KnownBytes.{Appends, Keeps}
 
 -- what was kept stays as it was

@@ -1,8 +1,7 @@
 -- What the records of a history tell of all its transactions.
-use Rattle.std.specs.Prelude.{ℕ, zero, suc, ◌+◌, ◌==◌, Bool, true, false, ◌&&◌, if◌then◌else◌, Option, Some, None, List, [], ◌∷◌, ◌++◌, length, position}
+use Rattle.std.specs.Prelude.{ℕ, zero, suc, ◌+◌, ◌==◌, Bool, false, if◌then◌else◌, Option, Some, None, List, [], ◌∷◌, ◌++◌, length, position}
 use Rattle.std.specs.List.{find}
 use Rattle.std.specs.Option.{option_map_or}
-use Rattle.value.specs.declared.refusal.Mode.{Mode}
 use Rattle.schema.specs.Definition.{Catalog}
 use Rattle.schema.specs.declared.tables.Tables.{Tables}
 use Rattle.schema.specs.Plain.{put_all}

@@ -4,7 +4,6 @@ use Rattle.statement.specs.declared.reply.Reply.{Reply}
 use Rattle.statement.specs.declared.statement.Statement.{Statement}
 use Rattle.history.specs.declared.event.Action.{Action}
 use Rattle.history.specs.declared.event.Action.TheVariants.{Run}
-use Rattle.history.specs.declared.event.Record.{Record}
 use Rattle.pass.specs.Knowing.{Known}
 use Rattle.server.specs.Calls.{IsCall}
 

@@ -1,5 +1,5 @@
 -- Tables without rows are sound.
-use Rattle.std.proofs.Common.{◌≡◌, true, List, [], ◌∷◌, map, refl}
+use Rattle.std.proofs.Common.{◌≡◌, true, [], ◌∷◌, map, refl}
 use Rattle.schema.specs.Definition.{Catalog}
 use Rattle.schema.specs.declared.tables.Tables.{Tables}
 use Rattle.schema.specs.Inserting.{empty_tables}

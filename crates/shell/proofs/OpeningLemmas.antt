@@ -1,5 +1,5 @@
 -- What a shell does with a line before its server runs.
-use Rattle.std.proofs.Common.{◌≡◌, ℕ, ◌==◌, Bool, true, false, length, List, Option, is_some, Result, Ok, Err, IfOk, subst}
+use Rattle.std.proofs.Common.{◌≡◌, ℕ, ◌==◌, Bool, false, length, List, is_some, Result, Ok, Err, IfOk, subst}
 use Rattle.schema.specs.Definition.{Catalog}
 use Rattle.script.specs.Scripts.{Said}
 use Rattle.script.specs.declared.script.Line.{Line}

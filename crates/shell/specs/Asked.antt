@@ -1,12 +1,10 @@
 -- What a line asks for that a shell alone doesn't do, and the tables that it tells.
 use Rattle.std.specs.Prelude.{◌≡◌, ℕ, Option, Some, None, Result, Ok, Err, List, [], ◌∷◌, ◌++◌, length, codes, drop}
 use Rattle.std.specs.Fmt.{decimal}
-use Rattle.value.specs.declared.text.Text.{Text}
 use Rattle.schema.specs.Definition.{Catalog}
 use Rattle.dumpplan.specs.Parts.{head_text}
 use Rattle.history.specs.Opening.{Recorded}
 use Rattle.script.specs.Scripts.{Said, said}
-use Rattle.script.specs.declared.command.Command.{Command}
 use Rattle.script.specs.declared.command.Command.TheVariants.{Ask, Wait, Dump}
 use Rattle.script.specs.declared.script.Step.{Step}
 use Rattle.script.specs.declared.script.Step.TheVariants.{Session, Checkpoint}

@@ -10,14 +10,11 @@ use Rattle.session.specs.Core.{IsCheckpoint}
 use Rattle.asking.specs.Asking.{Tells}
 use Rattle.script.specs.Telling.{is_printable}
 use Rattle.script.specs.Scripts.{Said, is_passed_over, said}
-use Rattle.script.specs.declared.command.Command.{Command}
 use Rattle.script.specs.declared.command.Command.TheVariants.{Ask, Wait, Dump}
 use Rattle.script.specs.declared.script.Step.{Step}
 use Rattle.script.specs.declared.script.Step.TheVariants.{Session, Checkpoint}
 use Rattle.script.specs.declared.script.Line.{Line}
 use Rattle.script.specs.declared.schedule.Schedule.TheVariants.{InOrder}
-use Rattle.session.specs.Core.{from_opening}
-use Rattle.history.specs.Answer.{checkpoint_answer}
 
 -- a line with its newline
 abbrev pub ended : List ℕ → List ℕ

@@ -1,9 +1,8 @@
 -- What tests need: how many tables there are, and which commit is next.
-use Rattle.std.proofs.Common.{◌≡◌, refl, ℕ, ◌+◌, ◌<◌, List, [], ◌∷◌, length, arith}
+use Rattle.std.proofs.Common.{ℕ, ◌+◌, ◌<◌, List, [], ◌∷◌, arith}
 use Rattle.schema.specs.declared.changes.Change.{Change}
-use Rattle.schema.specs.declared.tables.Tables.{Tables}
 use Rattle.mvrows.specs.Versions.{Version, VersionedRows, AreBelow, RowsAreBelow, TablesAreBelow}
-use Rattle.mvrows.specs.Installing.{opened, installed}
+use Rattle.mvrows.specs.Installing.{installed}
 use Rattle.mvrows.proofs.VersionLemmas.{installed-below}
 
 module _ {A : Type 0} where

@@ -1,5 +1,5 @@
 -- Lines of a file that were typed, one after the other.
-use Rattle.std.proofs.Common.{◌≡◌, ◌∙◌, ◌+◌, ◌<◌, ℕ, List, [], ◌∷◌, ◌++◌, Option, get_or, length, map, take, ap, append_assoc, refl, subst, sym}
+use Rattle.std.proofs.Common.{◌≡◌, ◌∙◌, ◌+◌, ◌<◌, ℕ, List, [], ◌∷◌, ◌++◌, get_or, length, map, take, ap, append_assoc, refl, subst, sym}
 use Rattle.std.proofs.lemmas.List.{append-nil, map-append, take_more}
 use Rattle.shell.specs.Shells.{Held}
 use Rattle.terminal.specs.Terminals.{At, Plays, PlaysUnless}

@@ -1,5 +1,5 @@
 -- The lines of an answer, but the first and the last.
-use Rattle.std.proofs.Common.{◌≡◌, ◌∙◌, ◌-◌, ℕ, List, [], ◌∷◌, map, drop, take, length, ap, refl, sym}
+use Rattle.std.proofs.Common.{◌≡◌, ◌∙◌, ◌-◌, List, [], ◌∷◌, map, drop, take, length, ap, refl, sym}
 use Rattle.std.proofs.lemmas.List.{drop-map, length-map, take-map}
 
 map-twice : {X Y Z : Type 0} (v : X → Y) (f : Y → Z) (xs : List X) → map f (map v xs) ≡ map (λ x. f (v x)) xs

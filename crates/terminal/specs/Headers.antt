@@ -1,5 +1,5 @@
 -- The names of the columns that a SELECT shows.
-use Rattle.std.specs.Prelude.{◌≡◌, ℕ, Option, Some, None, Result, Ok, Err, List, [], ◌∷◌, ◌++◌, codes, drop, slice_get}
+use Rattle.std.specs.Prelude.{ℕ, Option, Some, None, Result, Ok, Err, List, [], ◌∷◌, codes, drop, slice_get}
 use Rattle.std.specs.List.{flat_map}
 use Rattle.schema.specs.Definition.{Catalog, Column, TableSchema}
 use Rattle.statement.specs.declared.statement.Projection.{Projection}

@@ -3,12 +3,10 @@ use Rattle.std.proofs.Common.{◌≡◌, refl, sym, ap, subst, ◌∙◌, ℕ, z
 use Rattle.std.proofs.lemmas.Cmp.{tied_itself}
 use Rattle.std.proofs.lemmas.Bool.{eqb-true, and_parts}
 use Rattle.std.proofs.lemmas.List.Sorted.{searchable_from_sorted}
-use Rattle.std.specs.List.{AllByRecursion, list_any}
 use Rattle.std.specs.List.Sorted.{IsBinarySearchResult, IsSearchInRange, IsStrictlySortedBy}
 use Rattle.std.specs.Ordering.{is_eq, is_lt, ordering_reverse}
 use Rattle.std.specs.declared.cmp.Ordering.{Ordering}
 use Rattle.std.specs.declared.cmp.Ordering.TheVariants.{Less, Equal, Greater}
-use Rattle.value.specs.declared.value.Value.{Value}
 use Rattle.value.specs.Order.{value_cmp-total}
 use Rattle.value.proofs.Basics.{eqb-self, Less-from_lt}
 use Rattle.schema.specs.declared.changes.Change.{Change}
@@ -16,7 +14,7 @@ use Rattle.schema.specs.Changing.{change_cmp}
 use Rattle.schema.specs.Plain.{same}
 use Rattle.schema.proofs.PlainLemmas.{same_value}
 use Rattle.transactions.specs.Merged.{AreMerged, is_changed}
-use Rattle.transactions.proofs.MergedLemmas.{AreAbove, above_too, change_cmp-total, is_at, same_order, same_place}
+use Rattle.transactions.proofs.MergedLemmas.{above_too, change_cmp-total, is_at, same_order, same_place}
 
 less_not_equal : Less ≡ Equal → ⊥
 less_not_equal e = cc

@@ -4,7 +4,7 @@ use Rattle.std.proofs.Math.Bool.{and-false}
 use Rattle.std.specs.List.{AllByRecursion, filter, find, list_any}
 use Rattle.std.specs.Option.{option_map, option_or}
 use Rattle.std.proofs.lemmas.Bool.Decides.{nat_tests}
-use Rattle.std.proofs.lemmas.List.{drop-append-le, drop-drop, drop-map, get_or-drop, length-append, length-drop, length-map, length-take, map-append, take_more, take-append-drop, take-append-le, take-map}
+use Rattle.std.proofs.lemmas.List.{drop-append-le, drop-drop, drop-map, get_or-drop, length-append, length-drop, length-map, length-take, take_more, take-append-drop, take-append-le, take-map}
 use Rattle.std.proofs.Math.Seq.{take-append_seam, take-add}
 use Rattle.std.proofs.lemmas.Bool.{or_parts, le-ltb}
 use Rattle.std.proofs.lemmas.List.Elements.{filter-append}
@@ -12,7 +12,7 @@ use Rattle.std.proofs.lemmas.List.Folds.{find-append, list_any-append}
 use Rattle.std.proofs.lemmas.List.Sums.{fold-append}
 use Rattle.value.specs.declared.refusal.Cause.{Cause}
 use Rattle.history.specs.Events.{doomed_by, doomed_with}
-use Rattle.value.specs.Isolation.{doom_of, dooms, first_part, is_doomed, is_first, is_live, with_doom}
+use Rattle.value.specs.Isolation.{first_part, is_doomed, is_first, is_live, with_doom}
 use Rattle.value.proofs.Basics.{all-weaker, all-append, lt-eqb, take_next}
 use Rattle.history.specs.Transactions.{Standing, Open, Doomed, Failed, Aborted, Done, Txn, edge, is_done, is_of, is_open, is_owed, node, reads_from}
 use Rattle.history.specs.Answer.{is_taken}

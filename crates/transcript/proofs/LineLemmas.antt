@@ -1,5 +1,5 @@
 -- A text's lines, counted and cut off one by one.
-use Rattle.std.proofs.Common.{◌≡◌, ℕ, ◌+◌, ◌<◌, ◌==◌, ◌∙◌, List, [], ◌∷◌, ◌++◌, length, Option, Some, None, sym, ap, refl, append_assoc, arith}
+use Rattle.std.proofs.Common.{◌≡◌, ℕ, ◌+◌, ◌<◌, ◌==◌, ◌∙◌, List, [], ◌∷◌, ◌++◌, length, Some, None, sym, ap, refl, append_assoc, arith}
 use Rattle.std.specs.List.{flat_map, slice_split}
 use Rattle.std.proofs.lemmas.Grind.{common_steps}
 use Rattle.std.proofs.lemmas.List.{append-nil}

@@ -1,5 +1,5 @@
 -- The lines of a transcript (this project's own format).
-use Rattle.std.specs.Prelude.{◌≡◌, ℕ, ◌≤◌, ◌==◌, Bool, ◌&&◌, ◌||◌, if◌then◌else◌, Option, Some, None, List, length, take, drop, codes}
+use Rattle.std.specs.Prelude.{ℕ, ◌≤◌, ◌==◌, ◌||◌, if◌then◌else◌, Option, Some, None, List, length, take, drop, codes}
 use Rattle.std.specs.List.{slice_split}
 use Rattle.std.specs.Str.{bytes_eq, is_utf8}
 use Rattle.transcript.specs.declared.lines.LineKind.{LineKind}

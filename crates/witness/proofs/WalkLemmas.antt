@@ -1,11 +1,10 @@
 -- Walks over what was read and written.
-use Rattle.std.proofs.Common.{◌≡◌, refl, sym, ap, ◌∙◌, ℕ, ◌+◌, ◌-◌, ◌<◌, ◌≤◌, Bool, true, false, cond, not, ◌&&◌, ◌||◌, List, [], ◌∷◌, length, take, drop, get_or, suc, zero, Option, Some, None, eqb, arith}
+use Rattle.std.proofs.Common.{◌≡◌, refl, sym, ap, ◌∙◌, ℕ, ◌+◌, ◌-◌, ◌<◌, ◌≤◌, Bool, true, false, cond, not, ◌&&◌, ◌||◌, List, [], ◌∷◌, length, take, drop, get_or, suc, zero, Some, None, eqb, arith}
 use Rattle.std.proofs.lemmas.List.Folds.{find-append}
 use Rattle.std.proofs.lemmas.List.Sums.{fold_push}
 use Rattle.std.specs.Prelude.{slice_index_or}
 use Rattle.std.specs.Option.{option_or}
 use Rattle.std.specs.List.{find, fold, list_any}
-use Rattle.value.specs.declared.value.Value.{Value}
 use Rattle.value.proofs.Basics.{split_at, any-same, take_next, first_and_rest}
 use Rattle.schema.specs.declared.changes.Change.{Change}
 use Rattle.statement.specs.declared.reading.Extent.{Extent}

@@ -1,6 +1,6 @@
 -- Conflicts between two transactions by what they did so far, and what shows them.
 -- Ports and Grittner, "Serializable Snapshot Isolation in PostgreSQL" (VLDB 2012), section 3.1.
-use Rattle.std.specs.Prelude.{ℕ, nat_lt, ◌==◌, Bool, not, ◌&&◌, ◌||◌, if◌then◌else◌, Option, Some, None, List}
+use Rattle.std.specs.Prelude.{nat_lt, ◌==◌, Bool, not, ◌&&◌, ◌||◌, if◌then◌else◌, Option, Some, None}
 use Rattle.std.specs.List.{find}
 use Rattle.std.specs.Option.{option_map}
 use Rattle.witness.specs.declared.trace.Moment.{Moment}

@@ -4,9 +4,8 @@ use Rattle.std.specs.List.{fold, list_any}
 use Rattle.std.specs.Ordering.{is_lt, is_gt, is_le, is_ge}
 use Rattle.value.specs.declared.value.Value.{Value}
 use Rattle.value.specs.Order.{value_cmp}
-use Rattle.schema.specs.Plain.{same}
 use Rattle.statement.specs.declared.reading.Extent.{Extent}
-use Rattle.statement.specs.declared.reading.Extent.TheVariants.{Whole, One, Range, Referencing}
+use Rattle.statement.specs.declared.reading.Extent.TheVariants.{Whole, One}
 use Rattle.statement.specs.declared.reading.Reading.{Reading}
 use Rattle.statement.specs.Cover.{distinct, extents_in, has_key, has_many_keys, has_reference, keys_of, same_extent}
 use Rattle.witness.specs.declared.item.Item.{Item}

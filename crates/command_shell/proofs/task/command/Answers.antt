@@ -1,5 +1,5 @@
-use Rattle.std.proofs.Common.{◌≡◌, ◌∙◌, ap, ap₂, codes, true}
-use Rattle.clap.specs.Words.{App, app_of, new_app, with_rule}
+use Rattle.std.proofs.Common.{◌≡◌, ◌∙◌, ap, ap₂, true}
+use Rattle.clap.specs.Words.{App, app_of, with_rule}
 use Rattle.command_shell.specs.Words.{alone}
 use Rattle.command_shell.proofs.task.command.Goals as goal
 

@@ -1,4 +1,4 @@
-use Rattle.std.proofs.Common.{subst, map}
+use Rattle.std.proofs.Common.{subst}
 use Rattle.std.specs.Option.{option_map}
 use Rattle.command_shell.specs.Words.{Asks}
 use Rattle.command_shell.proofs.task.read_words.Goals as goal

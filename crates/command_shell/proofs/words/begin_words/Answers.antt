@@ -1,4 +1,4 @@
-use Rattle.std.proofs.Common.{◌≡◌, inl, inr, map}
+use Rattle.std.proofs.Common.{inl, inr, map}
 use Rattle.std.specs.Option.{option_map}
 use Rattle.clap.specs.Words.{fault_of, kind_of}
 use Rattle.program.proofs.EndLemmas.{among}

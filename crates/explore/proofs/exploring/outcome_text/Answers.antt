@@ -1,4 +1,4 @@
-use Rattle.std.proofs.Common.{◌≡◌, ◌++◌, [], ap, sym, ◌∙◌, List, ℕ}
+use Rattle.std.proofs.Common.{◌++◌, ap, ◌∙◌, List, ℕ}
 use Rattle.explore.specs.Texts.{outcome_text, replies_of, state_text}
 use Rattle.explore.proofs.exploring.outcome_text.Goals as goal
 

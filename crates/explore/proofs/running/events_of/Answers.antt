@@ -1,4 +1,4 @@
-use Rattle.std.proofs.Common.{ap, sym, ◌∙◌, ◌+◌, arith}
+use Rattle.std.proofs.Common.{ap, ◌∙◌, ◌+◌, arith}
 use Rattle.explore.proofs.Counting.{one_more_event}
 use Rattle.explore.proofs.running.events_of.Goals as goal
 

@@ -1,4 +1,4 @@
-use Rattle.std.proofs.Common.{◌≡◌, ◌+◌, sym, ap, ◌∙◌, ◌-◌, length, map, take, drop, arith}
+use Rattle.std.proofs.Common.{ap, ◌∙◌, ◌-◌, arith}
 use Rattle.schema.specs.Plain.{is_sound, put_all}
 use Rattle.orders.proofs.AloneLemmas.{alone-step, first-fits, some-is}
 use Rattle.orders.proofs.alone.first_difference.Goals as goal

@@ -1,4 +1,4 @@
-use Rattle.std.proofs.Common.{◌≡◌, ap}
+use Rattle.std.proofs.Common.{ap}
 use Rattle.statement.specs.Evaluation.{outcome}
 use Rattle.statement.proofs.HeldLemmas.{held_sound}
 use Rattle.orders.proofs.AloneLemmas.{answered-ok}

@@ -1,4 +1,4 @@
-use Rattle.std.proofs.Common.{◌≡◌, sym, ap, ◌∙◌, ◌-◌, length, map, take, drop, arith}
+use Rattle.std.proofs.Common.{sym, ap, ◌∙◌, ◌-◌, length, map, take, drop, arith}
 use Rattle.std.proofs.lemmas.List.{nil_from_length}
 use Rattle.schema.specs.Plain.{is_sound, put_all}
 use Rattle.orders.specs.Explains.{alone}

@@ -1,7 +1,7 @@
 use Rattle.std.proofs.Common.{◌∙◌, sym, ap}
 use Rattle.value.proofs.Basics.{IfOk_then, slice_get_item}
 use Rattle.orders.specs.Turns.{comes}
-use Rattle.orders.proofs.WalkLemmas.{fit-at, path-on}
+use Rattle.orders.proofs.WalkLemmas.{path-on}
 use Rattle.orders.proofs.near.go_next.Goals as goal
 
 pub returns-in-Some-clause-path : goal.returns-in-Some-clause-path

@@ -1,4 +1,4 @@
-use Rattle.std.proofs.Common.{◌∙◌, ap, subst}
+use Rattle.std.proofs.Common.{subst}
 use Rattle.value.proofs.Basics.{IfOk_then}
 use Rattle.orders.specs.Walks.{HasTurned}
 use Rattle.orders.proofs.AloneLemmas.{past-none, read-at}

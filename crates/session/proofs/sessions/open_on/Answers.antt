@@ -1,4 +1,4 @@
-use Rattle.std.proofs.Common.{ap, sym, subst, arith, length, [], ◌≡◌, ◌∙◌, ◌+◌, ◌^◌, ◌<◌, ◌≤◌, IfOk}
+use Rattle.std.proofs.Common.{ap, sym, subst, arith, length, ◌≡◌, ◌∙◌, ◌+◌, ◌^◌, ◌<◌, ◌≤◌, IfOk}
 use Rattle.std.specs.Prelude.{IsTrue}
 use Rattle.schema.specs.Plain.{is_sound}
 use Rattle.schema.proofs.SoundLemmas.{sound_count}

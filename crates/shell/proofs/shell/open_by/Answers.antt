@@ -1,4 +1,3 @@
-use Rattle.std.proofs.Common.{◌≡◌}
 use Rattle.shell.proofs.OpeningLemmas.{both}
 use Rattle.shell.proofs.shell.open_by.Goals as goal
 

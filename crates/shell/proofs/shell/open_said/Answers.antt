@@ -1,4 +1,4 @@
-use Rattle.std.proofs.Common.{◌≡◌, ◌∙◌, ap, sym, is_some}
+use Rattle.std.proofs.Common.{◌∙◌, ap, sym, is_some}
 use Rattle.value.proofs.Basics.{IfOk_then}
 use Rattle.shell.proofs.OpeningLemmas.{opens-by}
 use Rattle.shell.proofs.shell.open_said.Goals as goal

@@ -1,4 +1,4 @@
-use Rattle.std.proofs.Common.{◌≡◌, ◌∙◌, ◌-◌, ap, drop, length, map, take}
+use Rattle.std.proofs.Common.{◌∙◌, ◌-◌, ap, drop, length, map, take}
 use Rattle.std.proofs.lemmas.Result.{IfOk-weaker}
 use Rattle.terminal.proofs.RowLemmas.{inner-map}
 use Rattle.terminal.proofs.drawing.rows_in.Goals as goal

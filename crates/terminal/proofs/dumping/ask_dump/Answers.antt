@@ -1,4 +1,4 @@
-use Rattle.std.proofs.Common.{ap, subst, ◌∙◌, ◌++◌, codes, IfOk}
+use Rattle.std.proofs.Common.{ap, subst, ◌∙◌, IfOk}
 use Rattle.terminal.specs.Terminals as spec
 use Rattle.terminal.specs.Terminals.{AsksPlainly}
 use Rattle.terminal.proofs.dumping.ask_dump.Goals as goal

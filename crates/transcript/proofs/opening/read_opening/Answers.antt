@@ -1,4 +1,4 @@
-use Rattle.std.proofs.Common.{◌≡◌, ◌+◌, arith}
+use Rattle.std.proofs.Common.{arith}
 use Rattle.script.proofs.LineLemmas.{some_part}
 use Rattle.transcript.proofs.LineLemmas.{counted}
 use Rattle.transcript.proofs.opening.read_opening.Goals as goal

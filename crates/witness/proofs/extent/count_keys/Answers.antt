@@ -1,5 +1,5 @@
-use Rattle.std.proofs.Common.{◌∙◌, ap, sym, arith}
-use Rattle.witness.proofs.WalkLemmas.{counted, none_left, passed}
+use Rattle.std.proofs.Common.{◌∙◌, sym, arith}
+use Rattle.witness.proofs.WalkLemmas.{counted, passed}
 use Rattle.witness.proofs.extent.count_keys.Goals as goal
 
 pub loop-left-preserved-then-is_last_of_key : goal.loop-left-preserved-then-is_last_of_key

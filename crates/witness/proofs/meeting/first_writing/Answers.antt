@@ -1,4 +1,4 @@
-use Rattle.std.proofs.Common.{◌∙◌, ap, sym, arith}
+use Rattle.std.proofs.Common.{◌∙◌, sym, arith}
 use Rattle.witness.specs.Edges.{had_written}
 use Rattle.witness.proofs.WalkLemmas.{find_here, find_next}
 use Rattle.witness.proofs.meeting.first_writing.Goals as goal

@@ -1,7 +1,7 @@
-use Rattle.std.proofs.Common.{◌≡◌, ◌≤◌, ◌<◌, ◌^◌, IfSome, IfNone, ap, sym, subst, ◌∙◌, List, ℕ, length}
+use Rattle.std.proofs.Common.{◌≡◌, ◌≤◌, ◌<◌, ◌^◌, IfSome, IfNone, ap, subst, ◌∙◌, List, ℕ, length}
 use Rattle.interleave.specs.Interleavings.{interleavings}
-use Rattle.explore.specs.Explored.{Explored, line_counts, schedules, sessions}
-use Rattle.explore.proofs.Counting.{if_some, if_none}
+use Rattle.explore.specs.Explored.{line_counts, schedules, sessions}
+use Rattle.explore.proofs.Counting.{if_some}
 use Rattle.explore.proofs.plan.Plan.schedules.Goals as goal
 
 pub returns-clause-some : goal.returns-clause-some

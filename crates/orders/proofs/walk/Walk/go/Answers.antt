@@ -1,4 +1,4 @@
-use Rattle.std.proofs.Common.{◌∙◌, sym, ap, subst, Some, None}
+use Rattle.std.proofs.Common.{subst}
 use Rattle.std.specs.Option.{option_map}
 use Rattle.orders.specs.Undone.{HasRun}
 use Rattle.orders.proofs.WalkLemmas.{gone-so, stayed-so}

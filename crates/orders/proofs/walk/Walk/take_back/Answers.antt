@@ -1,4 +1,4 @@
-use Rattle.std.proofs.Common.{subst, Some, None}
+use Rattle.std.proofs.Common.{subst}
 use Rattle.orders.specs.Walks.{HasPopped}
 use Rattle.orders.proofs.WalkLemmas.{popped-back, popped-none}
 use Rattle.orders.proofs.walk.Walk.take_back.Goals as goal

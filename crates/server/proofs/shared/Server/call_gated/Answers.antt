@@ -1,4 +1,4 @@
-use Rattle.std.proofs.Common.{◌≡◌, ◌∙◌, true, refl, ap, subst, inl, inr}
+use Rattle.std.proofs.Common.{◌∙◌, refl, ap, subst, inl, inr}
 use Rattle.statement.specs.declared.reply.Reply.TheVariants.{Refused}
 use Rattle.schema.specs.Definition.{Catalog}
 use Rattle.history.specs.Answer.{Allowed}

@@ -1,4 +1,4 @@
-use Rattle.std.proofs.Common.{ap, sym, subst, ◌++◌, ◌∙◌}
+use Rattle.std.proofs.Common.{ap, sym, subst, ◌∙◌}
 use Rattle.std.proofs.lemmas.List.{take-append-drop}
 use Rattle.siread.specs.Bounds.{HasFewKeys, HasFewOthers}
 use Rattle.siread.specs.Extents.{IsEachOnce}

@@ -1,4 +1,4 @@
-use Rattle.std.proofs.Common.{◌∙◌, sym, arith, refl}
+use Rattle.std.proofs.Common.{sym, arith}
 use Rattle.std.specs.Prelude.{◌==◌}
 use Rattle.std.proofs.lemmas.List.{get_or_default}
 use Rattle.value.proofs.Basics.{find-next}

@@ -1,4 +1,4 @@
-use Rattle.std.proofs.Common.{ap, subst, sym, ◌∙◌, ◌≡◌, get_or, Some, None}
+use Rattle.std.proofs.Common.{ap, subst, sym, ◌∙◌, ◌≡◌, get_or, Some}
 use Rattle.std.specs.List.{find}
 use Rattle.value.specs.Refusals.{AnswersOrNoMemory}
 use Rattle.history.specs.Transactions.{is_of}

@@ -1,4 +1,4 @@
-use Rattle.std.proofs.Common.{◌≡◌, ◌≤◌, ◌+◌, ◌*◌, ◌^◌, arith}
+use Rattle.std.proofs.Common.{◌≤◌, arith}
 use denote.Param.Send.{sendable}
 use Rattle.std.proofs.Crossing as heap
 use Rattle.std.proofs.CrossingOver as over
