@@ -106,9 +106,9 @@ fn order<'w>(alloc: Global) -> Result<Arg<'w>, AllocError> {
         .conflicts_with("jobs")
 }
 
-// The command.
-fn command<'w>(alloc: Global) -> Result<Command<'w>, AllocError> {
-    let explore = Command::new(alloc, "explore")
+// The command, without what says which schedules are run.
+fn on_script<'w>(alloc: Global) -> Result<Command<'w>, AllocError> {
+    Command::new(alloc, "explore")
         .about(
             "Run every interleaving of the sessions' lines behind a script's setup, or some drawn at random, and count what they come to",
         )
@@ -116,13 +116,17 @@ fn command<'w>(alloc: Global) -> Result<Command<'w>, AllocError> {
         .no_binary_name(true)
         .arg(script(alloc))?
         .arg(setup_events(alloc))?
-        .arg(jobs(alloc))?
+        .arg(jobs(alloc))
+}
+
+// The command.
+fn command<'w>(alloc: Global) -> Result<Command<'w>, AllocError> {
+    on_script(alloc)?
         .arg(most(alloc))?
         .arg(sample(alloc)?)?
         .arg(seed(alloc)?)?
         .arg(orders(alloc))?
-        .arg(order(alloc)?)?;
-    Ok(explore)
+        .arg(order(alloc)?)
 }
 
 // A number of a word, or what stands for it where there is none.

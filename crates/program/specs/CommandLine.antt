@@ -1,8 +1,9 @@
 -- The command line (this project's own choice), in the words of clap: `run SCRIPT [--events N] [--free [--no-check]]`, `audit SCRIPT [--events N]`, `--version` and `restore DUMP [--jobs N] --out FILE`.
-use Rattle.std.specs.Prelude.{◌≢◌, ◌&&◌, Bool, not, true, false, List, [], ◌∷◌, Option, Some, None, pos, codes, if◌then◌else◌}
+use Rattle.std.specs.Prelude.{◌≡◌, ◌≢◌, ◌&&◌, Bool, not, true, false, List, [], ◌∷◌, Option, Some, None, pos, codes, if◌then◌else◌}
 use Rattle.std.specs.Str.{bytes_eq}
 use Rattle.clap.specs.Kinds.{or_else}
-use Rattle.clap.specs.Words.{App, IsAmong, Kinds, Row, Rule, Text, fault_of, first_of, new_app, new_rule, subcommand_of, with_rule, with_subcommand}
+use Rattle.clap.specs.Words.{AddsSubcommand, App, IsAmong, Kinds, Row, Rule, Shape, Text, app_of, fault_of, first_of, new_app, new_rule, subcommand_of, with_rule, with_subcommand}
+use Rattle.clap.specs.declared.builder.command.Command.{Command}
 use Rattle.clap.specs.declared.builder.ArgAction.TheVariants.{Set, SetTrue}
 use Rattle.clap.specs.declared.builder.ValueParser.TheVariants.{Signed}
 use Rattle.clap.specs.declared.error.ErrorKind.{ErrorKind}
@@ -49,6 +50,10 @@ restore = with_rule (with_rule (with_rule (new_app (codes "restore")) dump) jobs
 -- the program: its words come without its name, it has a version, and one of the commands is among the words
 abbrev pub alone : App
 alone = let a = new_app (codes "pgserial") in record a { top = record a.top { has_version = true; no_binary_name = true; subcommand_required = true } }
+
+-- a command, of such a shape: added to a program it is one of its commands
+abbrev pub IsCommand : Shape → Command → Type 0
+IsCommand s c = (old new : Command) → AddsSubcommand old c new → app_of new ≡ with_subcommand (app_of old) s
 
 abbrev pub pgserial : App
 pgserial = with_subcommand (with_subcommand (with_subcommand alone run.top) (of_script (codes "audit")).top) restore.top

@@ -97,9 +97,9 @@ fn out<'w>(alloc: Global) -> Arg<'w>
         .help("The file that the dump is written to again")
 }
 
-// The program, with its commands.
-fn pgserial<'w>(alloc: Global, other_commands: &'w str) -> Result<Command<'w>, AllocError>
-    ensures { IfOk result (λ c. app_of c ≡ spec.pgserial) }
+// The command that does a script.
+fn run<'w>(alloc: Global, other_commands: &'w str) -> Result<Command<'w>, AllocError>
+    ensures { IfOk result (λ c. spec.IsCommand spec.run.top c) }
 {
     let run_command = Command::new(alloc, "run")
         .about("Do the session lines of a script, and print each reply")
@@ -108,29 +108,58 @@ fn pgserial<'w>(alloc: Global, other_commands: &'w str) -> Result<Command<'w>, A
         .arg(events(alloc))?
         .arg(free(alloc))?
         .arg(no_check(alloc))?;
-    let audit_command = Command::new(alloc, "audit")
+    Ok(run_command)
+}
+
+// The command that audits a script.
+fn audit<'w>(alloc: Global) -> Result<Command<'w>, AllocError>
+    ensures { IfOk result (λ c. spec.IsCommand (spec.of_script (codes "audit")).top c) }
+{
+    let audit = Command::new(alloc, "audit")
         .about(
             "Do a script, then print each committed transaction in the serial order, and whether it is one",
         )
         .arg(script(alloc))?
         .arg(events(alloc))?;
-    let restore_command = Command::new(alloc, "restore")
+    Ok(audit)
+}
+
+// The command that restores a dump.
+fn restore<'w>(alloc: Global) -> Result<Command<'w>, AllocError>
+    ensures { IfOk result (λ c. spec.IsCommand spec.restore.top c) }
+{
+    let restore = Command::new(alloc, "restore")
         .about(
             "Load a dump, write its text to a file, and tell its tables and rows; show how far it is, where standard error is a terminal",
         )
         .arg(dump(alloc))?
         .arg(jobs(alloc))?
         .arg(out(alloc))?;
-    let program = Command::new(alloc, "pgserial")
+    Ok(restore)
+}
+
+// The program, without its commands.
+fn alone<'w>(alloc: Global, other_commands: &'w str) -> Result<Command<'w>, AllocError>
+    ensures { IfOk result (λ c. app_of c ≡ spec.alone) }
+{
+    let alone = Command::new(alloc, "pgserial")
         .about("An in-memory relational server whose transactions are serializable")
         .bin_name("pgserial")?
         .version(VERSION)
         .after_help(other_commands)
         .no_binary_name(true)
-        .subcommand_required(true)
-        .subcommand(run_command)?
-        .subcommand(audit_command)?
-        .subcommand(restore_command)?;
+        .subcommand_required(true);
+    Ok(alone)
+}
+
+// The program, with its commands.
+fn pgserial<'w>(alloc: Global, other_commands: &'w str) -> Result<Command<'w>, AllocError>
+    ensures { IfOk result (λ c. app_of c ≡ spec.pgserial) }
+{
+    let program = alone(alloc, other_commands)?
+        .subcommand(run(alloc, other_commands)?)?
+        .subcommand(audit(alloc)?)?
+        .subcommand(restore(alloc)?)?;
     Ok(program)
 }
 
