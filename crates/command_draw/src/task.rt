@@ -5,7 +5,7 @@ use program::arguments::{events, most_events_of, path_of, script};
 use std::alloc::{AllocError, Global};
 
 /// A script that is drawn, and to what file.
-#[derive(Clone, Copy, Debug, PartialEq, Eq)]
+#[derive(Clone, Copy)]
 pub(crate) struct Task<'w> {
     pub(crate) script: &'w str,
     pub(crate) out: &'w str,

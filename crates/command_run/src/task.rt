@@ -10,7 +10,7 @@ use program::arguments::{events, most_events_of, path_of, script};
 use std::alloc::{AllocError, Global};
 
 /// A script whose run is told, in which manner, and for how many events its history has room.
-#[derive(Clone, Copy, Debug, PartialEq, Eq)]
+#[derive(Clone, Copy)]
 pub(crate) struct Task<'w> {
     pub(crate) script: &'w str,
     pub(crate) manner: Manner,

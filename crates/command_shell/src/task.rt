@@ -15,7 +15,7 @@ use std::alloc::{AllocError, Global};
 const MOST_EVENTS: u32 = 100_000;
 
 /// The dump that a shell begins with, where one is given, and for how many events its history has room.
-#[derive(Clone, Copy, Debug, PartialEq, Eq)]
+#[derive(Clone, Copy)]
 pub(crate) struct Task<'w> {
     pub(crate) dump: Option<&'w str>,
     pub(crate) most_events: u32,

@@ -5,14 +5,14 @@ use std::alloc::{AllocError, Allocator};
 use std::io::{self, Write};
 
 /// A point of a picture.
-#[derive(Clone, Copy, Debug, PartialEq, Eq)]
+#[derive(Clone, Copy)]
 pub(crate) struct Point {
     pub(crate) x: u64,
     pub(crate) y: u64,
 }
 
 /// A curve from one point to another, which is drawn to two others.
-#[derive(Clone, Copy, Debug, PartialEq, Eq)]
+#[derive(Clone, Copy)]
 pub(crate) struct Curve {
     from: Point,
     first: Point,
@@ -21,7 +21,7 @@ pub(crate) struct Curve {
 }
 
 /// A rectangle of a picture that something takes.
-#[derive(Clone, Copy, Debug, PartialEq, Eq)]
+#[derive(Clone, Copy)]
 pub(crate) struct Taken {
     pub(crate) left: u64,
     pub(crate) top: u64,

@@ -17,7 +17,7 @@ use witness::meeting::read_by;
 use witness::trace::Moment;
 
 /// Which of a conflict's transactions are introduced, with their session and the line of their BEGIN.
-#[derive(Clone, Copy, Debug, PartialEq, Eq)]
+#[derive(Clone, Copy, PartialEq, Eq)]
 enum Introduced {
     Both,
     Writer,

@@ -6,7 +6,7 @@ use history::session_id::SessionId;
 use std::marker::Model;
 
 /// A prompt: that of a session, whether it is told how long answers take, and whether the conversation is to end.
-#[derive(Clone, Copy, Debug, PartialEq, Eq)]
+#[derive(Clone, Copy)]
 pub(crate) struct Prompt {
     pub(crate) session: SessionId,
     pub(crate) is_timed: bool,

@@ -3,7 +3,7 @@
 use crate::words::{cut, number};
 
 /// What a reply says, without a SELECT's rows.
-#[derive(Clone, Copy, Debug, PartialEq, Eq)]
+#[derive(Clone, Copy, PartialEq, Eq)]
 pub(crate) enum Said {
     Begun,
     Committed,
