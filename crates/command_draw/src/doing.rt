@@ -67,33 +67,41 @@ impl<A: Allocator + Copy> Done<A> {
     }
 
     // Lets the history go on from where it has come to; where that is refused it stays.
-    fn checkpoint<'p>(self, alloc: A, most_events: u32) -> Result<Done<A>, Fault<'p>> {
-        let Done { core, lines, dumps } = self;
-        match core.checkpoint(alloc, most_events) {
-            Ok(core) => Ok(Done::nothing(alloc, core)),
-            Err((_, refusal)) if refusal.code == Code::OutOfMemory => Err(Fault::Script(0)),
-            Err((core, _)) => Ok(Done { core, lines, dumps }),
+    fn checkpoint<'p>(&mut self, alloc: A, most_events: u32) -> Result<(), Fault<'p>> {
+        match self.core.next(alloc, most_events) {
+            Ok(core) => {
+                *self = Done::nothing(alloc, core);
+                Ok(())
+            }
+            Err(refusal) if refusal.code == Code::OutOfMemory => Err(Fault::Script(0)),
+            Err(_) => Ok(()),
         }
     }
 
-    /// Does a line.
-    pub(crate) fn take<'p>(
-        self,
-        alloc: A,
-        line: &Line<A>,
-        most_events: u32,
-    ) -> Result<Done<A>, Fault<'p>> {
-        let mut done = self;
+    // Does a line.
+    fn take<'p>(&mut self, alloc: A, line: &Line<A>, most_events: u32) -> Result<(), Fault<'p>> {
         match &line.step {
-            Step::Checkpoint => return done.checkpoint(alloc, most_events),
+            Step::Checkpoint => self.checkpoint(alloc, most_events),
             Step::Session(session, Command::Ask(request)) => {
-                done.ask(alloc, line.number, *session, request)?
+                self.ask(alloc, line.number, *session, request)
             }
             Step::Session(session, Command::Wait) => {
-                done.ask(alloc, line.number, *session, &Request::Poll)?
+                self.ask(alloc, line.number, *session, &Request::Poll)
             }
-            Step::Session(session, Command::Dump(_)) => done.dump(alloc, line.number, *session)?,
+            Step::Session(session, Command::Dump(_)) => self.dump(alloc, line.number, *session),
         }
-        Ok(done)
+    }
+
+    /// Does lines, one after the other.
+    pub(crate) fn take_all<'p>(
+        &mut self,
+        alloc: A,
+        lines: &[Line<A>],
+        most_events: u32,
+    ) -> Result<(), Fault<'p>> {
+        for line in lines {
+            self.take(alloc, line, most_events)?;
+        }
+        Ok(())
     }
 }

@@ -98,9 +98,7 @@ fn drawn_text<'p, A: Allocator + Copy, F: Files<A>>(
 ) -> Result<Vec<u8, A>, Fault<'p>> {
     let core = open_core(alloc, files, opens, catalog, task.most_events)?;
     let mut done = Done::nothing(alloc, core);
-    for line in lines {
-        done = done.take(alloc, line, task.most_events)?;
-    }
+    done.take_all(alloc, lines, task.most_events)?;
     match text_of(alloc, text, &done, task.is_dot) {
         Ok(text) => Ok(text),
         Err(_) => Err(Fault::Script(0)),
