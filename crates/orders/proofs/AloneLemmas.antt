@@ -38,6 +38,17 @@ module _ {A : Type 0} where
       let rest : List T = take (length qs - 1) (drop 1 qs) in
       (and_parts (fits c (show q).0) (are_fit c (map show rest)) (sym (ap (λ (xs : List T). are_fit c (map show xs)) (first_and_rest qs q long first)) ∙ fit)).0
 
+  -- so do the others
+  pub rest-fit : {T : Type 0} (show : T → Statement A × Reply A) (c : Catalog) (qs : List T) (q : T) → 1 ≤ length qs → q ≡ get_or qs 0 q → are_fit c (map show qs) ≡ true → are_fit c (map show (take (length qs - 1) (drop 1 qs))) ≡ true
+  rest-fit {T} show c qs q long first fit =
+      let rest : List T = take (length qs - 1) (drop 1 qs) in
+      (and_parts (fits c (show q).0) (are_fit c (map show rest)) (sym (ap (λ (xs : List T). are_fit c (map show xs)) (first_and_rest qs q long first)) ∙ fit)).1
+
+  -- it leaves sound tables
+  pub redone-sound : (c : Catalog) (q : Statement A × Reply A) (X : Tables A) (xs : List (Change A)) → fits c q.0 ≡ true → is_sound c X ≡ true → Some xs ≡ changes_of c q X → is_sound c (put_all xs X) ≡ true
+  redone-sound c q X xs fit sound e =
+      ap (λ ys. is_sound c (put_all ys X)) (changes-agree (agrees (outcome c q.0 X).reply q.1) xs (outcome c q.0 X).changes e).1 ∙ sound_after c q.0 X fit sound
+
   -- it gets an answer that agrees, and the rest goes on
   pub alone-step : {T : Type 0} (show : T → Statement A × Reply A) (c : Catalog) (qs : List T) (q : T) (X : Tables A) (xs : List (Change A)) → 1 ≤ length qs → q ≡ get_or qs 0 q → are_fit c (map show qs) ≡ true → is_sound c X ≡ true
       → Some xs ≡ changes_of c (show q) X

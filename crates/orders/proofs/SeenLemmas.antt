@@ -1,5 +1,7 @@
 -- What is remembered, and tables that are compared.
 use Rattle.std.proofs.Common.{◌≡◌, refl, sym, ap, ◌∙◌, subst, ℕ, zero, suc, ◌<◌, Bool, true, false, true≢false, zip, List, [], ◌∷◌, ◌++◌, length, get_or, take, eqb, Bor, arith}
+use mathlib.Core.Bool.{beq}
+use Rattle.std.specs.Cmp.Lexicographic.{pointwise}
 use Rattle.std.specs.List.{list_all, AllByRecursion}
 use Rattle.std.proofs.lemmas.Bool.{eqb-true, and_parts}
 use Rattle.std.proofs.lemmas.List.{take_all, ext_get_or}
@@ -13,7 +15,7 @@ use Rattle.schema.specs.Rows.{rows_within}
 use Rattle.schema.specs.Walking.{lent}
 use Rattle.schema.proofs.PlainLemmas.{same_value}
 use Rattle.orders.specs.Explains.{Trace, same_values}
-use Rattle.orders.specs.Seen.{AreDead, Stand, alike, same_row}
+use Rattle.orders.specs.Seen.{AreDead, Stand, same_row}
 use Rattle.orders.specs.Walks.{IsDead}
 
 push-all : {S : Type 0} (P : S → Type 0) (xs : List S) (x : S) → AllByRecursion P xs → P x → AllByRecursion P (xs ++ x ∷ [])
@@ -25,19 +27,19 @@ all-get P [] i x a l e = absurd (omega (arith, l))
 all-get P (y ∷ ys) zero x a l e = subst P (sym e) a.0
 all-get P (y ∷ ys) (suc i) x a l e = all-get P ys i x a.1 (omega (arith, l)) e
 
-alike-same : (a b : Bool) → alike a b ≡ true → a ≡ b
-alike-same true true h = refl
-alike-same true false h = absurd (true≢false (sym h))
-alike-same false true h = absurd (true≢false (sym h))
-alike-same false false h = refl
+beq-same : (a b : Bool) → beq a b ≡ true → a ≡ b
+beq-same true true h = refl
+beq-same true false h = absurd (true≢false (sym h))
+beq-same false true h = absurd (true≢false (sym h))
+beq-same false false h = refl
 
-pub flags-same : (xs ys : List Bool) → length xs ≡ length ys → list_all (λ p. alike p.0 p.1) (zip xs ys) ≡ true → xs ≡ ys
-flags-same [] [] n h = refl
-flags-same [] (y ∷ ys) n h = absurd (omega (arith, n))
-flags-same (x ∷ xs) [] n h = absurd (omega (arith, n))
-flags-same (x ∷ xs) (y ∷ ys) n h =
-    let p = and_parts (alike x y) (list_all (λ p. alike p.0 p.1) (zip xs ys)) h in
-    ap (λ z. z ∷ xs) (alike-same x y p.0) ∙ ap (λ zs. y ∷ zs) (flags-same xs ys (omega (arith, n)) p.1)
+pub flags-same : (xs ys : List Bool) → pointwise beq xs ys ≡ true → xs ≡ ys
+flags-same [] [] h = refl
+flags-same [] (y ∷ ys) h = absurd (true≢false (sym h))
+flags-same (x ∷ xs) [] h = absurd (true≢false (sym h))
+flags-same (x ∷ xs) (y ∷ ys) h =
+    let p = and_parts (beq x y) (pointwise beq xs ys) h in
+    ap (λ z. z ∷ xs) (beq-same x y p.0) ∙ ap (λ zs. y ∷ zs) (flags-same xs ys p.1)
 
 pub stand-same : {A : Type 0} (s : Stand A) (done : List Bool) (X : Tables A) → s.done ≡ done → s.tables ≡ X → s ≡ record { done = done; tables = X }
 stand-same s done X d x = λ i. record { done = d i; tables = x i }
@@ -47,6 +49,10 @@ module _ {A : Type 0} where
 
   pub dead-push : (c : Catalog) (ts : List (Trace A)) (seen : List (Stand A)) (s : Stand A) → AreDead c ts seen → IsDead c ts s.done s.tables → AreDead c ts (seen ++ s ∷ [])
   dead-push c ts seen s a d = push-all (λ (x : Stand A). IsDead c ts x.done x.tables) seen s a d
+
+  -- where what was seen so far is still the same, and one more is kept
+  pub dead-kept : (c : Catalog) (ts : List (Trace A)) (seen kept more : List (Stand A)) (done : List Bool) (X : Tables A) → kept ≡ seen → more ≡ kept ++ record { done = done; tables = X } ∷ [] → AreDead c ts seen → IsDead c ts done X → AreDead c ts more
+  dead-kept c ts seen kept more done X same e a d = subst (AreDead c ts) (sym e) (dead-push c ts kept (record { done = done; tables = X }) (subst (AreDead c ts) (sym same) a) d)
 
   pub dead-at : (c : Catalog) (ts : List (Trace A)) (seen : List (Stand A)) (i : ℕ) (s : Stand A) → AreDead c ts seen → i < length seen → s ≡ get_or seen i s → IsDead c ts s.done s.tables
   dead-at c ts seen i s a l e = all-get (λ (x : Stand A). IsDead c ts x.done x.tables) seen i s a l e

@@ -1,11 +1,34 @@
 -- Who may come next by time, found by the least end of those that aren't done.
-use Rattle.std.proofs.Common.{◌≡◌, ◌⊎◌, refl, sym, ap, ◌∙◌, subst, ℕ, zero, suc, ◌+◌, ◌-◌, ◌^◌, ◌<◌, ◌≤◌, Bool, true, false, true≢false, ◌&&◌, ◌||◌, not, zip, inl, inr, List, [], ◌∷◌, length, slice_get, Option, Some, None, nat_lt, arith}
+use Rattle.std.proofs.Common.{◌≡◌, ◌⊎◌, refl, sym, ap, ◌∙◌, subst, ℕ, zero, suc, ◌+◌, ◌-◌, ◌^◌, ◌<◌, ◌≤◌, Bool, true, false, true≢false, ◌&&◌, ◌||◌, not, zip, inl, inr, List, [], ◌∷◌, length, slice_get, Option, Some, None, is_some, nat_lt, arith}
 use Rattle.std.proofs.lemmas.Bool.{le-ltb, lt-ltb, cases_eq, cases_lt}
 use Rattle.std.specs.List.{list_all}
 use Rattle.std.proofs.lemmas.Option.{same_Some}
 use Rattle.orders.specs.Explains.{Trace, precedes, ended_before}
-use Rattle.orders.specs.Turns.{IsLeastEnd, comes, comes_so, end_at, end_or_last, lesser_end}
+use Rattle.orders.specs.Turns.{IsLeastEnd, are_done, comes, comes_so, end_at, end_or_last, lesser_end, settled}
 use Rattle.orders.proofs.WalkLemmas.{free-at, free-from}
+
+and-both : (a b : Bool) → a ≡ true → b ≡ true → (a && b) ≡ true
+and-both a b h k = ap (λ x. x && b) h ∙ k
+
+and-not : (a b : Bool) → b ≡ false → (a && b) ≡ false
+and-not true b h = h
+and-not false b h = refl
+
+module _ {A : Type 0} where
+  settled-none : (o : Option (Trace A)) → settled o None ≡ true
+  settled-none None = refl
+  settled-none (Some t) = refl
+
+  pub all-settled : (us : List (Trace A)) (done : List Bool) → ((j : ℕ) → j < length us → settled (slice_get us j) (slice_get done j) ≡ true) → are_done us done ≡ true
+  all-settled [] done h = refl
+  all-settled (u ∷ us) [] h = refl
+  all-settled (u ∷ us) (d ∷ done) h = and-both (d || not (is_some u.end)) (are_done us done) (h 0 (omega arith)) (all-settled us done (λ j l. h (suc j) (omega (arith, l))))
+
+  pub not-settled : (us : List (Trace A)) (done : List Bool) (j : ℕ) → settled (slice_get us j) (slice_get done j) ≡ false → are_done us done ≡ false
+  not-settled [] done j e = absurd (true≢false e)
+  not-settled (u ∷ us) [] j e = absurd (true≢false (sym (settled-none (slice_get (u ∷ us) j)) ∙ e))
+  not-settled (u ∷ us) (d ∷ done) zero e = ap (λ b. b && are_done us done) e
+  not-settled (u ∷ us) (d ∷ done) (suc j) e = and-not (d || not (is_some u.end)) (are_done us done) (not-settled us done j e)
 
 module _ {A : Type 0} (ts : List (Trace A)) where
   abbrev waits : List Bool → Trace A → Bool
@@ -126,3 +149,37 @@ module _ {A : Type 0} (ts : List (Trace A)) where
 
   pub comes-past : (done : List Bool) (i : ℕ) → length ts ≤ i → false ≡ comes ts done i
   comes-past done i l = sym (ap (λ o. comes_so ts done o (slice_get done i)) (get-past ts i l))
+
+  pub end-past : (i : ℕ) → length ts ≤ i → 2 ^ 64 - 1 ≡ end_at (slice_get ts i)
+  end-past i l = sym (ap end_at (get-past ts i l))
+
+  -- none from a place on, where there are no more
+  pub none-more : (done : List Bool) (from place : ℕ) → length ts ≤ place → ((j : ℕ) → from ≤ j → j < place → comes ts done j ≡ false) → (j : ℕ) → from ≤ j → comes ts done j ≡ false
+  none-more done from place l h j f = go (cases_lt j place)
+    where
+      go : (j < place) ⊎ (place ≤ j) → comes ts done j ≡ false
+      go (inl k) = h j f k
+      go (inr k) = sym (comes-past done j (omega (arith, l, k)))
+
+  -- nor at the next one
+  pub none-next : (done : List Bool) (from place : ℕ) → comes ts done place ≡ false → ((j : ℕ) → from ≤ j → j < place → comes ts done j ≡ false) → (j : ℕ) → from ≤ j → j < place + 1 → comes ts done j ≡ false
+  none-next done from place n h j f l = go (cases_eq j place)
+    where
+      go : (j ≡ place) ⊎ (j ≡ place → ⊥) → comes ts done j ≡ false
+      go (inl e) = ap (comes ts done) e ∙ n
+      go (inr e) = h j f (omega (arith, e, l))
+
+  -- ---- whether all are done
+
+  pub settled-past : (done : List Bool) (i : ℕ) → length ts ≤ i → true ≡ settled (slice_get ts i) (slice_get done i)
+  settled-past done i l = sym (ap (λ o. settled o (slice_get done i)) (get-past ts i l))
+
+  pub settled-past-done : (done : List Bool) (i : ℕ) → length done ≤ i → true ≡ settled (slice_get ts i) (slice_get done i)
+  settled-past-done done i l = sym (ap (settled (slice_get ts i)) (get-past done i l) ∙ settled-none (slice_get ts i))
+
+  pub next-settled : (done : List Bool) (n : ℕ) → ((j : ℕ) → j < n → settled (slice_get ts j) (slice_get done j) ≡ true) → settled (slice_get ts n) (slice_get done n) ≡ true → (j : ℕ) → j < n + 1 → settled (slice_get ts j) (slice_get done j) ≡ true
+  next-settled done n h s j l = go (cases_eq j n)
+    where
+      go : (j ≡ n) ⊎ (j ≡ n → ⊥) → settled (slice_get ts j) (slice_get done j) ≡ true
+      go (inl e) = ap (λ k. settled (slice_get ts k) (slice_get done k)) e ∙ s
+      go (inr e) = h j (omega (arith, l, e))

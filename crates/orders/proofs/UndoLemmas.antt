@@ -1,11 +1,11 @@
 -- Changes that take others back.
-use Rattle.std.proofs.Common.{◌≡◌, ◌⊎◌, refl, sym, ap, ◌∙◌, subst, ℕ, zero, suc, ◌<◌, ◌≤◌, Bool, true, false, T, not, cond, inl, inr, List, [], ◌∷◌, ◌++◌, length, slice_get, slice_set, Option, Some, None, arith}
+use Rattle.std.proofs.Common.{◌≡◌, ◌⊎◌, refl, sym, ap, ◌∙◌, subst, ℕ, zero, suc, ◌+◌, ◌-◌, ◌<◌, ◌≤◌, Bool, true, false, T, not, cond, inl, inr, List, [], ◌∷◌, ◌++◌, length, get_or, take, slice_get, slice_set, Option, Some, None, arith}
 use Rattle.std.proofs.lemmas.Bool.{cases_lt}
 use Rattle.std.specs.Cmp.{alike_right, eq_by_cmp_equiv}
 use Rattle.std.specs.FinMap.{find, is_sorted}
 use Rattle.std.specs.FinMap.Entries.{find-put, find-where_key, same_entries}
 use Rattle.std.specs.Ordering.{is_eq}
-use Rattle.std.proofs.lemmas.List.{get_or-set_same}
+use Rattle.std.proofs.lemmas.List.{get_or-set_same, take_all, take_more}
 use Rattle.std.proofs.lemmas.Option.{slice_get-get_or, same_Some}
 use Rattle.value.specs.declared.value.Value.{Value}
 use Rattle.value.specs.Order.{value_cmp, value_cmp-total, value_cmp-exact}
@@ -34,6 +34,9 @@ set-same : {T : Type 0} (xs : List T) (i : ℕ) (x : T) → slice_get xs i ≡ S
 set-same [] i x e = refl
 set-same (z ∷ zs) zero x e = ap (λ w. w ∷ zs) (sym (same_Some z x e))
 set-same (z ∷ zs) (suc i) x e = ap (λ ws. z ∷ ws) (set-same zs i x e)
+
+pub last-and-rest : {T : Type 0} (xs : List T) (x : T) → 1 ≤ length xs → x ≡ get_or xs (length xs - 1) x → xs ≡ take (length xs - 1) xs ++ x ∷ []
+last-and-rest xs x l e = sym (take_all (length xs - 1 + 1) xs (omega (arith, l))) ∙ take_more xs (length xs - 1) x (omega (arith, l)) ∙ ap (λ y. take (length xs - 1) xs ++ y ∷ []) (sym e)
 
 module _ {A : Type 0} where
   -- ---- rows by key

@@ -1,5 +1,5 @@
 -- What a search remembers.
-use Rattle.std.specs.Prelude.{Bool, true, false, not, ◌&&◌, List}
+use Rattle.std.specs.Prelude.{Bool, ◌&&◌, List}
 use Rattle.std.specs.List.{AllByRecursion}
 use Rattle.schema.specs.Definition.{Catalog}
 use Rattle.schema.specs.declared.row.Row.{Row}
@@ -12,11 +12,6 @@ use Rattle.orders.specs.Walks.{IsDead}
 pub record Stand (A : Type 0) : Type 0 where
   pub done : List Bool
   pub tables : Tables A
-
--- two flags are the same
-abbrev pub alike : Bool → Bool → Bool
-alike true other = other
-alike false other = not other
 
 module _ {A : Type 0} where
   abbrev pub same_row : Row A → Row A → Bool

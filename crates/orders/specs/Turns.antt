@@ -39,6 +39,12 @@ module _ {A : Type 0} where
       ((j : ℕ) → slice_get done j ≡ Some false → e ≤ end_at (slice_get ts j))
       × ((e ≡ 2 ^ 64 - 1) ⊎ ((j : ℕ) × (slice_get done j ≡ Some false) × (e ≡ end_at (slice_get ts j))))
 
+  -- it is done, or not known to have committed, or there is none
+  abbrev pub settled : Option (Trace A) → Option Bool → Bool
+  settled (Some t) (Some is_done) = is_done || not (is_some t.end)
+  settled (Some t) None = true
+  settled None o = true
+
   -- all are done that are known to have committed
   abbrev pub are_done : List (Trace A) → List Bool → Bool
   are_done ts done = list_all (λ p. p.1 || not (is_some p.0.end)) (zip ts done)

@@ -3,6 +3,7 @@ use Rattle.std.specs.Prelude.{◌≡◌, ℕ, ◌<◌, ◌≤◌, ◌+◌, ◌-�
 use Rattle.schema.specs.Definition.{Catalog}
 use Rattle.schema.specs.declared.changes.Change.{Change}
 use Rattle.schema.specs.declared.tables.Tables.{Tables}
+use Rattle.schema.specs.Plain.{is_sound}
 use Rattle.orders.specs.Explains.{Trace, alone}
 use Rattle.orders.specs.Turns.{MayCome, comes}
 use Rattle.orders.specs.Undone.{put_back}
@@ -118,6 +119,16 @@ module _ {A : Type 0} where
     pub comes : Comes c ts (IsTried c ts) (none_done ts) X w.path w.done w.tables
     pub tried : AreTried c ts w.done w.tables w.from
     pub count : length w.done ≡ length ts
+
+  -- From sound tables on the search stands there; it has only started; a path has come there.
+  abbrev pub IsSearched : Catalog → List (Trace A) → Standing A → Type 0
+  IsSearched c ts w = (X : Tables A) × (is_sound c X ≡ true) × IsWalk c X ts w
+
+  abbrev pub HasStarted : Catalog → List (Trace A) → Standing A → Type 0
+  HasStarted c ts w = (X : Tables A) × (is_sound c X ≡ true) × IsStep c X ts w
+
+  abbrev pub IsReached : Catalog → List (Trace A) → Standing A → Type 0
+  IsReached c ts w = (X : Tables A) × (is_sound c X ≡ true) × IsPath c X ts w
 
   -- the places of a path
   abbrev pub places_of : Standing A → List ℕ

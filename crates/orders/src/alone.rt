@@ -1,6 +1,6 @@
 //! A transaction, run alone.
 
-ghost use Rattle.std.specs.Prelude.{◌≡◌, true, Some, None, map, if◌then◌else◌, IfOk, IfErr};
+ghost use Rattle.std.specs.Prelude.{◌≡◌, true, Some, None, map, if◌then◌else◌, OnOk, IfOk, IfErr};
 ghost use Rattle.std.specs.Option.{option_map};
 ghost use Rattle.value.specs.Refusals.{out_of_memory};
 ghost use Rattle.schema.specs.Plain.{is_sound};
@@ -59,7 +59,7 @@ pub fn run_alone<A: Allocator + Copy>(
     let mut left = statements;
     while let [answered, rest @ ..] = left {
         let Some(changes) = answer(alloc, catalog, tables, answered)? else {
-            take_back(alloc, tables, back)?;
+            take_back(alloc, tables, back.as_slice())?;
             return Ok(None);
         };
         put_changes(alloc, tables, changes.as_slice(), &mut back)?;
@@ -84,6 +84,49 @@ fn reply_to<A: Allocator + Copy>(
     Ok(outcome.reply)
 }
 
+// Does a statement again, and puts in what it changes, where its answer agrees: the answer where it doesn't.
+fn redo<A: Allocator + Copy>(
+    alloc: A,
+    catalog: &Catalog<A>,
+    tables: &mut Tables<A>,
+    answered: &Answered<A>,
+) -> Result<Option<Reply<A>>, Refusal>
+    requires fits { fits catalog.now answered.now.statement ≡ true }
+    requires sound { is_sound catalog.now tables.old ≡ true }
+    ensures sound { OnOk result (is_sound catalog.now tables.new ≡ true) }
+    ensures memory { IfErr result (λ e. e ≡ out_of_memory) }
+{
+    let Some(changes) = answer(alloc, catalog, tables, answered)? else {
+        let reply = reply_to(alloc, catalog, tables, answered)?;
+        return Ok(Some(reply));
+    };
+    tables.apply_all(alloc, changes.as_slice())?;
+    Ok(None)
+}
+
+// The first statement that gets an answer that doesn't agree, where the tables are changed as they go.
+fn find_difference<A: Allocator + Copy>(
+    alloc: A,
+    catalog: &Catalog<A>,
+    tables: &mut Tables<A>,
+    statements: &[Answered<A>],
+) -> Result<Option<(usize, Reply<A>)>, Refusal>
+    requires fits { are_fit catalog.now (map (λ a. (a.statement, a.reply)) statements.now) ≡ true }
+    requires sound { is_sound catalog.now tables.old ≡ true }
+    ensures memory { IfErr result (λ e. e ≡ out_of_memory) }
+{
+    let mut left = statements;
+    let mut place = 0;
+    while let [answered, rest @ ..] = left {
+        if let Some(reply) = redo(alloc, catalog, tables, answered)? {
+            return Ok(Some((place, reply)));
+        }
+        left = rest;
+        place += 1;
+    }
+    Ok(None)
+}
+
 /// The first statement, by its place, that gets an answer that doesn't agree with what was recorded, and that answer.
 pub fn first_difference<A: Allocator + Copy>(
     alloc: A,
@@ -96,16 +139,5 @@ pub fn first_difference<A: Allocator + Copy>(
     ensures memory { IfErr result (λ e. e ≡ out_of_memory) }
 {
     let mut own = tables.copy(alloc)?;
-    let mut left = statements;
-    let mut place = 0;
-    while let [answered, rest @ ..] = left {
-        let Some(more) = answer(alloc, catalog, &own, answered)? else {
-            let reply = reply_to(alloc, catalog, &own, answered)?;
-            return Ok(Some((place, reply)));
-        };
-        own.apply_all(alloc, more.as_slice())?;
-        left = rest;
-        place += 1;
-    }
-    Ok(None)
+    find_difference(alloc, catalog, &mut own, statements)
 }

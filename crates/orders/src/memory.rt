@@ -1,6 +1,6 @@
 //! What a search remembers: where no order goes on, and the longest order that it found.
 
-ghost use Rattle.std.specs.Prelude.{◌≡◌, true, List, [], OnOk, IfOk, IfErr};
+ghost use Rattle.std.specs.Prelude.{◌≡◌, true, List, [], ◌∷◌, ◌++◌, OnOk, IfOk, IfErr};
 ghost use Rattle.value.specs.Refusals.{out_of_memory};
 ghost use Rattle.schema.specs.Definition.{Catalog as AnyCatalog};
 ghost use Rattle.orders.specs.Explains.{Trace as AnyTrace};
@@ -212,6 +212,29 @@ impl<A: Allocator> Memory<A> {
         Ok(())
     }
 
+    // Takes room for so many rows: whether there was so much.
+    fn take_room(&mut self, rows: usize) -> bool
+        ensures { self.new ≡ self.old }
+    {
+        if rows > self.room {
+            return false;
+        }
+        self.room -= rows;
+        true
+    }
+
+    // Keeps where a walk stands.
+    fn keep(&mut self, alloc: A, walk: &Walk<A>) -> Result<(), Refusal>
+    where
+        A: Copy,
+        ensures ok { OnOk result (self.new ≡
+            self.old ++ record { done = walk.now.done; tables = walk.now.tables } ∷ []) }
+        ensures memory { IfErr result (λ e. e ≡ out_of_memory) }
+    {
+        self.dead.push(Dead::of(alloc, walk)?)?;
+        Ok(())
+    }
+
     /// Remembers that no order goes on from where a walk stands, as long as there is room.
     pub(crate) fn remember(&mut self, alloc: A, walk: &Walk<A>) -> Result<(), Refusal>
     where
@@ -221,14 +244,11 @@ impl<A: Allocator> Memory<A> {
         ensures memory { IfErr result (λ e. e ≡ out_of_memory) }
     {
         self.keep_longest(alloc, walk)?;
-        let rows = row_count(walk.tables());
-        if rows > self.room {
+        if !self.take_room(row_count(walk.tables())) {
             return Ok(());
         }
-        self.room -= rows;
         self.note(list_of(walk.done()))?;
-        self.dead.push(Dead::of(alloc, walk)?)?;
-        Ok(())
+        self.keep(alloc, walk)
     }
 
     /// The longest order from which none went on.

@@ -6,7 +6,7 @@ ghost use Rattle.schema.specs.Definition.{Catalog as AnyCatalog};
 ghost use Rattle.schema.specs.Plain.{is_sound};
 ghost use Rattle.schema.specs.declared.tables.Tables.{Tables as AnyTables};
 ghost use Rattle.orders.specs.Explains.{Explains, all_fit};
-ghost use Rattle.orders.specs.Walks.{IsPath};
+ghost use Rattle.orders.specs.Walks.{IsPath, IsReached};
 
 use crate::time::{is_complete, may_come, precedes};
 use crate::transaction::Transaction;
@@ -135,8 +135,8 @@ fn whole_order<A: Allocator + Copy>(
     transactions: &[Transaction<A>],
     walk: &Walk<A>,
 ) -> Result<Option<Vec<usize, A>>, Refusal>
-    ensures explains { IfOk result (λ o. IfSome o (λ order. (c : AnyCatalog) → (X : AnyTables A) →
-        IsPath c X transactions.now walk.now → Explains c X transactions.now order.items)) }
+    ensures explains { IfOk result (λ o. (c : AnyCatalog) → (X : AnyTables A) → IsPath c X transactions.now walk.now →
+        IfSome o (λ order. Explains c X transactions.now order.items)) }
     ensures memory { IfErr result (λ e. e ≡ out_of_memory) }
 {
     if !is_complete(transactions, walk.done()) {
@@ -170,33 +170,69 @@ fn go_on<A: Allocator + Copy>(
     let_before(alloc, transactions, walk, queue, place)
 }
 
-// Follows a queue, whose last is its first, from tables on, in so many steps at most. A transaction whose answers differ
-// comes before those that came last, as far as time allows, until they agree.
+// Follows a queue, whose last is its first, in so many steps at most: how many it took. A transaction whose answers
+// differ comes before those that came last, as far as time allows, until they agree.
 fn follow<A: Allocator + Copy>(
     alloc: A,
     catalog: &Catalog<A>,
-    tables: &Tables<A>,
     transactions: &[Transaction<A>],
-    queue: Vec<usize, A>,
+    walk: &mut Walk<A>,
+    queue: &mut Vec<usize, A>,
     most: u64,
-) -> Result<Followed<A>, Refusal>
+) -> Result<u64, Refusal>
     requires fit { all_fit catalog.now transactions.now ≡ true }
-    requires sound { is_sound catalog.now tables.now ≡ true }
-    ensures explains { IfOk result (λ f. IfSome f.order (λ order.
-        Explains catalog.now tables.now transactions.now order.items)) }
+    requires from { IsReached catalog.now transactions.now walk.old }
+    ensures path { IfOk result (λ steps. (X : AnyTables A) → IsPath catalog.now X transactions.now walk.old →
+        IsPath catalog.now X transactions.now walk.new) }
     ensures memory { IfErr result (λ e. e ≡ out_of_memory) }
 {
-    let own = tables.copy(alloc)?;
-    let mut walk = Walk::start(alloc, own, transactions.len())?;
-    let mut queue = queue;
     let mut steps = 0;
     while steps < most && !queue.is_empty() {
         steps += 1;
-        if !go_on(alloc, catalog, transactions, &mut walk, &mut queue)? {
-            return Ok(Followed { order: None, steps });
+        if !go_on(alloc, catalog, transactions, walk, queue)? {
+            return Ok(steps);
         }
     }
-    let order = whole_order(alloc, transactions, &walk)?;
+    Ok(steps)
+}
+
+// Follows the order by end or by begin from where a walk starts, in so many steps at most: how many it took.
+fn follow_queue<A: Allocator + Copy>(
+    alloc: A,
+    catalog: &Catalog<A>,
+    transactions: &[Transaction<A>],
+    walk: &mut Walk<A>,
+    near: Near,
+    steps: u64,
+) -> Result<u64, Refusal>
+    requires fit { all_fit catalog.now transactions.now ≡ true }
+    requires from { IsReached catalog.now transactions.now walk.old }
+    ensures path { IfOk result (λ steps. (X : AnyTables A) → IsPath catalog.now X transactions.now walk.old →
+        IsPath catalog.now X transactions.now walk.new) }
+    ensures memory { IfErr result (λ e. e ≡ out_of_memory) }
+{
+    let mut queue = queue_of(alloc, transactions, near)?;
+    let most = RUNS.saturating_mul(queue.len() as u64).min(steps);
+    follow(alloc, catalog, transactions, walk, &mut queue, most)
+}
+
+// Follows the order by end or by begin from where a walk starts, in so many steps at most: what came of it.
+fn follow_from<A: Allocator + Copy>(
+    alloc: A,
+    catalog: &Catalog<A>,
+    transactions: &[Transaction<A>],
+    walk: &mut Walk<A>,
+    near: Near,
+    steps: u64,
+) -> Result<Followed<A>, Refusal>
+    requires fit { all_fit catalog.now transactions.now ≡ true }
+    requires from { IsReached catalog.now transactions.now walk.old }
+    ensures explains { IfOk result (λ f. (X : AnyTables A) → IsPath catalog.now X transactions.now walk.old →
+        IfSome f.order (λ order. Explains catalog.now X transactions.now order.items)) }
+    ensures memory { IfErr result (λ e. e ≡ out_of_memory) }
+{
+    let steps = follow_queue(alloc, catalog, transactions, walk, near, steps)?;
+    let order = whole_order(alloc, transactions, walk)?;
     Ok(Followed { order, steps })
 }
 
@@ -215,7 +251,6 @@ pub(crate) fn follow_near<A: Allocator + Copy>(
         Explains catalog.now tables.now transactions.now order.items)) }
     ensures memory { IfErr result (λ e. e ≡ out_of_memory) }
 {
-    let queue = queue_of(alloc, transactions, near)?;
-    let most = RUNS.saturating_mul(queue.len() as u64).min(steps);
-    follow(alloc, catalog, tables, transactions, queue, most)
+    let mut walk = Walk::start(alloc, tables, transactions.len())?;
+    follow_from(alloc, catalog, transactions, &mut walk, near, steps)
 }

@@ -6,7 +6,7 @@ ghost use Rattle.value.specs.Refusals.{out_of_memory};
 ghost use Rattle.schema.specs.Plain.{rows_of};
 ghost use Rattle.schema.specs.Rows.{HasTable};
 ghost use Rattle.schema.specs.Walking.{lent};
-ghost use Rattle.orders.specs.Seen.{alike, same_row};
+ghost use Rattle.orders.specs.Seen.{same_row};
 
 use crate::agree::are_same_values;
 use schema::catalog::TableNo;
@@ -25,30 +25,11 @@ fn is_same_row<A: Allocator>(left: &Row<A>, right: &Row<A>) -> bool
     left.key() == right.key() && are_same_values(left.fields(), right.fields())
 }
 
-// Whether two flags are the same.
-fn are_alike(flag: bool, other: bool) -> bool
-    ensures { result ≡ alike flag other }
-{
-    if flag { other } else { !other }
-}
-
-// Whether flags are the same, one by one, as far as both go.
-fn match_flags(left: &[bool], right: &[bool]) -> bool
-    ensures { result ≡ list_all (λ p. alike p.0 p.1) (zip left.now right.now) }
-{
-    left.iter()
-        .zip(right)
-        .all(|(flag, other)| are_alike(*flag, *other))
-}
-
 /// Whether flags are the same. No tells nothing.
 pub(crate) fn are_same_flags(left: &[bool], right: &[bool]) -> bool
     ensures { result ≡ true → left.now ≡ right.now }
 {
-    if left.len() != right.len() {
-        return false;
-    }
-    match_flags(left, right)
+    left == right
 }
 
 // Whether rows are the same, one by one, as far as both go.

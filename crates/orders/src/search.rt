@@ -1,6 +1,6 @@
 //! The search for an order.
 
-ghost use Rattle.std.specs.Prelude.{◌≡◌, List, true, Some, slice_get, OnOk, IfOk, IfErr, IfSome};
+ghost use Rattle.std.specs.Prelude.{◌≡◌, List, true, Some, slice_get, OnOk, IfOk, IfErr};
 ghost use Rattle.value.specs.Refusals.{out_of_memory};
 ghost use Rattle.schema.specs.Definition.{Catalog as AnyCatalog};
 ghost use Rattle.schema.specs.Plain.{is_sound};
@@ -8,7 +8,7 @@ ghost use Rattle.schema.specs.declared.tables.Tables.{Tables as AnyTables};
 ghost use Rattle.orders.specs.Explains.{Explains, Trace as AnyTrace, all_fit};
 ghost use Rattle.orders.specs.Found.{HasGone, Tells, progress_of};
 ghost use Rattle.orders.specs.Seen.{AreDead};
-ghost use Rattle.orders.specs.Walks.{CanCome, HasTurned, IsWalk, NoneCan};
+ghost use Rattle.orders.specs.Walks.{CanCome, HasStarted, HasTurned, IsSearched, IsStep, IsWalk, NoneCan, places_of};
 
 use crate::memory::Memory;
 use crate::near::{Followed, Near, follow_near};
@@ -22,7 +22,6 @@ use value::refusal::Refusal;
 
 /// Whether an order explains what was recorded.
 #[derive(Drop)]
-#[derive_where(Debug)]
 pub enum Answer<A: Allocator = Global> {
     /// This one does, a list of places.
     Yes(Vec<usize, A>),
@@ -34,7 +33,6 @@ pub enum Answer<A: Allocator = Global> {
 
 /// What a search has found.
 #[derive(Drop)]
-#[derive_where(Debug)]
 pub struct Found<A: Allocator = Global> {
     pub answer: Answer<A>,
     /// The longest order from which none goes on, a list of places. Where the answer is no, the longest that there is.
@@ -167,6 +165,32 @@ fn advance<A: Allocator + Copy>(
     }
 }
 
+// Goes on, in so many steps at most: how the search goes on then.
+fn advance_all<A: Allocator + Copy>(
+    alloc: A,
+    catalog: &Catalog<A>,
+    transactions: &[Transaction<A>],
+    walk: &mut Walk<A>,
+    memory: &mut Memory<A>,
+    steps: u64,
+) -> Result<Progress, Refusal>
+    requires fit { all_fit catalog.now transactions.now ≡ true }
+    requires from { IsSearched catalog.now transactions.now walk.old }
+    requires dead { AreDead catalog.now transactions.now memory.old }
+    ensures ok { IfOk result (λ progress. (X : AnyTables A) → IsWalk catalog.now X transactions.now walk.old →
+        HasGone catalog.now X transactions.now progress walk.new) }
+    ensures memory { IfErr result (λ e. e ≡ out_of_memory) }
+{
+    for _ in 0..steps {
+        match advance(alloc, catalog, transactions, walk, memory)? {
+            Progress::More => {}
+            Progress::Found => return Ok(Progress::Found),
+            Progress::Exhausted => return Ok(Progress::Exhausted),
+        }
+    }
+    Ok(Progress::More)
+}
+
 // A search that has found an order.
 fn found_order<A: Allocator + Copy>(alloc: A, order: Vec<usize, A>) -> Found<A>
     ensures { result.answer ≡ Answer.Yes order }
@@ -175,6 +199,62 @@ fn found_order<A: Allocator + Copy>(alloc: A, order: Vec<usize, A>) -> Found<A>
         answer: Answer::Yes(order),
         longest: Vec::new(alloc),
     }
+}
+
+// A search that has found the order of a walk.
+fn found_walk<A: Allocator + Copy>(alloc: A, walk: &Walk<A>) -> Result<Found<A>, Refusal>
+    ensures ok { IfOk result (λ found. (c : AnyCatalog) → (X : AnyTables A) → (ts : List (AnyTrace A)) →
+        Explains c X ts (places_of walk.now) → Tells c X ts found.answer) }
+    ensures memory { IfErr result (λ e. e ≡ out_of_memory) }
+{
+    let order = walk.places(alloc)?;
+    Ok(found_order(alloc, order))
+}
+
+// What a search has found that goes on so, after its longest order.
+fn found_so<A: Allocator + Copy>(
+    alloc: A,
+    walk: &Walk<A>,
+    progress: Progress,
+    longest: Vec<usize, A>,
+) -> Result<Found<A>, Refusal>
+    ensures ok { IfOk result (λ found. (c : AnyCatalog) → (X : AnyTables A) → (ts : List (AnyTrace A)) →
+        HasGone c X ts progress walk.now → Tells c X ts found.answer) }
+    ensures memory { IfErr result (λ e. e ≡ out_of_memory) }
+{
+    match progress {
+        Progress::More => Ok(Found {
+            answer: Answer::Unknown,
+            longest,
+        }),
+        Progress::Found => found_walk(alloc, walk),
+        Progress::Exhausted => Ok(Found {
+            answer: Answer::No,
+            longest,
+        }),
+    }
+}
+
+// Tries all orders from where a walk starts, in so many steps at most.
+fn explore_from<A: Allocator + Copy>(
+    alloc: A,
+    catalog: &Catalog<A>,
+    transactions: &[Transaction<A>],
+    walk: &mut Walk<A>,
+    steps: u64,
+) -> Result<Found<A>, Refusal>
+    requires fit { all_fit catalog.now transactions.now ≡ true }
+    requires from { HasStarted catalog.now transactions.now walk.old }
+    ensures ok { IfOk result (λ found. (X : AnyTables A) → IsStep catalog.now X transactions.now walk.old →
+        Tells catalog.now X transactions.now found.answer) }
+    ensures memory { IfErr result (λ e. e ≡ out_of_memory) }
+{
+    if is_complete(transactions, walk.done()) {
+        return found_walk(alloc, walk);
+    }
+    let mut memory = Memory::new(alloc)?;
+    let progress = advance_all(alloc, catalog, transactions, walk, &mut memory, steps)?;
+    found_so(alloc, walk, progress, memory.into_longest())
 }
 
 // Tries all orders, those first that are near that of the places, in so many steps at most.
@@ -190,57 +270,30 @@ fn explore<A: Allocator + Copy>(
     ensures ok { IfOk result (λ found. Tells catalog.now tables.now transactions.now found.answer) }
     ensures memory { IfErr result (λ e. e ≡ out_of_memory) }
 {
-    let own = tables.copy(alloc)?;
-    let count = transactions.len();
-    let mut walk = Walk::start(alloc, own, count)?;
-    if is_complete(transactions, walk.done()) {
-        let order = walk.places(alloc)?;
-        return Ok(found_order(alloc, order));
-    }
-    let mut memory = Memory::new(alloc)?;
-    for _ in 0..steps {
-        match advance(alloc, catalog, transactions, &mut walk, &mut memory)? {
-            Progress::More => {}
-            Progress::Found => {
-                let order = walk.places(alloc)?;
-                return Ok(found_order(alloc, order));
-            }
-            Progress::Exhausted => return Ok(Found {
-                answer: Answer::No,
-                longest: memory.into_longest(),
-            }),
-        }
-    }
-    Ok(Found {
-        answer: Answer::Unknown,
-        longest: memory.into_longest(),
-    })
+    let mut walk = Walk::start(alloc, tables, transactions.len())?;
+    explore_from(alloc, catalog, transactions, &mut walk, steps)
 }
 
-// Follows the orders by end and by begin, in so many steps at most.
-fn find_near<A: Allocator + Copy>(
+// Follows the order by begin, and then tries all.
+fn search_on<A: Allocator + Copy>(
     alloc: A,
     catalog: &Catalog<A>,
     tables: &Tables<A>,
     transactions: &[Transaction<A>],
     steps: u64,
-) -> Result<Followed<A>, Refusal>
+) -> Result<Found<A>, Refusal>
     requires fit { all_fit catalog.now transactions.now ≡ true }
     requires sound { is_sound catalog.now tables.now ≡ true }
-    ensures explains { IfOk result (λ f. IfSome f.order (λ order.
-        Explains catalog.now tables.now transactions.now order.items)) }
+    ensures ok { IfOk result (λ found. Tells catalog.now tables.now transactions.now found.answer) }
     ensures memory { IfErr result (λ e. e ≡ out_of_memory) }
 {
-    let by_end = follow_near(alloc, catalog, tables, transactions, Near::End, steps)?;
-    if by_end.order.is_some() {
-        return Ok(by_end);
+    let near = follow_near(alloc, catalog, tables, transactions, Near::Begin, steps)?;
+    let Followed { order, steps: used } = near;
+    let left = steps.saturating_sub(used);
+    match order {
+        Some(order) => Ok(found_order(alloc, order)),
+        None => explore(alloc, catalog, tables, transactions, left),
     }
-    let left = steps.saturating_sub(by_end.steps);
-    let by_begin = follow_near(alloc, catalog, tables, transactions, Near::Begin, left)?;
-    Ok(Followed {
-        order: by_begin.order,
-        steps: by_end.steps.saturating_add(by_begin.steps),
-    })
 }
 
 /// Looks for an order of the transactions that explains what was recorded of them, from tables on. A step is a
@@ -259,11 +312,11 @@ pub fn search<A: Allocator + Copy>(
     ensures ok { IfOk result (λ found. Tells catalog.now tables.now transactions.now found.answer) }
     ensures memory { IfErr result (λ e. e ≡ out_of_memory) }
 {
-    let near = find_near(alloc, catalog, tables, transactions, steps)?;
+    let near = follow_near(alloc, catalog, tables, transactions, Near::End, steps)?;
     let Followed { order, steps: used } = near;
     let left = steps.saturating_sub(used);
     match order {
         Some(order) => Ok(found_order(alloc, order)),
-        None => explore(alloc, catalog, tables, transactions, left),
+        None => search_on(alloc, catalog, tables, transactions, left),
     }
 }

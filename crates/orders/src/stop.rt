@@ -1,9 +1,10 @@
 //! Where no order goes on: the longest that was found, and what hinders the others.
 
-ghost use Rattle.std.specs.Prelude.{◌≡◌, true, IfOk, IfErr};
+ghost use Rattle.std.specs.Prelude.{◌≡◌, true, OnOk, IfErr};
 ghost use Rattle.value.specs.Refusals.{out_of_memory};
 ghost use Rattle.schema.specs.Plain.{is_sound};
 ghost use Rattle.orders.specs.Explains.{all_fit, are_fit};
+ghost use Rattle.orders.specs.Walks.{IsReached};
 
 use crate::alone::first_difference;
 use crate::near::go_next;
@@ -41,28 +42,38 @@ pub struct Stop<A: Allocator = Global> {
     pub hindered: Vec<Hindered<A>, A>,
 }
 
-// Where an order comes to, as far as its transactions come one after the other.
+// Goes along an order, as far as its transactions come one after the other.
 fn walk_along<A: Allocator + Copy>(
     alloc: A,
     catalog: &Catalog<A>,
-    tables: &Tables<A>,
     transactions: &[Transaction<A>],
+    walk: &mut Walk<A>,
     order: &[usize],
-) -> Result<Walk<A>, Refusal>
+) -> Result<(), Refusal>
     requires fit { all_fit catalog.now transactions.now ≡ true }
-    requires sound { is_sound catalog.now tables.now ≡ true }
-    ensures sound { IfOk result (λ w. is_sound catalog.now w.tables ≡ true) }
+    requires from { IsReached catalog.now transactions.now walk.old }
+    ensures sound { OnOk result (is_sound catalog.now walk.new.tables ≡ true) }
     ensures memory { IfErr result (λ e. e ≡ out_of_memory) }
 {
-    let own = tables.copy(alloc)?;
-    let mut walk = Walk::start(alloc, own, transactions.len())?;
     for place in order {
-        let goes = go_next(alloc, catalog, transactions, &mut walk, *place)?;
-        if !goes {
-            return Ok(walk);
+        if !go_next(alloc, catalog, transactions, walk, *place)? {
+            return Ok(());
         }
     }
-    Ok(walk)
+    Ok(())
+}
+
+// Whether the transaction at a place isn't done, and had ended before this one began.
+fn is_before<A: Allocator>(
+    transactions: &[Transaction<A>],
+    done: &[bool],
+    place: usize,
+    transaction: &Transaction<A>,
+) -> bool {
+    match (transactions.get(place), done.get(place)) {
+        (Some(other), Some(is_done)) => !*is_done && precedes(other, transaction),
+        _ => false,
+    }
 }
 
 // The first transaction that isn't done, and had ended before this one began.
@@ -71,8 +82,8 @@ fn first_before<A: Allocator>(
     done: &[bool],
     transaction: &Transaction<A>,
 ) -> Option<usize> {
-    for (place, (other, is_done)) in transactions.iter().zip(done).enumerate() {
-        if !*is_done && precedes(other, transaction) {
+    for place in 0..transactions.len() {
+        if is_before(transactions, done, place, transaction) {
             return Some(place);
         }
     }
@@ -94,7 +105,7 @@ fn hindrance_of<A: Allocator + Copy>(
     if let Some(place) = before {
         return Ok(Hindrance::Time(place));
     }
-    match first_difference(alloc, catalog, tables, transaction.statements.as_slice())? {
+    match first_difference(alloc, catalog, tables, transaction.answered())? {
         Some((place, reply)) => Ok(Hindrance::Answer(place, reply)),
         None => Ok(Hindrance::Nothing),
     }
@@ -142,6 +153,26 @@ fn all_hindered<A: Allocator + Copy>(
     Ok(hindered)
 }
 
+// Goes along an order as far as its transactions come one after the other, and tells why no other comes next.
+fn stop_along<A: Allocator + Copy>(
+    alloc: A,
+    catalog: &Catalog<A>,
+    transactions: &[Transaction<A>],
+    walk: &mut Walk<A>,
+    order: &[usize],
+) -> Result<Stop<A>, Refusal>
+    requires fit { all_fit catalog.now transactions.now ≡ true }
+    requires from { IsReached catalog.now transactions.now walk.old }
+    ensures memory { IfErr result (λ e. e ≡ out_of_memory) }
+{
+    walk_along(alloc, catalog, transactions, walk, order)?;
+    let hindered = all_hindered(alloc, catalog, transactions, walk)?;
+    Ok(Stop {
+        order: walk.places(alloc)?,
+        hindered,
+    })
+}
+
 /// An order as far as its transactions come one after the other, and why no other transaction comes next.
 pub fn find_stop<A: Allocator + Copy>(
     alloc: A,
@@ -154,8 +185,6 @@ pub fn find_stop<A: Allocator + Copy>(
     requires sound { is_sound catalog.now tables.now ≡ true }
     ensures memory { IfErr result (λ e. e ≡ out_of_memory) }
 {
-    let walk = walk_along(alloc, catalog, tables, transactions, longest)?;
-    let order = walk.places(alloc)?;
-    let hindered = all_hindered(alloc, catalog, transactions, &walk)?;
-    Ok(Stop { order, hindered })
+    let mut walk = Walk::start(alloc, tables, transactions.len())?;
+    stop_along(alloc, catalog, transactions, &mut walk, longest)
 }

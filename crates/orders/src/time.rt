@@ -1,9 +1,8 @@
 //! Which transactions may come next by time.
 
-ghost use Rattle.std.specs.Prelude.{◌≡◌, ℕ, ◌<◌, ◌≤◌, ◌^◌, ◌||◌, not, nat_lt, true, false, zip, slice_get, IfSome, IfNone};
-ghost use Rattle.std.specs.List.{list_all};
+ghost use Rattle.std.specs.Prelude.{◌≡◌, ℕ, ◌<◌, ◌≤◌, ◌^◌, ◌||◌, not, nat_lt, true, false, is_some, slice_get, IfSome, IfNone};
 ghost use Rattle.orders.specs.Explains.{ended_before, precedes};
-ghost use Rattle.orders.specs.Turns.{IsLeastEnd, are_done, comes, end_at, end_or_last, lesser_end};
+ghost use Rattle.orders.specs.Turns.{IsLeastEnd, are_done, comes, end_at, end_or_last, lesser_end, settled};
 
 use crate::transaction::Transaction;
 use std::alloc::Allocator;
@@ -124,10 +123,34 @@ pub(crate) fn find_next<A: Allocator>(
     None
 }
 
+// Whether a transaction is done, or not known to have committed.
+fn is_settled<A: Allocator>(transaction: &Transaction<A>, is_done: bool) -> bool
+    ensures { result ≡ (is_done || not (is_some transaction.now.end)) }
+{
+    is_done || !transaction.end.is_some()
+}
+
+// Whether the transaction at a place is done, or not known to have committed.
+fn settled_at<A: Allocator>(transactions: &[Transaction<A>], done: &[bool], place: usize) -> bool
+    ensures { result ≡ settled (slice_get transactions.now place) (slice_get done.now place) }
+{
+    match transactions.get(place) {
+        Some(transaction) => match done.get(place) {
+            Some(is_done) => is_settled(transaction, *is_done),
+            None => true,
+        },
+        None => true,
+    }
+}
+
 /// Whether all transactions are done that are known to have committed.
 pub(crate) fn is_complete<A: Allocator>(transactions: &[Transaction<A>], done: &[bool]) -> bool
     ensures { result ≡ are_done transactions.now done.now }
 {
-    transactions.iter().zip(done).all(|(transaction, is_done)| *is_done
-        || !transaction.end.is_some())
+    for place in 0..transactions.len() {
+        if !settled_at(transactions, done, place) {
+            return false;
+        }
+    }
+    true
 }

@@ -1,5 +1,7 @@
 //! What was recorded of a transaction.
 
+ghost use Rattle.std.specs.Prelude.{◌≡◌, map};
+
 use statement::reply::Reply;
 use statement::statement::Statement;
 use std::alloc::{Allocator, Global};
@@ -22,6 +24,15 @@ pub struct Transaction<A: Allocator = Global> {
     /// It has taken over another's snapshot, so that it may come before some that had ended when it began.
     pub imported: bool,
     pub statements: Vec<Answered<A>, A>,
+}
+
+impl<A: Allocator> Transaction<A> {
+    /// Its statements, each with its answer.
+    pub(crate) fn answered(&self) -> &[Answered<A>]
+        ensures { map (λ a. (a.statement, a.reply)) result.now ≡ self.now.statements }
+    {
+        self.statements.as_slice()
+    }
 }
 
 impl<A: Allocator> Model for Transaction<A> {

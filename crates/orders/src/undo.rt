@@ -51,9 +51,8 @@ fn put_there<A: Allocator + Copy>(
     ensures memory { IfErr result (λ e. e ≡ out_of_memory) }
 {
     let earlier = before(alloc, tables, change)?;
-    tables.apply(alloc, change)?;
     back.push(earlier)?;
-    Ok(())
+    tables.apply(alloc, change)
 }
 
 // Puts in a change, and keeps what takes it back. One of a table that isn't there changes nothing.
@@ -113,14 +112,15 @@ fn put_one<A: Allocator + Copy>(
 pub(crate) fn take_back<A: Allocator + Copy>(
     alloc: A,
     tables: &mut Tables<A>,
-    back: Vec<Change<A>, A>,
+    back: &[Change<A>],
 ) -> Result<(), Refusal>
-    ensures ok { OnOk result (tables.new ≡ put_back back.items tables.old) }
+    ensures ok { OnOk result (tables.new ≡ put_back back.now tables.old) }
     ensures memory { IfErr result (λ e. e ≡ out_of_memory) }
 {
     let mut left = back;
-    while let Some(change) = left.pop() {
-        put_one(alloc, tables, &change)?;
+    while let [rest @ .., change] = left {
+        put_one(alloc, tables, change)?;
+        left = rest;
     }
     Ok(())
 }

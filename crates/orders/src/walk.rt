@@ -55,27 +55,23 @@ fn flags<A: Allocator>(alloc: A, count: usize) -> Result<Vec<bool, A>, Refusal>
     ensures ok { IfOk result (λ flags. flags.items ≡ replicate count false) }
     ensures memory { IfErr result (λ e. e ≡ out_of_memory) }
 {
-    let mut flags = Vec::with_capacity(alloc, count)?;
-    for _ in 0..count {
-        flags.push(false)?;
-    }
-    Ok(flags)
+    Ok(vec![in alloc; false; count]?)
 }
 
 impl<A: Allocator> Walk<A> {
     /// Before the first of so many transactions.
-    pub fn start(alloc: A, tables: Tables<A>, count: usize) -> Result<Walk<A>, Refusal>
+    pub fn start(alloc: A, tables: &Tables<A>, count: usize) -> Result<Walk<A>, Refusal>
     where
         A: Copy,
         ensures ok { IfOk result (λ w. w ≡
-            record { path = []; done = replicate count false; tables = tables; from = 0 }) }
+            record { path = []; done = replicate count false; tables = tables.now; from = 0 }) }
         ensures memory { IfErr result (λ e. e ≡ out_of_memory) }
     {
         let done = flags(alloc, count)?;
         Ok(Walk {
             path: Vec::new(alloc),
             done,
-            tables,
+            tables: tables.copy(alloc)?,
             from: 0,
         })
     }
@@ -147,12 +143,7 @@ impl<A: Allocator> Walk<A> {
         ensures others { OnOk result (self.new ≡ record self.old { tables = self.new.tables }) }
         ensures memory { IfErr result (λ e. e ≡ out_of_memory) }
     {
-        run_alone(
-            alloc,
-            catalog,
-            &mut self.tables,
-            transaction.statements.as_slice(),
-        )
+        run_alone(alloc, catalog, &mut self.tables, transaction.answered())
     }
 
     /// Runs the transaction of a place alone, and goes on with it where its answers agree: whether they do.
@@ -202,10 +193,10 @@ impl<A: Allocator> Walk<A> {
     }
 
     // Takes changes back.
-    fn put_back(&mut self, alloc: A, back: Vec<Change<A>, A>) -> Result<(), Refusal>
+    fn put_back(&mut self, alloc: A, back: &[Change<A>]) -> Result<(), Refusal>
     where
         A: Copy,
-        ensures ok { OnOk result (self.new ≡ record self.old { tables = put_back back.items self.old.tables }) }
+        ensures ok { OnOk result (self.new ≡ record self.old { tables = put_back back.now self.old.tables }) }
         ensures memory { IfErr result (λ e. e ≡ out_of_memory) }
     {
         take_back(alloc, &mut self.tables, back)
@@ -219,7 +210,7 @@ impl<A: Allocator> Walk<A> {
         ensures memory { IfErr result (λ e. e ≡ out_of_memory) }
     {
         let Passed { place, back } = passed;
-        self.put_back(alloc, back)?;
+        self.put_back(alloc, back.as_slice())?;
         self.leave(place);
         Ok(place)
     }

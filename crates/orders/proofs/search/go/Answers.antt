@@ -1,7 +1,8 @@
 use Rattle.std.proofs.Common.{subst}
-use Rattle.value.proofs.Basics.{IfOk_then}
+use Rattle.value.proofs.Basics.{IfOk_then, slice_get_item}
 use Rattle.orders.specs.Walks.{HasTurned}
 use Rattle.orders.proofs.AloneLemmas.{past-none, read-at}
+use Rattle.orders.proofs.WalkLemmas.{fit-at}
 use Rattle.orders.proofs.search.go.Goals as goal
 
 pub returns-in-Some-clause-ok : goal.returns-in-Some-clause-ok
@@ -10,3 +11,6 @@ returns-in-Some-clause-ok g c =
 
 pub returns-in-None-clause-ok : goal.returns-in-None-clause-ok
 returns-in-None-clause-ok g c = λ t at. absurd (past-none c.args.transactions.now c.args.place t c.in-None.ensures.lookup.3 at)
+
+pub go-requires-clause-fits : goal.go-requires-clause-fits
+go-requires-clause-fits g c = fit-at c.args.catalog.now c.args.transactions.now c.args.transactions.now c.args.place c.in-Some.transaction.now c.requires.fit (slice_get_item c.args.transactions.now c.args.place c.in-Some.transaction.now c.in-Some.ensures.lookup.3.0 c.in-Some.ensures.lookup.1)

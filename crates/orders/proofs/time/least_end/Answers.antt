@@ -1,6 +1,6 @@
 use Rattle.std.proofs.Common.{arith}
 use Rattle.orders.proofs.TimeLemmas.{least-all, least-more}
-use Rattle.orders.specs.Turns.{end_at, lesser_end}
+use Rattle.orders.specs.Turns.{lesser_end}
 use Rattle.std.proofs.Common.{◌∙◌, ap, slice_get}
 use Rattle.orders.proofs.time.least_end.Goals as goal
 

@@ -1,9 +1,9 @@
-use Rattle.orders.proofs.UndoLemmas.{put-last}
-use Rattle.std.proofs.Common.{◌∙◌}
+use Rattle.std.proofs.Common.{◌∙◌, ◌-◌, length, take}
+use Rattle.orders.proofs.UndoLemmas.{last-and-rest, put-last}
 use Rattle.orders.proofs.undo.take_back.Goals as goal
 
-pub loop-change-preserved-in_ok-put_one : goal.loop-change-preserved-in_ok-put_one
-loop-change-preserved-in_ok-put_one g c = put-last c.loop-change.left.items c.pop.new.self.items c.in-Some.change c.loop-change.tables c.put_one.new.tables c.in-Some.ensures.items c.in_ok-put_one.ensures.ok ∙ c.loop-change.invariant
-
-pub loop-change-preserved : goal.loop-change-preserved
-loop-change-preserved g c = put-last c.loop-change.left.items c.pop.new.self.items c.in-Some.change c.loop-change.tables c.put_one.new.tables c.in-Some.ensures.items c.in_ok-put_one.ensures.ok ∙ c.loop-change.invariant
+pub loop-left-preserved : goal.loop-left-preserved
+loop-left-preserved g c =
+    put-last c.loop-left.left.now (take (length c.loop-left.left.now - 1) c.loop-left.left.now) c.change-item.result c.loop-left.tables c.put_one.new.tables
+    (last-and-rest c.loop-left.left.now c.change-item.result c.in-len1-up.len_at_least c.change-item.is) c.in_ok-put_one.ensures.ok
+    ∙ c.loop-left.invariant

@@ -1,0 +1,10 @@
+use Rattle.value.proofs.Basics.{IfOk_then}
+use Rattle.orders.proofs.WalkLemmas.{begin-path}
+use Rattle.orders.proofs.near.follow_near.Goals as goal
+
+pub follow_from-requires-clause-from : goal.follow_from-requires-clause-from
+follow_from-requires-clause-from g c = (c.args.tables.now, c.requires.sound, begin-path c.args.catalog.now c.args.tables.now c.args.transactions.now c.in_ok-walk.walk c.in_ok-walk.ensures.ok)
+
+pub returns-clause-explains : goal.returns-clause-explains
+returns-clause-explains g c =
+    IfOk_then c.follow_from.result c.follow_from.ensures.explains (λ f h. h c.args.tables.now (begin-path c.args.catalog.now c.args.tables.now c.args.transactions.now c.in_ok-walk.walk c.in_ok-walk.ensures.ok))

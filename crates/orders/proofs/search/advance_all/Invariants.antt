@@ -1,0 +1,7 @@
+use Rattle.orders.specs.Seen.{AreDead}
+use Rattle.orders.specs.Walks.{IsWalk}
+use Rattle.orders.proofs.search.advance_all.Given as goal
+
+-- what the search knows, from whatever tables on, and what it remembers
+abbrev pub invariant-loop : goal.invariant-loop
+invariant-loop g l = ((X : _) → IsWalk l.catalog X l.transactions l.initial.walk → IsWalk l.catalog X l.transactions l.walk) × AreDead l.catalog l.transactions l.memory

@@ -1,0 +1,6 @@
+use Rattle.value.proofs.Basics.{slice_get_item}
+use Rattle.orders.proofs.WalkLemmas.{fit-at}
+use Rattle.orders.proofs.stop.hindered_at.Goals as goal
+
+pub hindrance_of-requires-clause-fits : goal.hindrance_of-requires-clause-fits
+hindrance_of-requires-clause-fits g c = fit-at c.args.catalog.now c.args.transactions.now c.args.transactions.now c.args.place c.in-Some.transaction.now c.requires.fit (slice_get_item c.args.transactions.now c.args.place c.in-Some.transaction.now c.in-Some.ensures.lookup.3.0 c.in-Some.ensures.lookup.1)
