@@ -186,32 +186,28 @@ where
     // Does the lines of a script, one after the other, and prints what is shown of each.
     fn do_lines<'p, W: Write>(
         &self,
-        mut core: Core<A>,
+        core: &mut Core<A>,
         lines: &'p [Line<A>],
         way: Way,
         printer: &mut Printer<'_, W, A>,
     ) -> Result<(), Fault<'p>>
         ensures done { OnOk result
-            (HasRun (IsWritten F.Out.path F.Out.kept) way core lines.entry.now printer.old printer.new) }
+            (HasRun (IsWritten F.Out.path F.Out.kept) way core.old lines.entry.now printer.old printer.new) }
         ensures stopped { IfErr result (λ f.
-            HasStopped (IsWritten F.Out.path F.Out.kept) way core lines.entry.now f printer.old printer.new) }
+            HasStopped (IsWritten F.Out.path F.Out.kept) way core.old lines.entry.now f printer.old printer.new) }
     {
         for line in lines {
-            let (next, text) = self.do_step(core, &line.step, way)?;
-            core = next;
+            let text = self.do_step(core, &line.step, way)?;
             show(text.as_slice(), printer)?;
         }
-        let order = order_of(self.alloc, way.shown, &core)?;
-        let told = show(order.as_slice(), printer);
-        // The program ends next, and its memory with it. A drop would give the history and the rows back one by one.
-        forget(core);
-        told
+        let order = order_of(self.alloc, way.shown, core)?;
+        show(order.as_slice(), printer)
     }
 
     // The same, and writes all that was printed, whether or not the lines were done.
     fn do_all_lines<'p, W: Write>(
         &self,
-        core: Core<A>,
+        mut core: Core<A>,
         lines: &'p [Line<A>],
         way: Way,
         printer: &mut Printer<'_, W, A>,
@@ -222,7 +218,9 @@ where
             HasStopped (IsWritten F.Out.path F.Out.kept) way core lines.entry.now f printer.old printer.new) }
         ensures flushed { IsFlushed printer.new }
     {
-        let done = self.do_lines(core, lines, way, printer);
+        let done = self.do_lines(&mut core, lines, way, printer);
+        // The program ends next, and its memory with it. A drop would give the history and the rows back one by one.
+        forget(core);
         match printer.flush() {
             Ok(()) => done,
             Err(error) => Err(fault_of_print(error)),

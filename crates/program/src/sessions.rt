@@ -58,17 +58,20 @@ fn tell_event<A: Allocator + Copy>(
 }
 
 /// Lets the history go on from the tables that it has come to, with room for so many events more:
-/// the core, and the refusal where it doesn't.
+/// the refusal where it doesn't.
 pub(crate) fn checkpoint<A: Allocator + Copy>(
     alloc: A,
-    core: Core<A>,
+    core: &mut Core<A>,
     most_events: u32,
-) -> (Core<A>, Option<Refusal>)
-    ensures { Checkpoints most_events core result.0 result.1 }
+) -> Option<Refusal>
+    ensures { Checkpoints most_events core.old core.new result }
 {
-    match core.checkpoint(alloc, most_events) {
-        Ok(core) => (core, None),
-        Err((core, refusal)) => (core, Some(refusal)),
+    match core.next(alloc, most_events) {
+        Ok(next) => {
+            *core = next;
+            None
+        }
+        Err(refusal) => Some(refusal),
     }
 }
 

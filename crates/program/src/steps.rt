@@ -88,20 +88,15 @@ fn checkpoint_text<'p, A: Allocator>(
 
 // A checkpoint, and what is printed of it: its reply, or the serial order so far, where that is
 // asked for and the checkpoint is done.
-fn pass_checkpoint<'p, A>(
-    alloc: A,
-    core: Core<A>,
-    way: Way,
-) -> Result<(Core<A>, Vec<u8, A>), Fault<'p>>
+fn pass_checkpoint<'p, A>(alloc: A, core: &mut Core<A>, way: Way) -> Result<Vec<u8, A>, Fault<'p>>
 where
     A: Allocator + Copy,
-    ensures done { IfOk result (λ x. spec.IsPassed way core x.0 x.1.items) }
+    ensures done { IfOk result (λ text. spec.IsPassed way core.old core.new text.items) }
     ensures memory { IfErr result (λ f. f ≡ Fault.ScriptOutOfMemory) }
 {
-    let order = order_of(alloc, way.shown, &core)?;
-    let (core, refusal) = checkpoint(alloc, core, way.most_events);
-    let text = checkpoint_text(alloc, way.shown, order, refusal)?;
-    Ok((core, text))
+    let order = order_of(alloc, way.shown, core)?;
+    let refusal = checkpoint(alloc, core, way.most_events);
+    checkpoint_text(alloc, way.shown, order, refusal)
 }
 
 // A reply, where replies are shown.
@@ -124,29 +119,29 @@ where
     // Does a session's command, and gives what is printed of it.
     fn pass_command<'p>(
         &self,
-        mut core: Core<A>,
+        core: &mut Core<A>,
         session: SessionId,
         command: &'p Command<A>,
         way: Way,
-    ) -> Result<(Core<A>, Vec<u8, A>), Fault<'p>>
-        ensures done { IfOk result (λ x.
-            IsDone (IsWritten F.Out.path F.Out.kept) way core (Step.Session session command.entry.now) x.0 x.1.items) }
-        ensures fault { IfErr result (λ f. Stops core (Step.Session session command.entry.now) f) }
+    ) -> Result<Vec<u8, A>, Fault<'p>>
+        ensures done { IfOk result (λ text. IsDone (IsWritten F.Out.path F.Out.kept) way core.old
+            (Step.Session session command.entry.now) core.new text.items) }
+        ensures fault { IfErr result (λ f. Stops core.old (Step.Session session command.entry.now) f) }
     {
-        let text = self.do_command(&mut core, session, command)?;
-        Ok((core, shown_text(self.alloc, way.shown, text)))
+        let text = self.do_command(core, session, command)?;
+        Ok(shown_text(self.alloc, way.shown, text))
     }
 
     /// Does a step, and gives what is printed of it.
     pub(crate) fn do_step<'p>(
         &self,
-        core: Core<A>,
+        core: &mut Core<A>,
         step: &'p Step<A>,
         way: Way,
-    ) -> Result<(Core<A>, Vec<u8, A>), Fault<'p>>
-        ensures done { IfOk result (λ x.
-            IsDone (IsWritten F.Out.path F.Out.kept) way core step.entry.now x.0 x.1.items) }
-        ensures fault { IfErr result (λ f. Stops core step.entry.now f) }
+    ) -> Result<Vec<u8, A>, Fault<'p>>
+        ensures done { IfOk result (λ text.
+            IsDone (IsWritten F.Out.path F.Out.kept) way core.old step.entry.now core.new text.items) }
+        ensures fault { IfErr result (λ f. Stops core.old step.entry.now f) }
     {
         match step {
             Step::Session(session, command) => self.pass_command(core, *session, command, way),
