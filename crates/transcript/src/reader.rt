@@ -98,7 +98,23 @@ fn kinds_in<A: Allocator>(
     }
 }
 
+// The text of a row of a session's SELECT, in a line.
+fn row_text(session: SessionId, line: &[u8]) -> Option<&[u8]> {
+    match session_and_text(line) {
+        Some((number, [b'|', b' ', row @ ..])) if number == session => Some(row),
+        _ => None,
+    }
+}
+
 impl<A: Allocator + Copy> Due<A> {
+    // One more row, of this line.
+    fn take_line(&mut self, alloc: A, line: &[u8]) -> Result<(), Reason> {
+        match row_text(self.session, line) {
+            Some(row) => self.take(alloc, row),
+            None => Err(Reason::NoRow),
+        }
+    }
+
     // One more row, of this text.
     fn take(&mut self, alloc: A, text: &[u8]) -> Result<(), Reason> {
         match read_row(alloc, self.kinds.as_slice(), text) {
@@ -159,14 +175,29 @@ impl<A: Allocator + Copy> Reader<A> {
         session_at(self.sessions.as_mut_slice(), session)?.ask(asked, number)
     }
 
-    // Goes on behind a SELECT, whose rows may have come.
-    fn expect(&mut self, due: Due<A>) -> Result<(), Reason> {
-        if due.left > 0 {
-            self.due = Some(due);
-            return Ok(());
+    // Whether more rows of a SELECT follow.
+    fn awaits_rows(&self) -> bool {
+        match &self.due {
+            Some(due) => due.left > 0,
+            None => false,
         }
+    }
+
+    // Records a SELECT whose rows have come.
+    fn record(&mut self, due: Due<A>) -> Result<(), Reason> {
         let session = session_at(self.sessions.as_mut_slice(), due.session)?;
         session.record(due.statement, Reply::Rows(RowList::of(due.rows)), due.line)
+    }
+
+    // Goes on behind a SELECT or a row of it: where no more follow it is recorded.
+    fn settle(&mut self) -> Result<(), Reason> {
+        if self.awaits_rows() {
+            return Ok(());
+        }
+        match self.due.take() {
+            Some(due) => self.record(due),
+            None => Ok(()),
+        }
     }
 
     // What comes of a session's reply in a line.
@@ -193,14 +224,15 @@ impl<A: Allocator + Copy> Reader<A> {
             }
             Outcome::Rows(statement, left, line) => {
                 let kinds = kinds_in(alloc, catalog, &statement)?;
-                self.expect(Due {
+                self.due = Some(Due {
                     session,
                     statement,
                     line,
                     kinds,
                     rows: Vec::new(alloc),
                     left,
-                })
+                });
+                self.settle()
             }
         }
     }
@@ -225,23 +257,6 @@ impl<A: Allocator + Copy> Reader<A> {
         self.follow(alloc, catalog, session, number, outcome)
     }
 
-    // A row of the SELECT whose rows follow.
-    fn take_row(&mut self, alloc: A, mut due: Due<A>, line: &[u8]) -> Result<(), Reason> {
-        let Some((session, text)) = session_and_text(line) else {
-            return Err(Reason::NoRow);
-        };
-        if session != due.session {
-            return Err(Reason::NoRow);
-        }
-        match text {
-            [b'|', b' ', row @ ..] => {
-                due.take(alloc, row)?;
-                self.expect(due)
-            }
-            _ => Err(Reason::NoRow),
-        }
-    }
-
     // A reply, or a row of one.
     fn reply(
         &mut self,
@@ -250,11 +265,14 @@ impl<A: Allocator + Copy> Reader<A> {
         number: u64,
         line: &[u8],
     ) -> Result<(), Reason> {
-        match self.due.take() {
-            Some(due) => self.take_row(alloc, due, line),
-            None if is_of_checkpoint(line) => Ok(()),
-            None => self.answer(alloc, catalog, number, line),
+        if let Some(due) = &mut self.due {
+            due.take_line(alloc, line)?;
+            return self.settle();
         }
+        if is_of_checkpoint(line) {
+            return Ok(());
+        }
+        self.answer(alloc, catalog, number, line)
     }
 
     /// One more line, of this number.
@@ -274,25 +292,32 @@ impl<A: Allocator + Copy> Reader<A> {
         }
     }
 
-    /// No line follows: those that may have committed have ended too. All that have ended, and the lines of the
-    /// BEGINs that were answered so.
-    pub(crate) fn end(self) -> Result<(Vec<Ended<A>, A>, Vec<u64, A>), Reason> {
-        let Reader {
-            sessions,
-            due,
-            begins,
-            mut ended,
-        } = self;
-        if due.is_some() {
+    /// No line follows: those that may have committed have ended too.
+    pub(crate) fn end(&mut self) -> Result<(), Reason> {
+        if self.due.is_some() {
             return Err(Reason::RowsMissing);
         }
-        for session in sessions {
-            if let Some(draft) = session.undetermined() {
-                ended.push(Ended { draft, end: None })?;
-            }
-        }
-        Ok((ended, begins))
+        end_undetermined(self.sessions.as_mut_slice(), &mut self.ended)
     }
+
+    /// All that have ended, and the lines of the BEGINs that were answered so.
+    pub(crate) fn into_parts(self) -> (Vec<Ended<A>, A>, Vec<u64, A>) {
+        let Reader { begins, ended, .. } = self;
+        (ended, begins)
+    }
+}
+
+// Ends the transactions of sessions that may have committed.
+fn end_undetermined<A: Allocator>(
+    sessions: &mut [Session<A>],
+    ended: &mut Vec<Ended<A>, A>,
+) -> Result<(), Reason> {
+    for session in sessions {
+        if let Some(draft) = session.take_undetermined() {
+            ended.push(Ended { draft, end: None })?;
+        }
+    }
+    Ok(())
 }
 
 // Whether a reply is a checkpoint's, which names no session.

@@ -143,17 +143,6 @@ impl<A: Allocator> Session<A> {
         Ok(())
     }
 
-    // The same, where no rows follow.
-    fn recorded(
-        &mut self,
-        statement: Statement<A>,
-        reply: Reply<A>,
-        line: u64,
-    ) -> Result<Outcome<A>, Reason> {
-        self.record(statement, reply, line)?;
-        Ok(Outcome::Nothing)
-    }
-
     // A statement in a line was answered so.
     fn answer_statement(
         &mut self,
@@ -163,15 +152,12 @@ impl<A: Allocator> Session<A> {
     ) -> Result<Outcome<A>, Reason> {
         match (said, kind_of(&statement)) {
             (Said::Refused, _) => Ok(Outcome::Nothing),
-            (Said::Inserted, Kind::Insert) => self.recorded(statement, Reply::Inserted, line),
-            (Said::Updated(rows), Kind::Update) => {
-                self.recorded(statement, Reply::Updated(rows), line)
-            }
-            (Said::Deleted(rows), Kind::Delete) => {
-                self.recorded(statement, Reply::Deleted(rows), line)
-            }
             (Said::Selected(rows), Kind::Select) => Ok(Outcome::Rows(statement, rows, line)),
-            _ => Err(Reason::OtherReply),
+            (said, kind) => {
+                let reply = changed(said, kind)?;
+                self.record(statement, reply, line)?;
+                Ok(Outcome::Nothing)
+            }
         }
     }
 
@@ -202,17 +188,31 @@ impl<A: Allocator> Session<A> {
         }
     }
 
-    /// Its transaction, where it may have committed: its COMMIT awaits a reply.
-    pub(crate) fn undetermined(self) -> Option<Draft<A>> {
-        match self.pending {
-            Some(
-                Pending {
-                    asked: Asked::Commit,
-                    ..
-                },
-            ) => self.open,
-            _ => None,
+    // Whether its COMMIT awaits a reply.
+    fn awaits_commit(&self) -> bool {
+        match &self.pending {
+            Some(pending) => matches!(pending.asked, Asked::Commit),
+            None => false,
         }
+    }
+
+    /// Takes its transaction, where it may have committed: its COMMIT awaits a reply.
+    pub(crate) fn take_undetermined(&mut self) -> Option<Draft<A>> {
+        if self.awaits_commit() {
+            self.open.take()
+        } else {
+            None
+        }
+    }
+}
+
+// What a statement of a kind that changes rows was answered.
+fn changed<A: Allocator>(said: Said, kind: Kind) -> Result<Reply<A>, Reason> {
+    match (said, kind) {
+        (Said::Inserted, Kind::Insert) => Ok(Reply::Inserted),
+        (Said::Updated(rows), Kind::Update) => Ok(Reply::Updated(rows)),
+        (Said::Deleted(rows), Kind::Delete) => Ok(Reply::Deleted(rows)),
+        _ => Err(Reason::OtherReply),
     }
 }
 

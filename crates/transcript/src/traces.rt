@@ -100,7 +100,7 @@ fn gathered<A: Allocator + Copy>(
     reader: Reader<A>,
     has_time: bool,
 ) -> Result<Traces<A>, Reason> {
-    let (all, begins) = reader.end()?;
+    let (all, begins) = reader.into_parts();
     let mut traces = Traces {
         transactions: Vec::new(alloc),
         names: Vec::new(alloc),
@@ -115,16 +115,43 @@ fn gathered<A: Allocator + Copy>(
 fn fitting<A: Allocator + Copy>(
     alloc: A,
     catalog: &Catalog<A>,
-    reader: Reader<A>,
+    mut reader: Reader<A>,
     has_time: bool,
 ) -> Result<Traces<A>, Reason>
     ensures fit { IfOk result (λ t. all_fit catalog.now t.transactions.items ≡ true) }
 {
+    reader.end()?;
     let traces = gathered(alloc, reader, has_time)?;
     if all_fit(catalog, traces.transactions.as_slice()) {
         Ok(traces)
     } else {
         Err(Reason::NoStatement)
+    }
+}
+
+// Reads the lines of a transcript: the number of what stands behind the last one.
+fn read_lines<A: Allocator + Copy>(
+    alloc: A,
+    catalog: &Catalog<A>,
+    reader: &mut Reader<A>,
+    text: &[u8],
+) -> Result<u64, TranscriptFault>
+    ensures end { IfOk result (λ number. IsLineOf text.now number) }
+    ensures line { IfErr result (λ f. IsLineOf text.now f.line) }
+{
+    let mut rest = text;
+    let mut number = 1;
+    while let Some((line, more)) = cut(b'\n', rest) {
+        if let Err(reason) = reader.read_line(alloc, catalog, number, line) {
+            return Err(at(number, reason));
+        }
+        rest = more;
+        number += 1;
+    }
+    if rest.is_empty() {
+        Ok(number)
+    } else {
+        Err(at(number, Reason::NoNewline))
     }
 }
 
@@ -140,25 +167,14 @@ pub fn read_traces<A: Allocator + Copy>(
     ensures fit { IfOk result (λ t. all_fit catalog.now t.transactions.items ≡ true) }
     ensures line { IfErr result (λ f. IsLineOf text.now f.line) }
 {
-    let mut rest = text;
-    let mut number = 1;
     let mut reader = match Reader::new(alloc) {
         Ok(reader) => reader,
-        Err(reason) => return Err(at(number, reason)),
+        Err(reason) => return Err(at(1, reason)),
     };
-    while let Some((line, more)) = cut(b'\n', rest) {
-        if let Err(reason) = reader.read_line(alloc, catalog, number, line) {
-            return Err(at(number, reason));
-        }
-        rest = more;
-        number += 1;
-    }
-    if !rest.is_empty() {
-        return Err(at(number, Reason::NoNewline));
-    }
+    let last = read_lines(alloc, catalog, &mut reader, text)?;
     match fitting(alloc, catalog, reader, has_time) {
         Ok(traces) => Ok(traces),
-        Err(reason) => Err(at(number, reason)),
+        Err(reason) => Err(at(last, reason)),
     }
 }
 

@@ -1,6 +1,6 @@
 use Rattle.std.proofs.Common.{◌≡◌, ◌+◌, ◌==◌, ◌≤◌, length}
 use Rattle.std.specs.List.{slice_split}
-use Rattle.transcript.proofs.traces.read_traces.Given as goal
+use Rattle.transcript.proofs.traces.read_lines.Given as goal
 
 -- as many lines are left as the text has, less those that were read
 abbrev pub invariant-loop-line : goal.invariant-loop-line
