@@ -241,6 +241,27 @@ impl<'h, A: Allocator> Canvas<'h, A> {
         Ok(())
     }
 
+    // A row, as an arrow's label at a point.
+    fn write_item<W: Write>(
+        &self,
+        arrow: &Arrow<A>,
+        item: &[u8],
+        point: Point,
+        width: u64,
+        out: &mut W,
+    ) -> io::Result<()> {
+        let left = point.x.saturating_sub(width / 2);
+        let (top, y) = (point.y.saturating_sub(8), point.y.saturating_add(4));
+        write!(
+            out,
+            "<rect class=\"plate\" x=\"{left}\" y=\"{top}\" width=\"{width}\" height=\"16\"/>"
+        )?;
+        let (x, looks) = (point.x, self.looks(arrow));
+        write!(out, "<text class=\"label {looks}\" x=\"{x}\" y=\"{y}\">")?;
+        write_escaped(item, MOST_SHOWN, out)?;
+        writeln!(out, "</text>")
+    }
+
     // The label of an arrow: the row.
     fn write_label<W: Write>(
         &self,
@@ -255,16 +276,7 @@ impl<'h, A: Allocator> Canvas<'h, A> {
         let item = self.subject.item_text(alloc, &arrow.edge.item)?;
         let width = width_of(item.as_slice(), MOST_SHOWN).saturating_mul(7);
         let point = room.place(&self.curve(arrow), width)?;
-        let left = point.x.saturating_sub(width / 2);
-        let (top, y) = (point.y.saturating_sub(8), point.y.saturating_add(4));
-        write!(
-            out,
-            "<rect class=\"plate\" x=\"{left}\" y=\"{top}\" width=\"{width}\" height=\"16\"/>"
-        )?;
-        let (x, looks) = (point.x, self.looks(arrow));
-        write!(out, "<text class=\"label {looks}\" x=\"{x}\" y=\"{y}\">")?;
-        write_escaped(item.as_slice(), MOST_SHOWN, out)?;
-        writeln!(out, "</text>")
+        self.write_item(arrow, item.as_slice(), point, width, out)
     }
 
     // Takes the room of the bars and of what they are called.

@@ -66,25 +66,24 @@ fn write_edge<A: Allocator + Copy, W: Write>(
 }
 
 // The graph.
-fn written<A: Allocator + Copy>(
+fn write_graph<A: Allocator + Copy, W: Write>(
     alloc: A,
     subject: &Subject<'_, A>,
     picture: &Picture<A>,
-) -> io::Result<Vec<u8, A>> {
-    let mut text = Vec::new(alloc);
-    writeln!(&mut text, "digraph transactions {{")?;
-    writeln!(&mut text, "  rankdir=LR;")?;
-    writeln!(&mut text, "  node [shape=box style=filled];")?;
+    out: &mut W,
+) -> io::Result<()> {
+    writeln!(out, "digraph transactions {{")?;
+    writeln!(out, "  rankdir=LR;")?;
+    writeln!(out, "  node [shape=box style=filled];")?;
     for bar in picture.bars.as_slice() {
         if is_shown(bar, picture.first) {
-            write_node(subject, bar, &mut text)?;
+            write_node(subject, bar, out)?;
         }
     }
     for arrow in picture.arrows.as_slice() {
-        write_edge(alloc, subject, picture.first, arrow, &mut text)?;
+        write_edge(alloc, subject, picture.first, arrow, out)?;
     }
-    writeln!(&mut text, "}}")?;
-    Ok(text)
+    writeln!(out, "}}")
 }
 
 /// The text of a picture's graph for graphviz: a node for each transaction, an edge for each conflict.
@@ -95,8 +94,9 @@ pub fn dot_text<A: Allocator + Copy>(
 ) -> Result<Vec<u8, A>, Refusal>
     ensures memory { IfErr result (λ e. e ≡ out_of_memory) }
 {
-    match written(alloc, subject, picture) {
-        Ok(text) => Ok(text),
+    let mut text = Vec::new(alloc);
+    match write_graph(alloc, subject, picture, &mut text) {
+        Ok(()) => Ok(text),
         Err(_) => Err(Refusal::of_code(Code::OutOfMemory)),
     }
 }

@@ -73,6 +73,17 @@ fn write_body<A: Allocator + Copy, W: Write>(
     canvas.write_foot(out)
 }
 
+// What stands before what is drawn, in so much room.
+fn write_head<W: Write>(width: u64, height: u64, out: &mut W) -> io::Result<()> {
+    writeln!(
+        out,
+        "<svg xmlns=\"http://www.w3.org/2000/svg\" viewBox=\"0 0 {width} {height}\" width=\"{width}\" height=\"{height}\">"
+    )?;
+    out.write_all(STYLE.as_bytes())?;
+    out.write_all(HEADS.as_bytes())?;
+    writeln!(out, "<rect width=\"100%\" height=\"100%\" fill=\"#fff\"/>")
+}
+
 // The picture.
 fn written<A: Allocator + Copy>(
     alloc: A,
@@ -87,18 +98,8 @@ fn written<A: Allocator + Copy>(
     };
     let mut body = Vec::new(alloc);
     let height = write_body(alloc, &canvas, &mut body)?;
-    let width = layout.width();
     let mut text = Vec::new(alloc);
-    writeln!(
-        &mut text,
-        "<svg xmlns=\"http://www.w3.org/2000/svg\" viewBox=\"0 0 {width} {height}\" width=\"{width}\" height=\"{height}\">"
-    )?;
-    text.write_all(STYLE.as_bytes())?;
-    text.write_all(HEADS.as_bytes())?;
-    writeln!(
-        &mut text,
-        "<rect width=\"100%\" height=\"100%\" fill=\"#fff\"/>"
-    )?;
+    write_head(layout.width(), height, &mut text)?;
     text.extend_from_slice(body.as_slice())?;
     writeln!(&mut text, "</svg>")?;
     Ok(text)
