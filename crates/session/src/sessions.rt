@@ -37,7 +37,6 @@ use value::refusal::{Code, Refusal, TxnNo};
 
 /// A server of transactions that are serializable, one event at a time. It is its history: each
 /// reply is the one that the definitions give after the events before it.
-#[derive(Drop)]
 pub struct Core<A: Allocator = Global> {
     history: History<A>,
     world: World<A>,
@@ -47,6 +46,19 @@ pub struct Core<A: Allocator = Global> {
     rows: Rows<A>,
     // The snapshots of sessions' transactions that no commit has spoilt.
     unspoilt: Unspoilt,
+}
+
+// A drop of its own: each that is derived is written out, field by field, at every place where its value may be dropped.
+impl<A: Allocator> Drop for Core<A> {
+    fn drop(self) {
+        let Core {
+            history: _,
+            world: _,
+            keys: _,
+            rows: _,
+            unspoilt: _,
+        } = self;
+    }
 }
 
 impl<A: Allocator> Model for Core<A> {
