@@ -1,6 +1,6 @@
 //! Locks: what a transaction's reads cover, few and many, taken back and released.
 
-use crate::words::{cut, not_a_case};
+use crate::words::{check, cut, not_a_case, txn};
 use schema::catalog::TableNo;
 use siread::locks::Locks;
 use statement::reading::{End, Extent, Footprint, Reading};
@@ -8,8 +8,6 @@ use std::alloc::Global;
 use value::key::Key;
 use value::refusal::{Refusal, TxnNo};
 use value::value::Value;
-
-const READER: TxnNo = TxnNo(7);
 
 fn key(number: i64) -> Result<Key, Refusal> {
     Ok(Key::new(Value::Int(number)).ok_or(not_a_case())?)
@@ -68,6 +66,19 @@ fn read(alloc: Global, locks: &mut Locks, txn: TxnNo, texts: &str) -> Result<(),
     Ok(())
 }
 
+// Reads of each key from 1 to 499, each above all before it.
+fn scan(alloc: Global, locks: &mut Locks, txn: TxnNo) -> Result<(), Refusal> {
+    for number in 1..500 {
+        let mut readings = Vec::new(alloc);
+        readings.push(Reading {
+            table: TableNo::at(0),
+            extent: Extent::One(key(number)?),
+        })?;
+        locks.read(alloc, txn, &Footprint::of(readings))?;
+    }
+    Ok(())
+}
+
 // Whether a transaction's reads cover a key of table 0, or `column 1 = 3`.
 fn is_covered(locks: &Locks, txn: TxnNo, text: &str) -> Result<bool, Refusal> {
     match extent(text)? {
@@ -82,120 +93,98 @@ fn is_covered(locks: &Locks, txn: TxnNo, text: &str) -> Result<bool, Refusal> {
 // Whether each of these is covered, or none of them.
 fn are_covered(locks: &Locks, txn: TxnNo, texts: &str, want: bool) -> Result<bool, Refusal> {
     for text in texts.split(", ") {
-        if text != "none" && is_covered(locks, txn, text)? != want {
+        if is_covered(locks, txn, text)? != want {
             return Ok(false);
         }
     }
     Ok(true)
 }
 
-// Reads; what they cover; and what they don't.
-const COVERS: &str = "\
-1; 3; 5; 7; 9; 11; 13; 15 | 1, 9, 15 | 4, 0, 17, column 1 = 3
-1; 3; 5; 7; 9; 11; 13; 15; 17 | 1, 4, 9, 17 | 0, 18, column 1 = 3
-17; 1; 5; 3; 15; 7; 9; 13; 11 | 1, 4, 9, 17 | 0, 18
-17; 15; 13; 11; 9; 7; 5; 3; 1 | 1, 4, 9, 17 | 0, 18
-1, 3, 5; 7, 9, 11, 13; 15, 17 | 1, 4, 9, 17 | 0, 18
-1; 1; 3; 3; 5; 7; 9; 11; 13; 15; 1 | 1, 15 | 4, 14
-1; 3; 5; 7; 9; 11; 13; 15; 17; -5; 40; 2; 41; -6 | -6, 0, 41 | -7, 42
-10 to 19; 30 to 39; 50 to 59; 70 to 79 | 10, 35, 79 | 9, 25, 80
-10 to 19; 30 to 39; 10 to 19; 50 to 59; 70 to 79 | 10, 35, 79 | 9, 25, 80
-10 to 19; 30 to 39; 50 to 59; 70 to 79; 90 to 99 | 25, 0, 1000, column 3 = 1 | none
-3! to -; 4 to -; 10 to 11; 13 to 14 | 4, 1000 | 3
-3! to -; 4 to -; 10 to 11; 13 to 14; 16 to 17 | 3, -9 | none
-- to 3!; 5! to 7 | 2, -100, 6, 7 | 3, 5, 8
-70 to 79; 1; 3; 5; 7; 30 to 39; 9; 11; 50 to 59; 13; 15; 10 to 19 | 1, 19, 33 | 4, 25
-70 to 79; 1; 3; 5; 7; 30 to 39; 9; 11; 50 to 59; 13; 15; 10 to 19; 17 | 4, 25, -9 | none
-70 to 79; 1; 3; 5; 7; 30 to 39; 9; 11; 50 to 59; 13; 15; 17 | 4, 30, 75 | 0, 25, 45
-1; all | 5, column 0 = 5 | none
-column 1 = 1; column 1 = 2; column 2 = 3; column 1 = 4; column 1 = 5; column 1 = 6; column 1 = 7; column 1 = 8 | column 1 = 1, column 2 = 3 | column 1 = 3, column 2 = 1, 1, 3
-column 1 = 1; column 1 = 2; column 2 = 3; column 1 = 4; column 1 = 5; column 1 = 6; column 1 = 7; column 1 = 8; column 2 = 1 | column 1 = 9, 1, 9 | none
-column 1 = 1; column 1 = 1; column 1 = 2; column 1 = 3; column 1 = 4; column 1 = 5; column 1 = 6; column 1 = 7; column 1 = 8 | column 1 = 8 | column 1 = 9, 1";
-
-#[test]
-fn reads_cover(rt: HostRuntime) -> Result<(), Refusal> {
-    let alloc = rt.alloc();
-    for line in COVERS.lines() {
-        let (texts, rest) = cut(line, " | ")?;
-        let (covered, left) = cut(rest, " | ")?;
-        let mut locks = Locks::new(alloc);
-        read(alloc, &mut locks, READER, texts)?;
-        assert!(rt; are_covered(&locks, READER, covered, true)?, "{line}");
-        assert!(rt; are_covered(&locks, READER, left, false)?, "{line}");
-        let other = TableNo::at(1);
-        assert!(rt; !locks.covers(READER, other, &key(1)?), "{line}");
-        assert!(rt; !locks.covers_value(READER, other, 1, &key(1)?), "{line}");
-        assert!(rt; !locks.covers(TxnNo(8), TableNo::at(0), &key(1)?), "{line}");
-    }
-    Ok(())
+// Whether 7 covers key 1 of table 1, or that key of column 1, or a transaction that has read nothing covers key 1.
+fn is_covered_elsewhere(locks: &Locks) -> Result<bool, Refusal> {
+    let key = key(1)?;
+    let other = TableNo::at(1);
+    Ok(
+        locks.covers(TxnNo(7), other, &key)
+            || locks.covers_value(TxnNo(7), other, 1, &key)
+            || locks.covers(TxnNo(5), TableNo::at(0), &key),
+    )
 }
 
-// What was read; the last read; and what it alone covers.
-const UNDONE: &str = "\
-1; 3; 5; 7; 9; 11; 13; 15 | 17 | 4, 17
-1; 3; 5; 7; 9; 11; 13; 15; 17; 19 | -1, 30 | 0, -1, 25
-10 to 19; 30 to 39; 50 to 59; 70 to 79 | 90 to 99 | 25, 95
-10 to 19; 1 | all | 2, column 1 = 2
-column 1 = 2 | column 2 = 2, 5 | column 2 = 2, 5
-1; 3; 5; 7; 9; 11; 13; 15; 17; 19 | 3, 18, 1 | none";
-
-#[test]
-fn the_last_read_is_taken_back(rt: HostRuntime) -> Result<(), Refusal> {
-    let alloc = rt.alloc();
-    for line in UNDONE.lines() {
-        let (texts, rest) = cut(line, " | ")?;
-        let (last, covered) = cut(rest, " | ")?;
-        let mut locks = Locks::new(alloc);
-        read(alloc, &mut locks, READER, texts)?;
-        assert!(rt; are_covered(&locks, READER, covered, false)?, "{line}");
-        locks.read(alloc, READER, &footprint(alloc, last)?)?;
-        assert!(rt; are_covered(&locks, READER, covered, true)?, "{line}");
-        locks.undo(READER);
-        assert!(rt; are_covered(&locks, READER, covered, false)?, "{line}");
-        assert!(rt;
-            is_covered(&locks, READER, "1")?
-                || is_covered(&locks, READER, "10")?
-                || is_covered(&locks, READER, "column 1 = 2")?,
-            "{line}"
-        );
+// A step is done, and what it asks is so.
+fn is_done(alloc: Global, locks: &mut Locks, step: &str) -> Result<bool, Refusal> {
+    let (what, texts) = cut(step, " ")?;
+    let (letter, word) = what.split_at_checked(1).ok_or(not_a_case())?;
+    let txn = txn(word)?;
+    match letter {
+        "R" => read(alloc, locks, txn, texts)?,
+        "S" => scan(alloc, locks, txn)?,
+        "U" => locks.undo(txn),
+        "L" => locks.release(txn),
+        "+" => return are_covered(locks, txn, texts, true),
+        _ => return are_covered(locks, txn, texts, false),
     }
-    Ok(())
+    Ok(true)
 }
 
-#[test]
-fn a_released_transaction_covers_nothing(rt: HostRuntime) -> Result<(), Refusal> {
-    let alloc = rt.alloc();
+// Whether all that the steps of a case ask is so, one after the other.
+fn are_done(alloc: Global, locks: &mut Locks, steps: &str) -> Result<bool, Refusal> {
+    for step in steps.split(" | ") {
+        if !is_done(alloc, locks, step)? {
+            return Ok(false);
+        }
+    }
+    Ok(!is_covered_elsewhere(locks)?)
+}
+
+fn is_so(alloc: Global, steps: &str) -> Result<bool, Refusal> {
     let mut locks = Locks::new(alloc);
-    for (number, text) in [(7, "1"), (9, "2"), (8, "3")] {
-        read(alloc, &mut locks, TxnNo(number), text)?;
-    }
-    locks.release(TxnNo(9));
-    locks.undo(TxnNo(9));
-    locks.release(TxnNo(6));
-    assert!(rt; is_covered(&locks, TxnNo(7), "1")? && is_covered(&locks, TxnNo(8), "3")?);
-    assert!(rt; !is_covered(&locks, TxnNo(9), "2")?);
-    read(alloc, &mut locks, TxnNo(9), "5")?;
-    assert!(rt; is_covered(&locks, TxnNo(9), "5")? && !is_covered(&locks, TxnNo(9), "2")?);
-    Ok(())
+    are_done(alloc, &mut locks, steps)
 }
 
-// Each read is of a key above all before it.
+// `R7`: transaction 7 reads these, one after the other. `+7`: its reads cover these, `-7`: none of these.
+const COVERED: &str = "\
+R7 1; 3; 5; 7; 9; 11; 13; 15 | +7 1, 9, 15 | -7 4, 0, 17, column 1 = 3
+R7 1; 3; 5; 7; 9; 11; 13; 15; 17 | +7 1, 4, 9, 17 | -7 0, 18, column 1 = 3
+R7 17; 1; 5; 3; 15; 7; 9; 13; 11 | +7 1, 4, 9, 17 | -7 0, 18
+R7 17; 15; 13; 11; 9; 7; 5; 3; 1 | +7 1, 4, 9, 17 | -7 0, 18
+R7 1, 3, 5; 7, 9, 11, 13; 15, 17 | +7 1, 4, 9, 17 | -7 0, 18
+R7 1; 1; 3; 3; 5; 7; 9; 11; 13; 15; 1 | +7 1, 15 | -7 4, 14
+R7 1; 3; 5; 7; 9; 11; 13; 15; 17; -5; 40; 2; 41; -6 | +7 -6, 0, 41 | -7 -7, 42
+R7 10 to 19; 30 to 39; 50 to 59; 70 to 79 | +7 10, 35, 79 | -7 9, 25, 80
+R7 10 to 19; 30 to 39; 10 to 19; 50 to 59; 70 to 79 | +7 10, 35, 79 | -7 9, 25, 80
+R7 10 to 19; 30 to 39; 50 to 59; 70 to 79; 90 to 99 | +7 25, 0, 1000, column 3 = 1
+R7 3! to -; 4 to -; 10 to 11; 13 to 14 | +7 4, 1000 | -7 3
+R7 3! to -; 4 to -; 10 to 11; 13 to 14; 16 to 17 | +7 3, -9
+R7 - to 3!; 5! to 7 | +7 2, -100, 6, 7 | -7 3, 5, 8
+R7 70 to 79; 1; 3; 5; 7; 30 to 39; 9; 11; 50 to 59; 13; 15; 10 to 19 | +7 1, 19, 33 | -7 4, 25
+R7 70 to 79; 1; 3; 5; 7; 30 to 39; 9; 11; 50 to 59; 13; 15; 10 to 19; 17 | +7 4, 25, -9
+R7 70 to 79; 1; 3; 5; 7; 30 to 39; 9; 11; 50 to 59; 13; 15; 17 | +7 4, 30, 75 | -7 0, 25, 45
+R7 1; all | +7 5, column 0 = 5
+R7 column 1 = 1; column 1 = 2; column 2 = 3; column 1 = 4; column 1 = 5; column 1 = 6; column 1 = 7; column 1 = 8 | +7 column 1 = 1, column 2 = 3 | -7 column 1 = 3, column 2 = 1, 1, 3
+R7 column 1 = 1; column 1 = 2; column 2 = 3; column 1 = 4; column 1 = 5; column 1 = 6; column 1 = 7; column 1 = 8; column 2 = 1 | +7 column 1 = 9, 1, 9
+R7 column 1 = 1; column 1 = 1; column 1 = 2; column 1 = 3; column 1 = 4; column 1 = 5; column 1 = 6; column 1 = 7; column 1 = 8 | +7 column 1 = 8 | -7 column 1 = 9, 1";
+
+// `U7`: the last read of 7 is taken back, and covers nothing any more.
+const TAKEN_BACK: &str = "\
+R7 1; 3; 5; 7; 9; 11; 13; 15 | -7 4, 17 | R7 17 | +7 4, 17 | U7 . | -7 4, 17 | +7 1
+R7 1; 3; 5; 7; 9; 11; 13; 15; 17; 19 | -7 0, -1, 25 | R7 -1, 30 | +7 0, -1, 25 | U7 . | -7 0, -1, 25 | +7 1
+R7 10 to 19; 30 to 39; 50 to 59; 70 to 79 | -7 25, 95 | R7 90 to 99 | +7 25, 95 | U7 . | -7 25, 95 | +7 10
+R7 10 to 19; 1 | -7 2, column 1 = 2 | R7 all | +7 2, column 1 = 2 | U7 . | -7 2, column 1 = 2 | +7 10
+R7 column 1 = 2 | -7 column 2 = 2, 5 | R7 column 2 = 2, 5 | +7 column 2 = 2, 5 | U7 . | -7 column 2 = 2, 5 | +7 column 1 = 2
+R7 1; 3; 5; 7; 9; 11; 13; 15; 17; 19 | R7 3, 18, 1 | U7 . | +7 1";
+
+// `L9`: transaction 9 is released. `S7`: 7 reads each key from 1 to 499.
+const RELEASED_AND_SCANNED: &str = "\
+R7 1 | R9 2 | R8 3 | L9 . | U9 . | L6 . | +7 1 | +8 3 | -9 2 | R9 5 | +9 5 | -9 2
+S7 . | +7 1, 250, 499 | -7 0, 500 | U7 . | +7 1, 498 | -7 0, 499";
+
 #[test]
-fn a_long_scan_covers_from_its_first_key_to_its_last(rt: HostRuntime) -> Result<(), Refusal> {
-    let alloc = rt.alloc();
-    let mut locks = Locks::new(alloc);
-    for number in 1..500 {
-        let mut readings = Vec::new(alloc);
-        readings.push(Reading {
-            table: TableNo::at(0),
-            extent: Extent::One(key(number)?),
-        })?;
-        locks.read(alloc, READER, &Footprint::of(readings))?;
+fn reads_cover_until_they_are_taken_back_or_released(rt: HostRuntime) -> Result<(), Refusal> {
+    for cases in [COVERED, TAKEN_BACK, RELEASED_AND_SCANNED] {
+        for case in cases.lines() {
+            check(&rt, is_so(rt.alloc(), case)?, case);
+        }
     }
-    assert!(rt; are_covered(&locks, READER, "1, 250, 499", true)?);
-    assert!(rt; are_covered(&locks, READER, "0, 500", false)?);
-    locks.undo(READER);
-    assert!(rt; are_covered(&locks, READER, "1, 498", true)?);
-    assert!(rt; are_covered(&locks, READER, "0, 499", false)?);
     Ok(())
 }

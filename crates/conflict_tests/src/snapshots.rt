@@ -1,6 +1,6 @@
 //! What makes a snapshot safe, and what spoils it.
 
-use crate::words::{cut, not_a_case, number, txn};
+use crate::words::{check, cut, not_a_case, number, txn};
 use safesnap::waiting::{State, Waiting};
 use value::refusal::{Refusal, TxnNo};
 
@@ -54,16 +54,22 @@ const STATES: &str = "\
 0 4>1 6>1: safe
 0 4>0: unsafe";
 
+// Whether a case has its state.
+fn is_so(case: &str) -> Result<bool, Refusal> {
+    let (case, want) = cut(case, ": ")?;
+    let (at, ends) = cut(case, " ")?;
+    Ok(state_after(at, ends)? == state(want)?)
+}
+
 #[test]
 fn a_snapshot_is_safe_once_all_have_ended_and_none_spoilt_it(
     rt: HostRuntime,
 ) -> Result<(), Refusal> {
-    for line in STATES.lines() {
-        let (case, want) = cut(line, ": ")?;
-        let (at, ends) = cut(case, " ")?;
-        assert!(rt; state_after(at, ends)? == state(want)?, "{line}");
+    for case in STATES.lines() {
+        check(&rt, is_so(case)?, case);
     }
-    assert_eq!(rt; Waiting::open(3, &[]).state(), State::Safe);
+    let is_safe = Waiting::open(3, &[]).state() == State::Safe;
+    check(&rt, is_safe, "none was active");
     Ok(())
 }
 
@@ -75,8 +81,8 @@ fn one_for_each_session_is_waited_for(rt: HostRuntime) {
     }
     let mut waiting = Waiting::open(1, &active);
     for number in 2..66 {
-        assert_eq!(rt; waiting.state(), State::Wait, "{number}");
+        check(&rt, waiting.state() == State::Wait, "one is left");
         waiting.ended(TxnNo(number), None);
     }
-    assert_eq!(rt; waiting.state(), State::Safe);
+    check(&rt, waiting.state() == State::Safe, "none is left");
 }

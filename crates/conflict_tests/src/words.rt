@@ -1,5 +1,6 @@
-//! Numbers in the texts of cases.
+//! What the tests share: numbers in the texts of cases, and an assertion.
 
+use std::process::Abort;
 use value::refusal::{Code, Refusal, TxnNo};
 
 /// The refusal of a case that isn't written as it should be. No tried call answers it.
@@ -18,4 +19,9 @@ pub fn number(word: &str) -> Result<u64, Refusal> {
 
 pub fn txn(word: &str) -> Result<TxnNo, Refusal> {
     Ok(TxnNo(number(word)?))
+}
+
+/// Ends the test, and names the case, where this doesn't hold.
+pub fn check(rt: &impl Abort, holds: bool, case: &str) {
+    assert!(rt; holds, "{case}");
 }
