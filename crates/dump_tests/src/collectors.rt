@@ -4,7 +4,7 @@ ghost use Rattle.std.specs.Prelude.{◌≡◌, ◌-◌, ◌<◌, ◌≤◌, ◌�
 ghost use Rattle.dumpplan.specs.Parts.{head_text, end_text};
 ghost use Rattle.dumpplan.specs.declared.piece.Piece.TheVariants.{Head, End};
 
-use crate::fixture::not_a_case;
+use crate::fixture::{check, cut, not_a_case};
 use collector::{Collector, Device, DeviceError, Finish, OfferFault, write_all};
 use dumpplan::text::{end_text, head_text};
 use dumpplan::{PieceRows, Plan, plan};
@@ -41,28 +41,34 @@ impl<'r, R: Abort> Device for Narrow<'r, R> {
     }
 }
 
-#[test]
-fn bytes_are_written_in_order(rt: HostRuntime) -> Result<(), Refusal> {
-    for (failing, want, failures) in [
-        (0, "abcdefgh", 0),
-        (1, "", 1),
-        (2, "abc", 1),
-        (3, "abcdef", 1),
-        (4, "abcdefgh", 0),
-    ] {
-        let mut device = Narrow {
-            rt: &rt,
-            taken: Vec::new(rt.alloc()),
+impl<'r, R: Abort> Narrow<'r, R> {
+    fn new(rt: &'r R, alloc: Global, failing: u64) -> Narrow<'r, R> {
+        Narrow {
+            rt,
+            taken: Vec::new(alloc),
             failures: 0,
             writes: 0,
             failing,
-        };
-        let done = write_all(&mut device, b"abcdefgh");
-        assert!(rt; device.taken.as_slice() == want.as_bytes(), "{failing}");
-        assert!(rt; device.failures == failures, "{failing}");
-        assert!(rt; done.is_ok() == (failures == 0), "{failing}");
+        }
     }
-    Ok(())
+
+    // Whether it has taken so many bytes, which begin the text, and failed if it was to.
+    fn has_taken(&self, text: &str, count: usize, has_failed: bool) -> bool {
+        self.taken.len() == count
+            && text.as_bytes().starts_with(self.taken.as_slice())
+            && self.failures == u64::from(has_failed)
+    }
+}
+
+#[test]
+fn bytes_are_written_in_order(rt: HostRuntime) {
+    let text = "abcdefgh";
+    for (failing, count) in [(0, 8), (1, 0), (2, 3), (3, 6), (4, 8)] {
+        let mut device = Narrow::new(&rt, rt.alloc(), failing);
+        let done = write_all(&mut device, text.as_bytes());
+        let is_so = done.is_ok() == (count == 8) && device.has_taken(text, count, done.is_err());
+        assert!(rt; is_so, "write {failing}");
+    }
 }
 
 // The plan of no tables, which has two pieces.
@@ -87,94 +93,109 @@ fn text_of(alloc: Global, number: u64) -> Result<Vec<u8>, Refusal>
     }
 }
 
-// Offers pieces, and looks at the answers.
-fn offer_each<W: Device>(
-    rt: &impl Abort,
-    alloc: Global,
-    collector: &mut Collector<'_, Tables, W, Global>,
-    offers: &[(u64, Result<(), OfferFault>)],
-)
-    requires { collector.old.texts ≡ head_text [] ∷ end_text ∷ [] }
-    ensures { collector.new.texts ≡ collector.old.texts }
-{
-    for (number, wanted) in offers {
-        let Ok(text) = text_of(alloc, *number) else {
-            panic!(rt; "memory");
-        };
-        let answer = collector.offer(*number, text);
-        assert!(rt; answer == *wanted, "piece {number}");
+fn word_of(answer: Result<(), OfferFault>) -> &'static str {
+    match answer {
+        Ok(()) => "taken",
+        Err(OfferFault::Stranger) => "strange",
+        Err(OfferFault::Repeat) => "again",
+        Err(OfferFault::Device) => "fails",
+        Err(OfferFault::Closed) => "closed",
     }
 }
 
-// Offers pieces of the dump of no tables to a device that fails at one of its writes.
-fn collect(
-    rt: &impl Abort,
+fn word_at_end(finish: Finish) -> &'static str {
+    match finish {
+        Finish::Done => "done",
+        Finish::Failed => "failed",
+        Finish::Missing(1) => "missing 1",
+        Finish::Missing(2) => "missing 2",
+        Finish::Missing(_) => "missing another",
+    }
+}
+
+// Whether a piece that is offered has its answer, as `2 taken`.
+fn is_answered<W: Device>(
     alloc: Global,
-    failing: u64,
-    offers: &[(u64, Result<(), OfferFault>)],
-    (wanted, text): (Finish, &str),
-) -> Result<(), Refusal> {
-    let mut device = Narrow {
-        rt,
-        taken: Vec::new(alloc),
-        failures: 0,
-        writes: 0,
-        failing,
+    collector: &mut Collector<'_, Tables, W, Global>,
+    offer: &str,
+) -> Result<bool, Refusal>
+    requires { collector.old.texts ≡ head_text [] ∷ end_text ∷ [] }
+    ensures { collector.new.texts ≡ collector.old.texts }
+{
+    let (number, wanted) = cut(offer, " ")?;
+    let number = number.parse().ok().ok_or(not_a_case())?;
+    let text = text_of(alloc, number)?;
+    Ok(word_of(collector.offer(number, text)) == wanted)
+}
+
+// Whether the pieces that are offered one after the other have their answers.
+fn are_answered<W: Device>(
+    alloc: Global,
+    collector: &mut Collector<'_, Tables, W, Global>,
+    offers: &str,
+) -> Result<bool, Refusal>
+    requires { collector.old.texts ≡ head_text [] ∷ end_text ∷ [] }
+{
+    for offer in offers.split(", ") {
+        if !is_answered(alloc, collector, offer)? {
+            return Ok(false);
+        }
+    }
+    Ok(true)
+}
+
+// Whether pieces of the dump of no tables, offered to a device, have their answers, and it ends so.
+fn is_collected<R: Abort>(
+    alloc: Global,
+    catalog: &Catalog,
+    tables: &Tables,
+    plan: &Plan,
+    device: &mut Narrow<'_, R>,
+    case: &str,
+) -> Result<bool, Refusal>
+    requires catalog { catalog.now ≡ [] }
+    requires tables { tables.now ≡ [] }
+    requires plan { plan.now ≡ Head ∷ End ∷ [] }
+{
+    let (offers, end) = cut(case, " | ")?;
+    let (end, count) = cut(end, " at ")?;
+    let count = count.parse().ok().ok_or(not_a_case())?;
+    let Ok(mut collector) = Collector::new(alloc, tables, catalog, plan, device) else {
+        return Err(Refusal::of_code(Code::OutOfMemory));
     };
+    let are_answered = are_answered(alloc, &mut collector, offers);
+    let finish = collector.finish();
+    let device = collector.into_device();
+    let has_taken = device.has_taken("-- dump 2\n-- end\n", count, finish == Finish::Failed);
+    Ok(are_answered? && has_taken && word_at_end(finish) == end)
+}
+
+fn is_so(rt: &impl Abort, alloc: Global, case: &str) -> Result<bool, Refusal> {
+    let (failing, case) = cut(case, ": ")?;
+    let failing = failing.parse().ok().ok_or(not_a_case())?;
     let catalog = Catalog::new(alloc);
     let tables = Tables::new(alloc, &catalog)?;
     let plan = plan_of_none(alloc, &tables, &catalog)?;
-    let Ok(mut collector) = Collector::new(alloc, &tables, &catalog, &plan, &mut device) else {
-        return Err(Refusal::of_code(Code::OutOfMemory));
-    };
-    offer_each(rt, alloc, &mut collector, offers);
-    let finish = collector.finish();
-    let device = collector.into_device();
-    assert!(rt; finish == wanted);
-    assert!(rt; device.taken.as_slice() == text.as_bytes());
-    assert!(rt; device.failures == u64::from(wanted == Finish::Failed));
+    let mut device = Narrow::new(rt, alloc, failing);
+    is_collected(alloc, &catalog, &tables, &plan, &mut device, case)
+}
+
+// Which write fails, if any; pieces that are offered, each with its answer; how it ends, and at which byte.
+const OFFERS: &str = "\
+0: 0 strange, 3 strange, 2 taken, 2 again | missing 1 at 0
+0: 1 taken, 1 again, 0 strange | missing 2 at 10
+0: 2 taken, 1 taken, 1 again, 2 again, 3 strange | done at 17
+1: 2 taken, 1 fails, 1 closed, 0 closed, 3 closed | failed at 0
+3: 2 taken, 1 fails, 1 closed, 0 closed, 3 closed | failed at 6
+5: 2 taken, 1 fails, 1 closed, 0 closed, 3 closed | failed at 10
+6: 1 taken, 2 fails, 2 closed, 1 closed | failed at 13";
+
+#[test]
+fn pieces_are_offered_in_any_order_and_to_a_device_that_fails(
+    rt: HostRuntime,
+) -> Result<(), Refusal> {
+    for case in OFFERS.lines() {
+        check(&rt, is_so(&rt, rt.alloc(), case)?, case);
+    }
     Ok(())
-}
-
-const STRANGER: Result<(), OfferFault> = Err(OfferFault::Stranger);
-
-const REPEAT: Result<(), OfferFault> = Err(OfferFault::Repeat);
-
-const DEVICE: Result<(), OfferFault> = Err(OfferFault::Device);
-
-const CLOSED: Result<(), OfferFault> = Err(OfferFault::Closed);
-
-#[test]
-fn pieces_are_offered_in_any_order(rt: HostRuntime) -> Result<(), Refusal> {
-    let alloc = rt.alloc();
-    let waits = [(0, STRANGER), (3, STRANGER), (2, Ok(())), (2, REPEAT)];
-    collect(&rt, alloc, 0, &waits, (Finish::Missing(1), ""))?;
-    let first = [(1, Ok(())), (1, REPEAT), (0, STRANGER)];
-    let head = "-- dump 2\n";
-    collect(&rt, alloc, 0, &first, (Finish::Missing(2), head))?;
-    let both = [
-        (2, Ok(())),
-        (1, Ok(())),
-        (1, REPEAT),
-        (2, REPEAT),
-        (3, STRANGER),
-    ];
-    collect(&rt, alloc, 0, &both, (Finish::Done, "-- dump 2\n-- end\n"))
-}
-
-#[test]
-fn a_failed_device_closes(rt: HostRuntime) -> Result<(), Refusal> {
-    let alloc = rt.alloc();
-    let at_once = [
-        (2, Ok(())),
-        (1, DEVICE),
-        (1, CLOSED),
-        (0, CLOSED),
-        (3, CLOSED),
-    ];
-    collect(&rt, alloc, 1, &at_once, (Finish::Failed, ""))?;
-    collect(&rt, alloc, 3, &at_once, (Finish::Failed, "-- dum"))?;
-    collect(&rt, alloc, 5, &at_once, (Finish::Failed, "-- dump 2\n"))?;
-    let later = [(1, Ok(())), (2, DEVICE), (2, CLOSED), (1, CLOSED)];
-    collect(&rt, alloc, 6, &later, (Finish::Failed, "-- dump 2\n-- "))
 }

@@ -1,7 +1,7 @@
 //! Tests of dumps: by how many workers, with which pieces held back, to devices that fail; and by the calling thread alone.
 
 use crate::fixture::{
-    EXAMPLE, NOTHING, SEVEN_KEYS, SEVEN_KEYS_AND_NONE, SIX_KEYS, not_a_case, tables_of,
+    EXAMPLE, NOTHING, SEVEN_KEYS, SEVEN_KEYS_AND_NONE, SIX_KEYS, check, tables_of,
 };
 use crate::flaky::Flaky;
 use crate::gates::{Counting, Holding, Meeting};
@@ -15,7 +15,7 @@ use std::sync::Wait;
 use std::thread::Threads;
 use value::refusal::Refusal;
 
-/// Dumps tables by so many jobs, so many rows a piece, and looks whether this text was written.
+/// Whether tables are dumped as this text, by so many jobs, so many rows a piece.
 pub fn writes<R: Abort + Threads + Wait + Sync, G: Gate>(
     rt: &R,
     alloc: Global,
@@ -23,10 +23,13 @@ pub fn writes<R: Abort + Threads + Wait + Sync, G: Gate>(
     text: &str,
     (jobs, rows): (u32, u32),
     gate: &G,
-) -> Result<(), Refusal> {
+) -> bool {
     let (Some(jobs), Some(piece_rows)) = (Jobs::new(jobs), PieceRows::new(rows)) else {
-        return Err(not_a_case());
+        return false;
     };
+    if tables.count() != catalog.len() {
+        return false;
+    }
     let workers = Workers {
         rt,
         alloc,
@@ -35,53 +38,53 @@ pub fn writes<R: Abort + Threads + Wait + Sync, G: Gate>(
         gate,
     };
     let mut device = Flaky::new(rt, alloc, 0, false);
-    assert!(rt; tables.count() == catalog.len());
     let done = dump(&workers, tables, catalog, &mut device);
-    assert!(rt; done.is_ok() && device.taken.as_slice() == text.as_bytes());
-    Ok(())
+    done.is_ok() && device.taken.as_slice() == text.as_bytes()
+}
+
+// Whether so many jobs dump seven keys one a piece, each while the others do.
+fn meet<R: Abort + Threads + Wait + Sync>(
+    rt: &R,
+    alloc: Global,
+    dumped: &(Catalog, Tables),
+    jobs: u32,
+) -> Result<bool, Refusal> {
+    let gate = Meeting::new(alloc, jobs as usize)?;
+    Ok(writes(rt, alloc, dumped, SEVEN_KEYS, (jobs, 1), &gate) && !gate.is_late())
 }
 
 #[test]
 fn workers_work_side_by_side(rt: HostRuntime) -> Result<(), Refusal> {
-    let alloc = rt.alloc();
-    let dumped = tables_of(alloc, SEVEN_KEYS)?;
-    for jobs in [2, 8] {
-        let gate = Meeting::new(alloc, jobs as usize)?;
-        writes(&rt, alloc, &dumped, SEVEN_KEYS, (jobs, 1), &gate)?;
-        assert!(rt; !gate.is_late());
-    }
+    let dumped = tables_of(rt.alloc(), SEVEN_KEYS)?;
+    let do_meet = meet(&rt, rt.alloc(), &dumped, 2)? && meet(&rt, rt.alloc(), &dumped, 8)?;
+    check(&rt, do_meet, "side by side");
     Ok(())
 }
 
 // Each of five pieces in turn is held until the others were handed over.
 #[test]
 fn a_late_piece_takes_its_place(rt: HostRuntime) -> Result<(), Refusal> {
-    let alloc = rt.alloc();
-    let dumped = tables_of(alloc, SEVEN_KEYS)?;
+    let dumped = tables_of(rt.alloc(), SEVEN_KEYS)?;
     for case in 0..10u64 {
         let jobs = if case < 5 { 2 } else { 8 };
         let gate = Holding::new(case % 5 + 1, 4);
-        writes(&rt, alloc, &dumped, SEVEN_KEYS, (jobs, 3), &gate)?;
-        assert!(rt; !gate.is_late());
+        let is_so = writes(&rt, rt.alloc(), &dumped, SEVEN_KEYS, (jobs, 3), &gate);
+        check(&rt, is_so && !gate.is_late(), "a late piece");
     }
     Ok(())
 }
 
-// Dumps a dump's tables with 1, 2 and 8 jobs, and looks whether these pieces were drawn and handed over.
+// Whether a dump's tables are dumped by so many jobs, and these pieces drawn and handed over.
 fn draws<R: Abort + Threads + Wait + Sync>(
     rt: &R,
     alloc: Global,
+    dumped: &(Catalog, Tables),
     text: &str,
-    rows: u32,
+    (jobs, rows): (u32, u32),
     pieces: u64,
-) -> Result<(), Refusal> {
-    let dumped = tables_of(alloc, text)?;
-    for jobs in [1, 2, 8] {
-        let gate = Counting::new();
-        writes(rt, alloc, &dumped, text, (jobs, rows), &gate)?;
-        assert!(rt; gate.counts() == (pieces, pieces));
-    }
-    Ok(())
+) -> bool {
+    let gate = Counting::new();
+    writes(rt, alloc, dumped, text, (jobs, rows), &gate) && gate.counts() == (pieces, pieces)
 }
 
 // A table without rows is a piece too.
@@ -95,7 +98,11 @@ fn each_piece_is_drawn_once(rt: HostRuntime) -> Result<(), Refusal> {
         (SIX_KEYS, 3, 11110),
         (SEVEN_KEYS_AND_NONE, 3, 1111110),
     ] {
-        draws(&rt, rt.alloc(), text, rows, pieces)?;
+        let dumped = tables_of(rt.alloc(), text)?;
+        for jobs in [1, 2, 8] {
+            let is_so = draws(&rt, rt.alloc(), &dumped, text, (jobs, rows), pieces);
+            check(&rt, is_so, text);
+        }
     }
     Ok(())
 }
@@ -125,10 +132,8 @@ fn fails_at<R: Abort + Threads + Wait + Sync>(
     };
     let is_beginning = EXAMPLE.as_bytes().starts_with(device.taken.as_slice());
     let is_whole = device.taken.len() == EXAMPLE.len();
-    assert!(rt;
-        done == wanted && is_beginning && is_whole == done.is_ok(),
-        "write {failing}"
-    );
+    let is_so = done == wanted && is_beginning && is_whole == done.is_ok();
+    assert!(rt; is_so, "write {failing}");
     done.is_err()
 }
 
@@ -136,42 +141,57 @@ fn fails_at<R: Abort + Threads + Wait + Sync>(
 fn failing_writes<R: Abort + Threads + Wait + Sync>(
     rt: &R,
     alloc: Global,
+    dumped: &(Catalog, Tables),
     jobs: u32,
     is_bytewise: bool,
-) -> Result<u64, Refusal> {
-    let dumped = tables_of(alloc, EXAMPLE)?;
+) -> u64 {
     let (Some(jobs), Some(rows)) = (Jobs::new(jobs), PieceRows::new(1)) else {
-        return Err(not_a_case());
+        return 0;
     };
     for failing in 1..1000 {
-        if !fails_at(rt, alloc, &dumped, (jobs, rows), (failing, is_bytewise)) {
-            return Ok(failing - 1);
+        if !fails_at(rt, alloc, dumped, (jobs, rows), (failing, is_bytewise)) {
+            return failing - 1;
         }
     }
-    Err(not_a_case())
+    0
 }
 
 #[test]
 fn each_write_fails_once(rt: HostRuntime) -> Result<(), Refusal> {
+    let dumped = tables_of(rt.alloc(), EXAMPLE)?;
+    let length = EXAMPLE.len() as u64;
     for jobs in [1, 2, 8] {
-        let whole = failing_writes(&rt, rt.alloc(), jobs, false)?;
-        assert!(rt; 1 <= whole && whole <= EXAMPLE.len() as u64);
-        let bytewise = failing_writes(&rt, rt.alloc(), jobs, true)?;
-        assert!(rt; bytewise == EXAMPLE.len() as u64);
+        let whole = failing_writes(&rt, rt.alloc(), &dumped, jobs, false);
+        let bytewise = failing_writes(&rt, rt.alloc(), &dumped, jobs, true);
+        let are_so = 1 <= whole && whole <= length && bytewise == length;
+        check(&rt, are_so, "writes");
     }
     Ok(())
 }
 
+// Whether the calling thread dumps the example by so many rows a piece.
+fn writes_alone(
+    rt: &impl Abort,
+    alloc: Global,
+    (catalog, tables): &(Catalog, Tables),
+    rows: u32,
+) -> bool {
+    let Some(rows) = PieceRows::new(rows) else {
+        return false;
+    };
+    if tables.count() != catalog.len() {
+        return false;
+    }
+    let mut device = Flaky::new(rt, alloc, 0, false);
+    let done = dump_one(alloc, tables, catalog, rows, &mut device);
+    done.is_ok() && device.taken.as_slice() == EXAMPLE.as_bytes()
+}
+
 #[test]
 fn the_calling_thread_alone_writes_the_same(rt: HostRuntime) -> Result<(), Refusal> {
-    let alloc = rt.alloc();
-    let (catalog, tables) = tables_of(alloc, EXAMPLE)?;
-    assert!(rt; tables.count() == catalog.len());
-    for rows in [1, 1_000_000] {
-        let rows = PieceRows::new(rows).ok_or(not_a_case())?;
-        let mut device = Flaky::new(&rt, alloc, 0, false);
-        let done = dump_one(alloc, &tables, &catalog, rows, &mut device);
-        assert!(rt; done.is_ok() && device.taken.as_slice() == EXAMPLE.as_bytes());
-    }
+    let dumped = tables_of(rt.alloc(), EXAMPLE)?;
+    let is_so = writes_alone(&rt, rt.alloc(), &dumped, 1)
+        && writes_alone(&rt, rt.alloc(), &dumped, 1_000_000);
+    check(&rt, is_so, "by the calling thread");
     Ok(())
 }

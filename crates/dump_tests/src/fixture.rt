@@ -4,11 +4,22 @@ use restore::restore_one;
 use schema::catalog::Catalog;
 use schema::tables::Tables;
 use std::alloc::Global;
+use std::process::Abort;
 use value::refusal::{Code, Refusal};
 
 /// The refusal of a case that isn't written as it should be. No tried call answers it.
 pub fn not_a_case() -> Refusal {
     Refusal::of_code(Code::SyntaxError)
+}
+
+/// What stands before and behind the first of these words.
+pub fn cut<'t>(text: &'t str, word: &str) -> Result<(&'t str, &'t str), Refusal> {
+    text.split_once(word).ok_or(not_a_case())
+}
+
+/// Ends the test, and names the case, where this doesn't hold.
+pub fn check(rt: &impl Abort, holds: bool, case: &str) {
+    assert!(rt; holds, "{case}");
 }
 
 /// The tables of a dump.

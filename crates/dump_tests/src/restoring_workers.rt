@@ -1,13 +1,15 @@
 //! Tests of reading by workers: how many pieces they read, and that they read side by side.
 
 use crate::dumping_workers::writes;
-use crate::fixture::not_a_case;
+use crate::fixture::{check, not_a_case};
 use crate::gates::{Counting, Meeting};
 use dumpplan::{Gate, Jobs, NoGate};
 use restore::restore;
 use schema::catalog::Catalog;
 use schema::tables::Tables;
 use std::alloc::Global;
+use std::process::Abort;
+use std::sync::Wait;
 use std::thread::Threads;
 use value::refusal::Refusal;
 
@@ -62,27 +64,32 @@ fn pieces_of_a_thousand_lines(rt: HostRuntime) -> Result<(), Refusal> {
     ] {
         let dump = many_rows(rt.alloc(), rows, referring)?;
         let gate = Counting::new();
-        read(&rt, rt.alloc(), dump.as_str(), jobs, &gate)?;
-        assert!(rt; gate.counts() == (pieces, pieces));
+        let is_read = read(&rt, rt.alloc(), dump.as_str(), jobs, &gate).is_ok();
+        assert!(rt;
+            is_read && gate.counts() == (pieces, pieces),
+            "{rows} by {jobs}"
+        );
     }
     Ok(())
+}
+
+// Whether so many jobs read a dump, each while the others do; dumped by one, it is the same text.
+fn meet<R: Abort + Threads + Wait + Sync>(
+    rt: &R,
+    alloc: Global,
+    dump: &str,
+    jobs: u32,
+) -> Result<bool, Refusal> {
+    let gate = Meeting::new(alloc, jobs as usize)?;
+    let tables = read(rt, alloc, dump, jobs, &gate)?;
+    Ok(writes(rt, alloc, &tables, dump, (1, 1_000_000), &NoGate) && !gate.is_late())
 }
 
 #[test]
 fn workers_read_side_by_side(rt: HostRuntime) -> Result<(), Refusal> {
     let dump = many_rows(rt.alloc(), 9001, 0)?;
-    for jobs in [2, 8] {
-        let gate = Meeting::new(rt.alloc(), jobs as usize)?;
-        let tables = read(&rt, rt.alloc(), dump.as_str(), jobs, &gate)?;
-        writes(
-            &rt,
-            rt.alloc(),
-            &tables,
-            dump.as_str(),
-            (1, 1_000_000),
-            &NoGate,
-        )?;
-        assert!(rt; !gate.is_late());
-    }
+    let dump = dump.as_str();
+    let do_meet = meet(&rt, rt.alloc(), dump, 2)? && meet(&rt, rt.alloc(), dump, 8)?;
+    check(&rt, do_meet, "side by side");
     Ok(())
 }
