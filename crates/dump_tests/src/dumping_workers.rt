@@ -137,7 +137,7 @@ fn fails_at<R: Abort + Threads + Wait + Sync>(
     done.is_err()
 }
 
-// Lets each write fail in turn, and answers how many there are.
+// Lets each write fail in turn, and answers how many there are; 0 where a thousand tell no end.
 fn failing_writes<R: Abort + Threads + Wait + Sync>(
     rt: &R,
     alloc: Global,
