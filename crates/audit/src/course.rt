@@ -25,7 +25,6 @@ pub struct Answered<A: Allocator> {
 }
 
 /// The course of a transaction. Numbers and places are counted from 1 above the base.
-#[derive(Drop)]
 pub struct Course<A: Allocator> {
     pub session: SessionId,
     pub number: u64,
@@ -39,6 +38,21 @@ pub struct Course<A: Allocator> {
     /// Its snapshot is another's.
     pub imported: bool,
     pub statements: Vec<Answered<A>, A>,
+}
+
+impl<A: Allocator> Drop for Course<A> {
+    fn drop(self) {
+        let Course {
+            session: _,
+            number: _,
+            begin: _,
+            end: _,
+            owed: _,
+            committed: _,
+            imported: _,
+            statements: _,
+        } = self;
+    }
 }
 
 impl<A: Allocator> Model for Course<A> {

@@ -108,8 +108,9 @@ impl<A: Allocator + Copy> Doing<A> {
             Ok(action) => action,
             Err(refusal) => return Err(fault_of(refusal, number)),
         };
-        match self.core.step(alloc, Event { session, action }) {
-            Reply::Refused(refusal) => Err(fault_of(refusal, number)),
+        let reply = self.core.step(alloc, Event { session, action });
+        match &reply {
+            Reply::Refused(refusal) => Err(fault_of(*refusal, number)),
             _ => Ok(()),
         }
     }

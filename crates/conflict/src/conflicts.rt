@@ -15,11 +15,20 @@ use value::refusal::{Cause, Mode, Refusal, TxnNo};
 
 /// What is known of transactions that may be part of a dangerous structure: those that are active,
 /// and those that have committed and may still matter. Contracts see what was told of each.
-#[derive(Drop)]
 pub struct Conflicts<A: Allocator = Global> {
     begun: u64,
     commits: u64,
     parties: Vec<Party<A>, A>,
+}
+
+impl<A: Allocator> Drop for Conflicts<A> {
+    fn drop(self) {
+        let Conflicts {
+            begun: _,
+            commits: _,
+            parties: _,
+        } = self;
+    }
 }
 
 impl<A: Allocator> Model for Conflicts<A> {

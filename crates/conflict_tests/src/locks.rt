@@ -81,10 +81,11 @@ fn scan(alloc: Global, locks: &mut Locks, txn: TxnNo) -> Result<(), Refusal> {
 
 // Whether a transaction's reads cover a key of table 0, or `column 1 = 3`.
 fn is_covered(locks: &Locks, txn: TxnNo, text: &str) -> Result<bool, Refusal> {
-    match extent(text)? {
-        Extent::One(key) => Ok(locks.covers(txn, TableNo::at(0), &key)),
+    let extent = extent(text)?;
+    match &extent {
+        Extent::One(key) => Ok(locks.covers(txn, TableNo::at(0), key)),
         Extent::Referencing(column, key) => {
-            Ok(locks.covers_value(txn, TableNo::at(0), column, &key))
+            Ok(locks.covers_value(txn, TableNo::at(0), *column, key))
         }
         _ => Err(not_a_case()),
     }

@@ -74,6 +74,14 @@ fn action<A: Allocator + Copy>(
     }
 }
 
+/// The refusal that a reply is when out of memory.
+pub fn out_of_memory<A: Allocator>(reply: &Reply<A>) -> Option<Refusal> {
+    match reply {
+        Reply::Refused(refusal) if refusal.code == Code::OutOfMemory => Some(*refusal),
+        _ => None,
+    }
+}
+
 /// The core's reply to a session's text: its number, a blank and what it asks for.
 pub fn reply<A: Allocator + Copy>(
     alloc: A,
@@ -84,9 +92,10 @@ pub fn reply<A: Allocator + Copy>(
     let number = number.parse::<u32>().ok().ok_or(not_asked())?;
     let session = SessionId::new(number).ok_or(not_asked())?;
     let action = action(alloc, core.history().catalog(), text)?;
-    match core.step(alloc, Event { session, action }) {
-        Reply::Refused(refusal) if refusal.code == Code::OutOfMemory => Err(refusal),
-        reply => Ok(reply),
+    let reply = core.step(alloc, Event { session, action });
+    match out_of_memory(&reply) {
+        Some(refusal) => Err(refusal),
+        None => Ok(reply),
     }
 }
 

@@ -5,7 +5,7 @@ ghost use Rattle.schema.specs.Plain.{is_sound};
 ghost use Rattle.history.specs.Opening.{zero_base};
 
 use crate::driver::Memory;
-use crate::fixture::{not_asked, opening};
+use crate::fixture::{not_asked, opening, out_of_memory};
 use crate::trial::{Keeping, Trial, refusal_of};
 use crate::worked::{SCRIPTS, script_at};
 use backup::{BackupFault, dump_safe};
@@ -22,13 +22,12 @@ use schema::tables::Tables;
 use script::printing::reply_text;
 use serial::laws::views_are_sound;
 use server::shared::{Limits, Server};
-use statement::reply::Reply;
 use std::alloc::{Allocator, Global};
 use std::marker::Brand;
 use std::process::Abort;
 use std::sync::Wait;
 use std::thread::Threads;
-use value::refusal::{Code, Mode, Refusal};
+use value::refusal::{Mode, Refusal};
 use value::text::Text;
 
 // What a line asks of the server.
@@ -63,9 +62,9 @@ fn replied<'w, J: Naming<A>, A: Allocator + Copy, R: Wait>(
     if !takes && matches!(request, Request::Sql(_)) {
         return Err(not_asked());
     }
-    match reply {
-        Reply::Refused(refusal) if refusal.code == Code::OutOfMemory => Err(refusal),
-        reply => Ok(reply_text(alloc, pass.session(), &reply)?),
+    match out_of_memory(&reply) {
+        Some(refusal) => Err(refusal),
+        None => reply_text(alloc, pass.session(), &reply),
     }
 }
 

@@ -28,7 +28,6 @@ pub struct Arrow<A: Allocator = Global> {
 }
 
 /// A picture's data: of the events from the place `first` on, the transactions and the conflicts among them.
-#[derive(Drop)]
 pub struct Picture<A: Allocator = Global> {
     /// The place of the first event that is drawn.
     pub first: u64,
@@ -36,6 +35,16 @@ pub struct Picture<A: Allocator = Global> {
     pub bars: Vec<Bar, A>,
     /// The conflicts among those that are drawn and weren't rolled back.
     pub arrows: Vec<Arrow<A>, A>,
+}
+
+impl<A: Allocator> Drop for Picture<A> {
+    fn drop(self) {
+        let Picture {
+            first: _,
+            bars: _,
+            arrows: _,
+        } = self;
+    }
 }
 
 /// Whether a transaction is drawn where events are drawn from a place on.

@@ -41,10 +41,15 @@ pub enum Piece<A: Allocator = Global> {
 }
 
 /// The pieces of a dump, numbered from 1.
-#[derive(Drop)]
 #[derive_where(Debug)]
 pub struct Plan<A: Allocator = Global> {
     pieces: Vec<Piece<A>, A>,
+}
+
+impl<A: Allocator> Drop for Plan<A> {
+    fn drop(self) {
+        let Plan { pieces: _ } = self;
+    }
 }
 
 impl<A: Allocator> Model for Plan<A> {

@@ -12,12 +12,21 @@ use witness::edge::{Edge, edge_between};
 use witness::trace::Trace;
 
 /// A dangerous structure: what shows that `a` has a conflict to `b`, and `b` one to `c`.
-#[derive(Drop)]
 #[derive_where(Debug)]
 pub struct Danger<A: Allocator = Global> {
     pub cause: Cause,
     pub first: Option<Edge<A>>,
     pub second: Option<Edge<A>>,
+}
+
+impl<A: Allocator> Drop for Danger<A> {
+    fn drop(self) {
+        let Danger {
+            cause: _,
+            first: _,
+            second: _,
+        } = self;
+    }
 }
 
 // Whether a transaction has this number, where so many were before the base.

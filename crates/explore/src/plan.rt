@@ -23,7 +23,6 @@ pub struct Line<A: Allocator = Global> {
 
 /// The lines of sessions that are explored, in the order in which each session has its own, and the core that their
 /// setup has come to.
-#[derive(Drop)]
 pub struct Plan<A: Allocator = Global> {
     setup: Core<A>,
     lines: Vec<Line<A>, A>,
@@ -31,6 +30,17 @@ pub struct Plan<A: Allocator = Global> {
     counts: Vec<u32, A>,
     // How many there are in all.
     turns: u32,
+}
+
+impl<A: Allocator> Drop for Plan<A> {
+    fn drop(self) {
+        let Plan {
+            setup: _,
+            lines: _,
+            counts: _,
+            turns: _,
+        } = self;
+    }
 }
 
 impl<A: Allocator> Model for Plan<A> {

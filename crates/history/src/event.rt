@@ -1,5 +1,9 @@
 //! What sessions ask for.
 
+ghost use Rattle.std.specs.Prelude.{◌≡◌, ◌≢◌, IfOk, IfErr};
+ghost use Rattle.history.specs.declared.event.Action.TheVariants.{Run};
+ghost use Rattle.statement.specs.declared.statement.Statement.{Statement};
+
 use crate::session_id::SessionId;
 use statement::reply::Reply;
 use statement::statement::Statement;
@@ -7,7 +11,6 @@ use std::alloc::{Allocator, Global};
 use value::refusal::{Mode, Refusal};
 
 /// What a session asks for.
-#[derive(Drop)]
 pub enum Action<A: Allocator = Global> {
     /// BEGIN, in one of the modes.
     Begin(Mode),
@@ -31,6 +34,35 @@ pub enum Action<A: Allocator = Global> {
     Prune,
 }
 
+impl<A: Allocator> Drop for Action<A> {
+    fn drop(self) {
+        match self {
+            Action::Begin(_)
+            | Action::Run(_)
+            | Action::Broken(_)
+            | Action::Poll
+            | Action::Export
+            | Action::Import(_)
+            | Action::Commit
+            | Action::Rollback
+            | Action::Prune => {}
+        }
+    }
+}
+
+impl<A: Allocator> Action<A> {
+    /// The statement that is run; any other action comes back.
+    pub fn into_statement(self) -> Result<Statement<A>, Action<A>>
+        ensures ok { IfOk result (λ statement. self ≡ Run statement) }
+        ensures err { IfErr result (λ other. (other ≡ self) × ((statement : Statement A) → other ≢ Run statement)) }
+    {
+        match self {
+            Action::Run(statement) => Ok(statement),
+            other => Err(other),
+        }
+    }
+}
+
 /// An action of a session.
 #[derive(Drop)]
 pub struct Event<A: Allocator = Global> {
@@ -39,9 +71,18 @@ pub struct Event<A: Allocator = Global> {
 }
 
 /// An event, and the reply to it.
-#[derive(Drop)]
 pub struct Record<A: Allocator = Global> {
     pub session: SessionId,
     pub action: Action<A>,
     pub reply: Reply<A>,
+}
+
+impl<A: Allocator> Drop for Record<A> {
+    fn drop(self) {
+        let Record {
+            session: _,
+            action: _,
+            reply: _,
+        } = self;
+    }
 }

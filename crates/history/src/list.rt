@@ -16,13 +16,24 @@ use value::refusal::{Code, Refusal};
 
 /// What a server opened with, and each event since with its reply, in room that was reserved at
 /// the opening.
-#[derive(Drop)]
 pub struct History<A: Allocator = Global> {
     catalog: Catalog<A>,
     tables: View<A>,
     base: Base,
     records: Vec<Record<A>, A>,
     most: u32,
+}
+
+impl<A: Allocator> Drop for History<A> {
+    fn drop(self) {
+        let History {
+            catalog: _,
+            tables: _,
+            base: _,
+            records: _,
+            most: _,
+        } = self;
+    }
 }
 
 impl<A: Allocator> Model for History<A> {

@@ -28,10 +28,15 @@ const MANY_CHANGES: usize = 1024;
 
 /// Tables with the versions of their keys: what each commit left of them. Contracts see for each
 /// table the list, in key order, of its keys with their versions.
-#[derive(Drop)]
 #[derive_where(Debug)]
 pub struct Rows<A: Allocator = Global> {
     tables: Vec<SharedTable<A>, A>,
+}
+
+impl<A: Allocator> Drop for Rows<A> {
+    fn drop(self) {
+        let Rows { tables: _ } = self;
+    }
 }
 
 impl<A: Allocator> Model for Rows<A> {

@@ -32,10 +32,15 @@ struct Versions<A: Allocator = Global> {
 
 /// The tables at a snapshot, its own: they never change, and it borrows nothing. Threads may share
 /// it.
-#[derive(Drop)]
 #[derive_where(Debug)]
 pub struct View<A: Allocator = Global> {
     versions: Versions<A>,
+}
+
+impl<A: Allocator> Drop for View<A> {
+    fn drop(self) {
+        let View { versions: _ } = self;
+    }
 }
 
 impl<A: Allocator> Model for View<A> {

@@ -36,10 +36,18 @@ pub struct Hindered<A: Allocator = Global> {
 }
 
 /// The longest order that was found, and why no other transaction comes next.
-#[derive(Drop)]
 pub struct Stop<A: Allocator = Global> {
     pub order: Vec<usize, A>,
     pub hindered: Vec<Hindered<A>, A>,
+}
+
+impl<A: Allocator> Drop for Stop<A> {
+    fn drop(self) {
+        let Stop {
+            order: _,
+            hindered: _,
+        } = self;
+    }
 }
 
 // Goes along an order, as far as its transactions come one after the other.

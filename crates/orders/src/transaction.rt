@@ -15,7 +15,6 @@ pub struct Answered<A: Allocator = Global> {
 }
 
 /// A transaction that committed, or may have.
-#[derive(Drop)]
 pub struct Transaction<A: Allocator = Global> {
     /// Where its BEGIN was sent, counted in anything that grows with time, as lines.
     pub begin: u64,
@@ -24,6 +23,17 @@ pub struct Transaction<A: Allocator = Global> {
     /// It has taken over another's snapshot, so that it may come before some that had ended when it began.
     pub imported: bool,
     pub statements: Vec<Answered<A>, A>,
+}
+
+impl<A: Allocator> Drop for Transaction<A> {
+    fn drop(self) {
+        let Transaction {
+            begin: _,
+            end: _,
+            imported: _,
+            statements: _,
+        } = self;
+    }
 }
 
 impl<A: Allocator> Transaction<A> {

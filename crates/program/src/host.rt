@@ -17,10 +17,15 @@ use std::io::{self, ErrorKind, IsTerminal, Read};
 use std::process;
 
 /// The files of the machine, through a runtime, and why the system refused one.
-#[derive(Drop)]
 pub struct HostFiles<'r> {
     pub rt: &'r HostRuntime,
     pub errors: &'r SystemErrors,
+}
+
+impl<'r> Drop for HostFiles<'r> {
+    fn drop(self) {
+        let HostFiles { rt: _, errors: _ } = self;
+    }
 }
 
 /// A path, which is opened for writing where it can be.
@@ -33,15 +38,25 @@ pub struct HostPath<'r> {
 }
 
 /// A file of the machine that is open, and takes the place of another once it is kept.
-#[derive(Drop)]
 pub struct HostFile<'r> {
     file: NewFile<'r, HostRuntime>,
 }
 
+impl<'r> Drop for HostFile<'r> {
+    fn drop(self) {
+        let HostFile { file: _ } = self;
+    }
+}
+
 /// A file of the machine that is written.
-#[derive(Drop)]
 pub struct HostOut<'r> {
     late: LateFile<HostPath<'r>>,
+}
+
+impl<'r> Drop for HostOut<'r> {
+    fn drop(self) {
+        let HostOut { late: _ } = self;
+    }
 }
 
 // Why reading failed.

@@ -41,10 +41,15 @@ fn words_of(number: u32) -> Option<&'static str> {
 }
 
 /// Why the system refused files, where that was one reason alone.
-#[derive(Drop)]
 pub struct SystemErrors {
     // The number of the kind; 0 where there was none.
     number: AtomicU32,
+}
+
+impl Drop for SystemErrors {
+    fn drop(self) {
+        let SystemErrors { number: _ } = self;
+    }
 }
 
 impl SystemErrors {

@@ -34,7 +34,6 @@ pub struct When {
 
 /// What the records of a history tell of a transaction. Transactions, commits and places are counted
 /// from 1 above the base.
-#[derive(Drop)]
 pub struct Run<A: Allocator = Global> {
     pub trace: Trace<A>,
     /// What its last refused statement would have written.
@@ -42,6 +41,17 @@ pub struct Run<A: Allocator = Global> {
     own: Option<Tables<A>>,
     /// Its session has still to end it.
     pub owed: bool,
+}
+
+impl<A: Allocator> Drop for Run<A> {
+    fn drop(self) {
+        let Run {
+            trace: _,
+            refused: _,
+            own: _,
+            owed: _,
+        } = self;
+    }
 }
 
 impl<A: Allocator> Model for Run<A> {

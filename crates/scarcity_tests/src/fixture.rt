@@ -67,8 +67,9 @@ pub fn row<A: Allocator + Copy>(
     catalog: &Catalog<A>,
     text: &str,
 ) -> Result<(TableNo, Row<A>), Refusal> {
-    match parse_statement(alloc, catalog, text)? {
-        Statement::Insert(table, values) => Ok((table, row_of(alloc, values.as_slice())?)),
+    let statement = parse_statement(alloc, catalog, text)?;
+    match &statement {
+        Statement::Insert(table, values) => Ok((*table, row_of(alloc, values.as_slice())?)),
         _ => Err(not_asked()),
     }
 }

@@ -49,13 +49,23 @@ impl TableNo {
 }
 
 /// A column: its name, its kind, and what its values must meet.
-#[derive(Drop)]
 #[derive_where(Debug)]
 pub struct Column<A: Allocator = Global> {
     name: Text<A>,
     kind: Kind,
     not_null: bool,
     references: Option<TableNo>,
+}
+
+impl<A: Allocator> Drop for Column<A> {
+    fn drop(self) {
+        let Column {
+            name: _,
+            kind: _,
+            not_null: _,
+            references: _,
+        } = self;
+    }
 }
 
 impl<A: Allocator> Model for Column<A> {
@@ -118,11 +128,19 @@ fn column_place<A: Allocator>(columns: &[Column<A>], name: &[u8]) -> Option<usiz
 }
 
 /// A table's name and columns, of which the first is the key. There are at most 32.
-#[derive(Drop)]
 #[derive_where(Debug)]
 pub struct TableSchema<A: Allocator = Global> {
     name: Text<A>,
     columns: Vec<Column<A>, A>,
+}
+
+impl<A: Allocator> Drop for TableSchema<A> {
+    fn drop(self) {
+        let TableSchema {
+            name: _,
+            columns: _,
+        } = self;
+    }
 }
 
 impl<A: Allocator> Model for TableSchema<A> {
@@ -177,10 +195,15 @@ impl<A: Allocator> TableSchema<A> {
 }
 
 /// The tables by name, in the order of their creation. There are at most 256.
-#[derive(Drop)]
 #[derive_where(Debug)]
 pub struct Catalog<A: Allocator = Global> {
     tables: IndexMap<String<A>, TableSchema<A>, BuildHasherDefault<FoldHasher>, A>,
+}
+
+impl<A: Allocator> Drop for Catalog<A> {
+    fn drop(self) {
+        let Catalog { tables: _ } = self;
+    }
 }
 
 impl<A: Allocator> Model for Catalog<A> {

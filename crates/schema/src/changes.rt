@@ -18,12 +18,21 @@ use value::refusal::Refusal;
 use value::value::Value;
 
 /// The fields that a key has beside it from now on, or that it has no row any more.
-#[derive(Drop)]
 #[derive_where(Debug)]
 pub struct Change<A: Allocator = Global> {
     table: TableNo,
     key: Key<A>,
     fields: Option<Vec<Value<A>, A>>,
+}
+
+impl<A: Allocator> Drop for Change<A> {
+    fn drop(self) {
+        let Change {
+            table: _,
+            key: _,
+            fields: _,
+        } = self;
+    }
 }
 
 impl<A: Allocator> Model for Change<A> {
@@ -103,10 +112,15 @@ impl<A: Allocator> Change<A> {
 }
 
 /// Changes of rows, at most one for each key of a table. Contracts see them by table, then by key.
-#[derive(Drop)]
 #[derive_where(Debug)]
 pub struct Changes<A: Allocator = Global> {
     tables: Vec<ChangedTable<A>, A>,
+}
+
+impl<A: Allocator> Drop for Changes<A> {
+    fn drop(self) {
+        let Changes { tables: _ } = self;
+    }
 }
 
 impl<A: Allocator> Model for Changes<A> {

@@ -11,11 +11,16 @@ use value::refusal::Refusal;
 use value::value::Value;
 
 /// A row: its key, and the fields after it.
-#[derive(Drop)]
 #[derive_where(Debug)]
 pub struct Row<A: Allocator = Global> {
     key: Key<A>,
     fields: Vec<Value<A>, A>,
+}
+
+impl<A: Allocator> Drop for Row<A> {
+    fn drop(self) {
+        let Row { key: _, fields: _ } = self;
+    }
 }
 
 impl<A: Allocator> Model for Row<A> {
@@ -63,7 +68,8 @@ impl<A: Allocator> Row<A> {
     pub fn into_parts(self) -> (Key<A>, Vec<Value<A>, A>)
         ensures { (result.0, result.1.items) ≡ self }
     {
-        (self.key, self.fields)
+        let Row { key, fields } = self;
+        (key, fields)
     }
 
     /// The value in a column, the first of which is the key's.

@@ -28,12 +28,17 @@ use value::value::Value;
 
 /// The rows of one table by key. They stand in pages, so that a row that is put in moves few others, and one behind all
 /// others none.
-#[derive(Drop)]
 #[derive_where(Debug)]
 pub struct Table<A: Allocator = Global> {
     pages: Vec<Page<A>, A>,
     /// How many rows all pages have.
     count: usize,
+}
+
+impl<A: Allocator> Drop for Table<A> {
+    fn drop(self) {
+        let Table { pages: _, count: _ } = self;
+    }
 }
 
 impl<A: Allocator> Model for Table<A> {
@@ -400,7 +405,8 @@ impl<A: Allocator> Table<A> {
         ensures pages { joined result.items ≡ self }
         ensures ordered { IsInKeyOrder self }
     {
-        self.pages
+        let Table { pages, count: _ } = self;
+        pages
     }
 
     /// Equal rows.

@@ -22,10 +22,15 @@ use value::key::Key;
 use value::refusal::Refusal;
 
 /// The tables of a catalog, in the order of their making.
-#[derive(Drop)]
 #[derive_where(Debug)]
 pub struct Tables<A: Allocator = Global> {
     tables: Vec<Table<A>, A>,
+}
+
+impl<A: Allocator> Drop for Tables<A> {
+    fn drop(self) {
+        let Tables { tables: _ } = self;
+    }
 }
 
 impl<A: Allocator> Model for Tables<A> {
@@ -132,7 +137,8 @@ impl<A: Allocator> Tables<A> {
     pub fn into_tables(self) -> Vec<Table<A>, A>
         ensures { result.items ≡ self }
     {
-        self.tables
+        let Tables { tables } = self;
+        tables
     }
 
     /// Equal tables, with memory of their own. Refused only for want of it (53200).

@@ -16,12 +16,21 @@ use value::refusal::Mode;
 use value::text::Text;
 
 /// A dump of the session's snapshot: by how many workers, in pieces of how many rows, and to what file.
-#[derive(Drop)]
 #[derive_where(Debug)]
 pub struct DumpRequest<A: Allocator = Global> {
     pub jobs: Jobs,
     pub rows: PieceRows,
     pub path: Text<A>,
+}
+
+impl<A: Allocator> Drop for DumpRequest<A> {
+    fn drop(self) {
+        let DumpRequest {
+            jobs: _,
+            rows: _,
+            path: _,
+        } = self;
+    }
 }
 
 /// What a session's line asks for.

@@ -44,12 +44,21 @@ pub struct Line<A: Allocator = Global> {
 }
 
 /// What a script says.
-#[derive(Drop)]
 #[derive_where(Debug)]
 pub struct Script<A: Allocator = Global> {
     catalog: Catalog<A>,
     opens: Option<Text<A>>,
     lines: Vec<Line<A>, A>,
+}
+
+impl<A: Allocator> Drop for Script<A> {
+    fn drop(self) {
+        let Script {
+            catalog: _,
+            opens: _,
+            lines: _,
+        } = self;
+    }
 }
 
 impl<A: Allocator> Model for Script<A> {

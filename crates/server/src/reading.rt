@@ -49,15 +49,11 @@ fn reading_of<A: Allocator>(action: Action<A>) -> Result<Statement<A>, Action<A>
     ensures reads { IfOk result (λ statement. writes statement ≡ false) }
     ensures err { IfErr result (λ other. other ≡ action) }
 {
-    match action {
-        Action::Run(statement) => {
-            if statement.writes() || selects_one_row(&statement) {
-                Err(Action::Run(statement))
-            } else {
-                Ok(statement)
-            }
-        }
-        other => Err(other),
+    let statement = action.into_statement()?;
+    if statement.writes() || selects_one_row(&statement) {
+        Err(Action::Run(statement))
+    } else {
+        Ok(statement)
     }
 }
 

@@ -31,13 +31,23 @@ pub const MOST_SESSIONS: u32 = 64;
 
 /// A core under a lock, which the threads of its sessions share. Each session has a pass; no call
 /// lends what lies under the lock.
-#[derive(Drop)]
 pub struct Server<'w, J: Naming<A>, A: Allocator = Global> {
     pub(crate) locked: Mutex<Locked<'w, J, A>>,
     entrance: Entrance,
     ended: Condvar,
     pub(crate) catalog: Catalog<A>,
     ghost catalog_is: { catalog ≡ J.opening.catalog },
+}
+
+impl<'w, J: Naming<A>, A: Allocator> Drop for Server<'w, J, A> {
+    fn drop(self) {
+        let Server {
+            locked: _,
+            entrance: _,
+            ended: _,
+            catalog: _,
+        } = self;
+    }
 }
 
 /// How many events and sessions a server has room for.
@@ -227,7 +237,7 @@ impl<'w, J: Naming<A>, A: Allocator> Server<'w, J, A> {
     {
         // The hold ends with this line: a session that is woken finds the lock free. A `match` on the
         // call itself would hold it through the arms, in which no call of the server would return.
-        let begins = matches!(action, Action::Begin(_));
+        let begins = matches!(&action, Action::Begin(_));
         let reply = self.hold(rt, begins).call(alloc, pass, action);
         if may_end(&reply) {
             self.ended.notify_all();

@@ -340,7 +340,7 @@ impl<A: Allocator> Core<A> {
         ensures err { IfErr result (λ e. IsLeft self.old self.new event.action e) }
     {
         self.prepare(alloc, &event.action)?;
-        let ends = matches!(event.action, Action::Commit | Action::Rollback);
+        let ends = matches!(&event.action, Action::Commit | Action::Rollback);
         let reply = self.enter(alloc, event)?;
         if ends {
             self.forget();

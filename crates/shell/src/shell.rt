@@ -20,12 +20,21 @@ use std::marker::Model;
 use value::refusal::{Code, Refusal};
 
 /// A server to which one speaks line by line: lines that create tables first, then those of sessions.
-#[derive(Drop)]
 pub struct Shell<A: Allocator = Global> {
     // The lines so far that create tables or are passed over, until the server runs.
     created: Vec<u8, A>,
     core: Option<Core<A>>,
     most_events: u32,
+}
+
+impl<A: Allocator> Drop for Shell<A> {
+    fn drop(self) {
+        let Shell {
+            created: _,
+            core: _,
+            most_events: _,
+        } = self;
+    }
 }
 
 impl<A: Allocator> Model for Shell<A> {

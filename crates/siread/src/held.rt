@@ -19,11 +19,19 @@ use value::refusal::Refusal;
 
 /// What is kept of one transaction's reads: of each table at most nine single keys for those before
 /// the last, nine for the last, five ranges, nine references and the whole.
-#[derive(Drop)]
 pub struct Held<A: Allocator = Global> {
     kept: Vec<Reading<A>, A>,
     // How many of these are for the reads before the last.
     settled: usize,
+}
+
+impl<A: Allocator> Drop for Held<A> {
+    fn drop(self) {
+        let Held {
+            kept: _,
+            settled: _,
+        } = self;
+    }
 }
 
 impl<A: Allocator> Model for Held<A> {

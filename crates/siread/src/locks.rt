@@ -17,9 +17,14 @@ use value::refusal::{Refusal, TxnNo};
 /// What transactions have read. Contracts see it as what is kept of the reads of each, by its
 /// number: fewer readings than there were, which cover what all of them cover, and go on to do so
 /// with whatever is read later.
-#[derive(Drop)]
 pub struct Locks<A: Allocator = Global> {
     held: BTreeMap<u64, Held<A>, A>,
+}
+
+impl<A: Allocator> Drop for Locks<A> {
+    fn drop(self) {
+        let Locks { held: _ } = self;
+    }
 }
 
 impl<A: Allocator> Model for Locks<A> {

@@ -298,8 +298,9 @@ fn require_bigint(kind: Kind, name: Name) -> Result<(), ParseError>
 fn whole_number<A: Allocator>(alloc: A, text: &[u8], digits: Token) -> Result<i64, ParseError>
     ensures { Gives (λ n. n) result (spec.whole_number text.now digits) }
 {
-    match value_of(alloc, Kind::Bigint, bytes_of(digits, text), digits)? {
-        Value::Int(number) => Ok(number),
+    let value = value_of(alloc, Kind::Bigint, bytes_of(digits, text), digits)?;
+    match &value {
+        Value::Int(number) => Ok(*number),
         _ => unreachable!(),
     }
 }

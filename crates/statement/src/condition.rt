@@ -20,7 +20,6 @@ pub enum Comparison {
 }
 
 /// A condition of a WHERE on a column, counted from 0.
-#[derive(Drop)]
 #[derive_where(Debug)]
 pub enum Condition<A: Allocator = Global> {
     Compare(u32, Comparison, Value<A>),
@@ -28,6 +27,17 @@ pub enum Condition<A: Allocator = Global> {
     Between(u32, Value<A>, Value<A>),
     IsNull(u32),
     IsNotNull(u32),
+}
+
+impl<A: Allocator> Drop for Condition<A> {
+    fn drop(self) {
+        match self {
+            Condition::Compare(_, _, _)
+            | Condition::Between(_, _, _)
+            | Condition::IsNull(_)
+            | Condition::IsNotNull(_) => {}
+        }
+    }
 }
 
 impl<A: Allocator> Condition<A> {
@@ -52,10 +62,15 @@ impl<A: Allocator> Condition<A> {
 }
 
 /// The conditions of a WHERE, all of which a row must satisfy.
-#[derive(Drop)]
 #[derive_where(Debug)]
 pub struct Conditions<A: Allocator = Global> {
     conditions: Vec<Condition<A>, A>,
+}
+
+impl<A: Allocator> Drop for Conditions<A> {
+    fn drop(self) {
+        let Conditions { conditions: _ } = self;
+    }
 }
 
 impl<A: Allocator> Model for Conditions<A> {

@@ -11,7 +11,6 @@ use value::key::Key;
 
 /// A reference that a written row had or has: its table, the column of the reference, counted from
 /// 0, and the key that it names.
-#[derive(Drop)]
 #[derive_where(Debug)]
 pub struct Mark<A: Allocator = Global> {
     pub table: TableNo,
@@ -19,12 +18,27 @@ pub struct Mark<A: Allocator = Global> {
     pub key: Key<A>,
 }
 
+impl<A: Allocator> Drop for Mark<A> {
+    fn drop(self) {
+        let Mark {
+            table: _,
+            column: _,
+            key: _,
+        } = self;
+    }
+}
+
 /// The marks of a statement, in the order of the written keys, of each those before and then those
 /// after.
-#[derive(Drop)]
 #[derive_where(Debug)]
 pub struct Marks<A: Allocator = Global> {
     marks: Vec<Mark<A>, A>,
+}
+
+impl<A: Allocator> Drop for Marks<A> {
+    fn drop(self) {
+        let Marks { marks: _ } = self;
+    }
 }
 
 impl<A: Allocator> Model for Marks<A> {
@@ -55,15 +69,21 @@ impl<A: Allocator> Marks<A> {
     pub fn into_list(self) -> Vec<Mark<A>, A>
         ensures { result.items ≡ self }
     {
-        self.marks
+        let Marks { marks } = self;
+        marks
     }
 }
 
 /// The changes of a statement, in the order of their keys.
-#[derive(Drop)]
 #[derive_where(Debug)]
 pub struct Writes<A: Allocator = Global> {
     changes: Vec<Change<A>, A>,
+}
+
+impl<A: Allocator> Drop for Writes<A> {
+    fn drop(self) {
+        let Writes { changes: _ } = self;
+    }
 }
 
 impl<A: Allocator> Model for Writes<A> {
@@ -87,7 +107,8 @@ impl<A: Allocator> Writes<A> {
     pub fn into_list(self) -> Vec<Change<A>, A>
         ensures { result.items ≡ self }
     {
-        self.changes
+        let Writes { changes } = self;
+        changes
     }
 }
 

@@ -20,7 +20,6 @@ pub enum End<A: Allocator = Global> {
 }
 
 /// What is read of a table.
-#[derive(Drop)]
 #[derive_where(Debug)]
 pub enum Extent<A: Allocator = Global> {
     /// All rows, and that there are no others.
@@ -33,19 +32,40 @@ pub enum Extent<A: Allocator = Global> {
     Referencing(u32, Key<A>),
 }
 
+impl<A: Allocator> Drop for Extent<A> {
+    fn drop(self) {
+        match self {
+            Extent::Whole | Extent::One(_) | Extent::Range(_, _) | Extent::Referencing(_, _) => {}
+        }
+    }
+}
+
 /// A table, and what is read of it.
-#[derive(Drop)]
 #[derive_where(Debug)]
 pub struct Reading<A: Allocator = Global> {
     pub table: TableNo,
     pub extent: Extent<A>,
 }
 
+impl<A: Allocator> Drop for Reading<A> {
+    fn drop(self) {
+        let Reading {
+            table: _,
+            extent: _,
+        } = self;
+    }
+}
+
 /// What a statement reads.
-#[derive(Drop)]
 #[derive_where(Debug)]
 pub struct Footprint<A: Allocator = Global> {
     readings: Vec<Reading<A>, A>,
+}
+
+impl<A: Allocator> Drop for Footprint<A> {
+    fn drop(self) {
+        let Footprint { readings: _ } = self;
+    }
 }
 
 impl<A: Allocator> Model for Footprint<A> {
@@ -76,6 +96,7 @@ impl<A: Allocator> Footprint<A> {
     pub fn into_list(self) -> Vec<Reading<A>, A>
         ensures { result.items ≡ self }
     {
-        self.readings
+        let Footprint { readings } = self;
+        readings
     }
 }

@@ -9,10 +9,15 @@ use std::marker::Model;
 use value::refusal::Refusal;
 
 /// The rows of a SELECT, in the order of their keys.
-#[derive(Drop)]
 #[derive_where(Debug)]
 pub struct RowList<A: Allocator = Global> {
     rows: Vec<Values<A>, A>,
+}
+
+impl<A: Allocator> Drop for RowList<A> {
+    fn drop(self) {
+        let RowList { rows: _ } = self;
+    }
 }
 
 impl<A: Allocator> Model for RowList<A> {
@@ -55,7 +60,6 @@ impl<A: Allocator> RowList<A> {
 }
 
 /// The answer to an action of a session.
-#[derive(Drop)]
 #[derive_where(Debug)]
 pub enum Reply<A: Allocator = Global> {
     Begun,
@@ -77,6 +81,26 @@ pub enum Reply<A: Allocator = Global> {
     /// The identifier of the snapshot.
     Exported(u64),
     Refused(Refusal),
+}
+
+impl<A: Allocator> Drop for Reply<A> {
+    fn drop(self) {
+        match self {
+            Reply::Begun
+            | Reply::Committed
+            | Reply::RolledBack
+            | Reply::Pruned
+            | Reply::Imported
+            | Reply::Inserted
+            | Reply::Updated(_)
+            | Reply::Deleted(_)
+            | Reply::Rows(_)
+            | Reply::Safe(_)
+            | Reply::Wait
+            | Reply::Exported(_)
+            | Reply::Refused(_) => {}
+        }
+    }
 }
 
 impl<A: Allocator> Reply<A> {

@@ -13,10 +13,15 @@ use value::refusal::Refusal;
 use value::value::Value;
 
 /// Columns of a table, counted from 0.
-#[derive(Drop)]
 #[derive_where(Debug)]
 pub struct ColumnList<A: Allocator = Global> {
     columns: Vec<u32, A>,
+}
+
+impl<A: Allocator> Drop for ColumnList<A> {
+    fn drop(self) {
+        let ColumnList { columns: _ } = self;
+    }
 }
 
 impl<A: Allocator> Model for ColumnList<A> {
@@ -56,7 +61,6 @@ impl<A: Allocator> ColumnList<A> {
 }
 
 /// What a SELECT shows of the rows.
-#[derive(Drop)]
 #[derive_where(Debug)]
 pub enum Projection<A: Allocator = Global> {
     /// All columns: `*`.
@@ -65,6 +69,14 @@ pub enum Projection<A: Allocator = Global> {
     Count,
     /// The columns named, of which one may be named twice.
     Columns(ColumnList<A>),
+}
+
+impl<A: Allocator> Drop for Projection<A> {
+    fn drop(self) {
+        match self {
+            Projection::All | Projection::Count | Projection::Columns(_) => {}
+        }
+    }
 }
 
 impl<A: Allocator> Projection<A> {
@@ -82,12 +94,19 @@ impl<A: Allocator> Projection<A> {
 }
 
 /// What a column is set to.
-#[derive(Drop)]
 #[derive_where(Debug)]
 pub enum Source<A: Allocator = Global> {
     Literal(Value<A>),
     /// What a column, counted from 0, had before, and a number added to it, negative for `-`.
     Sum(u32, i64),
+}
+
+impl<A: Allocator> Drop for Source<A> {
+    fn drop(self) {
+        match self {
+            Source::Literal(_) | Source::Sum(_, _) => {}
+        }
+    }
 }
 
 impl<A: Allocator> Source<A> {
@@ -104,18 +123,31 @@ impl<A: Allocator> Source<A> {
 }
 
 /// A column, counted from 0, and what it is set to.
-#[derive(Drop)]
 #[derive_where(Debug)]
 pub struct Assignment<A: Allocator = Global> {
     pub column: u32,
     pub source: Source<A>,
 }
 
+impl<A: Allocator> Drop for Assignment<A> {
+    fn drop(self) {
+        let Assignment {
+            column: _,
+            source: _,
+        } = self;
+    }
+}
+
 /// The assignments of an UPDATE.
-#[derive(Drop)]
 #[derive_where(Debug)]
 pub struct Assignments<A: Allocator = Global> {
     assignments: Vec<Assignment<A>, A>,
+}
+
+impl<A: Allocator> Drop for Assignments<A> {
+    fn drop(self) {
+        let Assignments { assignments: _ } = self;
+    }
 }
 
 impl<A: Allocator> Model for Assignments<A> {
@@ -162,13 +194,23 @@ impl<A: Allocator> Assignments<A> {
 }
 
 /// A statement, whose names were found in a catalog.
-#[derive(Drop)]
 #[derive_where(Debug)]
 pub enum Statement<A: Allocator = Global> {
     Select(TableNo, Projection<A>, Conditions<A>),
     Insert(TableNo, Values<A>),
     Update(TableNo, Assignments<A>, Conditions<A>),
     Delete(TableNo, Conditions<A>),
+}
+
+impl<A: Allocator> Drop for Statement<A> {
+    fn drop(self) {
+        match self {
+            Statement::Select(_, _, _)
+            | Statement::Insert(_, _)
+            | Statement::Update(_, _, _)
+            | Statement::Delete(_, _) => {}
+        }
+    }
 }
 
 impl<A: Allocator> Statement<A> {

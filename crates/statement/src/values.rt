@@ -9,10 +9,15 @@ use value::refusal::Refusal;
 use value::value::Value;
 
 /// Values in the order of columns: the literals of an INSERT, or a row that a SELECT shows.
-#[derive(Drop)]
 #[derive_where(Debug)]
 pub struct Values<A: Allocator = Global> {
     values: Vec<Value<A>, A>,
+}
+
+impl<A: Allocator> Drop for Values<A> {
+    fn drop(self) {
+        let Values { values: _ } = self;
+    }
 }
 
 impl<A: Allocator> Model for Values<A> {

@@ -65,7 +65,6 @@ pub fn is_read_write(mode: Mode) -> bool
 /// A transaction. Places are those of events, transactions and commits are numbered, each from 1
 /// above the base. Contracts see it as the definitions' transaction without statements and tables
 /// of its own, which evaluation gives anew.
-#[derive(Drop)]
 pub struct Transaction<A: Allocator = Global> {
     pub(crate) session: SessionId,
     pub(crate) number: u64,
@@ -93,6 +92,28 @@ pub struct Transaction<A: Allocator = Global> {
     pub(crate) changes: OwnChanges<A>,
     /// The references of the rows that they wrote, before and after.
     pub(crate) marks: Vec<Mark<A>, A>,
+}
+
+impl<A: Allocator> Drop for Transaction<A> {
+    fn drop(self) {
+        let Transaction {
+            session: _,
+            number: _,
+            mode: _,
+            begin: _,
+            standing: _,
+            end: _,
+            commit: _,
+            snapshot: _,
+            taken: _,
+            imported: _,
+            known: _,
+            asked: _,
+            reads: _,
+            changes: _,
+            marks: _,
+        } = self;
+    }
 }
 
 impl<A: Allocator> Model for Transaction<A> {

@@ -14,7 +14,6 @@ use std::marker::Model;
 
 /// What is kept of the world that a history has come to: its numbers, the transactions that still
 /// matter, without statements and tables of their own, and the identifiers of snapshots.
-#[derive(Drop)]
 pub struct World<A: Allocator = Global> {
     pub(crate) base: Base,
     pub(crate) transactions: Vec<Transaction<A>, A>,
@@ -24,6 +23,19 @@ pub struct World<A: Allocator = Global> {
     pub(crate) past: Vec<Stretch, A>,
     // The snapshot from which on questions were asked when all were last looked at.
     pub(crate) reached: u64,
+}
+
+impl<A: Allocator> Drop for World<A> {
+    fn drop(self) {
+        let World {
+            base: _,
+            transactions: _,
+            exports: _,
+            place: _,
+            past: _,
+            reached: _,
+        } = self;
+    }
 }
 
 impl<A: Allocator> Model for World<A> {

@@ -26,10 +26,18 @@ pub struct Name<A: Allocator = Global> {
 
 /// The transactions that committed, in the order of the replies to their COMMITs, then those that may have; and their
 /// names, in the same order. Time is counted in lines.
-#[derive(Drop)]
 pub struct Traces<A: Allocator = Global> {
     pub transactions: Vec<Transaction<A>, A>,
     pub names: Vec<Name<A>, A>,
+}
+
+impl<A: Allocator> Drop for Traces<A> {
+    fn drop(self) {
+        let Traces {
+            transactions: _,
+            names: _,
+        } = self;
+    }
 }
 
 // Whether all statements fit the catalog.

@@ -16,10 +16,15 @@ use std::cmp::Ordering;
 use std::marker::Model;
 
 /// Bytes, which contracts see as a list.
-#[derive(Drop)]
 #[derive_where(Debug)]
 pub struct Bytes<A: Allocator = Global> {
     bytes: Vec<u8, A>,
+}
+
+impl<A: Allocator> Drop for Bytes<A> {
+    fn drop(self) {
+        let Bytes { bytes: _ } = self;
+    }
 }
 
 impl<A: Allocator> Model for Bytes<A> {

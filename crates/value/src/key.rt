@@ -15,10 +15,15 @@ use std::cmp::Ordering;
 use std::marker::Model;
 
 /// A value that is not null.
-#[derive(Drop)]
 #[derive_where(Debug)]
 pub struct Key<A: Allocator = Global> {
     value: Value<A>,
+}
+
+impl<A: Allocator> Drop for Key<A> {
+    fn drop(self) {
+        let Key { value: _ } = self;
+    }
 }
 
 impl<A: Allocator> Model for Key<A> {
@@ -41,9 +46,9 @@ impl<A: Allocator> Key<A> {
         ensures some { IfSome result (λ k. k ≡ value) }
         ensures none { IsNone result ↔ (value ≡ Value.Null) }
     {
-        match value {
+        match &value {
             Value::Null => None,
-            value => Some(Key { value }),
+            _ => Some(Key { value }),
         }
     }
 

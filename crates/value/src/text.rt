@@ -17,10 +17,15 @@ use std::cmp::Ordering;
 use std::marker::Model;
 
 /// A text, which contracts see as its bytes.
-#[derive(Drop)]
 #[derive_where(Debug)]
 pub struct Text<A: Allocator = Global> {
     text: String<A>,
+}
+
+impl<A: Allocator> Drop for Text<A> {
+    fn drop(self) {
+        let Text { text: _ } = self;
+    }
 }
 
 impl<A: Allocator> Model for Text<A> {

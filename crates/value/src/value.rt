@@ -16,7 +16,6 @@ use std::cmp::Ordering;
 
 /// What a field holds. The order has null first, then bigints by number, then texts and then
 /// byteas, each by their bytes.
-#[derive(Drop)]
 #[derive_where(Debug)]
 pub enum Value<A: Allocator = Global> {
     /// No value.
@@ -27,6 +26,14 @@ pub enum Value<A: Allocator = Global> {
     Text(Text<A>),
     /// A bytea.
     Bytes(Bytes<A>),
+}
+
+impl<A: Allocator> Drop for Value<A> {
+    fn drop(self) {
+        match self {
+            Value::Null | Value::Int(_) | Value::Text(_) | Value::Bytes(_) => {}
+        }
+    }
 }
 
 impl<A: Allocator> Value<A> {

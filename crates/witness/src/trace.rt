@@ -18,7 +18,6 @@ pub struct Moment {
 }
 
 /// What a transaction did. Places are those of events, transactions and commits are numbered.
-#[derive(Drop)]
 pub struct Trace<A: Allocator = Global> {
     pub session: SessionId,
     pub number: u64,
@@ -37,6 +36,23 @@ pub struct Trace<A: Allocator = Global> {
     pub marks: Vec<Mark<A>, A>,
     /// Those of its statements, in their order.
     pub moments: Vec<Moment, A>,
+}
+
+impl<A: Allocator> Drop for Trace<A> {
+    fn drop(self) {
+        let Trace {
+            session: _,
+            number: _,
+            read_write: _,
+            begin: _,
+            snapshot: _,
+            commit: _,
+            reads: _,
+            changes: _,
+            marks: _,
+            moments: _,
+        } = self;
+    }
 }
 
 impl<A: Allocator> Model for Trace<A> {

@@ -27,7 +27,6 @@ use value::refusal::Refusal;
 use value::value::Value;
 
 /// What a transaction has written, in the order of its statements. Contracts see it as that list.
-#[derive(Drop)]
 pub struct OwnChanges<A: Allocator = Global> {
     list: Vec<Change<A>, A>,
     // The first of the list by their keys, of each key the last. The others come to them when a
@@ -36,6 +35,17 @@ pub struct OwnChanges<A: Allocator = Global> {
     count: usize,
     // Whether the others are known to be by table, then by key, as those of one statement are.
     is_by_key: bool,
+}
+
+impl<A: Allocator> Drop for OwnChanges<A> {
+    fn drop(self) {
+        let OwnChanges {
+            list: _,
+            merged: _,
+            count: _,
+            is_by_key: _,
+        } = self;
+    }
 }
 
 impl<A: Allocator> Model for OwnChanges<A> {

@@ -31,11 +31,16 @@ use value::refusal::{Code, Refusal};
 
 /// The tables that a session's transaction sees, its own changes too. They never change, and borrow
 /// nothing: a SELECT can be evaluated on them while others go on.
-#[derive(Drop)]
 #[derive_where(Debug)]
 pub struct SessionReader<A: Allocator = Global> {
     view: View<A>,
     own: Changes<A>,
+}
+
+impl<A: Allocator> Drop for SessionReader<A> {
+    fn drop(self) {
+        let SessionReader { view: _, own: _ } = self;
+    }
 }
 
 impl<A: Allocator> Model for SessionReader<A> {

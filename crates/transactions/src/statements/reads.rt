@@ -17,11 +17,16 @@ use value::refusal::Refusal;
 
 /// What a transaction has read. Contracts see it as the list of all readings, in the order of its
 /// statements; kept are as few as cover the same.
-#[derive(Drop)]
 pub struct OwnReads<A: Allocator = Global> {
     locks: Held<A>,
     // What each statement has read, which takes no memory.
     all: GhostList<Vec<Reading<A>, A>>,
+}
+
+impl<A: Allocator> Drop for OwnReads<A> {
+    fn drop(self) {
+        let OwnReads { locks: _, all: _ } = self;
+    }
 }
 
 impl<A: Allocator> Model for OwnReads<A> {

@@ -1,15 +1,8 @@
 use Rattle.std.proofs.Common.{◌∙◌, ◌++◌, ◌∷◌, [], sym, ap, append_assoc, arith}
 use Rattle.std.proofs.lemmas.List.{append-nil, nil_from_length}
 use Rattle.drawing.specs.Arrows.{drawn, is_drawn}
-use Rattle.drawing.proofs.DrawnLemmas.{filter_skips}
+use Rattle.drawing.proofs.DrawnLemmas.{filter_skips, filter_keeps}
 use Rattle.drawing.proofs.arrow.drawn.Goals as goal
-
-pub loop-run-preserved-else-is_drawn : goal.loop-run-preserved-else-is_drawn
-loop-run-preserved-else-is_drawn g c =
-    let i = c.loop-run.invariant in
-    let before = c.loop-run.yielded in
-    let run = c.in-Some.run' in
-    (append_assoc before (run ∷ []) c.next.new.self.rest.items ∙ (ap (λ l. before ++ l) (sym c.in-Some.ensures.steps.0) ∙ i.0), i.1 ∙ sym (filter_skips (is_drawn c.args.records.now c.args.first) before run (sym c.is_drawn.ensures ∙ c.if-is_drawn.false)))
 
 pub loop-run-preserved : goal.loop-run-preserved
 loop-run-preserved g c =
@@ -17,6 +10,13 @@ loop-run-preserved g c =
     let before = c.loop-run.yielded in
     let run = c.in-Some.run' in
     (append_assoc before (run ∷ []) c.next.new.self.rest.items ∙ (ap (λ l. before ++ l) (sym c.in-Some.ensures.steps.0) ∙ i.0), i.1 ∙ sym (filter_skips (is_drawn c.args.records.now c.args.first) before run (sym c.is_drawn.ensures ∙ c.if-is_drawn.false)))
+
+pub loop-run-preserved-in-Continue-1 : goal.loop-run-preserved-in-Continue-1
+loop-run-preserved-in-Continue-1 g c =
+    let i = c.loop-run.invariant in
+    let before = c.loop-run.yielded in
+    let run = c.in-Some.run' in
+    (append_assoc before (run ∷ []) c.next.new.self.rest.items ∙ (ap (λ l. before ++ l) (sym c.in-Some.ensures.steps.0) ∙ i.0), c.in_ok-push.ensures.items ∙ (ap (λ l. l ++ run ∷ []) i.1 ∙ sym (filter_keeps (is_drawn c.args.records.now c.args.first) before run (sym c.is_drawn.ensures ∙ c.if-is_drawn.true))))
 
 pub returns-clause-ok : goal.returns-clause-ok
 returns-clause-ok g c =
