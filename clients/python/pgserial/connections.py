@@ -1,0 +1,378 @@
+"""Connections and cursors that behave as the driver's own, and are recorded."""
+
+import weakref
+from typing import Any, Callable, Dict, Iterator, List, Optional, Tuple
+
+from .drivers import Came, Sqlite
+from .effects import Control
+
+from .steps import (
+    Begin, Commit, Executed, Inner, LeftOut, Rollback, Savepoint, Script, Session, Setting, Spoils, Step, copy_of, is_looped,
+    many_of, step_of,
+)  # fmt: skip
+
+
+def _text_of(operation: Any, raw: Any) -> str:
+    """The text of what is executed: a text, bytes, or what psycopg composes."""
+    if isinstance(operation, bytes):
+        return operation.decode("utf-8", "surrogateescape")
+    return str(operation.as_string(raw)) if hasattr(operation, "as_string") else str(operation)
+
+
+def _parameters(words: Tuple[Any, ...], named: Dict[str, Any]) -> Any:
+    """The parameters of a call that executes: what stands behind the text."""
+    return words[0] if words else next((named[name] for name in ("params", "vars", "parameters") if name in named), None)
+
+
+class _Proxy:
+    """What passes everything that it hasn't itself to the driver's own object, `wrapped`."""
+
+    wrapped: Any
+    _own = frozenset(("wrapped",))
+    _special: Dict[str, str] = {}  # what only some drivers have, and what is taken for it
+
+    def __init__(self, wrapped: Any) -> None:
+        object.__setattr__(self, "wrapped", wrapped)
+
+    def __getattr__(self, name: str) -> Any:
+        value = getattr(object.__getattribute__(self, "wrapped"), name)
+        special = type(self)._special.get(name)
+        return value if special is None else object.__getattribute__(self, special)
+
+    def __setattr__(self, name: str, value: object) -> None:
+        if name in self._own:
+            object.__setattr__(self, name, value)
+        else:
+            setattr(self.wrapped, name, value)
+
+    def __delattr__(self, name: str) -> None:
+        delattr(self.wrapped, name)
+
+    def __dir__(self) -> List[str]:
+        return dir(self.wrapped)
+
+    def __repr__(self) -> str:
+        return f"<recorded {self.wrapped!r}>"
+
+    # So that `isinstance` speaks of the driver's class.
+    __class__ = property(lambda self: type(object.__getattribute__(self, "wrapped")))  # type: ignore
+
+
+class Connection(_Proxy):
+    """A connection that is recorded; `wrapped` is the driver's own."""
+
+    _own = frozenset(("wrapped", "_session"))
+    _special = {
+        "execute": "_execute", "executemany": "_executemany", "executescript": "_executescript", "transaction": "_transaction",
+        "pipeline": "_pipeline", "blobopen": "_blobopen", "deserialize": "_deserialize", "tpc_begin": "_tpc_begin",
+        "reset": "_reset", "set_isolation_level": "_set_isolation_level",
+    }  # fmt: skip
+
+    def __init__(self, wrapped: Any, session: Session) -> None:
+        super().__init__(wrapped)
+        self._session = session
+        weakref.finalize(self, session.recorder.drop, session).atexit = False
+
+    def __setattr__(self, name: str, value: object) -> None:
+        if name in ("isolation_level", "autocommit") and isinstance(self._session.driver, Sqlite):
+            self._session.take(lambda: Setting(self._session), lambda: setattr(self.wrapped, name, value))
+        else:
+            super().__setattr__(name, value)
+
+    def cursor(self, *words: Any, **named: Any) -> "Cursor":
+        """A cursor of the driver's, recorded."""
+        return Cursor(self.wrapped.cursor(*words, **named), self)
+
+    def commit(self, *words: Any) -> Any:
+        """Commits."""
+        return self._session.take(lambda: Commit(self._session, True), lambda: self.wrapped.commit(*words))
+
+    def rollback(self, *words: Any) -> Any:
+        """Rolls back."""
+        return self._session.take(lambda: Rollback(self._session, True), lambda: self.wrapped.rollback(*words))
+
+    def close(self) -> Any:
+        """Closes the connection, and gives its session's number back."""
+        value = self.wrapped.close()
+        self._session.close()
+        return value
+
+    def __enter__(self) -> Any:
+        entered = type(self.wrapped).__enter__(self.wrapped)
+        self._session.driver.entered += 1
+        return self if entered is self.wrapped else entered
+
+    def __exit__(self, kind: Any, error: Any, trace: Any) -> Any:
+        session = self._session
+        end = Commit if kind is None else Rollback
+        try:
+            return session.take(
+                lambda: end(session, True), lambda: type(self.wrapped).__exit__(self.wrapped, kind, error, trace)
+            )
+        finally:
+            session.driver.entered -= 1
+            if session.driver.own_transactions:
+                session.close()
+
+    # what some drivers have
+
+    def _execute(self, operation: Any, *words: Any, **named: Any) -> "Cursor":
+        cursor = Cursor(None, self)
+
+        def call() -> Any:
+            cursor.wrapped = self.wrapped.execute(operation, *words, **named)
+
+        cursor._executed(operation, _parameters(words, named), call)
+        return cursor
+
+    def _executemany(self, operation: Any, several: Any) -> "Cursor":
+        cursor = self.cursor()
+        cursor.executemany(operation, several)
+        return cursor
+
+    def _executescript(self, text: str) -> "Cursor":
+        cursor = self.cursor()
+        cursor.executescript(text)
+        return cursor
+
+    def _transaction(self, *words: Any, **named: Any) -> "Transaction":
+        is_undone = bool(words[1] if len(words) > 1 else named.get("force_rollback", False))
+        return Transaction(self.wrapped.transaction(*words, **named), self._session, is_undone)
+
+    def _pipeline(self) -> Any:
+        self._session.recorder.stop("a pipeline, whose replies come later than its calls")
+        return self.wrapped.pipeline()
+
+    def _tpc_begin(self, *words: Any) -> Any:
+        self._session.recorder.stop("a transaction in two phases")
+        return self.wrapped.tpc_begin(*words)
+
+    def _spoiling(self, name: str, words: Tuple[Any, ...], named: Dict[str, Any]) -> Any:
+        call = getattr(self.wrapped, name)
+        return self._session.take(lambda: Spoils(self._session, name, "it may write"), lambda: call(*words, **named))
+
+    def _blobopen(self, *words: Any, **named: Any) -> Any:
+        return self._spoiling("blobopen", words, named)
+
+    def _deserialize(self, *words: Any, **named: Any) -> Any:
+        return self._spoiling("deserialize", words, named)
+
+    def _reset(self) -> Any:
+        return self._session.take(lambda: Rollback(self._session), self.wrapped.reset)
+
+    def _set_isolation_level(self, level: Any) -> Any:
+        return self._session.take(lambda: Rollback(self._session), lambda: self.wrapped.set_isolation_level(level))
+
+
+class Transaction(_Proxy):
+    """psycopg's `connection.transaction()`: a transaction, or within one a savepoint."""
+
+    _own = frozenset(("wrapped", "_session", "_is_undone", "_is_outer"))
+
+    def __init__(self, wrapped: Any, session: Session, is_undone: bool) -> None:
+        super().__init__(wrapped)
+        self._session, self._is_undone, self._is_outer = session, is_undone, True
+
+    def __enter__(self) -> Any:
+        session = self._session
+        self._is_outer = not session.driver.is_open()
+        session.driver.entered += 1
+        try:
+            return session.take(self._begins, lambda: type(self.wrapped).__enter__(self.wrapped))
+        except BaseException:
+            session.driver.entered -= 1
+            raise
+
+    def _begins(self) -> Step:
+        return Begin(self._session) if self._is_outer else Savepoint(self._session, Control("savepoint", id(self)))
+
+    def __exit__(self, kind: Any, error: Any, trace: Any) -> Any:
+        is_kept = kind is None and not self._is_undone
+        try:
+            return self._session.take(
+                lambda: self._ends(is_kept), lambda: type(self.wrapped).__exit__(self.wrapped, kind, error, trace)
+            )
+        finally:
+            self._session.driver.entered -= 1
+
+    def _ends(self, is_kept: bool) -> Step:
+        if not self._is_outer:
+            return Inner(self._session, id(self), is_kept)
+        return Commit(self._session) if is_kept else Rollback(self._session)
+
+
+class Cursor(_Proxy):
+    """A cursor that is recorded; `wrapped` is the driver's own."""
+
+    _own = frozenset(("wrapped", "_connection", "_came", "_at", "_count"))
+    _special = {
+        "callproc": "_callproc", "copy_from": "_copy_from", "copy_to": "_copy_to", "copy_expert": "_copy_expert",
+        "copy": "_copy", "executescript": "_executescript", "stream": "_stream",
+    }  # fmt: skip
+
+    def __init__(self, wrapped: Any, connection: Connection) -> None:
+        super().__init__(wrapped)
+        self._connection = connection
+        self._came: Optional[Came] = None  # rows that the driver's cursor has given up
+        self._at = 0
+        self._count: Optional[int] = None  # of the rows that several executions speak of
+
+    @property
+    def connection(self) -> Connection:
+        """The connection, recorded."""
+        return self._connection
+
+    @property
+    def rowcount(self) -> Any:
+        """How many rows the last execution speaks of."""
+        return self.wrapped.rowcount if self._count is None else self._count
+
+    # statements
+
+    def execute(self, operation: Any, *words: Any, **named: Any) -> Any:
+        """Executes a statement."""
+        return self._executed(operation, _parameters(words, named), lambda: self.wrapped.execute(operation, *words, **named))
+
+    def _executed(self, operation: Any, parameters: Any, call: Callable[[], Any]) -> Any:
+        """Does a call that executes a statement. What it gives is this cursor, where the driver gives its own."""
+        self._came, self._count = None, None
+        session = self._connection._session
+        value = session.take(lambda: self._step(operation, parameters), call)
+        return self if value is not None and value is self.wrapped else value
+
+    def _step(self, operation: Any, parameters: Any) -> Step:
+        session = self._connection._session
+        text = _text_of(operation, self._connection.wrapped)
+        is_served = getattr(self.wrapped, "name", None) is not None
+        return step_of(session, text, parameters, self._looked_at(), is_served)
+
+    def _looked_at(self) -> Executed:
+        return Executed(self._connection._session.driver, lambda: self.wrapped, self._keep)
+
+    def _keep(self, came: Came) -> None:
+        """Rows that the driver's cursor has given up are kept for the application."""
+        if came.served is not None:
+            self._came, self._at = came, 0
+
+    def executemany(self, operation: Any, several: Any, *words: Any, **named: Any) -> Any:
+        """Executes a statement once for each of several parameters."""
+        session = self._connection._session
+        text = _text_of(operation, self._connection.wrapped)
+        if words or named or session.recorder.is_over or not session.guarded(is_looped, session, text):
+            return self._many(operation, text, list(several), *words, **named)
+        count, total = 0, 0
+        for parameters in several:
+            self.execute(operation, parameters)
+            count, total = count + 1, total + max(self.wrapped.rowcount, 0)
+        if count == 0:
+            return self._many(operation, text, [])
+        self._count = total
+        return self if session.driver.many_gives_cursor else None
+
+    def _many(self, operation: Any, text: str, several: List[Any], *words: Any, **named: Any) -> Any:
+        """The same by one call of the driver."""
+        self._came, self._count = None, None
+        session = self._connection._session
+        value = session.take(
+            lambda: many_of(session, text, several, self._looked_at()),
+            lambda: self.wrapped.executemany(operation, several, *words, **named),
+        )
+        return self if value is not None and value is self.wrapped else value
+
+    # rows
+
+    def fetchone(self) -> Any:
+        """The next row."""
+        if self._came is None:
+            return self.wrapped.fetchone()
+        rows = self._served(1)
+        return rows[0] if rows else None
+
+    def fetchmany(self, *words: Any, **named: Any) -> Any:
+        """The next rows."""
+        if self._came is None:
+            return self.wrapped.fetchmany(*words, **named)
+        return self._served(words[0] if words else named.get("size", self.wrapped.arraysize))
+
+    def fetchall(self) -> Any:
+        """The rows that are left."""
+        if self._came is None:
+            return self.wrapped.fetchall()
+        return self._served(None)
+
+    def _served(self, size: Optional[int]) -> List[Any]:
+        """The next of the rows that are kept; all that are left where no size is given."""
+        came = self._came
+        assert came is not None and came.served is not None
+        end = len(came.served) if size is None else min(self._at + size, len(came.served))
+        rows, self._at = came.served[self._at : end], end
+        if came.error is not None and (size is None or len(rows) < size):
+            raise came.error
+        return rows if came.made is None else [came.made(row) for row in rows]
+
+    def __iter__(self) -> Any:
+        return self if self._came is not None else iter(self.wrapped)
+
+    def __next__(self) -> Any:
+        if self._came is None:
+            return next(self.wrapped)
+        rows = self._served(1)
+        if not rows:
+            raise StopIteration
+        return rows[0]
+
+    def __enter__(self) -> Any:
+        entered = type(self.wrapped).__enter__(self.wrapped)
+        return self if entered is self.wrapped else entered
+
+    def __exit__(self, kind: Any, error: Any, trace: Any) -> Any:
+        return type(self.wrapped).__exit__(self.wrapped, kind, error, trace)
+
+    # what some drivers have
+
+    def _taken(self, step: Callable[[Session], Step], call: Callable[[], Any]) -> Any:
+        session = self._connection._session
+        self._came, self._count = None, None
+        return session.take(lambda: step(session), call)
+
+    def _callproc(self, name: str, *words: Any) -> Any:
+        text = f"CALL {name}"
+        is_known = self._connection._session.recorder.only_reads(name)
+        step = LeftOut(self._connection._session, text, "a function") if is_known else None
+        return self._taken(
+            lambda session: step or Spoils(session, text, "a function may write"),
+            lambda: self.wrapped.callproc(name, *words),
+        )
+
+    def _copy_from(self, *words: Any, **named: Any) -> Any:
+        return self._taken(
+            lambda session: Spoils(session, "copy_from", "COPY writes"), lambda: self.wrapped.copy_from(*words, **named)
+        )
+
+    def _copy_to(self, *words: Any, **named: Any) -> Any:
+        return self._taken(
+            lambda session: LeftOut(session, "copy_to", "COPY"), lambda: self.wrapped.copy_to(*words, **named)
+        )
+
+    def _copy_expert(self, text: Any, *words: Any, **named: Any) -> Any:
+        said = _text_of(text, self._connection.wrapped)
+        return self._taken(lambda session: copy_of(session, said), lambda: self.wrapped.copy_expert(text, *words, **named))
+
+    def _copy(self, text: Any, *words: Any, **named: Any) -> Any:
+        said = _text_of(text, self._connection.wrapped)
+        return self._taken(lambda session: copy_of(session, said), lambda: self.wrapped.copy(text, *words, **named))
+
+    def _executescript(self, text: str) -> Any:
+        value = self._taken(lambda session: Script(session, text), lambda: self.wrapped.executescript(text))
+        return self if value is self.wrapped else value
+
+    def _stream(self, operation: Any, *words: Any, **named: Any) -> Iterator[Any]:
+        """Rows as they come: what is executed only when the first is asked for is taken for read then."""
+        session = self._connection._session
+        text = _text_of(operation, self._connection.wrapped)
+        step = session.guarded(step_of, session, text, _parameters(words, named), self._looked_at(), True)
+        if step is not None:
+            session.guarded(step.before)
+        yield from self.wrapped.stream(operation, *words, **named)
+        if step is not None:
+            session.guarded(step.after)

@@ -1,0 +1,98 @@
+"""Values as a transcript spells them: literals of its statements, and COPY text of its replies."""
+
+import re
+from typing import Callable, Dict, Optional, Union
+
+from . import BIGINT, BYTEA, TEXT, Kind
+
+Plain = Union[None, int, str, bytes]  # a value of a column
+
+MOST_BYTES = 65536  # of a statement
+_NUMBER = re.compile(r"\s*([+-]?[0-9]+)\s*", re.ASCII)
+_ESCAPED_IN_LITERAL = {"\n": "\\n", "\\": "\\\\"}
+_ESCAPED_IN_COPY = {"\b": "\\b", "\t": "\\t", "\n": "\\n", "\v": "\\v", "\f": "\\f", "\r": "\\r", "\\": "\\\\"}
+_TO_COPY = str.maketrans(_ESCAPED_IN_COPY)
+
+
+class Unsaid(Exception):
+    """What no transcript can say, and why."""
+
+
+def _bigint(value: object) -> int:
+    if isinstance(value, str):
+        digits = _NUMBER.fullmatch(value)
+        value = int(digits[1]) if digits else value
+    if not isinstance(value, int):
+        raise Unsaid(f"a bigint is no {type(value).__name__}")
+    if not -(2**63) <= value < 2**63:
+        raise Unsaid("a bigint has 64 bits")
+    return int(value)
+
+
+def _text(value: object) -> str:
+    if not isinstance(value, str):
+        raise Unsaid(f"a text is no {type(value).__name__}")
+    if "\0" in value:
+        raise Unsaid("a text has no zero byte")
+    try:
+        value.encode("utf-8")
+    except UnicodeEncodeError:
+        raise Unsaid("a text has no half characters") from None
+    return str(value)
+
+
+def _bytea(value: object) -> bytes:
+    value = getattr(value, "adapted", value)  # psycopg2 wraps bytes so
+    if isinstance(value, (bytes, bytearray, memoryview)):
+        return bytes(value)
+    raise Unsaid(f"a bytea is no {type(value).__name__}")
+
+
+_PLAIN: Dict[Kind, Callable[[object], Plain]] = {BIGINT: _bigint, TEXT: _text, BYTEA: _bytea}
+
+
+def plain(kind: Kind, value: object) -> Plain:
+    """A value of a column of this kind; refuses what isn't one."""
+    return None if value is None else _PLAIN[kind](value)
+
+
+class Spelling:
+    """How the values of one transcript are spelled. No literal has a newline, so that in all texts a newline stands as
+    `\\n`, and a backslash as two. Equal texts stay equal so, and others stay others; their order may turn. So whoever
+    compares texts by order can't have such texts too."""
+
+    def __init__(self) -> None:
+        self._escaped: Optional[str] = None
+        self._is_ordered = False
+
+    def order_texts(self) -> None:
+        """From now on texts are compared by order."""
+        if self._escaped is not None:
+            raise Unsaid("texts are compared by order, and some have a newline or a backslash")
+        self._is_ordered = True
+
+    def _without_newline(self, text: str) -> str:
+        if "\n" not in text and "\\" not in text:
+            return text
+        if self._is_ordered:
+            raise Unsaid("texts are compared by order, and this one has a newline or a backslash")
+        self._escaped = text
+        return "".join(_ESCAPED_IN_LITERAL.get(letter, letter) for letter in text)
+
+    def literal(self, kind: Kind, value: object) -> str:
+        """A value as a literal of a statement."""
+        said = plain(kind, value)
+        if isinstance(said, str):
+            return "'" + self._without_newline(said).replace("'", "''") + "'"
+        if isinstance(said, bytes):
+            return "'\\x" + said.hex() + "'"
+        return "NULL" if said is None else str(said)
+
+    def copy_text(self, kind: Kind, value: object) -> str:
+        """A value as a field of a row."""
+        said = plain(kind, value)
+        if isinstance(said, str):
+            return self._without_newline(said).translate(_TO_COPY)
+        if isinstance(said, bytes):
+            return "\\\\x" + said.hex()
+        return "\\N" if said is None else str(said)
