@@ -1,0 +1,11 @@
+pub mod BagLemmas
+pub mod ChoiceLemmas
+pub mod CountLemmas
+pub mod CoverLemmas
+pub mod FieldLemmas
+pub mod LeftLemmas
+pub mod NumberLemmas
+pub mod SightLemmas
+pub mod StepLemmas
+pub mod TellLemmas
+pub mod WayLemmas
