@@ -222,7 +222,7 @@ pub fn check_order<A: Allocator + Copy>(
 {
     let courses = courses(alloc, history.records())?;
     let left = to_come(alloc, courses)?;
-    let tables = history.tables(alloc)?;
+    let tables = history.copy_tables(alloc)?;
     let replay = Replay {
         left,
         tables,

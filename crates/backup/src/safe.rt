@@ -7,8 +7,8 @@ ghost use Rattle.backup.specs.Backed.{IsDumpable, IsNone, IsWhole, seen_by, view
 
 use crate::fault::BackupFault;
 use collector::Device;
-use dumpplan::Gate;
-use dumpworker::{Workers, dump};
+use dumpplan::{Gate, Jobs, PieceRows};
+use dumpworker::dump;
 use mvrows::view::View;
 use pass::token::Pass;
 use pass::word::Naming;
@@ -42,15 +42,18 @@ where
     server.view(rt, alloc, pass)
 }
 
-/// Dumps the safe snapshot of a session's transaction to a device, with as many workers as `dump`
-/// starts, while other sessions go on. The text is that of a state of the serial order, of the history
+/// Dumps the safe snapshot of a session's transaction to a device, as `dump` does, while other sessions go on. The text is that of a state of the serial order, of the history
 /// that the pass has then seen and of every one that goes on from it; restoring it gives that
 /// state's tables.
 pub fn dump_safe<'w, J, A, W, G, T>(
-    workers: &Workers<'_, T, G, A>,
+    rt: &T,
+    alloc: A,
     server: &Server<'w, J, A>,
     pass: &mut Pass<'w, J, A>,
+    jobs: Jobs,
+    piece_rows: PieceRows,
     device: &mut W,
+    gate: &G,
 ) -> Result<(), BackupFault>
 where
     J: Naming<A>,
@@ -65,12 +68,12 @@ where
         (W.taken device.old) (W.failures device.old) fault (W.taken device.new) (W.failures device.new)) }
     ensures looked { HasLooked J.opening pass.old pass.new }
 {
-    let view = match view_pass(workers.rt, workers.alloc, server, pass) {
+    let view = match view_pass(rt, alloc, server, pass) {
         Ok(view) => view,
         Err(refusal) => return Err(BackupFault::View(refusal)),
     };
     let catalog = server.catalog();
-    match dump(workers, &view, catalog, device) {
+    match dump(rt, alloc, &view, catalog, jobs, piece_rows, device, gate) {
         Ok(()) => Ok(()),
         Err(fault) => Err(BackupFault::Dump(fault)),
     }

@@ -6,8 +6,8 @@ ghost use Rattle.backup.specs.Backed.{IsDumpable, IsNone, IsWhole, viewed};
 
 use crate::fault::BackupFault;
 use collector::Device;
-use dumpplan::Gate;
-use dumpworker::{Workers, dump};
+use dumpplan::{Gate, Jobs, PieceRows};
+use dumpworker::dump;
 use history::session_id::SessionId;
 use mvrows::view::View;
 use restore::reads_what_is_dumped;
@@ -35,14 +35,17 @@ pub(crate) fn view_session<A: Allocator + Copy>(
     core.view(alloc, session)
 }
 
-/// Dumps the safe snapshot of a session's transaction to a device, with as many workers as `dump`
-/// starts, while other threads may read the core. The text is that of a state of the serial order;
+/// Dumps the safe snapshot of a session's transaction to a device, as `dump` does, while other threads may read the core. The text is that of a state of the serial order;
 /// restoring it gives that state's tables.
 pub fn dump_session<A, W, G, T>(
-    workers: &Workers<'_, T, G, A>,
+    rt: &T,
+    alloc: A,
     core: &Core<A>,
     session: SessionId,
+    jobs: Jobs,
+    piece_rows: PieceRows,
     device: &mut W,
+    gate: &G,
 ) -> Result<(), BackupFault>
 where
     A: Allocator + Copy + Send + Sync,
@@ -54,13 +57,13 @@ where
     ensures none { IfErr result (λ fault. IsNone core.now session (W.taken device.old) (W.failures device.old) fault
         (W.taken device.new) (W.failures device.new)) }
 {
-    let view = match view_session(workers.alloc, core, session) {
+    let view = match view_session(alloc, core, session) {
         Ok(view) => view,
         Err(refusal) => return Err(BackupFault::View(refusal)),
     };
     core.is_legal();
     let catalog = core.history().catalog();
-    match dump(workers, &view, catalog, device) {
+    match dump(rt, alloc, &view, catalog, jobs, piece_rows, device, gate) {
         Ok(()) => Ok(()),
         Err(fault) => Err(BackupFault::Dump(fault)),
     }

@@ -2,7 +2,8 @@
 
 ghost use Rattle.std.specs.Prelude.{◌≡◌, ◌≤◌};
 
-use std::io::Write;
+use program::shown::Shown;
+use std::io::{self, Write};
 use transcript::fault::{Reason, TranscriptFault};
 use value::refusal::Code;
 
@@ -19,8 +20,18 @@ pub(crate) enum Fault<'p> {
     Device(&'p str),
 }
 
-/// Tells a fault, and gives the exit status.
-pub(crate) fn tell<E: Write>(fault: Fault<'_>, err: &mut E) -> u8
+// Tells the path of a file that has failed, and behind it why, where that is known.
+fn tell_device<E: Write>(path: &str, reason: Option<&str>, err: &mut E) -> io::Result<()> {
+    writeln!(err, "device: {}", Shown(path))?;
+    match reason {
+        Some(reason) => writeln!(err, "{reason}"),
+        None => Ok(()),
+    }
+}
+
+/// Tells a fault in a line, and behind it what is wrong or why a file has failed, where that is known; and gives the exit
+/// status.
+pub(crate) fn tell<E: Write>(fault: Fault<'_>, reason: Option<&str>, err: &mut E) -> u8
     ensures { result ≤ 3 }
 {
     let (told, status) = match fault {
@@ -41,7 +52,7 @@ pub(crate) fn tell<E: Write>(fault: Fault<'_>, err: &mut E) -> u8
             1,
         ),
         Fault::Dump(line, code) => (writeln!(err, "dump line {line}: {code}"), 1),
-        Fault::Device(path) => (writeln!(err, "device: {path}"), 3),
+        Fault::Device(path) => (tell_device(path, reason, err), 3),
     };
     let _ = told;
     status

@@ -37,11 +37,11 @@ where
     ensures { result ≤ 5 }
 {
     let Ok(text) = judgement_text(alloc, judgement) else {
-        return tell(Fault::Memory, err);
+        return tell(Fault::Memory, None, err);
     };
     match write_all(text.as_slice(), out) {
         Ok(()) => status_of(&judgement.answer),
-        Err(fault) => tell(fault, err),
+        Err(fault) => tell(fault, None, err),
     }
 }
 
@@ -63,11 +63,11 @@ where
 {
     let Opening { catalog, opens, .. } = match read_opening(machine.alloc, text) {
         Ok(opening) => opening,
-        Err(fault) => return tell(Fault::Transcript(fault), err),
+        Err(fault) => return tell(Fault::Transcript(fault), None, err),
     };
     match judge(machine, catalog, opens.as_ref(), text, task) {
         Ok(judgement) => tell_judgement(machine.alloc, &judgement, out, err),
-        Err(fault) => tell(fault, err),
+        Err(fault) => tell(fault, machine.files.reason(), err),
     }
 }
 
@@ -77,7 +77,7 @@ fn show_help<W: Write, E: Write>(help: &Error, out: &mut W, err: &mut E) -> u8
 {
     match write!(out, "{help}") {
         Ok(()) => 0,
-        Err(_) => tell(Fault::Device("-"), err),
+        Err(_) => tell(Fault::Device("-"), None, err),
     }
 }
 
@@ -86,7 +86,7 @@ fn tell_words<W: Write, E: Write>(error: &Error, out: &mut W, err: &mut E) -> u8
     ensures { result ≤ 5 }
 {
     match error.kind() {
-        ErrorKind::OutOfMemory => tell(Fault::Memory, err),
+        ErrorKind::OutOfMemory => tell(Fault::Memory, None, err),
         ErrorKind::DisplayHelp | ErrorKind::DisplayVersion => show_help(error, out, err),
         _ => {
             let _ = write!(err, "{error}");
@@ -119,6 +119,6 @@ where
     };
     match read_path(machine.alloc, machine.files, task.transcript) {
         Ok(text) => check_text(machine, text.as_slice(), task, out, err),
-        Err(fault) => tell(fault, err),
+        Err(fault) => tell(fault, machine.files.reason(), err),
     }
 }

@@ -2,7 +2,7 @@
 use Rattle.std.specs.Prelude.{◌≡◌, ◌⊎◌, ℕ, ◌==◌, Bool, true, false, List, [], ◌++◌, Option, Some, None, length, codes, if◌then◌else◌}
 use Rattle.explain.specs.Remarks.{AreRemarks}
 use Rattle.history.specs.Opening.{Recorded}
-use Rattle.program.specs.Files.{IsWritten}
+use Rattle.program.specs.Files.{IsWritten, Writing}
 use Rattle.terminal.specs.declared.attended.Aside.{Aside}
 use Rattle.terminal.specs.declared.attended.Aside.TheVariants as aside
 use Rattle.command_shell.specs.Serves.{Over, ServesOver}
@@ -51,8 +51,8 @@ module _ {F A : Type 0} where
   unasked files over = record { over = over; files = files; why = [] }
 
   -- A line was answered as the shell does, and it is known why a transaction was refused last.
-  abbrev pub Replies : (F → List ℕ → Option (List ℕ)) → Seen F A → List ℕ → Seen F A → List ℕ → Type 0
-  Replies held p line q text = ServesOver held p.over line q.over text × (q.files ≡ p.files) × IsWhyNow p.why q.why
+  abbrev pub Replies : Writing → (F → List ℕ → Option (List ℕ)) → Seen F A → List ℕ → Seen F A → List ℕ → Type 0
+  Replies writes held p line q text = ServesOver writes held p.over line q.over text × (q.files ≡ p.files) × IsWhyNow p.why q.why
 
   -- What is told beside the answers.
   abbrev pub Tells : {Out : Type 0} → (Out → List ℕ) → (Out → List ℕ) → Seen F A → Aside → List ℕ → List ℕ → Type 0

@@ -1,6 +1,7 @@
 -- What has come of `shell` at a terminal (this project's own choice).
 use Rattle.std.specs.Prelude.{◌≡◌, ◌⊎◌, ℕ, true, false, List, [], ◌∷◌, ◌++◌, Option}
 use Rattle.clap.specs.Words.{Text}
+use Rattle.program.specs.Files.{IsWritten}
 use Rattle.conversation.specs.Turns.{Converses, Turn}
 use Rattle.conversation.specs.Turns.Turn.{Told}
 use Rattle.conversation.specs.declared.conversing.End.{End}
@@ -28,7 +29,7 @@ greeting p = behind (λ k. k.over.shell) true p
 module _ {F A Out : Type 0} (held : F → List ℕ → Option (List ℕ)) (path_of kept : Out → List ℕ) where
   -- What is typed at a terminal over such files, is answered so.
   abbrev pub TypesOver : At (Seen F A) → List ℕ → At (Seen F A) → List ℕ → Type 0
-  TypesOver = Types (Replies held) (λ p. p.over.shell) (Tells path_of kept) (λ p path. held p.files path)
+  TypesOver = Types (Replies (IsWritten path_of kept) held) (λ p. p.over.shell) (Tells path_of kept) (λ p path. held p.files path)
 
   -- From p on the prompt was told, and then what is shown of all lines that were typed, each before the next, until the conversation has ended, which this exit status tells.
   abbrev pub HasTypedOn : At (Seen F A) → ℕ → List Turn → List Turn → Type 0

@@ -95,8 +95,9 @@ where
     K: Clock,
 {
     ghost use Rattle.command_prompt.specs.Asides.{Replies};
+    ghost use Rattle.program.specs.Files.{IsWritten};
 
-    ghost answers = { Replies F.held };
+    ghost answers = { Replies (IsWritten F.Out.path F.Out.kept) F.held };
 
     fn answer(
         self,

@@ -18,8 +18,8 @@ use Rattle.asking.specs.Asking.{Tells}
 use Rattle.retold.specs.Retold.{Retells}
 use Rattle.transcript.specs.Writing.{answered, asked, line_at, lines, tables_asked}
 use Rattle.program.specs.Beginnings.{BeginsWith}
-use Rattle.program.specs.Files.{IsAllOf, read_of}
-use Rattle.program.specs.Dumps.{TellsDump}
+use Rattle.program.specs.Files.{IsAllOf, Writing, read_of}
+use Rattle.program.specs.Dumps.{TellsDumpAt}
 use Rattle.program.specs.Runs.{Checkpoints, begun, told_of_checkpoint}
 use Rattle.program.specs.Steps.{AreDone}
 use Rattle.script_files.specs.Ends.{EndsAt, IsNoScript}
@@ -49,15 +49,17 @@ module _ {A : Type 0} where
   TellsRequest Why h k s q text = Retells h k s q text
   TellsRequest Transcript h k s q text = Tells h k s q text
 
-  -- The reply to a command of session s, by which the history h has become k: what came of a dump, which is no event; of WAIT the reply to a POLL.
-  abbrev pub TellsCommand : Manner → Recorded A → Recorded A → ℕ → Command A → List ℕ → Type 0
-  TellsCommand m h k s (command.Dump request) text = (k ≡ h) × TellsDump h s text
-  TellsCommand m h k s (command.Ask request) text = TellsRequest m h k s request text
-  TellsCommand m h k s command.Wait text = TellsRequest m h k s ask.Poll text
-
   -- a checkpoint, and its reply
   abbrev pub IsPassed : ℕ → Recorded A → Recorded A → List ℕ → Type 0
   IsPassed most h k reply = (refusal : Option Refusal) × Checkpoints most h k refusal × (reply ≡ told_of_checkpoint refusal)
+
+-- where dumps are written so
+module _ {A : Type 0} (writes : Writing) where
+  -- The reply to a command of session s, by which the history h has become k: what came of a dump to its path, which is no event; of WAIT the reply to a POLL.
+  abbrev pub TellsCommand : Manner → Recorded A → Recorded A → ℕ → Command A → List ℕ → Type 0
+  TellsCommand m h k s (command.Dump request) text = (k ≡ h) × TellsDumpAt writes h s request.path text
+  TellsCommand m h k s (command.Ask request) text = TellsRequest m h k s request text
+  TellsCommand m h k s command.Wait text = TellsRequest m h k s ask.Poll text
 
   -- A step was done: the history h has become k, and this is the reply.
   abbrev pub IsDone : Manner → ℕ → Recorded A → Step A → Recorded A → List ℕ → Type 0
@@ -80,7 +82,7 @@ module _ {A : Type 0} where
 
   -- The first steps were done and told, and nothing else, and the next one ends the script.
   abbrev pub IsCutOff : List ℕ → Manner → List (List ℕ) → ℕ → Recorded A → List (Line A) → Fault → Option (List ℕ) → Option (List ℕ) → Type 0
-  IsCutOff first m ls most h steps f before after = (n : ℕ) × (k : Recorded A) × (text : List ℕ) × AreTold m ls most h (take n steps) k text × Appends before after (first ++ text) × EndsAt steps n f
+  IsCutOff first m ls most h steps f before after = (n : ℕ) × (k : Recorded A) × (text : List ℕ) × AreTold m ls most h (take n steps) k text × Appends before after (first ++ text) × EndsAt k steps n f
 
   -- The same; or standard output has failed.
   abbrev pub HasStopped : List ℕ → Manner → List (List ℕ) → ℕ → Recorded A → List (Line A) → Fault → Option (List ℕ) → Option (List ℕ) → Type 0
@@ -99,10 +101,10 @@ module _ {A : Type 0} where
   ScriptEnds held m most script s n before after = (f : Fault) × (n ≡ status f) × (IsFileFault (codes "-") f ⊎ ScriptHasStopped held m most script s f before after)
 
 -- What a path has says a script, and that was done and told.
-abbrev pub PathHasTold : (A : Type 0) → (List ℕ → Option (List ℕ)) → Option (List ℕ) → Manner → ℕ → List ℕ → Option (List ℕ) → Option (List ℕ) → Type 0
-PathHasTold A held input m most path before after = (script : List ℕ) × (s : Said A) × IsAllOf (read_of held input path) script × (said InOrder script ≡ Ok s) × ScriptHasTold held m most script s before after
+abbrev pub PathHasTold : (A : Type 0) → Writing → (List ℕ → Option (List ℕ)) → Option (List ℕ) → Manner → ℕ → List ℕ → Option (List ℕ) → Option (List ℕ) → Type 0
+PathHasTold A writes held input m most path before after = (script : List ℕ) × (s : Said A) × IsAllOf (read_of held input path) script × (said InOrder script ≡ Ok s) × ScriptHasTold writes held m most script s before after
 
 -- No script was read of a path, and nothing was printed; or the script that it says has stopped; or standard output has failed.
-abbrev pub PathHasStopped : (A : Type 0) → (List ℕ → Option (List ℕ)) → Option (List ℕ) → Manner → ℕ → List ℕ → Fault → Option (List ℕ) → Option (List ℕ) → Type 0
-PathHasStopped A held input m most path f before after = IsFileFault (codes "-") f ⊎ (IsNoScript A (read_of held input path) path f × Appends before after [])
-    ⊎ ((script : List ℕ) × (s : Said A) × IsAllOf (read_of held input path) script × (said InOrder script ≡ Ok s) × ScriptHasStopped held m most script s f before after)
+abbrev pub PathHasStopped : (A : Type 0) → Writing → (List ℕ → Option (List ℕ)) → Option (List ℕ) → Manner → ℕ → List ℕ → Fault → Option (List ℕ) → Option (List ℕ) → Type 0
+PathHasStopped A writes held input m most path f before after = IsFileFault (codes "-") f ⊎ (IsNoScript A (read_of held input path) path f × Appends before after [])
+    ⊎ ((script : List ℕ) × (s : Said A) × IsAllOf (read_of held input path) script × (said InOrder script ≡ Ok s) × ScriptHasStopped writes held m most script s f before after)

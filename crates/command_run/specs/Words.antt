@@ -4,6 +4,7 @@ use Rattle.clap.specs.Words.{App, Row, Rule, Text, fault_of, matches_of, new_app
 use Rattle.clap.specs.declared.builder.ArgAction.TheVariants.{SetTrue}
 use Rattle.program.specs.Asked.{WritesEvents, path_of}
 use Rattle.program.specs.CommandLine.{MayBeMistaken, events, script}
+use Rattle.program.specs.Files.{Writing}
 use Rattle.program.specs.Outcomes.{AreHelp}
 use Rattle.script_files.specs.Faults.{out_of_memory, status}
 use Rattle.script_files.specs.declared.fault.Fault.{Fault}
@@ -39,17 +40,17 @@ abbrev pub AsksFor : Manner → List Text → Text → ℕ → Type 0
 AsksFor m words = Asks (matches_of (run m) words)
 
 -- What the words ask for was done, where standard output had this and has that; or they are a call for help.
-abbrev pub HasDone : (A : Type 0) → (List ℕ → Option (List ℕ)) → Option (List ℕ) → Manner → List Text → Option (List ℕ) → Option (List ℕ) → Type 0
-HasDone A held input m words before after = AreHelp (fault_of (run m) words) ⊎ ((path : Text) × (most : ℕ) × AsksFor m words path most × PathHasTold A held input m most path before after)
+abbrev pub HasDone : (A : Type 0) → Writing → (List ℕ → Option (List ℕ)) → Option (List ℕ) → Manner → List Text → Option (List ℕ) → Option (List ℕ) → Type 0
+HasDone A writes held input m words before after = AreHelp (fault_of (run m) words) ⊎ ((path : Text) × (most : ℕ) × AsksFor m words path most × PathHasTold A writes held input m most path before after)
 
 -- No script is known: the words are mistaken; or out of memory for them, and nothing was printed; or they are a call for help, and standard output has failed.
 abbrev pub IsWithoutTask : Manner → List Text → ℕ → Option (List ℕ) → Option (List ℕ) → Type 0
 IsWithoutTask m words n before after = (MayBeMistaken (fault_of (run m) words) × (n ≡ 2)) ⊎ ((n ≡ status out_of_memory) × (after ≡ before)) ⊎ (AreHelp (fault_of (run m) words) × (n ≡ 3))
 
 -- What a path has wasn't done to its end, for a fault that has this exit status.
-abbrev pub EndsWith : (A : Type 0) → (List ℕ → Option (List ℕ)) → Option (List ℕ) → Manner → ℕ → Text → ℕ → Option (List ℕ) → Option (List ℕ) → Type 0
-EndsWith A held input m most path n before after = (f : Fault) × (n ≡ status f) × PathHasStopped A held input m most path f before after
+abbrev pub EndsWith : (A : Type 0) → Writing → (List ℕ → Option (List ℕ)) → Option (List ℕ) → Manner → ℕ → Text → ℕ → Option (List ℕ) → Option (List ℕ) → Type 0
+EndsWith A writes held input m most path n before after = (f : Fault) × (n ≡ status f) × PathHasStopped A writes held input m most path f before after
 
 -- What the words ask for wasn't done, and the command ends with this exit status.
-abbrev pub HasEnded : (A : Type 0) → (List ℕ → Option (List ℕ)) → Option (List ℕ) → Manner → List Text → ℕ → Option (List ℕ) → Option (List ℕ) → Type 0
-HasEnded A held input m words n before after = IsWithoutTask m words n before after ⊎ ((path : Text) × (most : ℕ) × AsksFor m words path most × EndsWith A held input m most path n before after)
+abbrev pub HasEnded : (A : Type 0) → Writing → (List ℕ → Option (List ℕ)) → Option (List ℕ) → Manner → List Text → ℕ → Option (List ℕ) → Option (List ℕ) → Type 0
+HasEnded A writes held input m words n before after = IsWithoutTask m words n before after ⊎ ((path : Text) × (most : ℕ) × AsksFor m words path most × EndsWith A writes held input m most path n before after)

@@ -1,6 +1,7 @@
 //! The lines of a script, done one after the other, and what is told of each.
 
 ghost use Rattle.std.specs.Prelude.{◌≡◌, ◌++◌, [], IfOk, IfErr, OnOk, map};
+ghost use Rattle.program.specs.Files.{IsWritten};
 ghost use Rattle.program.specs.Runs.{Checkpoints};
 ghost use Rattle.script_files.specs.Ends.{EndsBy, Stops};
 ghost use Rattle.transcript.specs.Writing as writing;
@@ -126,8 +127,9 @@ impl<'t> Telling<'t> {
         A: Allocator + Copy,
         F: Files<A>,
         ensures told { IfOk result (λ text.
-            TellsCommand self.now.manner course.old course.new session command.entry.now text.items) }
-        ensures fault { IfErr result (λ f. EndsBy command.entry.now f) }
+            TellsCommand (IsWritten F.Out.path F.Out.kept) self.now.manner course.old course.new session
+            command.entry.now text.items) }
+        ensures fault { IfErr result (λ f. EndsBy course.old session command.entry.now f) }
     {
         match command {
             Command::Dump(request) => tell_dump(machine, course.core(), session, request),
@@ -153,8 +155,9 @@ impl<'t> Telling<'t> {
         A: Allocator + Copy,
         F: Files<A>,
         ensures done { IfOk result (λ x.
-            TellsCommand self.now.manner course x.0 session command.entry.now x.1.items) }
-        ensures fault { IfErr result (λ f. EndsBy command.entry.now f) }
+            TellsCommand (IsWritten F.Out.path F.Out.kept) self.now.manner course x.0 session command.entry.now
+            x.1.items) }
+        ensures fault { IfErr result (λ f. EndsBy course session command.entry.now f) }
     {
         let text = self.do_command(machine, &mut course, line, session, command)?;
         Ok((course, text))
@@ -172,8 +175,9 @@ impl<'t> Telling<'t> {
         A: Allocator + Copy,
         F: Files<A>,
         ensures done { IfOk result (λ x.
-            IsDone self.now.manner self.now.most_events course step.entry.now x.0 x.1.items) }
-        ensures fault { IfErr result (λ f. Stops step.entry.now f) }
+            IsDone (IsWritten F.Out.path F.Out.kept) self.now.manner self.now.most_events course step.entry.now x.0
+            x.1.items) }
+        ensures fault { IfErr result (λ f. Stops course step.entry.now f) }
     {
         match step {
             Step::Session(session, command) => {
@@ -211,9 +215,9 @@ impl<'t> Telling<'t> {
     where
         A: Allocator + Copy,
         F: Files<A>,
-        ensures told { IfOk result (λ x. IsTold self.now.manner (map (λ l. l.now) self.now.lines.now)
-            self.now.most_events course line.entry.now x.0 x.1.items) }
-        ensures fault { IfErr result (λ f. Stops line.entry.now.step f) }
+        ensures told { IfOk result (λ x. IsTold (IsWritten F.Out.path F.Out.kept) self.now.manner
+            (map (λ l. l.now) self.now.lines.now) self.now.most_events course line.entry.now x.0 x.1.items) }
+        ensures fault { IfErr result (λ f. Stops course line.entry.now.step f) }
     {
         let (course, reply) = self.do_step(machine, course, line.number, &line.step)?;
         match self.told(machine.alloc, line.number, reply) {
@@ -234,10 +238,12 @@ impl<'t> Telling<'t> {
         A: Allocator + Copy,
         F: Files<A>,
         W: Write,
-        ensures done { OnOk result (HasTold [] self.now.manner (map (λ l. l.now) self.now.lines.now)
-            self.now.most_events course steps.entry.now (W.contents out.old) (W.contents out.new)) }
-        ensures stopped { IfErr result (λ f. HasStopped [] self.now.manner (map (λ l. l.now) self.now.lines.now)
-            self.now.most_events course steps.entry.now f (W.contents out.old) (W.contents out.new)) }
+        ensures done { OnOk result (HasTold (IsWritten F.Out.path F.Out.kept) [] self.now.manner
+            (map (λ l. l.now) self.now.lines.now) self.now.most_events course steps.entry.now (W.contents out.old)
+            (W.contents out.new)) }
+        ensures stopped { IfErr result (λ f. HasStopped (IsWritten F.Out.path F.Out.kept) [] self.now.manner
+            (map (λ l. l.now) self.now.lines.now) self.now.most_events course steps.entry.now f (W.contents out.old)
+            (W.contents out.new)) }
     {
         for line in steps {
             let (next, text) = self.tell_step(machine, course, line)?;

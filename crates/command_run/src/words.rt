@@ -4,6 +4,7 @@ ghost use Rattle.std.specs.Prelude.{◌≡◌, ◌≢◌, ◌⊎◌, ◌≤◌, 
 ghost use Rattle.std.specs.Option.{option_copied};
 ghost use Rattle.clap.specs.Words.{fault_of};
 ghost use Rattle.program.specs.CommandLine.{AreMistaken, MayBeMistaken};
+ghost use Rattle.program.specs.Files.{IsWritten};
 ghost use Rattle.command_run.specs.Told.{HasStopped, HasTold, PathHasTold, ScriptEnds, ScriptHasStopped, ScriptHasTold, told_first, told_lines};
 ghost use Rattle.command_run.specs.Words as spec;
 ghost use Rattle.command_run.specs.Words.{EndsWith, HasDone, HasEnded};
@@ -90,9 +91,10 @@ where
     A: Allocator + Copy,
     F: Files<A>,
     W: Write,
-    ensures done { OnOk result (HasTold first.now telling.entry.manner (map (λ l. l.now) telling.entry.lines.now)
-        telling.entry.most_events course steps.entry.now (W.contents out.old) (W.contents out.new)) }
-    ensures stopped { IfErr result (λ f. HasStopped first.now telling.entry.manner
+    ensures done { OnOk result (HasTold (IsWritten F.Out.path F.Out.kept) first.now telling.entry.manner
+        (map (λ l. l.now) telling.entry.lines.now) telling.entry.most_events course steps.entry.now
+        (W.contents out.old) (W.contents out.new)) }
+    ensures stopped { IfErr result (λ f. HasStopped (IsWritten F.Out.path F.Out.kept) first.now telling.entry.manner
         (map (λ l. l.now) telling.entry.lines.now) telling.entry.most_events course steps.entry.now f
         (W.contents out.old) (W.contents out.new)) }
 {
@@ -113,11 +115,12 @@ where
     A: Allocator + Copy,
     F: Files<A>,
     W: Write,
-    ensures done { OnOk result (ScriptHasTold (F.held machine.now.files.now) task.entry.manner task.entry.most_events
-        script.now (record { catalog = parts.entry.0; opens = option_copied parts.entry.1; lines = parts.entry.2.now })
+    ensures done { OnOk result (ScriptHasTold (IsWritten F.Out.path F.Out.kept) (F.held machine.now.files.now)
+        task.entry.manner task.entry.most_events script.now
+        (record { catalog = parts.entry.0; opens = option_copied parts.entry.1; lines = parts.entry.2.now })
         (W.contents out.old) (W.contents out.new)) }
-    ensures stopped { IfErr result (λ f. ScriptHasStopped (F.held machine.now.files.now) task.entry.manner
-        task.entry.most_events script.now
+    ensures stopped { IfErr result (λ f. ScriptHasStopped (IsWritten F.Out.path F.Out.kept)
+        (F.held machine.now.files.now) task.entry.manner task.entry.most_events script.now
         (record { catalog = parts.entry.0; opens = option_copied parts.entry.1; lines = parts.entry.2.now }) f
         (W.contents out.old) (W.contents out.new)) }
 {
@@ -153,12 +156,10 @@ where
     E: Write,
     ensures within { result ≤ 3 }
     ensures no_usage { result ≢ 2 }
-    ensures done { result ≡ 0 → ScriptHasTold (F.held machine.now.files.now) task.entry.manner
-        task.entry.most_events text.now script
-        (W.contents out.old) (W.contents out.new) }
-    ensures stopped { result ≢ 0 → ScriptEnds (F.held machine.now.files.now) task.entry.manner
-        task.entry.most_events text.now script result
-        (W.contents out.old) (W.contents out.new) }
+    ensures done { result ≡ 0 → ScriptHasTold (IsWritten F.Out.path F.Out.kept) (F.held machine.now.files.now)
+        task.entry.manner task.entry.most_events text.now script (W.contents out.old) (W.contents out.new) }
+    ensures stopped { result ≢ 0 → ScriptEnds (IsWritten F.Out.path F.Out.kept) (F.held machine.now.files.now)
+        task.entry.manner task.entry.most_events text.now script result (W.contents out.old) (W.contents out.new) }
 {
     let (catalog, opens, steps) = script.into_parts();
     let path = opens.as_ref();
@@ -182,10 +183,12 @@ where
     E: Write,
     ensures within { result ≤ 3 }
     ensures no_usage { result ≢ 2 }
-    ensures done { result ≡ 0 → PathHasTold A (F.held machine.now.files.now) (F.input machine.now.files.now)
-        task.entry.manner task.entry.most_events task.entry.script.now (W.contents out.old) (W.contents out.new) }
-    ensures stopped { result ≢ 0 → EndsWith A (F.held machine.now.files.now) (F.input machine.now.files.now)
-        task.entry.manner task.entry.most_events task.entry.script.now result (W.contents out.old) (W.contents out.new) }
+    ensures done { result ≡ 0 → PathHasTold A (IsWritten F.Out.path F.Out.kept) (F.held machine.now.files.now)
+        (F.input machine.now.files.now) task.entry.manner task.entry.most_events task.entry.script.now
+        (W.contents out.old) (W.contents out.new) }
+    ensures stopped { result ≢ 0 → EndsWith A (IsWritten F.Out.path F.Out.kept) (F.held machine.now.files.now)
+        (F.input machine.now.files.now) task.entry.manner task.entry.most_events task.entry.script.now result
+        (W.contents out.old) (W.contents out.new) }
 {
     let bytes = match read_path(machine.alloc, machine.files, task.script) {
         Ok(bytes) => bytes,
@@ -216,10 +219,12 @@ where
     ensures within { result ≤ 3 }
     ensures usage { result ≡ 2 → MayBeMistaken (fault_of (spec.run manner) (map (λ w. w.now) words.entry.now)) }
     ensures mistake { AreMistaken (fault_of (spec.run manner) (map (λ w. w.now) words.entry.now)) → (result ≡ 2) ⊎ (result ≡ 1) }
-    ensures did { result ≡ 0 → HasDone A (F.held machine.now.files.now) (F.input machine.now.files.now)
-        manner (map (λ w. w.now) words.entry.now) (W.contents out.old) (W.contents out.new) }
-    ensures stopped { result ≢ 0 → HasEnded A (F.held machine.now.files.now) (F.input machine.now.files.now)
-        manner (map (λ w. w.now) words.entry.now) result (W.contents out.old) (W.contents out.new) }
+    ensures did { result ≡ 0 → HasDone A (IsWritten F.Out.path F.Out.kept) (F.held machine.now.files.now)
+        (F.input machine.now.files.now) manner (map (λ w. w.now) words.entry.now) (W.contents out.old)
+        (W.contents out.new) }
+    ensures stopped { result ≢ 0 → HasEnded A (IsWritten F.Out.path F.Out.kept) (F.held machine.now.files.now)
+        (F.input machine.now.files.now) manner (map (λ w. w.now) words.entry.now) result (W.contents out.old)
+        (W.contents out.new) }
 {
     match read_words(machine.words_memory, manner, words) {
         Err(error) => tell_words(&error, out, err),

@@ -1,5 +1,5 @@
 -- What is answered to each line of a shell that opens and makes dumps (this project's own choice).
-use Rattle.std.specs.Prelude.{◌≡◌, ◌⊎◌, ℕ, Option, Some, None, List, [], ◌++◌, codes, if◌then◌else◌, true}
+use Rattle.std.specs.Prelude.{◌≡◌, ◌⊎◌, ℕ, Option, Some, None, Err, List, [], ◌++◌, codes, if◌then◌else◌, true}
 use Rattle.std.specs.Fmt.{decimal}
 use Rattle.std.specs.Str.{bytes_eq}
 use Rattle.value.specs.Codes.{sqlstate}
@@ -9,10 +9,13 @@ use Rattle.schema.specs.Definition.{Catalog}
 use Rattle.schema.specs.declared.tables.Tables.{Tables}
 use Rattle.history.specs.Events.{world}
 use Rattle.history.specs.Opening.{Recorded}
+use Rattle.backup.specs.declared.fault.BackupFault.TheVariants.{Dump}
+use Rattle.dumpworker.specs.declared.fault.DumpFault.TheVariants.{Device}
 use Rattle.script.specs.Scripts.{said}
 use Rattle.script.specs.declared.schedule.Schedule.TheVariants.{InOrder}
 use Rattle.program.specs.Beginnings.{BeginsWith}
-use Rattle.program.specs.Dumps.{TellsDump}
+use Rattle.program.specs.Dumps.{IsDumped, TellsDumpAt}
+use Rattle.program.specs.Files.{Writing}
 use Rattle.program.specs.Runs.{begun}
 use Rattle.script_files.specs.Faults.{IsUnbegun}
 use Rattle.script_files.specs.declared.fault.Fault.{Fault}
@@ -69,9 +72,11 @@ module _ {A : Type 0} where
   abbrev pub OpensPath : (List ℕ → Option (List ℕ)) → List ℕ → Held A → Held A → List ℕ → Type 0
   OpensPath held path p q text = Opens held path p.most q text ⊎ IsUnopened held path p q text
 
-  -- what is told of a dump that a session asks for after the history h: what came of it, or that its file has failed
+-- where dumps are written so
+module _ {A : Type 0} (writes : Writing) where
+  -- What is told of a dump to its path that a session asks for after the history h: what came of it, or that its file has failed.
   abbrev pub TellsSessionDump : Recorded A → SessionDump A → List ℕ → Type 0
-  TellsSessionDump h d text = TellsDump h d.session text ⊎ (text ≡ dump_device_text d.session d.request.path)
+  TellsSessionDump h d text = TellsDumpAt writes h d.session d.request.path text ⊎ ((text ≡ dump_device_text d.session d.request.path) × IsDumped h d.session (Err (Dump Device)))
 
   -- What is told of a line to which a shell has answered a text: where it asks for a dump and the server runs, what came of that; else the text.
   abbrev pub IsTold : Option (SessionDump A) → Option (Recorded A) → List ℕ → List ℕ → Type 0
@@ -105,6 +110,6 @@ pub record Over (F A : Type 0) : Type 0 where
   pub shell : Held A
 
 module _ {F A : Type 0} where
-  -- A shell over files was told a line, has become q, and this text is its answer; the files have this.
-  abbrev pub ServesOver : (F → List ℕ → Option (List ℕ)) → Over F A → List ℕ → Over F A → List ℕ → Type 0
-  ServesOver held p line q text = (q.files ≡ p.files) × Serves (held p.files) p.shell line q.shell text
+  -- A shell over files was told a line, has become q, and this text is its answer; the files have this, and are written so.
+  abbrev pub ServesOver : Writing → (F → List ℕ → Option (List ℕ)) → Over F A → List ℕ → Over F A → List ℕ → Type 0
+  ServesOver writes held p line q text = (q.files ≡ p.files) × Serves writes (held p.files) p.shell line q.shell text

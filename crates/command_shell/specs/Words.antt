@@ -7,6 +7,7 @@ use Rattle.schema.specs.declared.tables.Tables.{Tables}
 use Rattle.program.specs.Asked.{WritesEvents}
 use Rattle.program.specs.Beginnings.{BeginsWith}
 use Rattle.program.specs.CommandLine.{MayBeMistaken, events}
+use Rattle.program.specs.Files.{Writing}
 use Rattle.program.specs.Outcomes.{AreHelp}
 use Rattle.program.specs.Runs.{begun}
 use Rattle.script_files.specs.Faults as faults
@@ -56,8 +57,8 @@ module _ {A : Type 0} where
 
 module _ {F A : Type 0} where
   -- From p on all that was told are the answers to all lines that were heard, each before the next, until the conversation has ended, which this exit status tells.
-  abbrev pub HasServedOn : (F → List ℕ → Option (List ℕ)) → Over F A → ℕ → List Turn → List Turn → Type 0
-  HasServedOn held p n before after = (e : End) × Converses (ServesOver held) p before e after × (n ≡ end_status e)
+  abbrev pub HasServedOn : Writing → (F → List ℕ → Option (List ℕ)) → Over F A → ℕ → List Turn → List Turn → Type 0
+  HasServedOn writes held p n before after = (e : End) × Converses (ServesOver writes held) p before e after × (n ≡ end_status e)
 
   -- The words ask for a shell over these files, and p is that at first.
   abbrev pub HasBegun : (F → List ℕ → Option (List ℕ)) → F → List Text → Over F A → Type 0
@@ -76,5 +77,5 @@ abbrev pub IsUnbegunBy : (A : Type 0) → (List ℕ → Option (List ℕ)) → L
 IsUnbegunBy A held words n = IsWithoutTask (fault_of shell words) n ⊎ ((path : Option Text) × (most : ℕ) × AsksFor words path most × EndsUnbegun A held path n)
 
 -- No shell has begun, and nothing was heard; or what was heard was answered from its beginning on.
-abbrev pub HasDone : (A : Type 0) → {F : Type 0} → (F → List ℕ → Option (List ℕ)) → F → List Text → ℕ → List Turn → List Turn → Type 0
-HasDone A {F} held files words n before after = (IsUnbegunBy A (held files) words n × (after ≡ before)) ⊎ ((p : Over F A) × HasBegun held files words p × HasServedOn held p n before after)
+abbrev pub HasDone : (A : Type 0) → {F : Type 0} → Writing → (F → List ℕ → Option (List ℕ)) → F → List Text → ℕ → List Turn → List Turn → Type 0
+HasDone A {F} writes held files words n before after = (IsUnbegunBy A (held files) words n × (after ≡ before)) ⊎ ((p : Over F A) × HasBegun held files words p × HasServedOn writes held p n before after)

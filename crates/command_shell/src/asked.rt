@@ -3,6 +3,7 @@
 ghost use Rattle.std.specs.Prelude.{◌≡◌, [], IfOk, IfErr};
 ghost use Rattle.std.specs.Option.{option_copied};
 ghost use Rattle.value.specs.Refusals.{out_of_memory};
+ghost use Rattle.program.specs.Files.{IsWritten};
 ghost use Rattle.shell.specs.Asked.{catalog_of, tables_text as text_of_tables};
 ghost use Rattle.command_shell.specs.Serves as spec;
 ghost use Rattle.command_shell.specs.Serves.{AnswersLine, IsTold, OpensPath, TellsSessionDump};
@@ -173,7 +174,8 @@ fn make_dump<A, F, T>(
 where
     A: Allocator + Copy,
     F: Files<A>,
-    ensures told { IfOk result (λ text. TellsSessionDump core.now dump.now text.items) }
+    ensures told { IfOk result (λ text.
+        TellsSessionDump (IsWritten F.Out.path F.Out.kept) core.now dump.now text.items) }
     ensures memory { IfErr result (λ e. e ≡ out_of_memory) }
 {
     match tell_dump(machine, core, dump.session, &dump.request) {
@@ -194,7 +196,8 @@ fn told_of<A, F, T>(
 where
     A: Allocator + Copy,
     F: Files<A>,
-    ensures told { IfOk result (λ text. IsTold dump (option_copied core.entry) told.items text.items) }
+    ensures told { IfOk result (λ text.
+        IsTold (IsWritten F.Out.path F.Out.kept) dump (option_copied core.entry) told.items text.items) }
     ensures memory { IfErr result (λ e. e ≡ out_of_memory) }
 {
     let Some(dump) = dump else {
@@ -215,7 +218,8 @@ pub(crate) fn answer_line<A, F, T>(
 where
     A: Allocator + Copy,
     F: Files<A>,
-    ensures told { IfOk result (λ x. AnswersLine shell line.now x.0 x.1.items) }
+    ensures told { IfOk result (λ x.
+        AnswersLine (IsWritten F.Out.path F.Out.kept) shell line.now x.0 x.1.items) }
     ensures memory { IfErr result (λ e. e ≡ out_of_memory) }
 {
     let dump = dump_in(machine.alloc, line)?;

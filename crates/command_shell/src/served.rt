@@ -41,8 +41,9 @@ where
     F: Files<A>,
 {
     ghost use Rattle.command_shell.specs.Serves.{ServesOver};
+    ghost use Rattle.program.specs.Files.{IsWritten};
 
-    ghost answers = { ServesOver F.held };
+    ghost answers = { ServesOver (IsWritten F.Out.path F.Out.kept) F.held };
 
     fn answer(
         self,

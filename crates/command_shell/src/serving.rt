@@ -2,6 +2,7 @@
 
 ghost use Rattle.std.specs.Prelude.{◌≡◌, IfOk, IfErr};
 ghost use Rattle.value.specs.Refusals.{out_of_memory};
+ghost use Rattle.program.specs.Files.{IsWritten};
 ghost use Rattle.command_shell.specs.Serves.{Serves, ServesLine};
 
 use crate::asked::{answer_line, open_path, tell_word, word_of};
@@ -20,7 +21,8 @@ fn serve_line<A, F, T>(
 where
     A: Allocator + Copy,
     F: Files<A>,
-    ensures told { IfOk result (λ x. ServesLine (F.held machine.now.files.now) shell line.now x.0 x.1.items) }
+    ensures told { IfOk result (λ x. ServesLine (IsWritten F.Out.path F.Out.kept) (F.held machine.now.files.now) shell
+        line.now x.0 x.1.items) }
     ensures memory { IfErr result (λ e. e ≡ out_of_memory) }
 {
     match shell.opened_by(machine.alloc, line)? {
@@ -38,7 +40,8 @@ pub(crate) fn serve<A, F, T>(
 where
     A: Allocator + Copy,
     F: Files<A>,
-    ensures told { IfOk result (λ x. Serves (F.held machine.now.files.now) shell line.now x.0 x.1.items) }
+    ensures told { IfOk result (λ x. Serves (IsWritten F.Out.path F.Out.kept) (F.held machine.now.files.now) shell
+        line.now x.0 x.1.items) }
     ensures memory { IfErr result (λ e. e ≡ out_of_memory) }
 {
     match word_of(line) {

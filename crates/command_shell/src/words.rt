@@ -4,6 +4,7 @@ ghost use Rattle.std.specs.Prelude.{◌≡◌, ◌≢◌, ◌⊎◌, ◌≤◌, 
 ghost use Rattle.std.specs.Option.{option_map};
 ghost use Rattle.clap.specs.Words.{fault_of};
 ghost use Rattle.program.specs.CommandLine.{AreMistaken, MayBeMistaken};
+ghost use Rattle.program.specs.Files.{IsWritten};
 ghost use Rattle.command_shell.specs.Words as spec;
 ghost use Rattle.command_shell.specs.Words.{Begins, EndsUnbegun, HasBegun, HasDone, IsUnbegunBy};
 
@@ -111,8 +112,8 @@ where
     ensures usage { result ≡ 2 → MayBeMistaken (fault_of spec.shell (map (λ w. w.now) words.entry.now)) }
     ensures mistake { AreMistaken (fault_of spec.shell (map (λ w. w.now) words.entry.now)) →
         (result ≡ 2) ⊎ (result ≡ 1) }
-    ensures did { HasDone A F.held machine.now.files.now (map (λ w. w.now) words.entry.now) result
-        (C.turns conversation.old) (C.turns conversation.new) }
+    ensures did { HasDone A (IsWritten F.Out.path F.Out.kept) F.held machine.now.files.now
+        (map (λ w. w.now) words.entry.now) result (C.turns conversation.old) (C.turns conversation.new) }
 {
     match begin_words(machine, words, out, err) {
         Ok(served) => end(converse(machine.alloc, served, conversation), err),

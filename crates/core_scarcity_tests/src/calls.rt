@@ -2,10 +2,13 @@
 
 use crate::driver::{Call, Memory, refuse_each};
 use crate::fixture::{core_after, not_asked};
+use audit::order::check_order;
 use scarce::Scarce;
+use schema::catalog::TableNo;
+use schema::reader::first_row;
 use std::alloc::Allocator;
 use std::process::Abort;
-use value::refusal::Refusal;
+use value::refusal::{Refusal, TxnNo};
 
 // What was asked before a call, each line behind `> `, and what it was answered.
 const BEFORE: &str = "\
@@ -212,6 +215,47 @@ fn calls_of_core_and_audit(rt: HostRuntime) -> Result<(), Refusal> {
         (Call::CheckOrder, 8),
     ] {
         assert_takes(&rt, &memory, &memory, (QUIET, call), least)?;
+    }
+    Ok(())
+}
+
+// The opening tables have no row, whatever has been committed since, and make no request.
+fn assert_opening<A: Allocator + Copy>(
+    rt: &impl Abort,
+    memory: &Memory,
+    alloc: A,
+) -> Result<(), Refusal> {
+    let core = core_after(alloc, QUIET)?;
+    let made = memory.requests();
+    let history = core.history();
+    assert!(rt; !history.catalog().is_empty());
+    let first = first_row(history.tables(), TableNo::at(0));
+    assert!(rt; first.is_none() && memory.requests() == made);
+    Ok(())
+}
+
+#[test]
+fn the_opening_is_lent(rt: HostRuntime) -> Result<(), Refusal> {
+    let memory = Scarce::new(rt.alloc());
+    assert_opening(&rt, &memory, &memory)
+}
+
+// Orders of the two transactions, with whether they are serial: the second has read what the first has written, and each
+// stands once.
+const ORDERS: [([TxnNo; 2], bool); 4] = [
+    ([TxnNo(1), TxnNo(2)], true),
+    ([TxnNo(2), TxnNo(1)], false),
+    ([TxnNo(1), TxnNo(1)], false),
+    ([TxnNo(1), TxnNo(3)], false),
+];
+
+#[test]
+fn a_wrong_order_is_no_serial_order(rt: HostRuntime) -> Result<(), Refusal> {
+    let core = core_after(rt.alloc(), QUIET)?;
+    core.is_legal();
+    for (order, is_serial) in ORDERS {
+        let found = check_order(rt.alloc(), core.history(), order.as_slice())?;
+        assert!(rt; found == is_serial, "{order:?}");
     }
     Ok(())
 }

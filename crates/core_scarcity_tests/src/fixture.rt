@@ -4,6 +4,8 @@ ghost use Rattle.std.specs.Prelude.{◌≡◌, true, IfOk};
 ghost use Rattle.schema.specs.Plain.{is_sound};
 ghost use Rattle.history.specs.Answer.{Allowed};
 
+use audit::keys::{serial_keys, serial_order};
+use audit::order::check_order;
 use history::event::{Action, Event};
 use history::session_id::SessionId;
 use schema::catalog::Catalog;
@@ -129,4 +131,64 @@ pub fn core_after<A: Allocator + Copy>(alloc: A, script: &str) -> Result<Core<A>
         return Err(not_asked());
     }
     Ok(core)
+}
+
+// Appends what a recorded action asks for.
+fn append_action<A: Allocator>(
+    ample: Global,
+    action: &Action<A>,
+    text: &mut Vec<u8>,
+) -> Result<(), Refusal> {
+    let asked = match action {
+        Action::Begin(mode) => format!(in ample; "{mode:?}")?,
+        Action::Run(statement) => format!(in ample; "{statement:?}")?,
+        Action::Broken(refusal) => format!(in ample; "{refusal:?}")?,
+        Action::Import(number) => format!(in ample; "import {number}")?,
+        Action::Poll => String::from_str(ample, "poll")?,
+        Action::Export => String::from_str(ample, "export")?,
+        Action::Commit => String::from_str(ample, "commit")?,
+        Action::Rollback => String::from_str(ample, "rollback")?,
+        Action::Prune => String::from_str(ample, "prune")?,
+    };
+    text.extend_from_slice(asked.as_bytes())?;
+    text.push(b'\n')?;
+    Ok(())
+}
+
+/// Appends a core's history: what each session has asked, and what it was answered.
+pub fn append_history<A: Allocator + Copy>(
+    ample: Global,
+    alloc: A,
+    core: &Core<A>,
+    text: &mut Vec<u8>,
+) -> Result<(), Refusal> {
+    for record in core.history().records() {
+        append_action(ample, &record.action, text)?;
+        let reply = reply_text(alloc, record.session, &record.reply)?;
+        text.extend_from_slice(reply.as_slice())?;
+    }
+    Ok(())
+}
+
+/// Appends the serial order as an audit prints it, and whether it is found to be one.
+pub fn append_audit<A: Allocator + Copy>(
+    ample: Global,
+    alloc: A,
+    core: &Core<A>,
+    text: &mut Vec<u8>,
+) -> Result<(), Refusal> {
+    for (txn, key) in &serial_keys(alloc, core)? {
+        let line = format!(in ample; "= txn {} key {} {} {}\n", txn.0, key.0, key.1, key.2)?;
+        text.extend_from_slice(line.as_bytes())?;
+    }
+    let order = serial_order(alloc, core)?;
+    core.is_legal();
+    let is_serial = check_order(alloc, core.history(), order.as_slice())?;
+    let line: &[u8] = if is_serial {
+        b"= check yes\n"
+    } else {
+        b"= check no\n"
+    };
+    text.extend_from_slice(line)?;
+    Ok(())
 }

@@ -11,6 +11,10 @@ mod driver;
 #[cfg(test)]
 mod fixture;
 #[cfg(test)]
+mod played;
+#[cfg(test)]
+mod resuming;
+#[cfg(test)]
 mod scripts;
 #[cfg(test)]
 mod serving;

@@ -4,7 +4,6 @@
 use crate::driver::Memory;
 use crate::fixture::not_asked;
 use crate::sinks::{Texts, sum_of};
-use program::machine::Machine;
 use program::words::run_words;
 use scarce::Scarce;
 use std::alloc::{Allocator, Global};
@@ -121,14 +120,15 @@ fn end_of<A: Allocator + Copy + Send + Sync, R: Threads + Wait + Sync>(
         sum: &sum,
     };
     let words = [command, "-"];
-    let machine = Machine {
+    let status = run_words(
         rt,
-        words_memory: ample,
+        ample,
         alloc,
-        files: &files,
-        other_commands: "",
-    };
-    let status = run_words(&machine, words.as_slice(), &mut out, &mut err);
+        words.as_slice(),
+        &files,
+        &mut out,
+        &mut err,
+    );
     let out = String::from_utf8(out).ok().ok_or(not_asked())?;
     let err = String::from_utf8(err).ok().ok_or(not_asked())?;
     let dumped = sum.load(Ordering::SeqCst);

@@ -5,23 +5,22 @@ ghost use Rattle.schema.specs.Plain.{is_sound};
 ghost use Rattle.history.specs.Opening.{zero_base};
 
 use crate::driver::Memory;
-use crate::fixture::{not_asked, opening, out_of_memory};
+use crate::fixture::{append_audit, append_history, not_asked, opening, out_of_memory};
 use crate::trial::{Keeping, Trial, refusal_of};
-use crate::worked::{SCRIPTS, script_at};
+use crate::worked::script_at;
 use backup::{BackupFault, dump_safe};
 use dumpplan::{Jobs, NoGate, PieceRows};
-use dumpworker::{Workers, dump};
+use dumpworker::dump_one;
 use history::base::Base;
 use mvrows::view::View;
 use pass::token::Pass;
 use pass::word::{FirstSeat, HistoryWord, Naming};
 use request::request::Request;
-use scarce::Scarce;
 use schema::catalog::Catalog;
 use schema::tables::Tables;
 use script::printing::reply_text;
 use serial::laws::views_are_sound;
-use server::shared::{Limits, Server};
+use server::shared::Server;
 use std::alloc::{Allocator, Global};
 use std::marker::Brand;
 use std::process::Abort;
@@ -81,39 +80,40 @@ fn view_of<'w, J: Naming<A>, A: Allocator + Copy, R: Wait>(
     server.view(rt, alloc, pass)
 }
 
-// What a view of a session's safe snapshot shows, dumped by one job with ample memory. A view takes memory.
-fn viewed<'w, J, A, R>(
+// The dump of a view, by the calling thread alone.
+fn text_of<'w, J: Naming<A>, A: Allocator + Copy, R: Abort>(
+    rt: &R,
+    memory: &Memory,
+    alloc: A,
+    server: &Server<'w, J, A>,
+    view: &View<A>,
+) -> Result<Vec<u8>, Refusal>
+    requires { length view.now ≡ length J.opening.catalog }
+{
+    let piece_rows = PieceRows::new(9).ok_or(not_asked())?;
+    let mut device = Keeping::new(rt, memory.inner);
+    match dump_one(alloc, view, server.catalog(), piece_rows, &mut device) {
+        Ok(()) => Ok(device.taken),
+        Err(fault) => Err(refusal_of(BackupFault::Dump(fault))),
+    }
+}
+
+// What a view of a session's safe snapshot shows. A view takes memory.
+fn viewed<'w, J: Naming<A>, A: Allocator + Copy, R: Abort + Wait>(
     rt: &R,
     (memory, alloc): (&Memory, A),
     server: &Server<'w, J, A>,
     pass: &mut Pass<'w, J, A>,
     trial: &mut Trial,
-) -> Result<Vec<u8>, Refusal>
-where
-    J: Naming<A>,
-    A: Allocator + Copy + Send + Sync,
-    R: Abort + Threads + Wait + Sync,
-{
+) -> Result<Vec<u8>, Refusal> {
     let start = trial.begin(memory);
     let view = view_of(rt, alloc, server, pass);
     if !trial.end(memory, start) {
         return Err(not_asked());
     }
-    let view = view?;
-    let jobs = Jobs::new(1).ok_or(not_asked())?;
-    let piece_rows = PieceRows::new(9).ok_or(not_asked())?;
-    let mut device = Keeping::new(rt, memory.inner);
-    let catalog = server.catalog();
-    let workers = Workers {
-        rt,
-        alloc,
-        jobs,
-        piece_rows,
-        gate: &NoGate,
-    };
-    match dump(&workers, &view, catalog, &mut device) {
-        Ok(()) => Ok(device.taken),
-        Err(fault) => Err(refusal_of(BackupFault::Dump(fault))),
+    match view {
+        Ok(view) => text_of(rt, memory, alloc, server, &view),
+        Err(refusal) => Err(refusal),
     }
 }
 
@@ -134,14 +134,16 @@ where
     let piece_rows = PieceRows::new(1).ok_or(not_asked())?;
     let mut device = Keeping::new(rt, memory.inner);
     let start = trial.begin(memory);
-    let workers = Workers {
+    let done = dump_safe(
         rt,
         alloc,
+        server,
+        pass,
         jobs,
         piece_rows,
-        gate: &NoGate,
-    };
-    let done = dump_safe(&workers, server, pass, &mut device);
+        &mut device,
+        &NoGate,
+    );
     if !trial.end(memory, start) {
         return Err(not_asked());
     }
@@ -151,14 +153,65 @@ where
     }
 }
 
-// A session's line is answered. A DUMP shows what a view shows.
+/// What a script comes to: what is asked and answered; and behind each line the state, and at the end the history.
+#[derive(Drop, PartialEq)]
+pub struct Told {
+    pub text: Vec<u8>,
+    state: Vec<u8>,
+}
+
+impl Told {
+    /// Nothing is asked yet: the text has what stands before the lines of a script.
+    pub fn of(ample: Global, script: &str) -> Result<Told, Refusal> {
+        let (creates, _lines) = script.split_once("\n>").ok_or(not_asked())?;
+        let mut text = Vec::from_slice(ample, creates.as_bytes())?;
+        text.push(b'\n')?;
+        Ok(Told {
+            text,
+            state: Vec::new(ample),
+        })
+    }
+}
+
+// Appends how many events a session knows of, and what its snapshot shows where it is safe.
+fn append_shown<'w, J: Naming<A>, A: Allocator + Copy, R: Abort + Wait>(
+    rt: &R,
+    (memory, alloc): (&Memory, A),
+    server: &Server<'w, J, A>,
+    pass: &mut Pass<'w, J, A>,
+    state: &mut Vec<u8>,
+) -> Result<(), Refusal> {
+    let line = format!(in memory.inner; "{} events\n", pass.stamp())?;
+    state.extend_from_slice(line.as_bytes())?;
+    if let Ok(view) = view_of(rt, alloc, server, pass) {
+        let text = text_of(rt, memory, alloc, server, &view)?;
+        state.extend_from_slice(text.as_slice())?;
+    }
+    Ok(())
+}
+
+// The state: how many events there are, and what each safe session shows.
+fn state_of<'w, J: Naming<A>, A: Allocator + Copy, R: Abort + Wait>(
+    rt: &R,
+    (memory, alloc): (&Memory, A),
+    server: &Server<'w, J, A>,
+    passes: &mut Vec<Pass<'w, J, A>, A>,
+) -> Result<Vec<u8>, Refusal> {
+    let mut state = Vec::new(memory.inner);
+    for pass in passes {
+        append_shown(rt, (memory, alloc), server, pass, &mut state)?;
+    }
+    Ok(state)
+}
+
+// What a session's line is answered. A DUMP shows what a view shows.
 fn answer<'w, J, A, R>(
     rt: &R,
     (memory, alloc): (&Memory, A),
     server: &Server<'w, J, A>,
     pass: &mut Pass<'w, J, A>,
     asked: &str,
-    (text, trial): (&mut Vec<u8>, &mut Trial),
+    (told, trial): (&mut Told, &mut Trial),
 ) -> Result<(), Refusal>
 where
     J: Naming<A>,
@@ -171,89 +224,132 @@ where
         if shown != dumped {
             return Err(not_asked());
         }
-        text.extend_from_slice(dumped.as_slice())?;
+        told.text.extend_from_slice(dumped.as_slice())?;
         return Ok(());
     }
     let reply = replied(rt, (memory, alloc), server, pass, asked, trial)?;
-    text.extend_from_slice(reply.as_slice())?;
+    told.text.extend_from_slice(reply.as_slice())?;
     Ok(())
 }
 
-// A session's line is answered; one that is refused when out of memory is repeated.
-fn answer_at_last<'w, J, A, R>(
+// A line, its session's number and what it asks, is answered.
+fn ask<'w, J, A, R>(
     rt: &R,
-    (memory, alloc): (&Memory, A),
+    given: (&Memory, A),
     server: &Server<'w, J, A>,
-    pass: &mut Pass<'w, J, A>,
-    asked: &str,
-    (text, trial): (&mut Vec<u8>, &mut Trial),
+    passes: &mut Vec<Pass<'w, J, A>, A>,
+    line: &str,
+    out: (&mut Told, &mut Trial),
 ) -> Result<(), Refusal>
 where
     J: Naming<A>,
     A: Allocator + Copy + Send + Sync,
     R: Abort + Threads + Wait + Sync,
 {
-    match answer(rt, (memory, alloc), server, pass, asked, (text, trial)) {
+    let (number, asked) = line.split_once(' ').ok_or(not_asked())?;
+    let number = number.parse::<usize>().ok().ok_or(not_asked())?;
+    let pass = passes.get_mut(number.wrapping_sub(1)).ok_or(not_asked())?;
+    answer(rt, given, server, pass, asked, out)
+}
+
+// A line is answered; one that is refused when out of memory has left the state as it was, and is repeated.
+fn ask_at_last<'w, J, A, R>(
+    rt: &R,
+    (memory, alloc): (&Memory, A),
+    server: &Server<'w, J, A>,
+    passes: &mut Vec<Pass<'w, J, A>, A>,
+    line: &str,
+    (told, trial): (&mut Told, &mut Trial),
+) -> Result<(), Refusal>
+where
+    J: Naming<A>,
+    A: Allocator + Copy + Send + Sync,
+    R: Abort + Threads + Wait + Sync,
+{
+    match ask(rt, (memory, alloc), server, passes, line, (told, trial)) {
         Err(refusal) => {
-            trial.repeat(asked, refusal)?;
-            answer(rt, (memory, alloc), server, pass, asked, (text, trial))
+            trial.repeat(line, refusal)?;
+            let state = state_of(rt, (memory, alloc), server, passes)?;
+            if !told.state.ends_with(state.as_slice()) {
+                return Err(not_asked());
+            }
+            ask(rt, (memory, alloc), server, passes, line, (told, trial))
         }
         done => done,
     }
 }
 
-// The lines of a script are asked by their sessions, one after the other.
+// Appends the state.
+fn append_state<'w, J: Naming<A>, A: Allocator + Copy, R: Abort + Wait>(
+    rt: &R,
+    given: (&Memory, A),
+    server: &Server<'w, J, A>,
+    passes: &mut Vec<Pass<'w, J, A>, A>,
+    told: &mut Told,
+) -> Result<(), Refusal> {
+    let state = state_of(rt, given, server, passes)?;
+    told.state.extend_from_slice(state.as_slice())?;
+    Ok(())
+}
+
+// The lines of a script are answered, one after the other.
 fn ask_all<'w, J, A, R>(
     rt: &R,
     (memory, alloc): (&Memory, A),
     server: &Server<'w, J, A>,
     passes: &mut Vec<Pass<'w, J, A>, A>,
     script: &str,
-    (text, trial): (&mut Vec<u8>, &mut Trial),
+    (told, trial): (&mut Told, &mut Trial),
 ) -> Result<(), Refusal>
 where
     J: Naming<A>,
     A: Allocator + Copy + Send + Sync,
     R: Abort + Threads + Wait + Sync,
 {
+    append_state(rt, (memory, alloc), server, passes, told)?;
     for line in script.lines() {
         if let Some(asked) = line.strip_prefix("> ") {
-            text.extend_from_slice(line.as_bytes())?;
-            text.push(b'\n')?;
-            let (number, asked) = asked.split_once(' ').ok_or(not_asked())?;
-            let number = number.parse::<usize>().ok().ok_or(not_asked())?;
-            let pass = passes.get_mut(number.wrapping_sub(1)).ok_or(not_asked())?;
-            answer_at_last(rt, (memory, alloc), server, pass, asked, (text, trial))?;
+            told.text.extend_from_slice(line.as_bytes())?;
+            told.text.push(b'\n')?;
+            ask_at_last(rt, (memory, alloc), server, passes, asked, (told, trial))?;
+            append_state(rt, (memory, alloc), server, passes, told)?;
         }
     }
     Ok(())
 }
 
-// The lines of the script at a place are asked on a server, and answered.
-fn play<'w, J, A, R>(
+/// The lines of a script are asked on a server, and answered. Then it is closed, and its history is told, and audited
+/// where the script has an audit.
+pub fn play<'w, J, A, R>(
     rt: &R,
     (memory, alloc): (&Memory, A),
     (server, mut passes): (Server<'w, J, A>, Vec<Pass<'w, J, A>, A>),
     script: &str,
-    given: (&mut Vec<u8>, &mut Trial),
+    (told, trial): (&mut Told, &mut Trial),
 ) -> Result<(), Refusal>
 where
     J: Naming<A>,
     A: Allocator + Copy + Send + Sync,
     R: Abort + Threads + Wait + Sync,
 {
-    ask_all(rt, (memory, alloc), &server, &mut passes, script, given)
+    let given = (memory, alloc);
+    ask_all(rt, given, &server, &mut passes, script, (told, trial))?;
+    let core = server.close(passes);
+    if script.contains("\n= ") {
+        append_audit(memory.inner, alloc, &core, &mut told.text)?;
+    }
+    append_history(memory.inner, alloc, &core, &mut told.state)
 }
 
-// What is asked and answered where the script at a place is played on a server of this word, behind the text; nothing
-// where the opening is refused when out of memory. The opening's tables are those of the word.
+// The script at a place is played on a server of this word, unless the opening is refused when out of memory. Whether
+// it was played. The opening's tables are those of the word.
 fn serve<J, A, R>(
     rt: &R,
     given: (&Memory, A),
     named: (&HistoryWord<A>, FirstSeat<A>),
     opening: (Catalog<A>, Tables<A>),
     place: usize,
-    out: (&mut Vec<u8>, &mut Trial),
+    out: (&mut Told, &mut Trial),
 ) -> Result<bool, Refusal>
 where
     J: Naming<A>,
@@ -266,20 +362,16 @@ where
     requires sound { IsTrue (is_sound opening.0 opening.1) }
 {
     let script = script_at(place)?;
-    let (text, trial) = out;
+    let (told, trial) = out;
     let (memory, alloc) = given;
     let (word, first) = named;
     let (catalog, tables) = opening;
-    let limits = Limits {
-        events: 40,
-        sessions: 4,
-    };
     let start = trial.begin(memory);
-    let opened = Server::<J, A>::open(alloc, word, first, catalog, tables, limits);
+    let opened = Server::<J, A>::open(alloc, word, first, catalog, tables, 40, 4);
     let takes = trial.end(memory, start);
     let is_opened = opened.is_ok();
     match opened {
-        Ok(opened) => play(rt, (memory, alloc), opened, script, (text, trial))?,
+        Ok(opened) => play(rt, (memory, alloc), opened, script, (told, trial))?,
         Err(refusal) => trial.repeat("the opening", refusal)?,
     }
     if !takes {
@@ -293,7 +385,7 @@ fn serve_anew<R: Abort + Threads + Wait + Sync>(
     rt: &R,
     memory: &Memory,
     place: usize,
-    out: (&mut Vec<u8>, &mut Trial),
+    out: (&mut Told, &mut Trial),
 ) -> Result<bool, Refusal> {
     let (creates, _lines) = script_at(place)?.split_once("\n>").ok_or(not_asked())?;
     let opening = opening(memory, creates)?;
@@ -301,72 +393,20 @@ fn serve_anew<R: Abort + Threads + Wait + Sync>(
     serve::<Brand, _, _>(rt, (memory, memory), (&word, first), opening, place, out)
 }
 
-// What stands before the lines of the script at a place.
-fn creates(memory: &Memory, place: usize) -> Result<Vec<u8>, Refusal> {
-    let (creates, _lines) = script_at(place)?.split_once("\n>").ok_or(not_asked())?;
-    let mut text = Vec::from_slice(memory.inner, creates.as_bytes())?;
-    text.push(b'\n')?;
-    Ok(text)
-}
-
-// What is asked and answered where the script at a place is played on a server, while one request is refused; where
-// that is one of its opening, it is opened again.
-fn serve_at_last<R: Abort + Threads + Wait + Sync>(
+/// What comes of the script at a place, played on a server while one request is refused; where that is one of its
+/// opening, it is opened again.
+pub fn serve_at_last<R: Abort + Threads + Wait + Sync>(
     rt: &R,
     memory: &Memory,
     place: usize,
     trial: &mut Trial,
-) -> Result<Vec<u8>, Refusal> {
-    let mut text = creates(memory, place)?;
-    if serve_anew(rt, memory, place, (&mut text, trial))?
-        || serve_anew(rt, memory, place, (&mut text, trial))?
+) -> Result<Told, Refusal> {
+    let mut told = Told::of(memory.inner, script_at(place)?)?;
+    if serve_anew(rt, memory, place, (&mut told, trial))?
+        || serve_anew(rt, memory, place, (&mut told, trial))?
     {
-        Ok(text)
+        Ok(told)
     } else {
         Err(not_asked())
     }
-}
-
-// More requests than any script makes.
-const MOST_REQUESTS: u64 = 5000;
-
-// Refuses each request of a script in turn, from the first until none is left, and repeats what was refused. What is
-// asked and answered is the script.
-fn refuse_each<R: Abort + Threads + Wait + Sync>(
-    rt: &R,
-    memory: &Memory,
-    place: usize,
-) -> Result<(), Refusal> {
-    let script = script_at(place)?;
-    let mut repeated = 0u64;
-    for number in 1..MOST_REQUESTS {
-        let mut trial = Trial::of(number);
-        let text = serve_at_last(rt, memory, place, &mut trial)?;
-        assert!(rt; text.as_slice() == script.as_bytes(), "request {number}");
-        if trial.made < number {
-            assert!(rt; repeated > 5, "{repeated}");
-            return Ok(());
-        }
-        repeated = repeated.wrapping_add(trial.repeated);
-    }
-    Err(not_asked())
-}
-
-// A test has a minute, so the scripts are shared out.
-#[test]
-fn conflicts_on_a_server(rt: HostRuntime) -> Result<(), Refusal> {
-    let memory = Scarce::new(rt.alloc());
-    for place in 0..3 {
-        refuse_each(&rt, &memory, place)?;
-    }
-    Ok(())
-}
-
-#[test]
-fn snapshots_on_a_server(rt: HostRuntime) -> Result<(), Refusal> {
-    let memory = Scarce::new(rt.alloc());
-    for place in 3..SCRIPTS.len() {
-        refuse_each(&rt, &memory, place)?;
-    }
-    Ok(())
 }

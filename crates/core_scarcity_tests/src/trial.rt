@@ -61,7 +61,7 @@ pub struct Trial {
 }
 
 impl Trial {
-    /// A trial in which this request is refused, counted from 1.
+    /// A trial in which this request is refused, counted from 1; 0 refuses none.
     pub fn of(number: u64) -> Trial {
         Trial {
             number,

@@ -6,7 +6,7 @@ use crate::fixture::{
 use crate::flaky::Flaky;
 use crate::gates::{Counting, Holding, Meeting};
 use dumpplan::{Gate, Jobs, NoGate, PieceRows};
-use dumpworker::{DumpFault, Workers, dump, dump_one};
+use dumpworker::{DumpFault, dump, dump_one};
 use schema::catalog::Catalog;
 use schema::tables::Tables;
 use std::alloc::Global;
@@ -30,15 +30,17 @@ pub fn writes<R: Abort + Threads + Wait + Sync, G: Gate>(
     if tables.count() != catalog.len() {
         return false;
     }
-    let workers = Workers {
+    let mut device = Flaky::new(rt, alloc, 0, false);
+    let done = dump(
         rt,
         alloc,
+        tables,
+        catalog,
         jobs,
         piece_rows,
+        &mut device,
         gate,
-    };
-    let mut device = Flaky::new(rt, alloc, 0, false);
-    let done = dump(&workers, tables, catalog, &mut device);
+    );
     done.is_ok() && device.taken.as_slice() == text.as_bytes()
 }
 
@@ -116,16 +118,18 @@ fn fails_at<R: Abort + Threads + Wait + Sync>(
     (jobs, piece_rows): (Jobs, PieceRows),
     (failing, is_bytewise): (u64, bool),
 ) -> bool {
-    let workers = Workers {
-        rt,
-        alloc,
-        jobs,
-        piece_rows,
-        gate: &NoGate,
-    };
     let mut device = Flaky::new(rt, alloc, failing, is_bytewise);
     assert!(rt; tables.count() == catalog.len());
-    let done = dump(&workers, tables, catalog, &mut device);
+    let done = dump(
+        rt,
+        alloc,
+        tables,
+        catalog,
+        jobs,
+        piece_rows,
+        &mut device,
+        &NoGate,
+    );
     let wanted = match device.failures {
         0 => Ok(()),
         _ => Err(DumpFault::Device),

@@ -13,4 +13,6 @@ mod flaky;
 #[cfg(test)]
 mod gates;
 #[cfg(test)]
+mod one_by_one;
+#[cfg(test)]
 mod restoring_workers;

@@ -13,9 +13,8 @@ ghost use Rattle.dumpplan.specs.declared.piece.Piece.TheVariants.{Rows};
 use crate::jobs::PieceRows;
 use crate::piece::{Piece, Plan, RowRange, RowsEnd};
 use schema::catalog::{Catalog, TableNo};
-use schema::reader::Bound;
+use schema::reader::{Bound, SnapshotReader};
 use schema::row::Row;
-use schema::walk::RowsReader;
 use std::alloc::Allocator;
 use value::key::Key;
 use value::refusal::{Code, Refusal};
@@ -64,7 +63,7 @@ fn push_cut<A: Allocator + Copy>(
 }
 
 // The first rows of a table, so many at most.
-fn first_rows<'r, A: Allocator + Copy, R: RowsReader<A>>(
+fn first_rows<'r, A: Allocator + Copy, R: SnapshotReader<A>>(
     alloc: A,
     reader: &'r R,
     table: TableNo,
@@ -83,7 +82,7 @@ fn first_rows<'r, A: Allocator + Copy, R: RowsReader<A>>(
 }
 
 // The rows behind one, so many at most.
-fn rows_after<'r, A: Allocator + Copy, R: RowsReader<A>>(
+fn rows_after<'r, A: Allocator + Copy, R: SnapshotReader<A>>(
     alloc: A,
     reader: &'r R,
     table: TableNo,
@@ -101,7 +100,7 @@ fn rows_after<'r, A: Allocator + Copy, R: RowsReader<A>>(
 }
 
 // The rows behind those of a batch, so many at most; None where it has none.
-fn rows_behind<'r, A: Allocator + Copy, R: RowsReader<A>>(
+fn rows_behind<'r, A: Allocator + Copy, R: SnapshotReader<A>>(
     alloc: A,
     reader: &'r R,
     table: TableNo,
@@ -128,7 +127,7 @@ fn rows_behind<'r, A: Allocator + Copy, R: RowsReader<A>>(
 }
 
 // Where a table is cut: the rows of a piece are read at once, and the key that begins a further piece is copied.
-fn cut_table<A: Allocator + Copy, R: RowsReader<A>>(
+fn cut_table<A: Allocator + Copy, R: SnapshotReader<A>>(
     alloc: A,
     reader: &R,
     table: TableNo,
@@ -178,7 +177,7 @@ fn push_ranges<A: Allocator + Copy>(
 }
 
 // Appends the pieces of a table.
-fn push_table<A: Allocator + Copy, R: RowsReader<A>>(
+fn push_table<A: Allocator + Copy, R: SnapshotReader<A>>(
     alloc: A,
     reader: &R,
     table: TableNo,
@@ -197,7 +196,7 @@ fn push_table<A: Allocator + Copy, R: RowsReader<A>>(
 
 /// Cuts the dump of a reader's tables, which are the catalog's: the head is a piece, each table's rows are pieces of at
 /// most so many, an empty table is one piece, and the last line is one.
-pub fn plan<A: Allocator + Copy, R: RowsReader<A>>(
+pub fn plan<A: Allocator + Copy, R: SnapshotReader<A>>(
     alloc: A,
     reader: &R,
     catalog: &Catalog<A>,

@@ -10,8 +10,8 @@ use crate::piece::{RowRange, RowsEnd};
 use crate::text::{append_copy_line, append_end_of_rows};
 use copytext::write_row;
 use schema::catalog::TableSchema;
-use schema::reader::Bound;
-use schema::walk::{RowsReader, Walk};
+use schema::reader::{Bound, SnapshotReader};
+use schema::walk::Walk;
 use std::alloc::Allocator;
 use value::key::Key;
 use value::refusal::Refusal;
@@ -58,7 +58,7 @@ fn is_before<A: Allocator>(end: &RowsEnd<A>, key: &Key<A>) -> bool
 }
 
 // A walk from the start of a piece on.
-fn walk_from<'r, A: Allocator + Copy, R: RowsReader<A>>(
+fn walk_from<'r, A: Allocator + Copy, R: SnapshotReader<A>>(
     alloc: A,
     reader: &'r R,
     range: &RowRange<A>,
@@ -76,7 +76,7 @@ fn walk_from<'r, A: Allocator + Copy, R: RowsReader<A>>(
 }
 
 // Appends the rows of a piece.
-fn append_range<A: Allocator + Copy, R: RowsReader<A>>(
+fn append_range<A: Allocator + Copy, R: SnapshotReader<A>>(
     alloc: A,
     reader: &R,
     range: &RowRange<A>,
@@ -99,7 +99,7 @@ fn append_range<A: Allocator + Copy, R: RowsReader<A>>(
 }
 
 /// The text of a piece of a table.
-pub fn range_text<A: Allocator + Copy, R: RowsReader<A>>(
+pub fn range_text<A: Allocator + Copy, R: SnapshotReader<A>>(
     alloc: A,
     reader: &R,
     table: &TableSchema<A>,

@@ -14,11 +14,11 @@ use crate::source::Source;
 use collector::{Collector, Device};
 use dumpplan::{PieceRows, Plan, plan};
 use schema::catalog::Catalog;
-use schema::walk::RowsReader;
+use schema::reader::SnapshotReader;
 use std::alloc::Allocator;
 
 // Makes the piece of a number, and offers it to the collector.
-fn offer_piece<A: Allocator + Copy, R: RowsReader<A>, W: Device>(
+fn offer_piece<A: Allocator + Copy, R: SnapshotReader<A>, W: Device>(
     alloc: A,
     source: &Source<'_, R, A>,
     collector: &mut Collector<'_, R, W, A>,
@@ -38,7 +38,7 @@ fn offer_piece<A: Allocator + Copy, R: RowsReader<A>, W: Device>(
 }
 
 // Makes the pieces in their order, and offers each to the collector, until one can't be made or written.
-fn offer_pieces<A: Allocator + Copy, R: RowsReader<A>, W: Device>(
+fn offer_pieces<A: Allocator + Copy, R: SnapshotReader<A>, W: Device>(
     alloc: A,
     source: &Source<'_, R, A>,
     collector: &mut Collector<'_, R, W, A>,
@@ -54,7 +54,7 @@ fn offer_pieces<A: Allocator + Copy, R: RowsReader<A>, W: Device>(
 }
 
 // Writes the pieces of a plan, and gives the device back.
-fn write_in_order<'a, A: Allocator + Copy, R: RowsReader<A>, W: Device>(
+fn write_in_order<'a, A: Allocator + Copy, R: SnapshotReader<A>, W: Device>(
     alloc: A,
     reader: &'a R,
     catalog: &'a Catalog<A>,
@@ -79,7 +79,7 @@ fn write_in_order<'a, A: Allocator + Copy, R: RowsReader<A>, W: Device>(
 
 /// Writes the dump text of a reader's tables as `dump` does, by the calling thread alone: it starts no thread, and waits
 /// for none.
-pub fn dump_one<A: Allocator + Copy, R: RowsReader<A>, W: Device>(
+pub fn dump_one<A: Allocator + Copy, R: SnapshotReader<A>, W: Device>(
     alloc: A,
     reader: &R,
     catalog: &Catalog<A>,

@@ -7,12 +7,12 @@ ghost use Rattle.dumpplan.specs.Pieces.{piece_text, IsPieceOf};
 use dumpplan::text::{end_text, head_text};
 use dumpplan::{Piece, range_text};
 use schema::catalog::Catalog;
-use schema::walk::RowsReader;
+use schema::reader::SnapshotReader;
 use std::alloc::Allocator;
 use value::refusal::Refusal;
 
 /// The text of a piece of the dump of a reader's tables, which are the catalog's.
-pub fn encode_piece<A: Allocator + Copy, R: RowsReader<A>>(
+pub fn encode_piece<A: Allocator + Copy, R: SnapshotReader<A>>(
     alloc: A,
     reader: &R,
     catalog: &Catalog<A>,

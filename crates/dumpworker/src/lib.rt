@@ -15,5 +15,4 @@ mod write;
 pub use alone::dump_one;
 pub use encode::encode_piece;
 pub use fault::DumpFault;
-pub use workers::Workers;
 pub use write::dump;

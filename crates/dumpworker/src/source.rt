@@ -9,20 +9,20 @@ use crate::encode::encode_piece;
 use collector::{Collector, Device};
 use dumpplan::Plan;
 use schema::catalog::Catalog;
-use schema::walk::RowsReader;
+use schema::reader::SnapshotReader;
 use std::alloc::Allocator;
 use std::marker::Model;
 use value::refusal::Refusal;
 
 /// A plan, and the tables that it was made of. To a contract it is the texts of the pieces.
 #[derive(Drop)]
-pub(crate) struct Source<'a, R: RowsReader<A>, A: Allocator> {
+pub(crate) struct Source<'a, R: SnapshotReader<A>, A: Allocator> {
     reader: &'a R,
     catalog: &'a Catalog<A>,
     plan: &'a Plan<A>,
 }
 
-impl<'a, R: RowsReader<A>, A: Allocator> Model for Source<'a, R, A> {
+impl<'a, R: SnapshotReader<A>, A: Allocator> Model for Source<'a, R, A> {
     ghost use Rattle.std.specs.Prelude.{◌≡◌, ℕ, List, length};
     ghost use Rattle.std.specs.List.{AllByRecursion};
     ghost use Rattle.dumpplan.specs.Pieces.{piece_texts, IsPieceOf};
@@ -35,7 +35,7 @@ impl<'a, R: RowsReader<A>, A: Allocator> Model for Source<'a, R, A> {
         AllByRecursion (IsPieceOf (length s.catalog.now)) s.plan.now };
 }
 
-impl<'a, R: RowsReader<A>, A: Allocator> Source<'a, R, A> {
+impl<'a, R: SnapshotReader<A>, A: Allocator> Source<'a, R, A> {
     /// The pieces of a plan, and the tables that it was made of.
     pub(crate) fn new(reader: &'a R, catalog: &'a Catalog<A>, plan: &'a Plan<A>) -> Source<'a, R, A>
         requires counted { length (R.tables reader.now) ≡ length catalog.now }

@@ -8,9 +8,9 @@ use crate::counter::{Counter, Drawer};
 use crate::shelf::{Job, Shelf, Stopped};
 use crate::source::Source;
 use collector::Device;
-use dumpplan::{Gate, Jobs, PieceRows};
-use schema::walk::RowsReader;
-use std::alloc::{Allocator, Global};
+use dumpplan::{Gate, Jobs};
+use schema::reader::SnapshotReader;
+use std::alloc::Allocator;
 use std::sync::{Mutex, Wait};
 use std::thread;
 use std::thread::Threads;
@@ -18,15 +18,14 @@ use std::thread::Threads;
 // More than any plan has pieces.
 const DRAWS: u64 = 1 << 57;
 
-/// How many workers write a dump, in pieces of how many rows, and what each of them works with.
+/// How many workers write a dump, and what each of them works with.
 #[derive(Drop)]
-pub struct Workers<'w, T, G, A: Allocator = Global> {
-    pub rt: &'w T,
-    pub alloc: A,
-    pub jobs: Jobs,
-    pub piece_rows: PieceRows,
+pub(crate) struct Workers<'w, T, G, A: Allocator> {
+    pub(crate) rt: &'w T,
+    pub(crate) alloc: A,
+    pub(crate) jobs: Jobs,
     /// It is asked about each piece.
-    pub gate: &'w G,
+    pub(crate) gate: &'w G,
 }
 
 impl<'w, T, G, A> Workers<'w, T, G, A>
@@ -45,7 +44,7 @@ where
         mut drawer: Drawer,
     ) -> (Drawer, Result<(), Stopped>)
     where
-        R: RowsReader<A>,
+        R: SnapshotReader<A>,
         W: Device,
         D: Job,
         requires texts { source.now ≡ D.texts }
@@ -86,7 +85,7 @@ where
         mut drawer: Drawer,
     )
     where
-        R: RowsReader<A> + Sync,
+        R: SnapshotReader<A> + Sync,
         W: Device + Send,
         D: Job + Send + Sync,
         requires texts { source.now ≡ D.texts }

@@ -12,9 +12,9 @@ use crate::shelf::{Job, Shelf};
 use crate::source::Source;
 use crate::workers::Workers;
 use collector::Device;
-use dumpplan::{Gate, plan};
+use dumpplan::{Gate, Jobs, PieceRows, plan};
 use schema::catalog::Catalog;
-use schema::walk::RowsReader;
+use schema::reader::SnapshotReader;
 use std::alloc::Allocator;
 use std::marker::Brand;
 use std::sync::{Mutex, Wait};
@@ -34,7 +34,7 @@ fn write_pieces<'a, A, R, W, G, T, D>(
 ) -> Lent<'a, W>
 where
     A: Allocator + Copy + Send + Sync,
-    R: RowsReader<A> + Sync,
+    R: SnapshotReader<A> + Sync,
     W: Device + Send,
     G: Gate,
     T: Threads + Wait + Sync,
@@ -64,18 +64,22 @@ where
     }
 }
 
-/// Writes the dump text of a reader's tables, which are the catalog's. The calling thread is one of the workers, and
-/// the others are started; one that the machine doesn't start is left out. After a fault the device has a beginning of
-/// the text.
+/// Writes the dump text of a reader's tables, which are the catalog's, in pieces of up to so many rows. The calling
+/// thread is one of the workers, of which there are as many as jobs, and the others are started; one that the machine
+/// doesn't start is left out. The gate is asked about each piece. After a fault the device has a beginning of the text.
 pub fn dump<A, R, W, G, T>(
-    workers: &Workers<'_, T, G, A>,
+    rt: &T,
+    alloc: A,
     reader: &R,
     catalog: &Catalog<A>,
+    jobs: Jobs,
+    piece_rows: PieceRows,
     device: &mut W,
+    gate: &G,
 ) -> Result<(), DumpFault>
 where
     A: Allocator + Copy + Send + Sync,
-    R: RowsReader<A> + Sync,
+    R: SnapshotReader<A> + Sync,
     W: Device + Send,
     G: Gate,
     T: Threads + Wait + Sync,
@@ -83,11 +87,17 @@ where
     ensures { Dumped (dump_text catalog.now (R.tables reader.now)) (W.taken device.old) (W.failures device.old)
         result (W.taken device.new) (W.failures device.new) }
 {
-    let plan = plan(workers.alloc, reader, catalog, workers.piece_rows)?;
+    let plan = plan(alloc, reader, catalog, piece_rows)?;
     let source = Source::new(reader, catalog, &plan);
+    let workers = Workers {
+        rt,
+        alloc,
+        jobs,
+        gate,
+    };
     let mut answer = Err(DumpFault::Memory);
     let Lent { device: _ } = write_pieces::<A, R, W, G, T, Brand>(
-        workers,
+        &workers,
         &source,
         Lent { device },
         &mut answer,

@@ -114,8 +114,16 @@ impl<A: Allocator> History<A> {
         &self.catalog
     }
 
-    /// The opening tables, copied.
-    pub fn tables(&self, alloc: A) -> Result<Tables<A>, Refusal>
+    /// The opening tables, lent: a reader of them, which takes no memory.
+    pub fn tables(&self) -> &View<A>
+        ensures opening { result.now ≡ self.now.opening.tables }
+        ensures count { length result.now ≡ length self.now.opening.catalog }
+    {
+        &self.tables
+    }
+
+    /// The opening tables, copied. Refused only for want of memory (53200).
+    pub fn copy_tables(&self, alloc: A) -> Result<Tables<A>, Refusal>
     where
         A: Copy,
         ensures ok { IfOk result (λ tables. tables ≡ self.now.opening.tables) }

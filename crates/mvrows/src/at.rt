@@ -12,7 +12,6 @@ use crate::view::{next_row, next_rows};
 use schema::catalog::TableNo;
 use schema::reader::{Bound, SnapshotReader};
 use schema::row::Row;
-use schema::walk::RowsReader;
 use std::alloc::{Allocator, Global};
 use value::key::Key;
 use value::refusal::Refusal;
@@ -53,9 +52,7 @@ impl<A: Allocator> SnapshotReader<A> for At<'_, A> {
     fn get(&self, table: TableNo, key: &Key<A>) -> Option<&Row<A>> {
         self.table(table).get(self.snapshot, key)
     }
-}
 
-impl<A: Allocator> RowsReader<A> for At<'_, A> {
     fn next_rows(
         &self,
         alloc: A,

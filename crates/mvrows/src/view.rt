@@ -16,7 +16,6 @@ use schema::catalog::{Catalog, TableNo};
 use schema::reader::{Bound, SnapshotReader};
 use schema::row::Row;
 use schema::tables::Tables;
-use schema::walk::RowsReader;
 use std::alloc::{Allocator, Global};
 use std::marker::Model;
 use value::key::Key;
@@ -140,9 +139,7 @@ impl<A: Allocator> SnapshotReader<A> for View<A> {
         let versions = &self.versions;
         versions.table(table).get(versions.snapshot, key)
     }
-}
 
-impl<A: Allocator> RowsReader<A> for View<A> {
     fn next_rows(
         &self,
         alloc: A,

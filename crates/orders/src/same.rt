@@ -10,10 +10,9 @@ ghost use Rattle.orders.specs.Seen.{same_row};
 
 use crate::agree::are_same_values;
 use schema::catalog::TableNo;
-use schema::reader::Bound;
+use schema::reader::{Bound, SnapshotReader};
 use schema::row::Row;
 use schema::tables::Tables;
-use schema::walk::RowsReader;
 use std::alloc::Allocator;
 use value::key::Key;
 use value::refusal::Refusal;

@@ -24,15 +24,6 @@ use std::sync::Wait;
 use std::thread::Threads;
 use std::{env, io};
 
-// What the help tells of the commands that have their words to themselves.
-const OTHER_COMMANDS: &str = "Commands with a help of their own (pgserial COMMAND --help):
-  shell    Answer lines at once: of a person at a terminal, or of a program through pipes
-  explore  Do a script in every interleaving of its sessions, and count what comes of it
-  check    Tell whether some serial order explains a recorded transcript
-  draw     Draw a script's run as a picture
-  run SCRIPT --why         Tell behind each serialization failure which rows met
-  run SCRIPT --transcript  Print each line and its reply as a transcript, which check reads";
-
 // The words behind the program's name.
 fn words(rt: &HostRuntime) -> io::Result<Vec<String>> {
     let mut words = Vec::new(rt.alloc());
@@ -125,7 +116,6 @@ fn do_words<R: Threads + Wait + Sync, W: Write, E: Write>(
         words_memory: alloc,
         alloc,
         files,
-        other_commands: OTHER_COMMANDS,
     };
     match command {
         "check" => check_words(&machine, rest, out, err),
@@ -136,7 +126,7 @@ fn do_words<R: Threads + Wait + Sync, W: Write, E: Write>(
         "run" if rest.contains(&"--transcript") => {
             told_words(&machine, Manner::Transcript, rest, out, err)
         },
-        _ => run_words(&machine, words, out, err),
+        _ => run_words(rt, alloc, alloc, words, files, out, err),
     }
 }
 

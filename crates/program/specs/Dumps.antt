@@ -33,11 +33,3 @@ module _ {A : Type 0} where
   -- The text is what is printed of a dump to the file of a path that session s asked for after the history h.
   abbrev pub TellsDumpAt : Writing → Recorded A → ℕ → List ℕ → List ℕ → Type 0
   TellsDumpAt writes h s path text = (done : Result (Unit {0}) BackupFault) × IsDumpedAt writes h s path done × (dump_text s done ≡ Some text)
-
-  -- The text is what is printed of a dump that session s asked for after the history h.
-  abbrev pub TellsDump : Recorded A → ℕ → List ℕ → Type 0
-  TellsDump h s text = (done : Result (Unit {0}) BackupFault) × IsDumped h s done × (dump_text s done ≡ Some text)
-
-  -- A file of this path was made for which nothing was kept, and then session s's backup was kept for it, whole.
-  abbrev pub IsDumpedTo : {Out : Type 0} → (Out → List ℕ) → (Out → List ℕ) → Recorded A → ℕ → List ℕ → Type 0
-  IsDumpedTo {Out} path_of kept h s path = (made : Out) × (path_of made ≡ path) × (kept made ≡ []) × (file : Out) × IsWhole h s (kept made) (kept file)

@@ -19,7 +19,7 @@ use Rattle.script.specs.declared.script.Line.{Line}
 use Rattle.script.specs.declared.schedule.Schedule.TheVariants.{InOrder}
 use Rattle.script.specs.Scripts.{Said, said}
 use Rattle.program.specs.Beginnings.{BeginsWith, IsUnbegun}
-use Rattle.program.specs.Dumps.{IsDumped, TellsDump, TellsDumpAt}
+use Rattle.program.specs.Dumps.{IsDumped, TellsDumpAt}
 use Rattle.program.specs.Files.{IsAllOf, IsFileFault, Writing, read_of}
 use Rattle.ordering.specs.Orders.{check_line, order_lines}
 use Rattle.program.specs.Printed.{Adds, IsFlushed, Printed, Prints}
@@ -61,13 +61,7 @@ module _ {A : Type 0} where
   Checkpoints most h k None = IsCheckpoint h most (Ok k)
   Checkpoints most h k (Some e) = IsCheckpoint h most (Err (k, e))
 
-  -- What is told of a command of session s, by which h has become k: what came of a dump, which is no event; else the reply to its event, of WAIT that to a POLL.
-  abbrev pub TellsCommand : Recorded A → Recorded A → ℕ → Command A → List ℕ → Type 0
-  TellsCommand h k s (command.Dump request) text = (k ≡ h) × TellsDump h s text
-  TellsCommand h k s (command.Ask request) text = Tells h k s request text
-  TellsCommand h k s command.Wait text = Tells h k s ask.Poll text
-
-  -- The same, of a dump to its path.
+  -- What is told of a command of session s, by which h has become k: what came of a dump to its path, which is no event; else the reply to its event, of WAIT that to a POLL.
   abbrev pub TellsCommandAt : Writing → Recorded A → Recorded A → ℕ → Command A → List ℕ → Type 0
   TellsCommandAt writes h k s (command.Dump request) text = (k ≡ h) × TellsDumpAt writes h s request.path text
   TellsCommandAt writes h k s (command.Ask request) text = Tells h k s request text

@@ -13,8 +13,6 @@ pub struct Machine<'m, F, T, A> {
     /// What all else takes its memory of.
     pub alloc: A,
     pub files: &'m F,
-    /// What the help tells of the commands that have their words to themselves.
-    pub other_commands: &'m str,
 }
 
 impl<'m, F, T, A> Machine<'m, F, T, A> {
@@ -27,7 +25,6 @@ impl<'m, F, T, A> Machine<'m, F, T, A> {
             words_memory: self.words_memory,
             alloc,
             files: self.files,
-            other_commands: self.other_commands,
         }
     }
 }

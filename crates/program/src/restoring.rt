@@ -19,7 +19,7 @@ use crate::machine::Machine;
 use crate::output::{Printer, print_whole};
 use crate::progress::Stage;
 use dumpplan::{Gate, Jobs, PieceRows};
-use dumpworker::{DumpFault, Workers, dump};
+use dumpworker::{DumpFault, dump};
 use itoa::Buffer;
 use restore::restore;
 use schema::catalog::{Catalog, TableNo};
@@ -152,14 +152,10 @@ where
             return Err(Fault::DumpOutOfMemory);
         };
         let shown = self.files.watch(Stage::Writing);
-        let workers = Workers {
-            rt: self.rt,
-            alloc: self.alloc,
-            jobs,
-            piece_rows: piece_rows(),
-            gate: &shown,
-        };
-        let dumped = dump(&workers, tables, catalog, &mut file);
+        let rows = piece_rows();
+        let dumped = dump(
+            self.rt, self.alloc, tables, catalog, jobs, rows, &mut file, &shown,
+        );
         shown.clear();
         match dumped {
             Ok(()) => keep_file(&mut file, out),

@@ -16,7 +16,7 @@ use crate::machine::Machine;
 use asking::reply_to;
 use backup::{BackupFault, dump_session};
 use dumpplan::NoGate;
-use dumpworker::{DumpFault, Workers};
+use dumpworker::DumpFault;
 use history::session_id::SessionId;
 use request::request::Request;
 use script::command::{Command, DumpRequest};
@@ -96,14 +96,10 @@ where
         ensures whole { OnOk result (IsWhole core.now session [] (F.Out.taken file.new)) }
         ensures sound { OnOk result (F.Out.failures file.new ≡ 0) }
     {
-        let workers = Workers {
-            rt: self.rt,
-            alloc: self.alloc,
-            jobs: request.jobs,
-            piece_rows: request.rows,
-            gate: &NoGate,
-        };
-        dump_session(&workers, core, session, file)
+        let (jobs, rows) = (request.jobs, request.rows);
+        dump_session(
+            self.rt, self.alloc, core, session, jobs, rows, file, &NoGate,
+        )
     }
 
     // Dumps a session's safe snapshot to a path's file, which is kept where it is whole.

@@ -17,6 +17,15 @@ use std::alloc::{AllocError, Global};
 
 const VERSION: &str = "0.1.0";
 
+// What the help tells of the commands that have their words to themselves, in crates above.
+const OTHER_COMMANDS: &str = "Commands with a help of their own (pgserial COMMAND --help):
+  shell    Answer lines at once: of a person at a terminal, or of a program through pipes
+  explore  Do a script in every interleaving of its sessions, and count what comes of it
+  check    Tell whether some serial order explains a recorded transcript
+  draw     Draw a script's run as a picture
+  run SCRIPT --why         Tell behind each serialization failure which rows met
+  run SCRIPT --transcript  Print each line and its reply as a transcript, which check reads";
+
 /// What the command line asks for.
 #[derive(Drop)]
 pub(crate) enum Task<'w> {
@@ -98,12 +107,12 @@ fn out<'w>(alloc: Global) -> Arg<'w>
 }
 
 // The command that does a script.
-fn run<'w>(alloc: Global, other_commands: &'w str) -> Result<Command<'w>, AllocError>
+fn run<'w>(alloc: Global) -> Result<Command<'w>, AllocError>
     ensures { IfOk result (λ c. spec.IsCommand spec.run.top c) }
 {
     let run_command = Command::new(alloc, "run")
         .about("Do the session lines of a script, and print each reply")
-        .after_help(other_commands)
+        .after_help(OTHER_COMMANDS)
         .arg(script(alloc))?
         .arg(events(alloc))?
         .arg(free(alloc))?
@@ -139,41 +148,37 @@ fn restore<'w>(alloc: Global) -> Result<Command<'w>, AllocError>
 }
 
 // The program, without its commands.
-fn alone<'w>(alloc: Global, other_commands: &'w str) -> Result<Command<'w>, AllocError>
+fn alone<'w>(alloc: Global) -> Result<Command<'w>, AllocError>
     ensures { IfOk result (λ c. app_of c ≡ spec.alone) }
 {
     let alone = Command::new(alloc, "pgserial")
         .about("An in-memory relational server whose transactions are serializable")
         .bin_name("pgserial")?
         .version(VERSION)
-        .after_help(other_commands)
+        .after_help(OTHER_COMMANDS)
         .no_binary_name(true)
         .subcommand_required(true);
     Ok(alone)
 }
 
 // The program, with its commands.
-fn pgserial<'w>(alloc: Global, other_commands: &'w str) -> Result<Command<'w>, AllocError>
+fn pgserial<'w>(alloc: Global) -> Result<Command<'w>, AllocError>
     ensures { IfOk result (λ c. app_of c ≡ spec.pgserial) }
 {
-    let program = alone(alloc, other_commands)?
-        .subcommand(run(alloc, other_commands)?)?
+    let program = alone(alloc)?
+        .subcommand(run(alloc)?)?
         .subcommand(audit(alloc)?)?
         .subcommand(restore(alloc)?)?;
     Ok(program)
 }
 
 // What the parser makes of some words.
-fn matches_of<'w>(
-    alloc: Global,
-    other_commands: &'w str,
-    words: &'w [&'w str],
-) -> Result<ArgMatches<'w>, Error>
+fn matches_of<'w>(alloc: Global, words: &'w [&'w str]) -> Result<ArgMatches<'w>, Error>
     ensures command { IfOk result (λ m. subcommand_rows_of m ≡
         subcommand_of spec.pgserial (map (λ w. w.now) words.entry.now)) }
     ensures fails { FailsBy (fault_of spec.pgserial (map (λ w. w.now) words.entry.now)) result }
 {
-    let program = pgserial(alloc, other_commands)?;
+    let program = pgserial(alloc)?;
     program.try_get_matches_from(words)
 }
 
@@ -302,18 +307,14 @@ fn free_is_lacking(alloc: Global) -> Result<Error, AllocError>
 
 /// What the words, behind the program's name, ask for. No word at all asks for the script on
 /// standard input. The error is a mistake in the words, `--help`, `--version`, or out of memory.
-pub(crate) fn read_words<'w>(
-    alloc: Global,
-    other_commands: &'w str,
-    words: &'w [&'w str],
-) -> Result<Task<'w>, Error>
+pub(crate) fn read_words<'w>(alloc: Global, words: &'w [&'w str]) -> Result<Task<'w>, Error>
     ensures asked { IfOk result (λ r. asked.AsksFor (asked.command_of (map (λ w. w.now) words.entry.now)) r) }
     ensures fails { FailsBy (spec.faults (map (λ w. w.now) words.entry.now)) result }
 {
     if words.is_empty() {
         return Ok(from_input());
     }
-    let matches = matches_of(alloc, other_commands, words)?;
+    let matches = matches_of(alloc, words)?;
     if lacks_free(&matches) {
         return Err(free_is_lacking(alloc)?);
     }

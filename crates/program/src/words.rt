@@ -114,7 +114,7 @@ where
         (F.input machine.now.files.now) (map (λ w. w.now) words.entry.now) result (W.contents out.old)
         (W.contents out.new) }
 {
-    match read_words(machine.words_memory, machine.other_commands, words) {
+    match read_words(machine.words_memory, words) {
         Err(error) => tell_words(&error, out, err),
         Ok(task) => do_task(machine, task, out, err),
     }
@@ -127,13 +127,17 @@ fn tell_reason<E: Write>(status: Status, reason: Option<&str>, err: &mut E) {
     }
 }
 
-/// Does what the words behind the program's name ask for, over the machine's files, and gives the exit
+/// Does what the words behind the program's name ask for, over these files, and gives the exit
 /// status: 0 where it was done, refused statements included; 1 where a script or a dump is refused, or
 /// it was out of memory; 2 for mistaken words; 3 where a file or standard output failed. Why it wasn't 0 is told
-/// in a line on `err`, and behind it for a person what is wrong and what would be right.
+/// in a line on `err`, and behind it for a person what is wrong and what would be right. The parser of words, and
+/// sessions that run freely, take their memory of `words_memory`, and all else of `alloc`.
 pub fn run_words<A, F, W, E, T>(
-    machine: &Machine<'_, F, T, A>,
+    rt: &T,
+    words_memory: Global,
+    alloc: A,
     words: &[&str],
+    files: &F,
     out: &mut W,
     err: &mut E,
 ) -> u8
@@ -148,14 +152,20 @@ where
     ensures usage { result ≡ 2 → MayBeMistaken (faults (map (λ w. w.now) words.entry.now)) }
     ensures mistake { AreMistaken (faults (map (λ w. w.now) words.entry.now)) → (result ≡ 2) ⊎ (result ≡ 1) }
     ensures did { result ≡ 0 →
-        HasDone A Global (IsWritten F.Out.path F.Out.kept) (F.held machine.now.files.now)
-        (F.input machine.now.files.now) (map (λ w. w.now) words.entry.now) (W.contents out.old) (W.contents out.new) }
+        HasDone A Global (IsWritten F.Out.path F.Out.kept) (F.held files.now)
+        (F.input files.now) (map (λ w. w.now) words.entry.now) (W.contents out.old) (W.contents out.new) }
     ensures stopped { result ≢ 0 →
-        HasEnded A Global (IsWritten F.Out.path F.Out.kept) (F.held machine.now.files.now)
-        (F.input machine.now.files.now) (map (λ w. w.now) words.entry.now) result (W.contents out.old)
+        HasEnded A Global (IsWritten F.Out.path F.Out.kept) (F.held files.now)
+        (F.input files.now) (map (λ w. w.now) words.entry.now) result (W.contents out.old)
         (W.contents out.new) }
 {
-    let status = done(machine, words, out, err);
-    tell_reason(status, machine.files.reason(), err);
+    let machine = Machine {
+        rt,
+        words_memory,
+        alloc,
+        files,
+    };
+    let status = done(&machine, words, out, err);
+    tell_reason(status, files.reason(), err);
     status.code()
 }

@@ -1,7 +1,6 @@
 //! What the program is given, and how it must end.
 
 use crate::memory::MemoryFiles;
-use program::machine::Machine;
 use program::words::run_words;
 use std::io::Write;
 use std::process::Abort;
@@ -56,14 +55,8 @@ pub fn status_of<R: Abort + AllocGlobal + Sync + Threads + Wait, W: Write>(
         is_whole: &is_whole,
         writes: &writes,
     };
-    let machine = Machine {
-        rt,
-        words_memory: rt.alloc(),
-        alloc: rt.alloc(),
-        files: &files,
-        other_commands: "",
-    };
-    let status = run_words(&machine, words.as_slice(), out, err);
+    let alloc = rt.alloc();
+    let status = run_words(rt, alloc, alloc, words.as_slice(), &files, out, err);
     assert!(rt; is_whole.load(Ordering::SeqCst), "{}", given.words);
     Ok((status, writes.load(Ordering::SeqCst)))
 }

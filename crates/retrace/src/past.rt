@@ -290,7 +290,7 @@ pub fn retrace<A: Allocator + Copy>(
     ensures ok { IfOk result (λ runs. runs.items ≡ retraced history.now.opening history.now.records) }
     ensures memory { IfErr result (λ e. e ≡ out_of_memory) }
 {
-    let start = unbegun(alloc, history.tables(alloc)?);
+    let start = unbegun(alloc, history.copy_tables(alloc)?);
     let base = history.base().commits;
     let past = follow_all(alloc, history.catalog(), base, history.records(), start)?;
     Ok(runs_of(past))

@@ -1,10 +1,10 @@
-//! The reading of a dump by workers.
+//! The reading of a dump by one thread and by workers.
 
-use crate::driver::{Memory, is_out_of_memory};
+use crate::driver::{Call, Memory, assert_needs, is_out_of_memory};
 use crate::dumps::dumped;
 use crate::fixture::{Database, not_asked};
 use dumpplan::{Jobs, NoGate};
-use restore::{RestoreFault, restore};
+use restore::{RestoreFault, restore, restore_one};
 use scarce::Scarce;
 use schema::catalog::Catalog;
 use schema::tables::Tables;
@@ -24,6 +24,44 @@ fn database<A: Allocator>(
         Err(_) => Err(not_asked()),
     }
 }
+
+// The reading of a dump.
+#[derive(Drop)]
+struct RestoreOne<'d, A> {
+    alloc: A,
+    dump: &'d str,
+}
+
+impl<'d, A: Allocator + Copy> Call for RestoreOne<'d, A> {
+    type Lent = ();
+
+    type Answer = Database<A>;
+
+    fn lend(&self) -> Result<(), Refusal> {
+        Ok(())
+    }
+
+    fn call(&self, _lent: &mut ()) -> Result<Database<A>, Refusal> {
+        database(restore_one(self.alloc, self.dump.as_bytes()))
+    }
+}
+
+// Texts, a bytea, nulls and a reference.
+const DUMP: &str = "-- dump 2
+CREATE TABLE p (id bigint PRIMARY KEY, name text NOT NULL);
+CREATE TABLE c (id bigint PRIMARY KEY, p bigint REFERENCES p, raw bytea);
+COPY p (id, name) FROM stdin;
+1\ta
+2\tx\\ty
+\\.
+-- rows 2
+COPY c (id, p, raw) FROM stdin;
+-5\t2\t\\\\x00ff
+7\t\\N\t\\N
+\\.
+-- rows 2
+-- end
+";
 
 // The dump of so many numbers, each in a row with itself: a row takes a list of what stands behind its key.
 fn numbers(alloc: Global, count: u32) -> Result<String, Refusal> {
@@ -109,6 +147,18 @@ fn refuse_restore<A: Allocator + Copy + Send + Sync, R: Abort + Threads + Wait +
         assert!(rt; is_right, "after {number}");
     }
     Err(not_asked())
+}
+
+// Each request is refused: of a few rows, and of many, of which each takes one at least.
+#[test]
+fn dumps_restored_by_one_thread(rt: HostRuntime) -> Result<(), Refusal> {
+    let memory = Scarce::new(rt.alloc());
+    let alloc = &memory;
+    let many = numbers(rt.alloc(), 200)?;
+    for (dump, least) in [(DUMP, 12), (many.as_str(), 200)] {
+        assert_needs(&rt, &memory, &RestoreOne { alloc, dump }, least)?;
+    }
+    Ok(())
 }
 
 #[test]

@@ -6,9 +6,10 @@ use crate::driver::{Memory, is_out_of_memory};
 use crate::fixture::{Database, not_asked, some_tables};
 use collector::{Device, DeviceError};
 use dumpplan::{Jobs, NoGate, PieceRows};
-use dumpworker::{DumpFault, Workers, dump};
+use dumpworker::{DumpFault, dump};
 use scarce::Scarce;
-use schema::catalog::TableNo;
+use schema::catalog::{Catalog, TableNo};
+use schema::reader::SnapshotReader;
 use schema::row::Row;
 use std::alloc::{Allocator, Global};
 use std::process::Abort;
@@ -113,6 +114,40 @@ fn is_whole<A: Allocator>(database: &Database<A>) -> bool
     database.tables.count() == database.catalog.len()
 }
 
+/// The dump text of what a reader gives, by so many workers. What is written before a refusal is a beginning of `text`.
+pub fn dump_text<A: Allocator + Copy + Send + Sync, R, T: SnapshotReader<A> + Sync>(
+    rt: &R,
+    given: (Global, A),
+    catalog: &Catalog<A>,
+    reader: &T,
+    jobs: Jobs,
+    text: &[u8],
+) -> Result<Vec<u8>, Refusal>
+where
+    R: Abort + Threads + Wait + Sync,
+    requires { length (T.tables reader.now) ≡ length catalog.now }
+{
+    let (ample, alloc) = given;
+    let piece_rows = PieceRows::new(7).ok_or(not_asked())?;
+    let mut device = Keeping::new(rt, ample);
+    match dump(
+        rt,
+        alloc,
+        reader,
+        catalog,
+        jobs,
+        piece_rows,
+        &mut device,
+        &NoGate,
+    ) {
+        Ok(()) => Ok(device.taken),
+        Err(DumpFault::Memory) if text.starts_with(device.taken.as_slice()) => {
+            Err(Refusal::of_code(Code::OutOfMemory))
+        }
+        Err(_) => Err(not_asked()),
+    }
+}
+
 /// The dump text of tables, by so many workers. What is written before a refusal is a beginning of `text`.
 pub fn dumped<A: Allocator + Copy + Send + Sync, R: Abort + Threads + Wait + Sync>(
     rt: &R,
@@ -120,26 +155,10 @@ pub fn dumped<A: Allocator + Copy + Send + Sync, R: Abort + Threads + Wait + Syn
     (lent, jobs): (&Database<A>, Jobs),
     text: &[u8],
 ) -> Result<Vec<u8>, Refusal> {
-    let piece_rows = PieceRows::new(7).ok_or(not_asked())?;
-    let workers = Workers {
-        rt,
-        alloc,
-        jobs,
-        piece_rows,
-        gate: &NoGate,
-    };
-    let mut device = Keeping::new(rt, ample);
     if !is_whole(lent) {
         return Err(not_asked());
     }
-    let done = dump(&workers, &lent.tables, &lent.catalog, &mut device);
-    match done {
-        Ok(()) => Ok(device.taken),
-        Err(DumpFault::Memory) if text.starts_with(device.taken.as_slice()) => {
-            Err(Refusal::of_code(Code::OutOfMemory))
-        }
-        Err(_) => Err(not_asked()),
-    }
+    dump_text(rt, (ample, alloc), &lent.catalog, &lent.tables, jobs, text)
 }
 
 // Refuses one request of a dump. Whether it made as many; if so it has answered out of memory, and else the text.

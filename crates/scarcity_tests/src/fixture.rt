@@ -1,6 +1,7 @@
 //! Tables made of texts.
 
 use schema::catalog::{Catalog, TableNo};
+use schema::changes::Changes;
 use schema::row::Row;
 use schema::tables::Tables;
 use sqltext::create::parse_create;
@@ -11,8 +12,8 @@ use value::key::Key;
 use value::refusal::{Code, Refusal};
 use value::value::Value;
 
-// A table, another whose rows reference the first one's, and one whose key is a text.
-const CREATES: [&str; 3] = [
+/// A table, another whose rows reference the first one's, and one whose key is a text.
+pub const CREATES: [&str; 3] = [
     "CREATE TABLE p (id bigint PRIMARY KEY, name text NOT NULL);",
     "CREATE TABLE c (id bigint PRIMARY KEY, p bigint REFERENCES p, raw bytea);",
     "CREATE TABLE n (name text PRIMARY KEY, v bigint);",
@@ -74,13 +75,13 @@ pub fn row<A: Allocator + Copy>(
     }
 }
 
-// Puts in the row of an INSERT.
-fn insert<A: Allocator + Copy>(
+/// Puts a row into its table.
+pub fn insert_row<A: Allocator + Copy>(
     alloc: A,
     database: &mut Database<A>,
-    text: &str,
+    table: TableNo,
+    row: Row<A>,
 ) -> Result<(), Refusal> {
-    let (table, row) = row(alloc, &database.catalog, text)?;
     if !database.catalog.has(table) || database.tables.count() != database.catalog.len() {
         return Err(not_asked());
     }
@@ -93,7 +94,28 @@ pub fn some_tables<A: Allocator + Copy>(alloc: A) -> Result<Database<A>, Refusal
     let tables = Tables::new(alloc, &catalog)?;
     let mut database = Database { catalog, tables };
     for text in INSERTS {
-        insert(alloc, &mut database, text)?;
+        let (table, row) = row(alloc, &database.catalog, text)?;
+        insert_row(alloc, &mut database, table, row)?;
     }
     Ok(database)
+}
+
+/// Puts in that a table has a row from now on.
+pub fn put_row<A: Allocator + Copy>(
+    alloc: A,
+    changes: &mut Changes<A>,
+    table: TableNo,
+    row: Row<A>,
+) -> Result<(), Refusal> {
+    changes.put_row(alloc, table, row)
+}
+
+/// Puts in that a table has no row of a key from now on.
+pub fn put_absence<A: Allocator + Copy>(
+    alloc: A,
+    changes: &mut Changes<A>,
+    table: TableNo,
+    key: Key<A>,
+) -> Result<(), Refusal> {
+    changes.put_absence(alloc, table, key)
 }

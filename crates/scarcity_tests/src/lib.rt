@@ -4,6 +4,8 @@
 #![tactic(auto)]
 
 #[cfg(test)]
+mod catalogs;
+#[cfg(test)]
 mod copied;
 #[cfg(test)]
 mod driver;
@@ -14,7 +16,15 @@ mod fixture;
 #[cfg(test)]
 mod kept;
 #[cfg(test)]
+mod rows;
+#[cfg(test)]
+mod statements;
+#[cfg(test)]
+mod texts;
+#[cfg(test)]
 mod tracked;
+#[cfg(test)]
+mod values;
 #[cfg(test)]
 mod versions;
 #[cfg(test)]

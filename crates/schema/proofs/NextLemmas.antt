@@ -19,7 +19,7 @@ use Rattle.schema.specs.declared.row.Row.{Row}
 use Rattle.schema.specs.declared.reader.Bound.{Bound}
 use Rattle.schema.specs.Paged.{row_key, joined, is_before}
 use Rattle.schema.specs.Pages.{IsLeast, IsBehind}
-use Rattle.schema.specs.Plain.{same, changed}
+use Rattle.schema.specs.Plain.{changed}
 use Rattle.schema.specs.Rows.{Rows, is_within, next_row, row_of, put_row, IsInKeyOrder}
 use Rattle.schema.proofs.PageLemmas.{least-trans}
 use Rattle.schema.proofs.PagedLemmas.{pages_before}

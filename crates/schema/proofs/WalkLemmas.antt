@@ -1,23 +1,15 @@
 -- Rows read at once, and the rows behind them.
-use Rattle.std.proofs.Common.{◌≡◌, ℕ, zero, suc, ◌+◌, ◌<◌, ◌≤◌, ◌-◌, List, [], ◌∷◌, ◌++◌, length, drop, take, Option, Some, None, Result, Ok, Err, IfOk, Vec, Bor, refl, sym, ap, subst, ◌∙◌, arith}
+use Rattle.std.proofs.Common.{◌≡◌, ℕ, zero, suc, ◌+◌, ◌<◌, ◌-◌, List, [], ◌∷◌, ◌++◌, length, drop, take, Option, Some, None, Result, Ok, Err, IfOk, Vec, Bor, refl, sym, ap, subst, ◌∙◌, append_assoc, arith}
 use Rattle.std.specs.List.{slice_get}
-use Rattle.std.proofs.lemmas.List.{append-nil, length-map, take_all, take_at}
+use Rattle.std.proofs.lemmas.List.{length-append, length-map, map-append}
 use Rattle.std.proofs.lemmas.Option.{slice_get-map}
 use Rattle.value.specs.declared.key.Key.{Key}
 use Rattle.schema.specs.declared.row.Row.{Row}
 use Rattle.schema.specs.declared.reader.Bound.{Bound}
 use Rattle.schema.specs.declared.reader.Bound.TheVariants.{After}
-use Rattle.schema.specs.Rows.{Rows, next_row, rows_within, rows_after, IsInKeyOrder}
+use Rattle.schema.specs.Rows.{Rows, next_row, rows_within, rows_after, rows_left, IsInKeyOrder}
 use Rattle.schema.specs.Walking.{lent, rows_behind, rows_to_come}
 use Rattle.schema.proofs.RowsInOrder.{next_row-rest, next_row-none}
-
--- all there are, where there are no more than are wanted
-pub took_all : {X : Type 0} (n : ℕ) (done rest all : List X) → done ++ rest ≡ all → rest ≡ [] → length done ≤ n → done ≡ take n all
-took_all n done rest all is none few = sym (take_all n done few) ∙ ap (take n) (sym (append-nil done) ∙ ap (λ r. done ++ r) (sym none) ∙ is)
-
--- as many as are wanted
-pub took_most : {X : Type 0} (n : ℕ) (done rest all : List X) → done ++ rest ≡ all → length done ≡ n → done ≡ take n all
-took_most n done rest all is many = sym (take_at done rest n many) ∙ ap (take n) is
 
 module _ {A : Type 0} where
   -- the first so many of these rows, and those behind them in the table, are all of them
@@ -37,6 +29,15 @@ module _ {A : Type 0} where
   -- the rows within a bound are the next one and those after its key
   row_and_rest : (rows : Rows A) (bound : Bound (Bor (Key A))) (row : Row A) → IsInKeyOrder rows → next_row rows bound ≡ Some row → rows_within rows bound ≡ row ∷ rows_after rows row.0
   row_and_rest rows bound row sorted found = next_row-rest rows bound row (record { ref_ptr = (0, 0); now = row.0 }) sorted refl found
+
+  -- a row more is read, and one less is left
+  pub one_more : (rows : Rows A) (read more : List (Bor (Row A))) (row : Bor (Row A)) (next : Option (Bor (Row A))) → more ≡ read ++ row ∷ [] → rows_left rows next ≡ rows_after rows row.now.0
+      → lent more ++ rows_left rows next ≡ lent read ++ rows_left rows (Some row)
+  one_more rows read more row next is left = rw (is, map-append (λ r. r.now) read (row ∷ []), left) (append_assoc (lent read) (row.now ∷ []) (rows_after rows row.now.0))
+
+  -- they are one more, and so many as are lent
+  pub one_longer : (read more : List (Bor (Row A))) (row : Bor (Row A)) → more ≡ read ++ row ∷ [] → (length (lent more) ≡ length read + 1) × (length (lent read) ≡ length read)
+  one_longer read more row is = (length-map more (λ r. r.now) ∙ ap length is ∙ length-append read (row ∷ []), length-map read (λ r. r.now))
 
   -- so it is for the first so many within a bound
   pub splits : (n : ℕ) (rows : Rows A) (bound : Bound (Bor (Key A))) → IsInKeyOrder rows → Splits rows (suc n) (rows_within rows bound)

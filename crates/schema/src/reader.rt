@@ -1,16 +1,19 @@
 //! What gives the rows of tables, and walks over them.
 
-ghost use Rattle.std.specs.Prelude.{◌≡◌, ◌≤◌, ◌<◌, List, length};
+ghost use Rattle.std.specs.Prelude.{◌≡◌, ◌≤◌, ◌<◌, List, length, take, IfOk, IfErr};
 ghost use Rattle.std.specs.Option.{option_copied};
+ghost use Rattle.value.specs.Refusals.{out_of_memory};
 ghost use Rattle.schema.specs.Keyed.{start_of, shown_bound};
 ghost use Rattle.schema.specs.Rows.{Rows, HasTable, IsInKeyOrder, row_of, next_row, rows_left, rows_after, rows_within};
 ghost use Rattle.schema.specs.Plain.{rows_of};
+ghost use Rattle.schema.specs.Walking.{lent};
 
 use crate::catalog::TableNo;
 use crate::row::Row;
 use std::alloc::Allocator;
 use std::ops;
 use value::key::Key;
+use value::refusal::Refusal;
 use value::value::Value;
 
 /// Where a reading of rows goes on, as `Bound<&Key<A>>`.
@@ -64,6 +67,33 @@ pub trait SnapshotReader<A: Allocator> {
     fn get(&self, table: TableNo, key: &Key<A>) -> Option<&Row<A>>
         requires { HasTable (tables self.now) table }
         ensures { option_copied result ≡ row_of (rows_of (tables self.now) table) key.now };
+
+    /// The first rows within a bound, so many at most. Here each is looked up by the key of the one before; a reader
+    /// that finds many by one search says how.
+    fn next_rows(
+        &self,
+        alloc: A,
+        table: TableNo,
+        after: Bound<&Key<A>>,
+        most: usize,
+    ) -> Result<Vec<&Row<A>, A>, Refusal>
+        requires { HasTable (tables self.now) table }
+        ensures rows { IfOk result (λ rows. lent rows.items ≡
+            take most (rows_within (rows_of (tables self.now) table) after.entry)) }
+        ensures ordered { IsInKeyOrder (rows_of (tables self.now) table) }
+        ensures err { IfErr result (λ e. e ≡ out_of_memory) }
+    {
+        let mut rows = Vec::new(alloc);
+        let mut next = self.next_row(table, after);
+        while let Some(row) = next {
+            if rows.len() == most {
+                return Ok(rows);
+            }
+            rows.push(row)?;
+            next = self.next_row(table, Bound::After(row.key()));
+        }
+        Ok(rows)
+    }
 }
 
 /// The first row of a table, with which a reading of all rows starts.

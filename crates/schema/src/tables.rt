@@ -14,7 +14,6 @@ use crate::changes::Change;
 use crate::reader::{Bound, SnapshotReader};
 use crate::row::Row;
 use crate::table::Table;
-use crate::walk::RowsReader;
 pub use sound::has_kind;
 use std::alloc::{Allocator, Global};
 use std::marker::Model;
@@ -166,9 +165,7 @@ impl<A: Allocator> SnapshotReader<A> for Tables<A> {
     fn get(&self, table: TableNo, key: &Key<A>) -> Option<&Row<A>> {
         self.tables[table.place() as usize].get(key)
     }
-}
 
-impl<A: Allocator> RowsReader<A> for Tables<A> {
     fn next_rows(
         &self,
         alloc: A,

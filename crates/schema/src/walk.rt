@@ -1,4 +1,4 @@
-//! What gives many rows at once, and walks over the rows of a table a step at a time.
+//! Walks over the rows of a table, a step at a time.
 
 ghost use Rattle.std.specs.Prelude.{◌≡◌, ◌<◌, take, slice_get, IfOk, IfErr};
 ghost use Rattle.std.specs.Option.{option_copied};
@@ -8,7 +8,7 @@ ghost use Rattle.schema.specs.Plain.{rows_of};
 ghost use Rattle.schema.specs.Walking.{lent, rows_behind, rows_to_come, IsStep};
 
 use crate::catalog::TableNo;
-use crate::reader::{Bound, SnapshotReader, row_after, row_within};
+use crate::reader::{Bound, SnapshotReader};
 use crate::row::Row;
 use std::alloc::Allocator;
 use std::marker::Model;
@@ -21,91 +21,9 @@ const FIRST: usize = 16;
 /// How many rows a walk reads at once at most.
 const BATCH: usize = 256;
 
-/// A reader that gives many rows by one search.
-pub trait RowsReader<A: Allocator>: SnapshotReader<A> {
-    /// The first rows within a bound, so many at most.
-    fn next_rows(
-        &self,
-        alloc: A,
-        table: TableNo,
-        after: Bound<&Key<A>>,
-        most: usize,
-    ) -> Result<Vec<&Row<A>, A>, Refusal>
-        requires { HasTable (Self.tables self.now) table }
-        ensures rows { IfOk result (λ rows. lent rows.items ≡
-            take most (rows_within (rows_of (Self.tables self.now) table) after.entry)) }
-        ensures ordered { IsInKeyOrder (rows_of (Self.tables self.now) table) }
-        ensures err { IfErr result (λ e. e ≡ out_of_memory) };
-}
-
-/// The first rows within a bound, so many at most, each looked up by the key of the one before.
-pub fn rows_one_by_one<'r, A: Allocator, R: SnapshotReader<A>>(
-    alloc: A,
-    reader: &'r R,
-    table: TableNo,
-    after: Bound<&Key<A>>,
-    most: usize,
-) -> Result<Vec<&'r Row<A>, A>, Refusal>
-    requires { HasTable (R.tables reader.now) table }
-    ensures rows { IfOk result (λ rows. lent rows.items ≡
-        take most (rows_within (rows_of (R.tables reader.now) table) after.entry)) }
-    ensures ordered { IsInKeyOrder (rows_of (R.tables reader.now) table) }
-    ensures err { IfErr result (λ e. e ≡ out_of_memory) }
-{
-    let mut rows = Vec::new(alloc);
-    let mut next = row_within(reader, table, after);
-    while let Some(row) = next {
-        if rows.len() == most {
-            return Ok(rows);
-        }
-        rows.push(row)?;
-        next = row_after(reader, table, row);
-    }
-    Ok(rows)
-}
-
-/// A reader that gives rows one by one alone, as one that gives many.
-#[derive(Clone, Copy)]
-pub struct RowByRow<'r, R> {
-    reader: &'r R,
-}
-
-impl<'r, R> RowByRow<'r, R> {
-    /// The same tables, read row by row.
-    pub fn new(reader: &'r R) -> RowByRow<'r, R>
-        ensures { result ≡ record { reader = reader.entry } }
-    {
-        RowByRow { reader }
-    }
-}
-
-impl<R: SnapshotReader<A>, A: Allocator> SnapshotReader<A> for RowByRow<'_, R> {
-    ghost tables = { λ r. R.tables r.reader.now };
-
-    fn next_row(&self, table: TableNo, after: Bound<&Key<A>>) -> Option<&Row<A>> {
-        self.reader.next_row(table, after)
-    }
-
-    fn get(&self, table: TableNo, key: &Key<A>) -> Option<&Row<A>> {
-        self.reader.get(table, key)
-    }
-}
-
-impl<R: SnapshotReader<A>, A: Allocator> RowsReader<A> for RowByRow<'_, R> {
-    fn next_rows(
-        &self,
-        alloc: A,
-        table: TableNo,
-        after: Bound<&Key<A>>,
-        most: usize,
-    ) -> Result<Vec<&Row<A>, A>, Refusal> {
-        rows_one_by_one(alloc, self.reader, table, after, most)
-    }
-}
-
 /// A walk over rows of a table in key order. To a contract it is the rows still to come.
 #[derive(Drop)]
-pub struct Walk<'r, R: RowsReader<A>, A: Allocator> {
+pub struct Walk<'r, R: SnapshotReader<A>, A: Allocator> {
     alloc: A,
     reader: &'r R,
     table: TableNo,
@@ -114,7 +32,7 @@ pub struct Walk<'r, R: RowsReader<A>, A: Allocator> {
     place: usize,
 }
 
-impl<'r, R: RowsReader<A>, A: Allocator> Model for Walk<'r, R, A> {
+impl<'r, R: SnapshotReader<A>, A: Allocator> Model for Walk<'r, R, A> {
     ghost use Rattle.schema.specs.Rows.{Rows, HasTable};
     ghost use Rattle.schema.specs.Plain.{rows_of};
     ghost use Rattle.schema.specs.Walking.{lent, rows_to_come};
@@ -145,7 +63,7 @@ fn more_than(read: usize) -> usize
 }
 
 /// The first rows within a bound, as many as a walk reads at first.
-pub fn first_rows<'r, R: RowsReader<A>, A: Allocator>(
+pub fn first_rows<'r, R: SnapshotReader<A>, A: Allocator>(
     alloc: A,
     reader: &'r R,
     table: TableNo,
@@ -162,7 +80,7 @@ pub fn first_rows<'r, R: RowsReader<A>, A: Allocator>(
 }
 
 /// The next rows behind those of a batch, up to twice as many; behind none, none.
-pub fn rows_behind<'r, R: RowsReader<A>, A: Allocator + Copy>(
+pub fn rows_behind<'r, R: SnapshotReader<A>, A: Allocator + Copy>(
     alloc: A,
     reader: &'r R,
     table: TableNo,
@@ -182,7 +100,7 @@ pub fn rows_behind<'r, R: RowsReader<A>, A: Allocator + Copy>(
     }
 }
 
-impl<'r, R: RowsReader<A>, A: Allocator + Copy> Walk<'r, R, A> {
+impl<'r, R: SnapshotReader<A>, A: Allocator + Copy> Walk<'r, R, A> {
     /// A walk over the rows within a bound.
     pub fn within(
         alloc: A,

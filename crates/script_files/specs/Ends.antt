@@ -1,6 +1,9 @@
 -- Why the lines of a script end before their time, and what is told of that (this project's own choice).
 use Rattle.std.specs.Prelude.{◌≡◌, ◌⊎◌, ℕ, List, Option, Some, Result, Err, codes, slice_get}
 use Rattle.std.specs.Io.KnownBytes.{Keeps}
+use Rattle.backup.specs.declared.fault.BackupFault.TheVariants.{Dump}
+use Rattle.dumpworker.specs.declared.fault.DumpFault.TheVariants.{Device}
+use Rattle.history.specs.Opening.{Recorded}
 use Rattle.script.specs.declared.command.Command.{Command}
 use Rattle.script.specs.declared.command.Command.TheVariants as command
 use Rattle.script.specs.declared.script.Step.{Step}
@@ -8,25 +11,26 @@ use Rattle.script.specs.declared.script.Step.TheVariants.{Session, Checkpoint}
 use Rattle.script.specs.declared.script.Line.{Line}
 use Rattle.script.specs.declared.schedule.Schedule.TheVariants.{InOrder}
 use Rattle.script.specs.Scripts.{said}
+use Rattle.program.specs.Dumps.{IsDumped}
 use Rattle.program.specs.Files.{IsAllOf}
 use Rattle.script_files.specs.Faults.{IsFileFault, out_of_memory, status}
 use Rattle.script_files.specs.declared.fault.Fault.{Fault}
 use Rattle.script_files.specs.declared.fault.Fault.TheVariants as fault
 
 module _ {A : Type 0} where
-  -- Why a command ends its script: memory was refused for what is told of it, or the file of its dump has failed.
-  abbrev pub EndsBy : Command A → Fault → Type 0
-  EndsBy (command.Dump request) f = (f ≡ out_of_memory) ⊎ IsFileFault request.path f
-  EndsBy c f = f ≡ out_of_memory
+  -- Why a command of session s, after the history h, ends its script: memory was refused for what is told of it; or it is a dump, and its file has failed.
+  abbrev pub EndsBy : Recorded A → ℕ → Command A → Fault → Type 0
+  EndsBy h s (command.Dump request) f = (f ≡ out_of_memory) ⊎ (IsFileFault request.path f × IsDumped h s (Err (Dump Device)))
+  EndsBy h s c f = f ≡ out_of_memory
 
   -- the same of a step
-  abbrev pub Stops : Step A → Fault → Type 0
-  Stops (Session s c) f = EndsBy c f
-  Stops Checkpoint f = f ≡ out_of_memory
+  abbrev pub Stops : Recorded A → Step A → Fault → Type 0
+  Stops h (Session s c) f = EndsBy h s c f
+  Stops h Checkpoint f = f ≡ out_of_memory
 
-  -- it ends by the step behind n lines
-  abbrev pub EndsAt : List (Line A) → ℕ → Fault → Type 0
-  EndsAt lines n f = (line : Line A) × (slice_get lines n ≡ Some line) × Stops line.step f
+  -- It ends by the step behind n lines, after the history h.
+  abbrev pub EndsAt : Recorded A → List (Line A) → ℕ → Fault → Type 0
+  EndsAt h lines n f = (line : Line A) × (slice_get lines n ≡ Some line) × Stops h line.step f
 
 -- What is told of how lines have ended, by this exit status: their fault, with nothing more printed; or that standard output has failed.
 abbrev pub IsToldBy : ℕ → Result (Unit {0}) Fault → Option (List ℕ) → Option (List ℕ) → Type 0

@@ -3,7 +3,8 @@
 ghost use Rattle.std.specs.Prelude.{◌≡◌, ◌⊎◌, [], Ok, Err, Some, IfOk, IfErr, OnOk};
 ghost use Rattle.backup.specs.Backed.{IsWhole};
 ghost use Rattle.program.specs.Dumps as spec;
-ghost use Rattle.program.specs.Dumps.{IsDumped, IsDumpedTo, TellsDump};
+ghost use Rattle.program.specs.Dumps.{IsDumped, IsDumpedAt, TellsDumpAt};
+ghost use Rattle.program.specs.Files.{IsWritten};
 ghost use Rattle.script.specs.Printing.{done_text as text_of_done};
 ghost use Rattle.script_files.specs.Faults.{IsFileFault};
 
@@ -107,8 +108,7 @@ fn dump_to_file<A: Allocator + Copy, F: Files<A>>(
     session: SessionId,
     request: &DumpRequest<A>,
 ) -> Result<(), BackupFault>
-    ensures dumped { IsDumped core.now session result }
-    ensures file { OnOk result (IsDumpedTo F.Out.path F.Out.kept core.now session request.now.path) }
+    ensures { IsDumpedAt (IsWritten F.Out.path F.Out.kept) core.now session request.now.path result }
 {
     let Ok(mut file) = files.create(alloc, request.path.as_str()) else {
         return Err(BackupFault::Dump(DumpFault::Memory));
@@ -125,8 +125,10 @@ pub fn tell_dump<'s, A: Allocator + Copy, F: Files<A>, T>(
     session: SessionId,
     request: &'s DumpRequest<A>,
 ) -> Result<Vec<u8, A>, Fault<'s>>
-    ensures told { IfOk result (λ text. TellsDump core.now session text.items) }
-    ensures fault { IfErr result (λ f. (f ≡ Fault.Script 0) ⊎ IsFileFault request.entry.now.path f) }
+    ensures told { IfOk result (λ text.
+        TellsDumpAt (IsWritten F.Out.path F.Out.kept) core.now session request.entry.now.path text.items) }
+    ensures fault { IfErr result (λ f. (f ≡ Fault.Script 0) ⊎ (IsFileFault request.entry.now.path f ×
+        IsDumped core.now session (Err (BackupFault.Dump DumpFault.Device)))) }
 {
     let done = dump_to_file(machine.alloc, machine.files, core, session, request);
     dump_text(machine.alloc, session, request.path.as_str(), done)

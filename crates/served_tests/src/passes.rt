@@ -21,7 +21,7 @@ fn two_sessions_in_threads(rt: HostRuntime) -> Result<(), Refusal> {
     let (catalog, tables) = opening(alloc, &[])?;
     let core = Core::open(alloc, catalog, tables, 10)?;
     let opened = core.history();
-    let tables = opened.tables(alloc)?;
+    let tables = opened.copy_tables(alloc)?;
     let (word, first) = HistoryWord::new(alloc, opened.catalog(), &tables, opened.base())?;
     step_and_stamp::<Brand, _>(&rt, alloc, &word, first, core)
 }

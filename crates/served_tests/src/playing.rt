@@ -15,6 +15,7 @@ use std::thread;
 use std::thread::{Threads, join};
 use value::refusal::Mode;
 use value::text::Text;
+use value::value::Value;
 
 // Whether there are so many events in time.
 fn are_seen<'w, J: Naming<Global>>(pass: &mut Pass<'w, J>, events: u64) -> bool {
@@ -37,11 +38,7 @@ fn word_of(reply: &Reply) -> &'static str {
         Reply::Deleted(1) => "deleted",
         Reply::Safe(_) => "safe",
         Reply::Refused(_) => "refused",
-        Reply::Rows(rows) => match rows.as_slice() {
-            [] => "no row",
-            [_] => "one row",
-            _ => "rows",
-        },
+        Reply::Rows(rows) if rows.as_slice().is_empty() => "no row",
         _ => "another reply",
     }
 }
@@ -59,18 +56,36 @@ fn request_of(alloc: Global, asked: &str) -> Result<Request, AllocError> {
     }
 }
 
-// What the server answers, whose SELECTs wait at the barrier.
-fn reply<'w, J: Naming<Global>, R: Wait>(
+// Whether a reply is one row of this number.
+fn is_row(reply: &Reply, number: &str) -> bool {
+    let Reply::Rows(rows) = reply else {
+        return false;
+    };
+    let [row] = rows.as_slice() else {
+        return false;
+    };
+    match (row.as_slice(), number.parse::<i64>()) {
+        ([Value::Int(found)], Ok(number)) => *found == number,
+        _ => false,
+    }
+}
+
+// Whether the server, whose SELECTs wait at the barrier, answers as it should.
+fn is_replied<'w, J: Naming<Global>, R: Wait>(
     rt: &R,
     alloc: Global,
     server: &Server<'w, J>,
     pass: &mut Pass<'w, J>,
-    asked: &str,
+    (asked, want): (&str, &str),
     barrier: &Barrier,
-) -> &'static str {
-    match request_of(alloc, asked) {
-        Ok(request) => word_of(&server.call_gated(rt, alloc, pass, &request, barrier)),
-        Err(_) => "no memory",
+) -> bool {
+    let Ok(request) = request_of(alloc, asked) else {
+        return false;
+    };
+    let reply = server.call_gated(rt, alloc, pass, &request, barrier);
+    match want.strip_prefix("one row ") {
+        Some(number) => is_row(&reply, number),
+        None => word_of(&reply) == want,
     }
 }
 
@@ -87,20 +102,20 @@ fn at_barrier(asked: &str, barrier: &Barrier) -> &'static str {
     "done"
 }
 
-// What a line is answered.
-fn told<'w, J: Naming<Global>, R: Threads + Wait + Abort + Sync>(
+// Whether a line is answered as it should.
+fn is_told<'w, J: Naming<Global>, R: Threads + Wait + Abort + Sync>(
     rt: &R,
     alloc: Global,
     server: &Server<'w, J>,
     pass: &mut Pass<'w, J>,
-    asked: &str,
+    (asked, want): (&str, &str),
     barrier: &Barrier,
-) -> &'static str {
+) -> bool {
     if let Some(events) = asked.strip_prefix("AFTER ") {
         let is_seen = are_seen(pass, events.parse::<u64>().unwrap_or(100));
-        return if is_seen { "seen" } else { "late" };
+        return is_seen && want == "seen";
     }
-    match asked {
+    let told = match asked {
         "WAIT" => word_of(&server.wait_safe(rt, alloc, pass)),
         "VIEW" => viewed(rt, alloc, server, pass, barrier),
         "DUMP 1" => dumped(rt, alloc, server, pass, (1, 1), barrier),
@@ -110,8 +125,9 @@ fn told<'w, J: Naming<Global>, R: Threads + Wait + Abort + Sync>(
         "DUMP 8" => dumped(rt, alloc, server, pass, (8, 1), barrier),
         "DUMP 8 BY 3" => dumped(rt, alloc, server, pass, (8, 3), barrier),
         "SHUT" | "OPEN" | "REACH" => at_barrier(asked, barrier),
-        _ => reply(rt, alloc, server, pass, asked, barrier),
-    }
+        _ => return is_replied(rt, alloc, server, pass, (asked, want), barrier),
+    };
+    told == want
 }
 
 /// A session's part in a script: how its lines begin, the lines of all sessions, and where it waits.
@@ -143,7 +159,7 @@ pub(crate) fn play<'w, J: Naming<Global>, R: Threads + Wait + Abort + Sync>(
     for line in part.script.lines() {
         let (asked, want) = line.rsplit_once(": ").unwrap_or((line, "no answer"));
         if let Some(asked) = asked.strip_prefix(part.session) {
-            let is_so = told(rt, alloc, server, pass, asked, part.barrier) == want;
+            let is_so = is_told(rt, alloc, server, pass, (asked, want), part.barrier);
             assert!(rt; is_so, "{line}");
         }
     }

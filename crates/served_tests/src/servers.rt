@@ -1,4 +1,5 @@
-//! Sessions on threads of their own, each of which plays its lines of a script, and a checkpoint that is gone on from.
+//! Sessions on threads of their own, each of which plays its lines of a script; what a server is refused for; and a
+//! checkpoint that is gone on from.
 
 ghost use Rattle.std.specs.Prelude.{◌≡◌, [], IsTrue};
 ghost use Rattle.schema.specs.Plain.{is_sound};
@@ -11,17 +12,17 @@ use pass::token::Pass;
 use pass::word::{FirstSeat, HistoryWord, Naming};
 use schema::catalog::Catalog;
 use schema::tables::Tables;
-use server::shared::{Limits, Server};
+use server::shared::Server;
 use session::sessions::Core;
 use std::alloc::Global;
 use std::marker::Brand;
 use std::process::Abort;
 use std::sync::Wait;
 use std::thread::Threads;
-use value::refusal::Refusal;
+use value::refusal::{Code, Refusal};
 
 // Scripts of three sessions, with blank lines between them. A line has a session's number, what it asks for and what it
-// is answered. AFTER 6 waits for six events. DUMP 2 BY 3 is a dump by two jobs with three rows a piece, one where no number of rows is said. At SHUT and OPEN a barrier is shut and opened at which SELECTs, views and
+// is answered. Behind `one row` stands the number that it has. AFTER 6 waits for six events. DUMP 2 BY 3 is a dump by two jobs with three rows a piece, one where no number of rows is said. At SHUT and OPEN a barrier is shut and opened at which SELECTs, views and
 // dumps are held, and REACH waits until one is.
 const SCRIPTS: &str = "\
 1 BEGIN: begun
@@ -39,7 +40,7 @@ const SCRIPTS: &str = "\
 1 INSERT INTO a VALUES (1): inserted
 1 COMMIT: committed
 1 BEGIN READ ONLY: begun
-1 SELECT * FROM a WHERE id = 1: one row
+1 SELECT * FROM a WHERE id = 1: one row 1
 2 BEGIN: begun
 2 INSERT INTO b VALUES (1): inserted
 2 COMMIT: committed
@@ -58,7 +59,19 @@ const SCRIPTS: &str = "\
 1 SELECT * FROM a: no row
 1 COMMIT: committed
 1 BEGIN READ ONLY: begun
-1 SELECT * FROM a: one row
+1 SELECT * FROM a: one row 1
+2 REACH: reached
+2 BEGIN: begun
+2 INSERT INTO a VALUES (1): inserted
+2 COMMIT: committed
+2 OPEN: done
+
+1 SHUT: done
+1 BEGIN: begun
+1 SELECT * FROM a WHERE id = 1: no row
+1 COMMIT: committed
+1 BEGIN READ ONLY: begun
+1 SELECT * FROM a WHERE id = 1: one row 1
 2 REACH: reached
 2 BEGIN: begun
 2 INSERT INTO a VALUES (1): inserted
@@ -342,13 +355,45 @@ fn play_script<J: Naming<Global> + Send + Sync, R: Threads + Wait + Abort + Sync
     requires sound { IsTrue (is_sound opening.0 opening.1) }
 {
     let (catalog, tables) = opening;
-    let limits = Limits {
-        events: 100,
-        sessions: 3,
-    };
-    match Server::<J>::open(alloc, word, first, catalog, tables, limits) {
+    match Server::<J>::open(alloc, word, first, catalog, tables, 100, 3) {
         Ok(opened) => play_opened(rt, alloc, opened, script_at(place)),
         Err(_) => panic!(rt; "no server"),
+    }
+}
+
+// A server isn't opened for no events, nor for no session or 65.
+#[test]
+fn numbers_outside_are_refused(rt: HostRuntime) -> Result<(), Refusal> {
+    let alloc = rt.alloc();
+    for (events, sessions) in [(0, 1), (10, 0), (10, 65)] {
+        let opening = opening(alloc, &[])?;
+        let (word, first) = HistoryWord::new(alloc, &opening.0, &opening.1, Base::zero())?;
+        let code = refused::<Brand>(alloc, &word, first, opening, events, sessions);
+        let is_refused = code == Some(Code::ProgramLimitExceeded);
+        assert!(rt; is_refused, "{events} events, {sessions} sessions");
+    }
+    Ok(())
+}
+
+// The code by which a server isn't opened.
+fn refused<J: Naming<Global>>(
+    alloc: Global,
+    word: &HistoryWord,
+    first: FirstSeat,
+    opening: (Catalog, Tables),
+    events: u32,
+    sessions: u32,
+) -> Option<Code>
+    requires word { word.now ≡ record { table = J.table; opening = J.opening } }
+    requires first { first ≡ J.table }
+    requires opening { J.opening ≡ record { catalog = opening.0; tables = opening.1; base = zero_base } }
+    requires most { J.most ≡ events }
+    requires sound { IsTrue (is_sound opening.0 opening.1) }
+{
+    let (catalog, tables) = opening;
+    match Server::<J>::open(alloc, word, first, catalog, tables, events, sessions) {
+        Ok(_opened) => None,
+        Err(refusal) => Some(refusal.code),
     }
 }
 
@@ -366,7 +411,7 @@ fn a_checkpoint_is_gone_on_from(rt: HostRuntime) -> Result<(), Refusal> {
     if !opened.records().is_empty() {
         return Err(not_asked());
     }
-    let tables = opened.tables(alloc)?;
+    let tables = opened.copy_tables(alloc)?;
     let (word, first) = HistoryWord::new(alloc, opened.catalog(), &tables, opened.base())?;
     go_on::<Brand, _>(&rt, alloc, &word, first, core)
 }
@@ -401,11 +446,7 @@ fn one_row<J: Naming<Global>, R: Threads + Wait + Abort + Sync>(
     requires most { J.most ≡ 100 }
     requires sound { IsTrue (is_sound catalog tables) }
 {
-    let limits = Limits {
-        events: 100,
-        sessions: 1,
-    };
-    match Server::<J>::open(alloc, word, first, catalog, tables, limits) {
+    match Server::<J>::open(alloc, word, first, catalog, tables, 100, 1) {
         Ok(opened) => {
             let script =
                 "1 BEGIN: begun\n1 INSERT INTO a VALUES (7): inserted\n1 COMMIT: committed";
@@ -429,7 +470,7 @@ fn go_on<J: Naming<Global>, R: Threads + Wait + Abort + Sync>(
 {
     match Server::<J>::resume(alloc, word, first, core, 1) {
         Ok(opened) => {
-            let script = "1 BEGIN: begun\n1 SELECT * FROM a WHERE id = 7: one row";
+            let script = "1 BEGIN: begun\n1 SELECT * FROM a WHERE id = 7: one row 7";
             play_alone(rt, alloc, opened, script);
             Ok(())
         }

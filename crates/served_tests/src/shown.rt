@@ -5,7 +5,7 @@ ghost use Rattle.std.specs.Prelude.{◌≡◌, length, IfOk};
 use crate::fixture::{Barrier, Tape};
 use backup::dump_safe;
 use dumpplan::{Jobs, PieceRows};
-use dumpworker::{Workers, dump};
+use dumpworker::dump;
 use mvrows::view::View;
 use pass::token::Pass;
 use pass::word::Naming;
@@ -90,15 +90,10 @@ pub(crate) fn dumped<'w, J: Naming<Global>, R: Threads + Wait + Abort + Sync>(
     let (Some(jobs), Some(piece_rows)) = (Jobs::new(jobs), PieceRows::new(rows)) else {
         return "no jobs";
     };
-    let workers = Workers {
-        rt,
-        alloc,
-        jobs,
-        piece_rows,
-        gate: barrier,
-    };
     let mut tape = Tape::new(rt, alloc);
-    match dump_safe(&workers, server, pass, &mut tape) {
+    match dump_safe(
+        rt, alloc, server, pass, jobs, piece_rows, &mut tape, barrier,
+    ) {
         Ok(()) => word_of(tape.taken.as_slice()),
         Err(_) => "refused",
     }
@@ -131,16 +126,11 @@ pub(crate) fn viewed<'w, J: Naming<Global>, R: Threads + Wait + Abort + Sync>(
     let (Some(jobs), Some(piece_rows)) = (Jobs::new(1), PieceRows::new(9)) else {
         return "no jobs";
     };
-    let workers = Workers {
-        rt,
-        alloc,
-        jobs,
-        piece_rows,
-        gate: barrier,
-    };
     let mut tape = Tape::new(rt, alloc);
     let catalog = server.catalog();
-    match dump(&workers, &view, catalog, &mut tape) {
+    match dump(
+        rt, alloc, &view, catalog, jobs, piece_rows, &mut tape, barrier,
+    ) {
         Ok(()) => word_of(tape.taken.as_slice()),
         Err(_) => "refused",
     }

@@ -1,4 +1,4 @@
-//! SELECTs, which are evaluated while the lock is free where they may read many rows.
+//! SELECTs, which are evaluated while the lock is free, but where a caller without a gate reads one row.
 
 ghost use Rattle.std.specs.Prelude.{◌≡◌, true, false, Ok, IfOk, IfErr};
 ghost use Rattle.value.specs.Refusals.{out_of_memory};
@@ -13,7 +13,7 @@ ghost use Rattle.server.specs.Calls.{IsCall};
 use crate::entrance::go_on;
 use crate::hold::{FirstHold, Reading};
 use crate::shared::Server;
-use dumpplan::Gate;
+use dumpplan::{Gate, NoGate};
 use history::event::Action;
 use pass::token::Pass;
 use pass::word::Naming;
@@ -43,14 +43,22 @@ fn selects_one_row<A: Allocator>(statement: &Statement<A>) -> bool {
     }
 }
 
-// The statement that an action runs, where it only reads, and maybe many rows; else the action.
+// Whether an action runs such a statement.
+fn runs_one_row<A: Allocator>(action: &Action<A>) -> bool {
+    match action {
+        Action::Run(statement) => selects_one_row(statement),
+        _ => false,
+    }
+}
+
+// The statement that an action runs, where it only reads; else the action.
 fn reading_of<A: Allocator>(action: Action<A>) -> Result<Statement<A>, Action<A>>
     ensures ok { IfOk result (λ statement. action ≡ Action.Run statement) }
     ensures reads { IfOk result (λ statement. writes statement ≡ false) }
     ensures err { IfErr result (λ other. other ≡ action) }
 {
     let statement = action.into_statement()?;
-    if statement.writes() || selects_one_row(&statement) {
+    if statement.writes() {
         Err(Action::Run(statement))
     } else {
         Ok(statement)
@@ -77,7 +85,7 @@ fn found_on<A: Allocator + Copy>(
 }
 
 impl<'w, J: Naming<A>, A: Allocator> Server<'w, J, A> {
-    /// `call`, with a gate that is asked before a SELECT is evaluated while the lock is free, as piece 1, and after it.
+    /// `call`, with a gate that is asked before a SELECT is evaluated, as piece 1, and after it. The lock is free then.
     pub fn call_gated<R: Wait, G: Gate>(
         &self,
         rt: &R,
@@ -98,6 +106,27 @@ impl<'w, J: Naming<A>, A: Allocator> Server<'w, J, A> {
                 let _session = pass.session();
                 Reply::Refused(refusal)
             }
+        }
+    }
+
+    // Does one event, and a SELECT of one row in one hold.
+    pub(crate) fn act_at_once<R: Wait>(
+        &self,
+        rt: &R,
+        alloc: A,
+        pass: &mut Pass<'w, J, A>,
+        action: Action<A>,
+    ) -> Reply<A>
+    where
+        A: Copy,
+        requires { Allowed J.opening.catalog action }
+        ensures seen { HasSeen J.opening pass.old pass.new }
+        ensures call { IsCall J.most pass.old action result pass.new }
+    {
+        if runs_one_row(&action) {
+            self.act(rt, alloc, pass, action)
+        } else {
+            self.act_gated(rt, alloc, pass, action, &NoGate)
         }
     }
 

@@ -11,7 +11,6 @@ ghost use Rattle.server.specs.Calls.{AreOpened, HasLeft, HasPolled, IsCall, IsCl
 
 use crate::entrance::{Entrance, go_on};
 use crate::locked::Locked;
-use dumpplan::NoGate;
 use history::event::Action;
 use mvrows::view::View;
 use pass::keeper::Keeper;
@@ -48,13 +47,6 @@ impl<'w, J: Naming<A>, A: Allocator> Drop for Server<'w, J, A> {
             catalog: _,
         } = self;
     }
-}
-
-/// How many events and sessions a server has room for.
-#[derive(Clone, Copy, Debug, PartialEq, Eq)]
-pub struct Limits {
-    pub events: u32,
-    pub sessions: u32,
 }
 
 // Whether there can't be so many sessions.
@@ -101,8 +93,8 @@ fn is_wait<A: Allocator>(reply: &Reply<A>) -> bool
 }
 
 impl<'w, J: Naming<A>, A: Allocator> Server<'w, J, A> {
-    /// A server that begins with these tables, and the passes of sessions 1, 2, ..; refused with
-    /// 54000 for no events, or sessions outside 1 to 64. The word is made of the same catalog and
+    /// A server that begins with these tables and has room for so many events, and the passes of sessions 1, 2, ..;
+    /// refused with 54000 for no events, or sessions outside 1 to 64. The word is made of the same catalog and
     /// tables, and serves this server alone.
     pub fn open(
         alloc: A,
@@ -110,25 +102,26 @@ impl<'w, J: Naming<A>, A: Allocator> Server<'w, J, A> {
         first: FirstSeat<A>,
         catalog: Catalog<A>,
         tables: Tables<A>,
-        limits: Limits,
+        max_events: u32,
+        sessions: u32,
     ) -> Result<(Server<'w, J, A>, Vec<Pass<'w, J, A>, A>), Refusal>
     where
         A: Copy,
         requires word { word.now ≡ record { table = J.table; opening = J.opening } }
         requires first { first ≡ J.table }
         requires opening { J.opening ≡ record { catalog = catalog; tables = tables; base = zero_base } }
-        requires most { J.most ≡ limits.events }
+        requires most { J.most ≡ max_events }
         requires sound { IsTrue (is_sound catalog tables) }
-        ensures opened { IfOk result (λ opened. AreOpened limits.sessions opened.1.items) }
-        ensures within { IfOk result (λ opened. (limits.events == 0 || is_no_count limits.sessions) ≡ false) }
+        ensures opened { IfOk result (λ opened. AreOpened sessions opened.1.items) }
+        ensures within { IfOk result (λ opened. (max_events == 0 || is_no_count sessions) ≡ false) }
         ensures refused { IfErr result (λ e. e ≡
-            opening_refusal (limits.events == 0 || is_no_count limits.sessions)) }
+            opening_refusal (max_events == 0 || is_no_count sessions)) }
     {
-        if limits.events == 0 || is_no_count_of_sessions(limits.sessions) {
+        if max_events == 0 || is_no_count_of_sessions(sessions) {
             return Err(Refusal::of_code(Code::ProgramLimitExceeded));
         }
-        let core = Core::open(alloc, catalog, tables, limits.events)?;
-        match Server::on(alloc, word, first, core, limits.sessions) {
+        let core = Core::open(alloc, catalog, tables, max_events)?;
+        match Server::on(alloc, word, first, core, sessions) {
             Ok(opened) => Ok(opened),
             Err((_core, refusal)) => Err(refusal),
         }
@@ -209,7 +202,14 @@ impl<'w, J: Naming<A>, A: Allocator> Server<'w, J, A> {
         ensures seen { HasSeen J.opening pass.old pass.new }
         ensures call { IsCall J.most pass.old (asked J.opening.catalog request.now) result pass.new }
     {
-        self.call_gated(rt, alloc, pass, request, &NoGate)
+        match request.action(alloc, &self.catalog) {
+            Ok(action) => self.act_at_once(rt, alloc, pass, action),
+            Err(refusal) => {
+                // Nothing happens here: the call tells the prover what every pass keeps true.
+                let _session = pass.session();
+                Reply::Refused(refusal)
+            }
+        }
     }
 
     // The lock, for one event.

@@ -8,9 +8,9 @@ ghost use Rattle.schema.specs.Rows.{HasTable, IsInKeyOrder, rows_within};
 ghost use Rattle.snapshot.specs.Merging.{past_key};
 
 use schema::catalog::TableNo;
-use schema::reader::Bound;
+use schema::reader::{Bound, SnapshotReader};
 use schema::row::Row;
-use schema::walk::{RowsReader, Walk};
+use schema::walk::Walk;
 use std::alloc::Allocator;
 use std::marker::Model;
 use value::key::Key;
@@ -19,12 +19,12 @@ use value::refusal::Refusal;
 /// A walk over rows of a table in key order, whose next row is known. To a contract it is the rows
 /// still to come.
 #[derive(Drop)]
-pub(crate) struct Ahead<'r, R: RowsReader<A>, A: Allocator> {
+pub(crate) struct Ahead<'r, R: SnapshotReader<A>, A: Allocator> {
     first: Option<&'r Row<A>>,
     rest: Walk<'r, R, A>,
 }
 
-impl<'r, R: RowsReader<A>, A: Allocator> Model for Ahead<'r, R, A> {
+impl<'r, R: SnapshotReader<A>, A: Allocator> Model for Ahead<'r, R, A> {
     ghost use Rattle.std.specs.Option.{option_copied};
     ghost use Rattle.schema.specs.Rows.{Rows};
     ghost use Rattle.snapshot.specs.Merging.{first_and_rest};
@@ -44,7 +44,7 @@ fn is_of<A: Allocator>(row: Option<&Row<A>>, key: &Key<A>) -> bool
     }
 }
 
-impl<'r, R: RowsReader<A>, A: Allocator + Copy> Ahead<'r, R, A> {
+impl<'r, R: SnapshotReader<A>, A: Allocator + Copy> Ahead<'r, R, A> {
     /// A walk over the rows within a bound.
     pub fn within(
         alloc: A,

@@ -15,7 +15,6 @@ use schema::catalog::TableNo;
 use schema::changes::Changes;
 use schema::reader::{Bound, SnapshotReader};
 use schema::row::Row;
-use schema::walk::RowsReader;
 use std::alloc::{Allocator, Global};
 use value::key::Key;
 use value::refusal::Refusal;
@@ -72,7 +71,7 @@ fn push_own<'c, A: Allocator>(
 }
 
 // Takes the row of a change, where it has one, and goes past its key.
-fn take_own<'a, R: RowsReader<A>, A: Allocator + Copy>(
+fn take_own<'a, R: SnapshotReader<A>, A: Allocator + Copy>(
     key: &Key<A>,
     own: &'a Option<Row<A>>,
     ahead: &mut Ahead<'_, R, A>,
@@ -87,7 +86,7 @@ fn take_own<'a, R: RowsReader<A>, A: Allocator + Copy>(
 }
 
 // Takes the first row to come, and goes past it.
-fn take_lent<'a, R: RowsReader<A>, A: Allocator + Copy>(
+fn take_lent<'a, R: SnapshotReader<A>, A: Allocator + Copy>(
     row: &'a Row<A>,
     ahead: &mut Ahead<'_, R, A>,
     rows: &mut Vec<&'a Row<A>, A>,
@@ -207,19 +206,7 @@ impl<'a, R: SnapshotReader<A>, A: Allocator> Overlay<'a, R, A> {
     }
 }
 
-impl<R: SnapshotReader<A>, A: Allocator> SnapshotReader<A> for Overlay<'_, R, A> {
-    ghost tables = { λ o. put_all o.changes.now (R.tables o.reader.now) };
-
-    fn next_row(&self, table: TableNo, after: Bound<&Key<A>>) -> Option<&Row<A>> {
-        self.lend_next(table, after)
-    }
-
-    fn get(&self, table: TableNo, key: &Key<A>) -> Option<&Row<A>> {
-        self.lend(table, key)
-    }
-}
-
-impl<'a, R: RowsReader<A>, A: Allocator + Copy> Overlay<'a, R, A> {
+impl<'a, R: SnapshotReader<A>, A: Allocator + Copy> Overlay<'a, R, A> {
     // Whether there are rows, the last of which comes before the first change within a bound.
     fn are_before_changes(&self, table: TableNo, after: Bound<&Key<A>>, rows: &[&Row<A>]) -> bool
         ensures { result ≡ option_map_or (λ change. last_is_before (lent rows.now) change.0)
@@ -310,7 +297,17 @@ impl<'a, R: RowsReader<A>, A: Allocator + Copy> Overlay<'a, R, A> {
     }
 }
 
-impl<R: RowsReader<A>, A: Allocator + Copy> RowsReader<A> for Overlay<'_, R, A> {
+impl<R: SnapshotReader<A>, A: Allocator + Copy> SnapshotReader<A> for Overlay<'_, R, A> {
+    ghost tables = { λ o. put_all o.changes.now (R.tables o.reader.now) };
+
+    fn next_row(&self, table: TableNo, after: Bound<&Key<A>>) -> Option<&Row<A>> {
+        self.lend_next(table, after)
+    }
+
+    fn get(&self, table: TableNo, key: &Key<A>) -> Option<&Row<A>> {
+        self.lend(table, key)
+    }
+
     fn next_rows(
         &self,
         alloc: A,

@@ -19,7 +19,7 @@ use crate::outcome::{Marks, Outcome, Writes};
 use crate::reply::Reply;
 use crate::statement::{Projection, Statement};
 use schema::catalog::{Catalog, TableNo};
-use schema::walk::RowsReader;
+use schema::reader::SnapshotReader;
 use std::alloc::Allocator;
 use value::refusal::Refusal;
 
@@ -53,7 +53,7 @@ where
 }
 
 // What a SELECT answers.
-fn evaluate_select<A: Allocator + Copy, R: RowsReader<A>>(
+fn evaluate_select<A: Allocator + Copy, R: SnapshotReader<A>>(
     alloc: A,
     catalog: &Catalog<A>,
     reader: &R,
@@ -73,7 +73,7 @@ fn evaluate_select<A: Allocator + Copy, R: RowsReader<A>>(
 /// What a statement that fits answers on the tables that a reader gives, the rows that it writes,
 /// and the references that those had and have. The reply may be a fault, and then nothing is
 /// written. Only the rows between the ends that the conditions on the key leave are read.
-pub fn evaluate<A: Allocator + Copy, R: RowsReader<A>>(
+pub fn evaluate<A: Allocator + Copy, R: SnapshotReader<A>>(
     alloc: A,
     catalog: &Catalog<A>,
     statement: &Statement<A>,

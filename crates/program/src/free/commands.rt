@@ -15,7 +15,7 @@ use crate::keeping::keep_dumped;
 use crate::sessions::printed_reply;
 use backup::{BackupFault, dump_safe};
 use dumpplan::NoGate;
-use dumpworker::{DumpFault, Workers};
+use dumpworker::DumpFault;
 use history::session_id::SessionId;
 use pass::token::Pass;
 use pass::word::Naming;
@@ -96,14 +96,17 @@ where
         ensures session { pass.new.session ≡ pass.old.session }
         ensures mine { pass.new.mine ≡ pass.old.mine }
     {
-        let workers = Workers {
-            rt: self.rt,
-            alloc: self.alloc,
-            jobs: request.jobs,
-            piece_rows: request.rows,
-            gate: &NoGate,
-        };
-        dump_safe(&workers, self.server, pass, file)
+        let (jobs, rows) = (request.jobs, request.rows);
+        dump_safe(
+            self.rt,
+            self.alloc,
+            self.server,
+            pass,
+            jobs,
+            rows,
+            file,
+            &NoGate,
+        )
     }
 
     // Dumps the safe snapshot of a pass's session to a path's file, which is kept where it is whole.

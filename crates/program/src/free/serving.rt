@@ -19,7 +19,7 @@ use pass::word::{FirstSeat, HistoryWord, Naming};
 use schema::catalog::Catalog;
 use schema::tables::Tables;
 use script::script::{Line, Step};
-use server::shared::{Limits, Server};
+use server::shared::Server;
 use session::sessions::Core;
 use std::alloc::{AllocError, Global};
 use std::marker::Brand;
@@ -226,11 +226,8 @@ where
         is_checked,
         lines,
     } = beginning;
-    let limits = Limits {
-        events: most_events,
-        sessions: greatest_session(lines),
-    };
-    let opened = Server::<J>::open(alloc, word, first, catalog, tables, limits);
+    let sessions = greatest_session(lines);
+    let opened = Server::<J>::open(alloc, word, first, catalog, tables, most_events, sessions);
     let Ok((server, passes)) = opened else {
         return Err(Fault::ScriptOutOfMemory);
     };

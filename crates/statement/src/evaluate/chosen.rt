@@ -24,7 +24,7 @@ use crate::reading::End;
 use schema::catalog::TableNo;
 use schema::reader::{Bound, SnapshotReader};
 use schema::row::Row;
-use schema::walk::{RowsReader, first_rows, rows_behind};
+use schema::walk::{first_rows, rows_behind};
 use std::alloc::Allocator;
 use value::key::Key;
 use value::refusal::Refusal;
@@ -96,7 +96,7 @@ fn lower_bound<A: Allocator>(end: &End<A>) -> Bound<&Key<A>>
 }
 
 // The first rows that aren't below a lower end.
-fn rows_from<'r, A: Allocator + Copy, R: RowsReader<A>>(
+fn rows_from<'r, A: Allocator + Copy, R: SnapshotReader<A>>(
     alloc: A,
     reader: &'r R,
     table: TableNo,
@@ -199,7 +199,7 @@ fn push_batch<'r, A: Allocator>(
 }
 
 // The rows that satisfy the conditions, where all that do are between two ends.
-fn chosen_between<'r, A: Allocator + Copy, R: RowsReader<A>>(
+fn chosen_between<'r, A: Allocator + Copy, R: SnapshotReader<A>>(
     alloc: A,
     reader: &'r R,
     table: TableNo,
@@ -264,7 +264,7 @@ fn only_key<'e, A: Allocator>(low: &'e End<A>, high: &End<A>) -> Option<&'e Key<
 }
 
 // The rows that satisfy the conditions, where all that do are between two ends.
-fn chosen_within<'r, A: Allocator + Copy, R: RowsReader<A>>(
+fn chosen_within<'r, A: Allocator + Copy, R: SnapshotReader<A>>(
     alloc: A,
     reader: &'r R,
     table: TableNo,
@@ -287,7 +287,7 @@ fn chosen_within<'r, A: Allocator + Copy, R: RowsReader<A>>(
 }
 
 /// The rows of a table that satisfy all conditions, by key.
-pub(crate) fn chosen<'r, A: Allocator + Copy, R: RowsReader<A>>(
+pub(crate) fn chosen<'r, A: Allocator + Copy, R: SnapshotReader<A>>(
     alloc: A,
     reader: &'r R,
     table: TableNo,

@@ -26,7 +26,6 @@ use crate::reply::Reply;
 use schema::catalog::{Catalog, Column, TableNo};
 use schema::reader::{SnapshotReader, first_row, row_after};
 use schema::row::Row;
-use schema::walk::RowsReader;
 use std::alloc::Allocator;
 use std::cmp::Ordering;
 use value::refusal::{Code, Place, Refusal};
@@ -191,7 +190,7 @@ fn delete_rows<A: Allocator + Copy>(
 /// What a DELETE of the rows that satisfy all conditions answers, and what it writes. Only the rows
 /// between the ends that the conditions on the key leave are read of its table, and of the others
 /// those alone that have a column which references it.
-pub(super) fn delete<A: Allocator + Copy, R: RowsReader<A>>(
+pub(super) fn delete<A: Allocator + Copy, R: SnapshotReader<A>>(
     alloc: A,
     catalog: &Catalog<A>,
     reader: &R,

@@ -16,8 +16,8 @@ use crate::reply::RowList;
 use crate::statement::{Projection, Statement};
 use crate::values::Values;
 use schema::catalog::{Catalog, TableNo};
+use schema::reader::SnapshotReader;
 use schema::row::Row;
-use schema::walk::RowsReader;
 use std::alloc::Allocator;
 use value::refusal::Refusal;
 use value::value::Value;
@@ -99,7 +99,7 @@ fn shown<A: Allocator + Copy>(
 
 /// What a SELECT shows of the rows that satisfy all conditions, by key. Only the rows between the ends that the
 /// conditions on the key leave are read, and only those shown are copied.
-pub fn select<A: Allocator + Copy, R: RowsReader<A>>(
+pub fn select<A: Allocator + Copy, R: SnapshotReader<A>>(
     alloc: A,
     catalog: &Catalog<A>,
     reader: &R,

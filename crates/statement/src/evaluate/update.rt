@@ -25,7 +25,6 @@ use crate::statement::{Assignment, Assignments, Source, Statement};
 use schema::catalog::{Catalog, Column, TableNo};
 use schema::reader::SnapshotReader;
 use schema::row::Row;
-use schema::walk::RowsReader;
 use std::alloc::Allocator;
 use value::refusal::{Place, Refusal};
 use value::value::Value;
@@ -270,7 +269,7 @@ impl<'u, A: Allocator + Copy, R: SnapshotReader<A>> Updating<'u, A, R> {
 
 /// What an UPDATE answers. All rows that satisfy the conditions are looked at for each stage of
 /// faults, and only then new rows are made.
-pub(super) fn update<A: Allocator + Copy, R: RowsReader<A>>(
+pub(super) fn update<A: Allocator + Copy, R: SnapshotReader<A>>(
     alloc: A,
     catalog: &Catalog<A>,
     reader: &R,

@@ -13,8 +13,8 @@ ghost use Rattle.transactions.specs.Merged.{AreInKeyOrder, AreMerged, is_changed
 use crate::kept::added::{append_reserved, reserve};
 use schema::catalog::Catalog;
 use schema::changes::{Change, Changes};
+use schema::reader::SnapshotReader;
 use schema::row::{Row, copy_all};
-use schema::walk::RowsReader;
 use snapshot::overlay::Overlay;
 use statement::evaluate::evaluate;
 use statement::outcome::Outcome;
@@ -196,7 +196,7 @@ fn has_behind<A: Allocator>(
 }
 
 // What comes of a statement on the tables of a reader.
-fn evaluate_on<A: Allocator + Copy, R: RowsReader<A>>(
+fn evaluate_on<A: Allocator + Copy, R: SnapshotReader<A>>(
     alloc: A,
     catalog: &Catalog<A>,
     statement: &Statement<A>,
@@ -313,7 +313,7 @@ impl<A: Allocator> OwnChanges<A> {
 
     /// What comes of a statement on the tables of a reader with these changes put in. The tables
     /// aren't copied.
-    pub(crate) fn evaluate<R: RowsReader<A>>(
+    pub(crate) fn evaluate<R: SnapshotReader<A>>(
         &mut self,
         alloc: A,
         catalog: &Catalog<A>,

@@ -22,7 +22,6 @@ use schema::catalog::TableNo;
 use schema::changes::Changes;
 use schema::reader::{Bound, SnapshotReader};
 use schema::row::Row;
-use schema::walk::RowsReader;
 use snapshot::overlay::Overlay;
 use std::alloc::{Allocator, Global};
 use std::marker::Model;
@@ -62,7 +61,7 @@ impl<A: Allocator> SessionReader<A> {
     }
 }
 
-impl<A: Allocator> SnapshotReader<A> for SessionReader<A> {
+impl<A: Allocator + Copy> SnapshotReader<A> for SessionReader<A> {
     ghost tables = { λ r. r };
 
     fn next_row(&self, table: TableNo, after: Bound<&Key<A>>) -> Option<&Row<A>> {
@@ -72,9 +71,7 @@ impl<A: Allocator> SnapshotReader<A> for SessionReader<A> {
     fn get(&self, table: TableNo, key: &Key<A>) -> Option<&Row<A>> {
         Overlay::new(&self.view, &self.own).lend(table, key)
     }
-}
 
-impl<A: Allocator + Copy> RowsReader<A> for SessionReader<A> {
     fn next_rows(
         &self,
         alloc: A,

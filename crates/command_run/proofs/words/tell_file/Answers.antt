@@ -1,5 +1,5 @@
 use Rattle.std.proofs.Common.{◌∙◌, inl, inr, sym, subst}
-use Rattle.program.specs.Files.{IsAllOf, read_of}
+use Rattle.program.specs.Files.{IsAllOf, IsWritten, read_of}
 use Rattle.script_files.specs.declared.fault.Fault.TheVariants as fault
 use Rattle.script_files.proofs.EndLemmas.{appends_none, no_script, not_done, unread}
 use Rattle.command_run.proofs.TellLemmas.{path_ends}
@@ -22,7 +22,7 @@ returns-in-Ok-read_script-clause-done g c zero = (
 
 pub returns-in-Ok-read_script-clause-stopped : goal.returns-in-Ok-read_script-clause-stopped
 returns-in-Ok-read_script-clause-stopped g c other =
-    path_ends _ _ c.args.task.manner c.args.task.most_events c.args.task.script.now c.as_slice-text.result.now c.in-Ok-read_script.script c.do_read.result (g.W.Write.contents c.args.out.now) (g.W.Write.contents c.do_read.new.out)
+    path_ends (IsWritten g.F.Out.OutFile.path g.F.Out.Placed.kept) _ _ c.args.task.manner c.args.task.most_events c.args.task.script.now c.as_slice-text.result.now c.in-Ok-read_script.script c.do_read.result (g.W.Write.contents c.args.out.now) (g.W.Write.contents c.do_read.new.out)
     (subst (λ b. IsAllOf (read_of (g.F.Stored.held c.args.machine.now.files.now) (g.F.Stored.input c.args.machine.now.files.now) c.args.task.script.now) b) (sym c.as_slice-text.ensures.value) c.in-Ok.ensures.read) c.in-Ok-read_script.ensures
     (c.do_read.ensures.stopped other)
 

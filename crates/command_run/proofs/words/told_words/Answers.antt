@@ -1,6 +1,7 @@
 use Rattle.std.proofs.Common.{◌≡◌, arith, inl, inr, subst}
 use Rattle.clap.specs.Words.{kind_of}
 use Rattle.program.proofs.EndLemmas.{among}
+use Rattle.program.specs.Files.{IsWritten}
 use Rattle.script_files.proofs.EndLemmas.{four_within, help_of}
 use Rattle.command_run.specs.Told.{PathHasTold}
 use Rattle.command_run.specs.Words.{EndsWith}
@@ -36,7 +37,7 @@ pub returns-in-Ok-clause-mistake : goal.returns-in-Ok-clause-mistake
 returns-in-Ok-clause-mistake g c mistaken = absurd (mistaken.0 c.in-Ok.ensures.fails)
 
 pub returns-in-Ok-clause-did : goal.returns-in-Ok-clause-did
-returns-in-Ok-clause-did g c zero = inr (c.in-Ok.task.script.now, c.in-Ok.task.most_events, c.in-Ok.ensures.asked, subst (λ m. PathHasTold g.row.A.Denot (g.F.Stored.held c.args.machine.now.files.now) (g.F.Stored.input c.args.machine.now.files.now) m c.in-Ok.task.most_events c.in-Ok.task.script.now (g.W.Write.contents c.args.out.now) (g.W.Write.contents c.tell_file.new.out)) c.in-Ok.ensures.manner (c.tell_file.ensures.done zero))
+returns-in-Ok-clause-did g c zero = inr (c.in-Ok.task.script.now, c.in-Ok.task.most_events, c.in-Ok.ensures.asked, subst (λ m. PathHasTold g.row.A.Denot (IsWritten g.F.Out.OutFile.path g.F.Out.Placed.kept) (g.F.Stored.held c.args.machine.now.files.now) (g.F.Stored.input c.args.machine.now.files.now) m c.in-Ok.task.most_events c.in-Ok.task.script.now (g.W.Write.contents c.args.out.now) (g.W.Write.contents c.tell_file.new.out)) c.in-Ok.ensures.manner (c.tell_file.ensures.done zero))
 
 pub returns-in-Ok-clause-stopped : goal.returns-in-Ok-clause-stopped
-returns-in-Ok-clause-stopped g c other = inr (c.in-Ok.task.script.now, c.in-Ok.task.most_events, c.in-Ok.ensures.asked, subst (λ m. EndsWith g.row.A.Denot (g.F.Stored.held c.args.machine.now.files.now) (g.F.Stored.input c.args.machine.now.files.now) m c.in-Ok.task.most_events c.in-Ok.task.script.now c.tell_file.result (g.W.Write.contents c.args.out.now) (g.W.Write.contents c.tell_file.new.out)) c.in-Ok.ensures.manner (c.tell_file.ensures.stopped other))
+returns-in-Ok-clause-stopped g c other = inr (c.in-Ok.task.script.now, c.in-Ok.task.most_events, c.in-Ok.ensures.asked, subst (λ m. EndsWith g.row.A.Denot (IsWritten g.F.Out.OutFile.path g.F.Out.Placed.kept) (g.F.Stored.held c.args.machine.now.files.now) (g.F.Stored.input c.args.machine.now.files.now) m c.in-Ok.task.most_events c.in-Ok.task.script.now c.tell_file.result (g.W.Write.contents c.args.out.now) (g.W.Write.contents c.tell_file.new.out)) c.in-Ok.ensures.manner (c.tell_file.ensures.stopped other))

@@ -5,4 +5,4 @@ pub returns-in-Ok-clause-told : goal.returns-in-Ok-clause-told
 returns-in-Ok-clause-told g c = (c.in_ok-course.reply.items, c.in_ok-course.ensures.done, c.in-Ok.ensures)
 
 pub returns-in-Err-clause-fault : goal.returns-in-Err-clause-fault
-returns-in-Err-clause-fault g c = memory_stops c.args.line.now.step
+returns-in-Err-clause-fault g c = memory_stops c.args.course c.args.line.now.step
