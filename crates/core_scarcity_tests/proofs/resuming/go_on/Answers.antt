@@ -14,11 +14,11 @@ module _ {A : Type 0} where
       → c ≡ h.opening.catalog → X ≡ h.opening.tables → b ≡ h.opening.base → o ≡ record { catalog = c; tables = X; base = b } → core ≡ record { opening = o; records = []; most = core.most }
   at_rest core h o records c X b is listed none catalog tables base opening =
       let opened : o ≡ core.opening =
-          opening
-          ∙ ap (λ (x : Catalog). record { catalog = x; tables = X; base = b }) catalog
-          ∙ ap (λ (x : Tables A). record { catalog = h.opening.catalog; tables = x; base = b }) tables
-          ∙ ap (λ (x : Base). record { catalog = h.opening.catalog; tables = h.opening.tables; base = x }) base
-          ∙ ap (λ (r : Recorded A). r.opening) is in
+      opening
+      ∙ ap (λ (x : Catalog). record { catalog = x; tables = X; base = b }) catalog
+      ∙ ap (λ (x : Tables A). record { catalog = h.opening.catalog; tables = x; base = b }) tables
+      ∙ ap (λ (x : Base). record { catalog = h.opening.catalog; tables = h.opening.tables; base = x }) base
+      ∙ ap (λ (r : Recorded A). r.opening) is in
       let empty : core.records ≡ [] = sym (ap (λ (r : Recorded A). r.records) is) ∙ sym listed ∙ nil_from_length records none in
       ap (λ (x : Opening A). record { opening = x; records = core.records; most = core.most }) (sym opened) ∙ ap (λ (x : List (Record A)). record { opening = o; records = x; most = core.most }) empty
 
