@@ -163,6 +163,38 @@ class Reading(unittest.TestCase):
         self.assertEqual(form[10:], ({edn.Keyword("a"): (1,)}, "2020", edn.Symbol("sym")))
         self.assertEqual(edn.written(form[:8]), '[1 -2 3 nil true :a/b "x\\n\\"y" "\\n"]')
 
+    def test_texts_and_characters_of_edn(self) -> None:
+        for text, wanted in (
+            (r'"\u0041"', "A"), (r'"\\u0041"', r"\u0041"), (r'"\ud83d\ude00"', "\U0001f600"), (r"\u0041", "A"), (r"\a", "a"), (r"\;", ";"),
+            ('"a\u2028b\x85c\rd"', "a\u2028b\x85c\rd"), ("a\u2028b", edn.Symbol("a\u2028b")), ("\u0663", edn.Symbol("\u0663")),
+            ("#_ #_ 1 2 3", 3), ("#tag #_ 1 2", 2), ("-0", 0), ("1.50M", edn.Symbol("1.50M")), ("-1/2", edn.Symbol("-1/2")),
+        ):  # fmt: skip
+            with self.subTest(text):
+                self.assertEqual(list(edn.Reader(text).forms()), [wanted])
+        told = '"\\u0000\\u001f\\n\\\\\\""'
+        self.assertEqual(edn.written(next(edn.Reader(told).forms())), told)
+
+    def test_what_is_no_edn_is_refused_with_its_line(self) -> None:
+        for text in (
+            '"a', "(1]", "]", "{:a}", "#{1 1}", "{:a 1 :a 2}", "#{{}}", "{[{}] 1}", r'"\q"', r'"\u12"', r'"\ud83d"', r"\foo", r"\ab1", ":", "007",
+            "[1 007]", "1abc", "9" * 5000, f"[1 {'9' * 5000}]", "[" * 5000, "[" * 5000 + "]" * 5000, "#a " * 5000 + "1", "#_" * 5000 + "1", "#_", "a\0", '"\ud800"', "\ud800",
+        ):  # fmt: skip
+            with self.subTest(text[:20]), self.assertRaisesRegex(edn.Malformed, "^history line 2: "):
+                list(edn.Reader("1\n" + text).forms())
+
+    def test_what_looks_alike_is_told_apart(self) -> None:
+        self.assertEqual(len({edn.Keyword("x"), edn.Symbol("x"), "x", edn.Vector(("x",))}), 4)
+        for one, other in (("x", ":x"), ("x", '"x"'), (":x", '["x"]'), ('"\\\\u0041"', '"A"')):
+            with self.subTest(one, other=other):
+                self.assertEqual(answer(history(f"[[:w {one} 1] [:w {other} 2]]", f"[[:r {one} 1] [:r {other} 2]]")), "yes")
+                self.assertEqual(answer(history(f"[[:w {one} 1] [:w {other} 2]]", f"[[:r {one} 2] [:r {other} 2]]")), "no")
+
+    def test_texts_of_any_sign_are_written_on_one_line(self) -> None:
+        for text in ("\u2028", "\x85", "\r", "\v", "\x1c", r"\u0000", r"\n"):
+            with self.subTest(repr(text)):
+                self.assertEqual(answer(history(f'[[:w "a{text}b" "{text}"]]', f'[[:r "a{text}b" "{text}"]]')), "yes")
+                self.assertEqual(answer(history(f'[[:w x "{text}"]]', '[[:r x "a"]]')), "no")
+
     def test_a_history_may_be_one_vector_of_records(self) -> None:
         text = history("[[:w x 1]]", "[[:r x 1]]").replace("{", "#jepsen.history.Op{")
         self.assertEqual(answer(f"[{text}]"), "yes")
@@ -193,6 +225,14 @@ class Reading(unittest.TestCase):
         self.refused(good + "{:type :gone :process 0}", "line 3: the type")
         self.refused(good + "{:type", "line 3: the text ends")
         self.refused(good + "\n]", "line 4: \\] stands too early")
+        self.refused(good + "[]", "line 3: a history has operations alone")
+        self.refused(f"[{good} 5]", "a history has operations alone")
+        for value in ("[:w [{:a 1}] 2]", "[:w x [{:a 1}]]", "[:w {:a 1} 2]"):
+            self.refused(good + f"{{:type :ok :process 7 :value [{value}]}}", "line 3: .*is a map, or has one")
+        self.refused(good + "{:type :ok :process {} :value []}", "line 3: the process")
+        self.refused(good + "{:type :ok :process 7 :value [[:r nil 1]]}", "line 3: the key")
+        for long in (f'[[:w x "{"y" * 70000}"]]', f'[[:r "{"y" * 65530}" nil]]', f'[[:w {"y" * 70000} 1]]', f'[[:append {"y" * 70000} 1]]'):
+            self.refused(good + f"{{:type :ok :process 7 :value {long}}}", "line 3: .*more than 65536 bytes")
 
 
 class Back(unittest.TestCase):
@@ -248,6 +288,32 @@ class Back(unittest.TestCase):
         ):  # fmt: skip
             with self.subTest(statement), self.assertRaisesRegex(edn.Malformed, "line 4: a history has reads and writes"):
                 jepsen.history(f"{begin}> 1 {statement};\n  1 {reply}\n")
+
+    def test_what_is_no_transcript_is_refused_with_its_line(self) -> None:
+        begin = "> CREATE TABLE t (id bigint PRIMARY KEY, v bigint);\n> 1 BEGIN;\n  1 BEGIN\n"
+        select, insert = f"{begin}> 1 SELECT v FROM t WHERE id = 1;\n  1 ", "> 1 INSERT INTO t {};\n  1 INSERT 0 1\n"
+        for line, text in (
+            (4, begin + "  \u00b2 BEGIN\n"), (4, begin + "  2 BEGIN\n"), (4, begin + "> 65 BEGIN;\n"), (4, begin + "> \u0663 BEGIN;\n"),
+            (5, select + "SELECT x\n"), (5, select + "BEGIN\n"), (4, select + "SELECT 1\n  1 | x\n"), (6, select + "SELECT 1\n  2 COMMIT\n"),
+            (6, select + "SELECT 1\n"), (4, select + "SELECT 1\n  1 | 1\t2\n"), (4, select + "SELECT 2\n  1 | 1\n  1 | 2\n"),
+            (5, begin + "> 1 COMMIT;\n> 1 BEGIN;\n"), (1, "> CREATE TABLE t (id);\n"), (1, "> CREATE TABLE t (id int PRIMARY KEY);\n"),
+            *((4, begin + insert.format(row)) for row in (
+                "VALUES (DEFAULT, 2)", "DEFAULT VALUES", "(v, id) VALUES (1, 2)", "VALUES (1)", "VALUES (?, 1)", "VALUES (1, 2), (3, 4)",
+                f"VALUES ({'9' * 5000}, 1)", f"VALUES {'(' * 5000}1, 2{')' * 5000}", "VALUES (1, 2) RETURNING v",
+            )),
+            (4, begin + "> 1 SELECT v FROM t WHERE id = 1 LIMIT 0;\n  1 SELECT 0\n"),
+        ):  # fmt: skip
+            with self.subTest(text[:200]), self.assertRaisesRegex(edn.Malformed, f"^history line {line}: "):
+                jepsen.history(text)
+
+    def test_output_is_utf_8_whatever_the_locale_is(self) -> None:
+        folder = os.path.dirname(os.path.abspath(__file__))
+        environment = {**os.environ, "PYTHONIOENCODING": "ascii"}
+        run = [sys.executable, "-B", "-m", "pgserial.jepsen"]
+        text = history('[[:w "\u6f22" 1] [:r 2 nil]]')
+        there = subprocess.run([*run, "-"], input=text.encode(), cwd=folder, capture_output=True, env=environment)
+        self.assertEqual((there.returncode, there.stderr), (0, b""))
+        self.assertIn("'\"\u6f22\"'", there.stdout.decode())
 
     def test_from_the_command_line(self) -> None:
         folder = os.path.dirname(os.path.abspath(__file__))

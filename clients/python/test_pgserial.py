@@ -3,11 +3,16 @@
     python3 clients/python/test_pgserial.py
 """
 
+import array
+import collections
+import enum
 import os
+import signal
 import tempfile
 import threading
+import time
 import unittest
-from typing import Any, Callable, List, Optional, Tuple
+from typing import Any, Callable, List, Optional, Tuple, Type
 from unittest import mock
 
 import pgserial
@@ -73,7 +78,8 @@ class Starting(Case):
         self.assertEqual(list(server.tables), ["t", "u"])
 
     def test_a_faulty_schema_is_refused(self) -> None:
-        for schema in ("CREATE TABLE t (id int PRIMARY KEY)", PAIRS + PAIRS, "CREATE TABLE t (v bigint)"):
+        blanks = [PAIRS.replace(" (id", f"{blank}(id") for blank in ("\u2028", "\xa0", "\x85", "\x1c", "\v")]
+        for schema in ("CREATE TABLE t (id int PRIMARY KEY)", PAIRS + PAIRS, "CREATE TABLE t (v bigint)", *blanks):
             with self.assertRaisesRegex(pgserial.SyntaxError, "CREATE TABLE"):
                 self.server(schema)
         for schema in ("1 BEGIN", "OPEN dump", "DROP TABLE t", "\\d"):
@@ -81,6 +87,22 @@ class Starting(Case):
                 self.server(schema)
         with self.assertRaises(pgserial.ProgrammingError):
             self.server(PAIRS, dump="dump")
+        for none in (5, PAIRS.encode(), [PAIRS.encode()], [None]):
+            self.assertRaises(pgserial.ProgrammingError, pgserial.Server, none, program=PROGRAM)
+
+    def test_a_long_schema_is_refused_too(self) -> None:
+        told: List[BaseException] = []
+
+        def start() -> None:
+            try:
+                self.server(PAIRS * 30000)
+            except pgserial.Error as error:
+                told.append(error)
+
+        thread = threading.Thread(target=start, daemon=True)
+        thread.start()
+        thread.join(20)
+        self.assertIsInstance(told[0] if told else None, pgserial.SyntaxError)
 
     def test_a_dump_that_cannot_be_read_is_told(self) -> None:
         with tempfile.TemporaryDirectory() as folder:
@@ -144,6 +166,23 @@ class Values(Case):
             connection.execute("INSERT INTO kinds VALUES (1, 'two\nlines', NULL, 0)")
         self.assertEqual(connection.execute("INSERT INTO kinds VALUES (1, 'one', NULL, 0)").rowcount, 1)
 
+    def test_values_go_as_they_are_whatever_they_show(self) -> None:
+        class Colour(str, enum.Enum):
+            RED = "red"
+
+        class Number(int):
+            def __int__(self) -> int:
+                return 7
+
+        class Shown(str):
+            def replace(self, *_: Any) -> str:
+                return "shown"
+
+        connection = self.server().connect()
+        connection.execute(Shown("INSERT INTO kinds VALUES (%s, %s, NULL, 0)"), (Number(1), Colour.RED))
+        connection.execute("INSERT INTO kinds VALUES (2, %s, NULL, 0)", (Shown("it's"),))
+        self.assertEqual(connection.execute("SELECT id, word FROM kinds").fetchall(), [(1, "red"), (2, "it's")])
+
     def test_numbers_beyond_64_bits_are_refused(self) -> None:
         connection = self.server().connect()
         with self.assertRaises(pgserial.NumericValueOutOfRange):
@@ -191,6 +230,23 @@ class Values(Case):
                 connection.execute(operation, values)  # type: ignore[arg-type]
         self.assertFalse(connection.in_transaction)
 
+    def test_what_is_executed_is_a_text_and_parameters_are_in_an_order(self) -> None:
+        connection = self.server().connect()
+        cursor, select = connection.cursor(), "SELECT * FROM kinds WHERE id = %s"
+        for operation in (None, b"SELECT * FROM kinds", 5, ["SELECT * FROM kinds"]):
+            self.assertRaises(pgserial.ProgrammingError, connection.execute, operation)
+            self.assertRaises(pgserial.ProgrammingError, cursor.executemany, operation, [()])
+            self.assertRaises(pgserial.ProgrammingError, connection.ask, operation)
+        for parameters in (5, b"1", bytearray(b"1"), memoryview(b"1"), {1}, frozenset([1]), iter([1]), True, object()):
+            with self.subTest(parameters):
+                self.assertRaises(pgserial.ProgrammingError, connection.execute, select, parameters)
+                self.assertRaises(pgserial.ProgrammingError, cursor.executemany, "DELETE FROM kinds WHERE id = %s", [parameters])
+        for several in (None, 5, object()):
+            self.assertRaises(pgserial.ProgrammingError, cursor.executemany, "DELETE FROM kinds WHERE id = %s", several)
+        self.assertFalse(connection.in_transaction)
+        for parameters in ([1], (1,), range(1, 2), collections.deque([1]), array.array("q", [1])):
+            self.assertEqual(connection.execute(select, parameters).fetchall(), [])
+
     def test_a_statement_may_have_several_lines(self) -> None:
         connection = self.server().connect()
         self.assertEqual(connection.execute("\nSELECT word,\n\tid\nFROM kinds\nWHERE id = 1;\n").fetchall(), [])
@@ -228,6 +284,15 @@ class Cursors(Case):
         self.assertEqual([n for n, _ in cursor], [8, 9])
         self.assertEqual((cursor.fetchone(), cursor.fetchmany(5), cursor.fetchall()), (None, [], []))
         self.assertEqual(cursor.execute("SELECT v FROM t WHERE id >= 8").fetchall(), [(64,), (81,)])
+
+    def test_rows_are_fetched_by_a_number_from_0_on(self) -> None:
+        cursor = self.pairs((1, 10), (2, 20)).connect().execute("SELECT id FROM t")
+        self.assertEqual((cursor.fetchone(), cursor.fetchmany(0)), ((1,), []))
+        for size in (-1, "1", 1.0):
+            self.assertRaises(pgserial.ProgrammingError, cursor.fetchmany, size)
+        cursor.arraysize = -1
+        self.assertRaises(pgserial.ProgrammingError, cursor.fetchmany)
+        self.assertEqual(cursor.fetchall(), [(2,)])
 
     def test_rowcount_tells_how_many_rows_a_statement_met(self) -> None:
         connection = self.pairs((1, 10), (2, 20), (3, 30)).connect()
@@ -325,7 +390,7 @@ class Refusals(Case):
             self.assertTrue(issubclass(getattr(pgserial, name + "Error"), pgserial.DatabaseError))
         for name in ("Database", "Interface"):
             self.assertTrue(issubclass(getattr(pgserial, name + "Error"), pgserial.Error))
-        self.assertEqual((pgserial.apilevel, pgserial.threadsafety, pgserial.paramstyle), ("2.0", 2, "pyformat"))
+        self.assertEqual((pgserial.apilevel, pgserial.threadsafety, pgserial.paramstyle), ("2.0", 1, "pyformat"))
 
     def test_a_failed_transaction_can_only_be_rolled_back(self) -> None:
         connection = self.server().connect()
@@ -346,6 +411,60 @@ class Refusals(Case):
         for _ in range(2):
             with self.assertRaisesRegex(pgserial.OperationalError, "the server has ended with status -9"):
                 connection.execute("SELECT * FROM parent")
+
+    def test_a_server_that_is_closed_has_no_transactions(self) -> None:
+        server = self.server()
+        connection = server.connect()
+        connection.execute("SELECT * FROM parent")
+        server.close()
+        self.assertFalse(connection.in_transaction)
+        connection.close()
+
+    def test_a_child_that_is_stopped_can_be_closed(self) -> None:
+        server = self.server()
+        server.connect().begin()
+        self.stop(server)
+        begun = time.monotonic()
+        with mock.patch.object(pgserial, "LAST_PATIENCE", 0.1, create=True):
+            closing = threading.Thread(target=server.close, daemon=True)
+            closing.start()
+            closing.join(5)
+        is_closed = not closing.is_alive()
+        server._shell._child.kill()
+        self.assertTrue(is_closed, time.monotonic() - begun)
+
+    def test_a_server_can_be_closed_while_a_thread_waits_for_its_answer(self) -> None:
+        server = self.server()
+        told: List[Any] = []
+        connection = server.connect()
+        self.stop(server)
+        waiting = threading.Thread(target=lambda: told.append(self.raised(connection.begin)), daemon=True)
+        with mock.patch.object(pgserial, "LAST_PATIENCE", 0.1, create=True):
+            waiting.start()
+            until = time.monotonic() + 10
+            while not server._shell._lost and time.monotonic() < until:
+                time.sleep(0.001)
+            closing = threading.Thread(target=server.close, daemon=True)
+            closing.start()
+            closing.join(5)
+        is_closed = not closing.is_alive()
+        server._shell._child.kill()
+        waiting.join(10)
+        self.assertTrue(is_closed)
+        self.assertTrue(issubclass(told[0], pgserial.Error), told)
+
+    def stop(self, server: pgserial.Server) -> None:
+        """Stops the child, and waits until it has stopped."""
+        os.kill(server._shell._child.pid, signal.SIGSTOP)
+        os.waitpid(server._shell._child.pid, os.WUNTRACED)
+
+    def raised(self, use: Callable[..., object], *words: object) -> Type[BaseException]:
+        """The type of what is raised."""
+        try:
+            use(*words)
+        except BaseException as error:
+            return type(error)
+        return AssertionError
 
     def test_an_exchange_that_is_broken_off_ends_the_server(self) -> None:
         connection = self.server().connect()
@@ -492,6 +611,47 @@ class Dumps(Case):
         thread.join(10)
         self.assertEqual(rows, [(10,)])
 
+    def waiting(self, server: pgserial.Server, told: List[Any], timeout: Optional[float] = None) -> threading.Thread:
+        """A thread that waits for a safe snapshot for as long as it takes, and says what came of it."""
+        reader = server.connect(deferrable=True)
+        reader.timeout = timeout
+
+        def wait() -> None:
+            try:
+                told.extend(reader.execute("SELECT v FROM t").fetchall())
+            except Exception as error:
+                told.append((type(error), reader.in_transaction))
+
+        thread = threading.Thread(target=wait, daemon=True)
+        thread.start()
+        while not reader.in_transaction:
+            pass
+        return thread
+
+    def test_a_deferrable_transaction_is_woken_when_the_last_writer_fails(self) -> None:
+        for timeout in (None, float("inf")):
+            server = self.pairs((1, 10))
+            told: List[Any] = []
+            writer = server.connect()
+            writer.execute("UPDATE t SET v = 11")
+            thread = self.waiting(server, told, timeout)
+            self.assertRaises(pgserial.UniqueViolation, writer.execute, "INSERT INTO t VALUES (1, 0)")
+            thread.join(10)
+            self.assertEqual(told, [(10,)])
+
+    def test_a_deferrable_transaction_waits_for_no_server_that_has_gone(self) -> None:
+        for ends, kind in (
+            (lambda server: server._shell._child.kill(), pgserial.OperationalError),
+            (lambda server: server.close(), pgserial.InterfaceError),
+        ):
+            server = self.pairs((1, 10))
+            told: List[Any] = []
+            server.connect().execute("UPDATE t SET v = 11")
+            thread = self.waiting(server, told)
+            ends(server)
+            thread.join(10)
+            self.assertEqual([error for error, _ in told], [kind])
+
 
 class Room(Case):
     def test_half_of_the_events_make_a_checkpoint_and_the_order_is_kept(self) -> None:
@@ -555,6 +715,66 @@ class Threads(Case):
         self.assertEqual(sorted(server.serial_order()), sorted([1, *done]))
         rows = server.connect().execute("SELECT v FROM t").fetchall()
         self.assertEqual(sum(value for value, in rows), 100 * accounts)
+
+    def test_threads_that_share_a_connection_lose_no_work_in_silence(self) -> None:
+        connection = self.pairs((1, 0)).connect()
+        done: List[int] = []
+        refused: List[str] = []
+
+        def add() -> None:
+            for _ in range(200):
+                try:
+                    with connection:
+                        connection.execute("UPDATE t SET v = v + 1")
+                        connection.execute("SELECT v FROM t")
+                    done.append(1)
+                except pgserial.ProgrammingError as error:
+                    refused.append(str(error))
+
+        running = [threading.Thread(target=add) for _ in range(8)]
+        for thread in running:
+            thread.start()
+        for thread in running:
+            thread.join(60)
+        self.assertEqual(connection.execute("SELECT v FROM t").fetchone(), (len(done),))
+        self.assertEqual({"thread" in text for text in refused}, {True})
+
+    def test_a_transaction_is_of_the_thread_that_has_begun_it(self) -> None:
+        server = self.pairs((1, 0))
+        connection = server.connect()
+        told: List[object] = []
+
+        def other(use: Callable[[], object]) -> None:
+            try:
+                told.append(use())
+            except (pgserial.Error, KeyError) as error:
+                told.append(type(error))
+
+        def leave() -> None:
+            with connection:
+                raise KeyError
+
+        def elsewhere(*uses: Callable[[], object]) -> List[object]:
+            for use in uses:
+                thread = threading.Thread(target=other, args=(use,))
+                thread.start()
+                thread.join(10)
+            results, told[:] = told[:], []
+            return results
+
+        connection.execute("UPDATE t SET v = 1")
+        uses = (connection.begin, connection.commit, connection.rollback, lambda: connection.ask("EXPORT"))
+        refused = elsewhere(*uses, lambda: connection.execute("SELECT * FROM t"))
+        self.assertEqual(refused, [pgserial.ProgrammingError] * 5)
+        self.assertEqual(elsewhere(leave), [KeyError])
+        connection.commit()
+        # Between transactions it goes from one to another; and from one that has ended, to whoever uses it.
+        self.assertEqual(elsewhere(lambda: connection.execute("SELECT v FROM t").fetchone()), [(1,)])
+        self.assertEqual(connection.execute("UPDATE t SET v = 2").rowcount, 1)
+        connection.rollback()
+        connection.begin()
+        self.assertEqual(elsewhere(connection.close), [None])
+        self.assertRaises(pgserial.InterfaceError, connection.commit)
 
     def moved(self, connection: pgserial.Connection, giver: int, taker: int) -> bool:
         """Moves 1 from one account to another, or is refused."""

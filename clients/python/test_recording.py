@@ -77,7 +77,9 @@ class Room(unittest.TestCase):
 # ---- sqlite3
 
 
-class Sqlite(Room):
+class OnSqlite(Room):
+    """A database of two rows, and what is recorded of it."""
+
     def setUp(self) -> None:
         super().setUp()
         self.file = os.path.join(self.folder, "db")
@@ -101,6 +103,8 @@ class Sqlite(Room):
         self.assertEqual(lines[: len(self.opening)], self.opening)
         return lines[len(self.opening) :]
 
+
+class Sqlite(OnSqlite):
     def test_a_transaction_is_written_as_it_goes(self) -> None:
         connection = self.recorder().wrap(self.raw())
         self.assertEqual(self.body(), [])

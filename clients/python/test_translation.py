@@ -4,8 +4,10 @@ and of the others, which only read and which may write.
     python3 clients/python/test_translation.py
 """
 
+import collections
+import itertools
 import unittest
-from typing import Any, List
+from typing import Any, Dict, List
 
 from pgserial import BIGINT, BYTEA, TEXT
 from pgserial.catalog import MADE, Column, Names, Table
@@ -178,9 +180,55 @@ class Statements(unittest.TestCase):
             ("qmark", "SELECT v FROM t WHERE id = :a AND v > @b", {"a": 1, "b": 2}), ("named", "SELECT v FROM t WHERE id=:a AND v>:b", {"a": 1, "b": 2}),
             ("numeric", "SELECT v FROM t WHERE id = :1 AND v > :2::bigint", (1, 2)), ("format", "SELECT v FROM t WHERE id = %s AND v > %s", [1, 2]),
             ("pyformat", "SELECT v FROM t WHERE id = %(a)s AND v > %(b)s", {"a": 1, "b": 2}),
+            # In SQLite a `?` has the number behind the greatest that was assigned before it.
+            ("qmark", "SELECT v FROM t WHERE id = ?2 AND v > ?", (7, 1, 2)), ("qmark", "SELECT v FROM t WHERE id = ?3 AND v > ?1", (2, 7, 1)),
         ):  # fmt: skip
             with self.subTest(style, text=text):
                 self.assertEqual(self.said(text, parameters, Result(0), style)[0], "> SELECT v FROM t WHERE id = 1 AND v > 2")
+
+    def test_parameters_that_arent_there_or_are_made_when_they_are_asked_for(self) -> None:
+        class Asked:
+            def __getitem__(self, place: int) -> int:
+                raise AssertionError("it is asked for, and the driver asks again")
+
+            def __len__(self) -> int:
+                return 1
+
+        made: Dict[str, int] = collections.defaultdict(itertools.count(1).__next__)
+        for style, text, parameters in (
+            ("qmark", "?0", (1, 2)), ("qmark", "?3", (1, 2)), ("numeric", ":0", (1, 2)), ("named", ":a", (1, 2)), ("named", ":a", {"b": 1}),
+            ("named", ":a", made), ("qmark", "?", Asked()), ("qmark", "?", {1}), ("qmark", "?", iter((1,))), ("qmark", "?", {"a": 1}),
+            ("qmark", "?" + "9" * 5000, (1,)), ("numeric", ":" + "9" * 5000, (1,)),
+        ):  # fmt: skip
+            with self.subTest(style, parameters=parameters), self.assertRaises(Unsaid):
+                self.said(f"SELECT v FROM t WHERE id = {text}", parameters, Result(0), style)
+        self.assertEqual(made, {})
+
+    def test_where_a_comment_or_a_word_ends(self) -> None:
+        for text in (
+            "UPDATE t SET v = 1 --\r WHERE id = 1", "UPDATE t SET v = 1 -- a\rb\n WHERE id = 1", "UPDATE t SET v = 1 --\0\n WHERE id = 1", "UPDATE t SET v = '\0'",
+            "UPDATE t\u00a0SET v = 1", "UPDATE t\u3000SET v = 1", "UPDATE t\u2028SET v = 1", "UPDATE t\x85SET v = 1", "UPDATE t\x1cSET v = 1",
+        ):  # fmt: skip
+            with self.subTest(repr(text)), self.assertRaisesRegex(Unsaid, "writes: "):
+                self.said(text)
+        for text in ("SELECT v FROM t -- a\r\n WHERE id = 1", "SELECT\tv\fFROM\vt\rWHERE id = 1", "SELECT v FROM t -- \u2028 \x85 OR\nWHERE id = 1"):
+            with self.subTest(repr(text)):
+                self.assertEqual(self.said(text, None, Result(0))[0], "> SELECT v FROM t WHERE id = 1")
+
+    def test_long_numbers_and_deep_nesting(self) -> None:
+        digits, many = "9" * 5000, "(" * 5000
+        for text in (
+            f"SELECT v FROM t WHERE id = {digits}", f"SELECT v FROM t WHERE {digits} = {digits[1:]}8", "SELECT v FROM t WHERE 1.00000000000000000001 = 1",
+            "SELECT v FROM t WHERE 1 = 1.00000000000000000001", f"SELECT v FROM t WHERE {many}id = 1{')' * 5000}", f"SELECT v FROM t WHERE id = {many}1{')' * 5000}",
+        ):  # fmt: skip
+            with self.subTest(text[:60]):
+                plan = self.plan(text, None)
+                self.assertIsNone(plan.writes)
+                if plan.saying is None:
+                    self.assertIsNotNone(plan.why)
+                else:
+                    self.assertRaises(Unsaid, plan.saying.told, Arguments(None))
+        self.assertIsNotNone(self.plan(f"UPDATE t SET v = 1 WHERE {many}id = 1{')' * 5000}", None).writes)
 
     def test_texts_stay_the_same_or_others(self) -> None:
         texts = ["a\nb", "a\\nb", "a\\\nb", "a\tb", "it's", "'", "\\", "%s", "ä漢"]
@@ -228,6 +276,7 @@ class Statements(unittest.TestCase):
             "EXECUTE p(1)", "EXPLAIN ANALYZE DELETE FROM t", "PREPARE TRANSACTION 'x'", "COMMIT AND CHAIN", "UPDATE t SET v = 1.5", "UPDATE t SET v = 'x'",
             "INSERT INTO t VALUES (1, 2, 3)", "INSERT INTO t VALUES (1, 99999999999999999999)", "UPDATE accounts SET code = 'longer'", "CREATE TRIGGER x ON t",
             "UPDATE t SET v = 1 FROM accounts WHERE t.id = 3", "CREATE TABLE x AS SELECT f()", "CREATE TEMP TABLE t (id int)", "SET x = 1; DELETE FROM t", "UPDATE accounts SET made_at = 3", "SELECT 'a", "UPDATE t SET v = f(1)",
+            "UPDATE accounts SET raw = x'0'",
         ):  # fmt: skip
             with self.subTest(text):
                 plan = self.plan(text, None)

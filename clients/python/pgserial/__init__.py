@@ -21,111 +21,41 @@ import tempfile
 import threading
 import time
 from dataclasses import dataclass
-from typing import Any, Dict, Iterable, Iterator, List, Mapping, NamedTuple, Optional, Sequence, Set, Tuple, Type, Union
+from typing import Any, Dict, Iterable, Iterator, List, NamedTuple, Optional, Sequence, Set, Tuple, Type, Union
+
+from .exceptions import (
+    BY_SQLSTATE, ActiveSqlTransaction, BadCopyFileFormat, CharacterNotInRepertoire, DatabaseError, DataError, DatatypeMismatch,
+    DuplicateTable, Error, ForeignKeyViolation, InFailedSqlTransaction, IntegrityError, InterfaceError, InternalError,
+    InvalidTextRepresentation, IoError, NoActiveSqlTransaction, NotNullViolation, NotSupportedError, NumericValueOutOfRange,
+    ObjectNotInPrerequisiteState, OperationalError, OutOfMemory, ProgramLimitExceeded, ProgrammingError, ReadOnlySqlTransaction,
+    SerializationFailure, SyntaxError, UndefinedColumn, UndefinedTable, UniqueViolation, Warning, refusal,
+)  # fmt: skip
+from .statements import Parameters, create_lines, statement_of, text_of
+
+__all__ = [
+    "AHEAD", "BIGINT", "BINARY", "BYTEA", "BY_SQLSTATE", "DATETIME", "EVENTS", "MOST_SESSIONS", "NUMBER", "ROWID", "STRING", "TEXT",
+    "ActiveSqlTransaction", "BadCopyFileFormat", "Binary", "CharacterNotInRepertoire", "Column", "Connection", "Cursor",
+    "DataError", "DatabaseError", "DatatypeMismatch", "DuplicateTable", "Error", "ForeignKeyViolation", "InFailedSqlTransaction",
+    "IntegrityError", "InterfaceError", "InternalError", "InvalidTextRepresentation", "IoError", "Kind", "NoActiveSqlTransaction",
+    "NotNullViolation", "NotSupportedError", "NumericValueOutOfRange", "ObjectNotInPrerequisiteState", "OperationalError",
+    "OutOfMemory", "Parameters", "ProgramLimitExceeded", "ProgrammingError", "ReadOnlySqlTransaction", "Row", "SerializationFailure",
+    "Server", "SyntaxError", "UndefinedColumn", "UndefinedTable", "UniqueViolation", "Warning", "apilevel", "connect", "paramstyle",
+    "threadsafety",
+]  # fmt: skip
 
 apilevel = "2.0"
-threadsafety = 2  # threads may share the module and connections, and no cursor
+threadsafety = 1  # threads may share the module and servers; a connection is one thread's while its transaction is open
 paramstyle = "pyformat"  # `%s` with a sequence, `%(name)s` with a mapping
 
 MOST_SESSIONS = 64
 EVENTS = 100_000  # for so many events a server has room, where nothing is said
 AHEAD = 100  # so many lines are sent ahead of their answers, which fit into a pipe
 PATIENCE = 1.0  # for so many seconds a transaction waits for the end of another, where room is getting short
+LAST_PATIENCE = 10.0  # so many seconds a server that is closed has to end by itself
 
 Row = Tuple[Any, ...]  # of None, int, str and bytes
-Parameters = Union[Sequence[object], Mapping[str, object]]
 Schema = Union[None, str, Iterable[str]]
 Path = Union[None, str, "os.PathLike[str]"]
-
-
-# ---- exceptions
-
-
-class Warning(Exception):
-    """As PEP 249 wants it. Nothing raises it."""
-
-
-class Error(Exception):
-    """Whatever goes wrong here. Where the server refused something, `sqlstate` is its code, and `place` tells where: a byte
-    of the statement, a column or a table counted from 1, the transactions of a dangerous structure; or it says so in words."""
-
-    sqlstate: Optional[str] = None
-    place: str = ""
-
-
-class InterfaceError(Error):
-    """Something that is closed was used, or the program isn't there."""
-
-
-class DatabaseError(Error):
-    """The server refused something, or it would."""
-
-
-class DataError(DatabaseError):
-    """A value that can't be."""
-
-
-class OperationalError(DatabaseError):
-    """Something that may go well when it is tried again, or with more room."""
-
-
-class IntegrityError(DatabaseError):
-    """What a table's definition forbids."""
-
-
-class InternalError(DatabaseError):
-    """A transaction that isn't in the state for it."""
-
-
-class ProgrammingError(DatabaseError):
-    """A statement, or a use of this module, that is wrong."""
-
-
-class NotSupportedError(DatabaseError):
-    """As PEP 249 wants it. Nothing raises it."""
-
-
-BY_SQLSTATE: Dict[str, Type[DatabaseError]] = {}
-
-
-def _named(name: str, base: Type[DatabaseError], sqlstate: str, means: str) -> Type[DatabaseError]:
-    """The exception for a code of the server, of the name that psycopg gives it."""
-    kind = type(name, (base,), {"__doc__": means, "__module__": __name__, "sqlstate": sqlstate})
-    BY_SQLSTATE[sqlstate] = kind
-    return kind
-
-
-NumericValueOutOfRange = _named("NumericValueOutOfRange", DataError, "22003", "a bigint or a sum beyond 64 bits")
-CharacterNotInRepertoire = _named("CharacterNotInRepertoire", DataError, "22021", "a text with a zero byte")
-InvalidTextRepresentation = _named("InvalidTextRepresentation", DataError, "22P02", "a bigint or a bytea of wrong form")
-BadCopyFileFormat = _named("BadCopyFileFormat", DataError, "22P04", "a dump of wrong form")
-NotNullViolation = _named("NotNullViolation", IntegrityError, "23502", "a null where none may be")
-ForeignKeyViolation = _named("ForeignKeyViolation", IntegrityError, "23503", "a reference without its row")
-UniqueViolation = _named("UniqueViolation", IntegrityError, "23505", "a key that is there")
-ActiveSqlTransaction = _named("ActiveSqlTransaction", InternalError, "25001", "not once it has begun, or has read")
-ReadOnlySqlTransaction = _named("ReadOnlySqlTransaction", InternalError, "25006", "a write in a read-only transaction")
-NoActiveSqlTransaction = _named("NoActiveSqlTransaction", InternalError, "25P01", "not without a transaction")
-InFailedSqlTransaction = _named("InFailedSqlTransaction", InternalError, "25P02", "a statement was refused: roll back")
-SerializationFailure = _named("SerializationFailure", OperationalError, "40001", "others ran meanwhile: run it again")
-SyntaxError = _named("SyntaxError", ProgrammingError, "42601", "no statement, or a bad table definition")
-UndefinedColumn = _named("UndefinedColumn", ProgrammingError, "42703", "a name that is no column")
-DatatypeMismatch = _named("DatatypeMismatch", ProgrammingError, "42804", "a value of another kind than its column")
-UndefinedTable = _named("UndefinedTable", ProgrammingError, "42P01", "a name that is no table")
-DuplicateTable = _named("DuplicateTable", ProgrammingError, "42P07", "a table's name that is there")
-OutOfMemory = _named("OutOfMemory", OperationalError, "53200", "memory was refused, and nothing has changed")
-ProgramLimitExceeded = _named("ProgramLimitExceeded", OperationalError, "54000", "a limit, or no room for more events")
-ObjectNotInPrerequisiteState = _named("ObjectNotInPrerequisiteState", OperationalError, "55000", "not now, or not in this mode")
-IoError = _named("IoError", OperationalError, "58030", "a file couldn't be read or written")
-
-
-def _refusal(text: str) -> DatabaseError:
-    """The exception for `ERROR CODE`, behind which a place or words may stand."""
-    _, code, *rest = text.split(" ", 2)
-    place = "".join(rest)
-    kind = BY_SQLSTATE.get(code, DatabaseError)
-    error = kind(f"{code} {place}".rstrip() + f": {kind.__doc__ or kind.__name__}")
-    error.sqlstate, error.place = code, place
-    return error
 
 
 # ---- kinds of values
@@ -202,124 +132,6 @@ def _row(columns: Sequence[Column], line: bytes) -> Row:
     return tuple(_value(column.type_code, field) for column, field in zip(columns, line.split(b"\t")))
 
 
-# ---- statements and their parameters
-
-# A text between quotes, `%%`, a placeholder that stands alone, any other `%`, what stands between these.
-_PART = re.compile(
-    r"(?P<text>'(?:[^']|'')*')|(?P<percent>%%)|(?P<placeholder>(?<![\w'])%(?:\((?P<name>\w+)\))?s(?![\w']))"
-    r"|(?P<stray>%)|(?P<between>[^'%]+|')"
-)
-_COMMAND = re.compile(r"\s*(BEGIN|POLL|EXPORT|IMPORT|COMMIT|ROLLBACK|PRUNE|WAIT|DUMP)\b", re.ASCII | re.IGNORECASE)
-_OPPOSITE = {"+": "-", "-": "+"}
-
-
-def _quoted(text: str) -> str:
-    """A text as a literal. This grammar has no escapes, so no newline stands in one, since that would end the line."""
-    if "\n" in text or "\0" in text:
-        raise DataError("a text with a newline or a zero byte can't be sent")
-    return "'" + text.replace("'", "''") + "'"
-
-
-def _literal(value: object) -> str:
-    """A value as a literal of the grammar."""
-    if value is None:
-        return "NULL"
-    if isinstance(value, int) and not isinstance(value, bool):
-        if not -(2**63) <= value < 2**63:
-            raise NumericValueOutOfRange("22003: a bigint has 64 bits")
-        return str(int(value))
-    if isinstance(value, str):
-        return _quoted(value)
-    if isinstance(value, (bytes, bytearray, memoryview)):
-        return "'\\x" + bytes(value).hex() + "'"
-    raise ProgrammingError(f"no column holds a {type(value).__name__}: give None, an int, a str or bytes")
-
-
-def _put(parts: List[str], literal: str) -> None:
-    """Appends a literal. In `v + %s` the grammar has no sign before the number, so the sign that is there is turned."""
-    before = parts[-1].rstrip() if parts else ""
-    if literal.startswith("-") and before.endswith(("+", "-")):
-        parts[-1] = before[:-1] + _OPPOSITE[before[-1]] + " "
-        literal = literal[1:]
-    parts.append(literal)
-
-
-class _Arguments:
-    """The parameters of one statement, each for a placeholder."""
-
-    def __init__(self, parameters: Parameters) -> None:
-        if isinstance(parameters, (str, bytes)):
-            raise ProgrammingError("parameters are a sequence or a mapping, and no single text")
-        self._are_named = isinstance(parameters, Mapping)
-        self._values: Mapping[Any, object] = {}
-        if isinstance(parameters, Mapping):
-            self._values = parameters
-        else:
-            self._values = dict(enumerate(parameters))
-        self._taken = 0
-
-    def take(self, name: Optional[str]) -> object:
-        """The value of a name, or the next one where there is no name."""
-        if (name is not None) != self._are_named:
-            raise ProgrammingError("`%s` goes with a sequence of parameters, `%(name)s` with a mapping")
-        key = self._taken if name is None else name
-        if key not in self._values:
-            raise ProgrammingError(f"there is no parameter {key} for a placeholder")
-        self._taken += 1
-        return self._values[key]
-
-    def end(self) -> None:
-        """Refuses values that no placeholder has taken, where they have no names."""
-        if not self._are_named and self._taken < len(self._values):
-            raise ProgrammingError("there are more parameters than placeholders")
-
-
-def _between_quotes(text: str, is_given: bool) -> str:
-    """A quoted text of a statement. Where parameters are given, each `%` is doubled in it."""
-    if "\n" in text:
-        raise DataError("a text with a newline can't be sent")
-    if not is_given:
-        return text
-    if "%" in text.replace("%%", ""):
-        raise ProgrammingError("no placeholder stands between quotes; a `%` there is written `%%`")
-    return text.replace("%%", "%")
-
-
-def _statement(operation: str, parameters: Optional[Parameters]) -> str:
-    """A statement with its parameters put in, on one line. Without parameters a `%` is nothing special."""
-    command = _COMMAND.match(operation)
-    if command:
-        raise ProgrammingError(f"{command[1]} is no statement: a connection has methods for it")
-    arguments = None if parameters is None else _Arguments(parameters)
-    parts: List[str] = []
-    for part in _PART.finditer(operation):
-        if part["text"]:
-            parts.append(_between_quotes(part["text"], arguments is not None))
-        elif part["between"] or arguments is None:
-            parts.append(part[0].replace("\n", " "))
-        elif part["placeholder"]:
-            _put(parts, _literal(arguments.take(part["name"])))
-        elif part["percent"]:
-            parts.append("%")
-        else:
-            raise ProgrammingError("a `%` that is no placeholder is written `%%`; a placeholder stands alone")
-    if arguments is not None:
-        arguments.end()
-    return "".join(parts)
-
-
-def _create_lines(schema: Schema) -> List[str]:
-    """The lines that create tables, of texts that have such statements, each ended by a `;` or by its text's end."""
-    lines = []
-    for text in [schema] if isinstance(schema, str) else schema or []:
-        bare = re.sub("--.*", "", text)
-        lines += [" ".join(part.split()) + ";" for part in bare.split(";") if part.strip()]
-    for line in lines:
-        if not re.match(r"create\b", line, re.IGNORECASE):
-            raise ProgrammingError(f"a schema has CREATE TABLE statements alone, and not: {line}")
-    return lines
-
-
 # ---- the child process
 
 
@@ -333,7 +145,7 @@ class Answer:
     @property
     def error(self) -> Optional[DatabaseError]:
         """The exception for it, where it is a refusal."""
-        return _refusal(self.text) if self.text.startswith("ERROR ") else None
+        return refusal(self.text) if self.text.startswith("ERROR ") else None
 
     @property
     def count(self) -> int:
@@ -367,11 +179,15 @@ class _Shell:
         self._lost: Optional[str] = None  # why no exchange is possible any more
         words = [program, "shell", *([os.path.abspath(dump)] if dump else []), "--events", str(events)]
         pipe = subprocess.PIPE
-        with open(self.path("told"), "wb") as told:
-            # In a session of its own, so that a Ctrl-C which is meant for the caller doesn't end it.
-            self._child = subprocess.Popen(
-                words, stdin=pipe, stdout=pipe, stderr=told, cwd=self._folder.name, start_new_session=True
-            )
+        try:
+            with open(self.path("told"), "wb") as told:
+                # In a session of its own, so that a Ctrl-C which is meant for the caller doesn't end it.
+                self._child = subprocess.Popen(
+                    words, stdin=pipe, stdout=pipe, stderr=told, cwd=self._folder.name, start_new_session=True
+                )
+        except OSError as error:
+            self._folder.cleanup()
+            raise InterfaceError(f"{program} can't be run: {error.strerror}") from None
 
     def path(self, name: str) -> str:
         """A file of the child's folder."""
@@ -390,6 +206,15 @@ class _Shell:
                 lines.append(self._line().decode("utf-8"))
         return lines
 
+    def kill(self) -> None:
+        """Ends the child at once, whoever waits for an answer."""
+        self._child.kill()
+
+    def look_after(self) -> None:
+        """Refuses a child that has ended."""
+        if self._child.poll() is not None:
+            raise self._ended()
+
     def close(self) -> None:
         """Ends the child, which what is open goes with."""
         assert self._child.stdin and self._child.stdout
@@ -398,7 +223,11 @@ class _Shell:
         for stream in (self._child.stdin, self._child.stdout):
             with contextlib.suppress(BrokenPipeError):
                 stream.close()
-        self._child.wait()
+        try:
+            self._child.wait(LAST_PATIENCE)
+        except subprocess.TimeoutExpired:  # a child that is stopped reads no end of its input
+            self._child.kill()
+            self._child.wait()
         self._lost = "the server is closed"
         self._folder.cleanup()
 
@@ -457,7 +286,7 @@ class Server:
     def __init__(self, schema: Schema = None, dump: Path = None, program: Path = None, events: int = EVENTS) -> None:
         if schema is not None and dump is not None:
             raise ProgrammingError("tables come from a schema or from a dump, and not from both")
-        lines = _create_lines(schema)
+        lines = create_lines(schema)
         self._shell = _Shell(_program(program), dump, events)
         self._changed = threading.Condition()  # held for each exchange, and notified when a transaction has ended
         self._connections: Dict[int, Connection] = {}
@@ -511,12 +340,17 @@ class Server:
             self._used, self._is_patient = 0, True
 
     def close(self) -> None:
-        """Ends the server, and with it all transactions that are open."""
-        with self._changed:
+        """Ends the server, and with it all transactions that are open. A thread whose exchange doesn't end loses it."""
+        if not self._changed.acquire(timeout=LAST_PATIENCE):
+            self._shell.kill()
+            self._changed.acquire()
+        try:
             if not self._is_closed:
                 self._is_closed = True
                 self._shell.close()
                 self._changed.notify_all()
+        finally:
+            self._changed.release()
 
     def __enter__(self) -> "Server":
         return self
@@ -534,9 +368,10 @@ class Server:
 
     def _opened(self, lines: Sequence[str]) -> Tables:
         """Creates tables, and asks which there are."""
-        for line, answer in zip(lines, self._shell.ask(lines)):
+        for line in lines:
+            answer = self._shell.ask([line])[0]
             if answer.error is not None:
-                raise _refusal(f"{answer.text}, in {line}")
+                raise refusal(f"{answer.text}, in {line}")
         *created, last = self._shell.listed("\\d", ("TABLES ",))
         Answer(last).checked()
         return dict(map(_table, created))
@@ -577,7 +412,10 @@ class Server:
         if self._used + len(commands) + kept > self._room:
             raise ProgramLimitExceeded(f"54000: of {self._room} events the last are kept for the ends of open transactions")
         self._used += len(commands)
-        return self._shell.ask([f"{session} {command};" for command in commands])
+        answers = self._shell.ask([f"{session} {command};" for command in commands])
+        if any(answer.error is not None for answer in answers):  # a transaction that has failed frees snapshots
+            self._changed.notify_all()
+        return answers
 
     def _end(self, session: int, command: str) -> Answer:
         """Ends a session's transaction. Only where memory or events are wanting it goes on."""
@@ -589,12 +427,23 @@ class Server:
         return answer
 
     def _wait_safe(self, session: int, timeout: Optional[float]) -> bool:
-        """Asks until a deferrable transaction's snapshot is safe, again each time that another transaction has ended:
-        whether it became so in time."""
+        """Asks until a deferrable transaction's snapshot is safe, again each time that another transaction has ended or
+        failed: whether it became so in time."""
         limit = None if timeout is None else time.monotonic() + timeout
         while self._ask(session, ["POLL"])[0].checked().text == "WAIT":
-            if not self._changed.wait(None if limit is None else limit - time.monotonic()):
+            if not self._wait_changed(limit):
                 return False
+        return True
+
+    def _wait_changed(self, limit: Optional[float]) -> bool:
+        """Waits until another transaction has ended or failed: whether one has in time. A child that dies notifies nobody,
+        so it is looked after now and then."""
+        while not self._changed.wait(PATIENCE if limit is None else max(0.0, min(PATIENCE, limit - time.monotonic()))):
+            self._shell.look_after()
+            if limit is not None and time.monotonic() >= limit:
+                return False
+        if self._is_closed:
+            raise InterfaceError("the server is closed")
         return True
 
 
@@ -605,6 +454,9 @@ class Connection:
     `read_only` and `deferrable` say of which mode the next transactions are, and `timeout` how many seconds a deferrable one
     waits for a safe snapshot, None for as long as it takes. `transaction` is the number of the present transaction, or of
     the last one: that which a serial order speaks of.
+
+    A transaction belongs to the thread that has begun it, until it has ended or that thread has: another that executes,
+    commits or rolls back meanwhile is refused. What two threads did in one transaction would be taken back by either.
     """
 
     def __init__(self, server: Server, session: int, read_only: bool, deferrable: bool) -> None:
@@ -612,41 +464,55 @@ class Connection:
         self.read_only, self.deferrable = read_only, deferrable
         self.timeout: Optional[float] = 10
         self.transaction: Optional[int] = None
+        self._owner: Optional[threading.Thread] = None  # that has begun the transaction
         self._is_closed = False
 
     @property
     def in_transaction(self) -> bool:
         """Whether a transaction has begun and hasn't ended; one that has failed hasn't."""
-        return not self._is_closed and self.session in self.server._in_transaction
+        return not (self._is_closed or self.server._is_closed) and self.session in self.server._in_transaction
 
     def begin(self) -> None:
         """Begins a transaction, whose snapshot is taken now."""
-        with self._held():
+        with self._owned():
             if self.in_transaction:
                 raise ActiveSqlTransaction("25001: a transaction has begun")
             mode = " READ ONLY DEFERRABLE" if self.deferrable else " READ ONLY" if self.read_only else ""
             self.transaction = self.server._begin(self.session, "BEGIN" + mode)
-            if self.deferrable and not self.server._wait_safe(self.session, self.timeout):
-                self.rollback()
+            self._owner = threading.current_thread()
+            if self.deferrable:
+                self._await_safe()
+
+    def _await_safe(self) -> None:
+        """Waits for a safe snapshot; rolls back where none comes."""
+        try:
+            if not self.server._wait_safe(self.session, self.timeout):
                 raise ObjectNotInPrerequisiteState(f"55000: no snapshot became safe within {self.timeout} seconds")
+        except BaseException:
+            with contextlib.suppress(Error):
+                self._roll_back()
+            raise
 
     def commit(self) -> None:
         """Commits, where a transaction is there. One that has failed is rolled back, which is told as an exception."""
-        with self._held():
+        with self._owned():
             if self.in_transaction and self.server._end(self.session, "COMMIT").checked().text == "ROLLBACK":
                 raise InFailedSqlTransaction("25P02: a statement was refused, so nothing was committed")
 
     def rollback(self) -> None:
         """Takes back what the transaction has done, where one is there."""
-        with self._held():
-            if self.in_transaction:
-                self.server._end(self.session, "ROLLBACK").checked()
+        with self._owned():
+            self._roll_back()
+
+    def _roll_back(self) -> None:
+        if self.in_transaction:
+            self.server._end(self.session, "ROLLBACK").checked()
 
     def ask(self, command: str) -> str:
         """The answer to EXPORT, IMPORT n, POLL or PRUNE, for which DB-API has no method."""
-        if not re.fullmatch(r"EXPORT|IMPORT [0-9]+|POLL|PRUNE", command):
+        if not re.fullmatch(r"EXPORT|IMPORT [0-9]+|POLL|PRUNE", text_of(command)):
             raise ProgrammingError("EXPORT, IMPORT n, POLL and PRUNE can be asked")
-        with self._held():
+        with self._owned():
             return self.server._ask(self.session, [command])[0].checked().text
 
     def cursor(self) -> "Cursor":
@@ -662,8 +528,7 @@ class Connection:
         """Rolls back what is open, and gives the session back."""
         with self.server._changed:
             try:
-                if not self._is_closed and not self.server._is_closed:
-                    self.rollback()
+                self._roll_back()
             finally:
                 self._is_closed = True
                 if self.server._connections.get(self.session) is self:
@@ -675,7 +540,7 @@ class Connection:
     def __exit__(self, kind: Optional[Type[BaseException]], *_: object) -> None:
         if kind is None:
             self.commit()
-        else:
+        elif self._is_own():
             self.rollback()
 
     @contextlib.contextmanager
@@ -686,9 +551,22 @@ class Connection:
                 raise InterfaceError("the connection is closed")
             yield
 
+    @contextlib.contextmanager
+    def _owned(self) -> Iterator[None]:
+        """The same, for a thread whose transaction is open here, or where none is."""
+        with self._held():
+            if not self._is_own():
+                raise ProgrammingError("another thread has a transaction open here: give each thread a connection of its own")
+            yield
+
+    def _is_own(self) -> bool:
+        """Whether no other thread that goes on has a transaction open here."""
+        owner = self._owner
+        return not self.in_transaction or owner in (None, threading.current_thread()) or not owner.is_alive()
+
     def _answers(self, statements: Sequence[str]) -> List[Answer]:
         """The answers to statements, all of which are sent ahead; a transaction is begun, where none is there."""
-        with self._held():
+        with self._owned():
             if not self.in_transaction:
                 self.begin()
             return self.server._ask(self.session, statements)
@@ -710,7 +588,7 @@ class Cursor:
     def execute(self, operation: str, parameters: Optional[Parameters] = None) -> "Cursor":
         """Executes a statement, with each `%s` replaced by a parameter: None, an int, a str or bytes."""
         self._forget()
-        statement = _statement(operation, parameters)
+        statement = statement_of(operation, parameters)
         answer = self.connection._answers([statement])[0].checked()
         self.statusmessage, self.rowcount, self._rows = answer.text, answer.count, answer.rows
         if answer.text.startswith("SELECT "):
@@ -721,11 +599,13 @@ class Cursor:
         """Executes a statement that shows no rows once for each of these, sent ahead of the answers. The first refusal is
         raised; what was sent behind it may have been done: then roll back."""
         self._forget()
-        if re.match(r"\s*select\b", operation, re.IGNORECASE):
+        if re.match(r"\s*select\b", text_of(operation), re.ASCII | re.IGNORECASE):
             raise ProgrammingError("a SELECT is executed by itself, so that its rows can be fetched")
+        if not isinstance(parameters, Iterable):
+            raise ProgrammingError(f"several parameters are an iterable, and no {type(parameters).__name__}")
         count, statements = 0, []
         for values in parameters:
-            statements.append(_statement(operation, values))
+            statements.append(statement_of(operation, values))
             if len(statements) == AHEAD:
                 count += self._counted(statements)
                 statements = []
@@ -740,8 +620,10 @@ class Cursor:
     def fetchmany(self, size: Optional[int] = None) -> List[Row]:
         """The next rows, so many at most."""
         columns = self._columns()
-        first = self._place
-        self._place = min(first + (self.arraysize if size is None else size), len(self._rows))
+        first, count = self._place, self.arraysize if size is None else size
+        if not isinstance(count, int) or count < 0:
+            raise ProgrammingError(f"rows are fetched by a number from 0 on, and not by {count!r}")
+        self._place = min(first + count, len(self._rows))
         return [_row(columns, line) for line in self._rows[first : self._place]]
 
     def fetchall(self) -> List[Row]:

@@ -1,6 +1,7 @@
 """The tables of a database that is recorded, as its catalog tells them, and as a transcript can say them."""
 
 import re
+import sys
 from typing import Any, Dict, FrozenSet, Iterable, List, Mapping, NamedTuple, Optional, Sequence, Tuple
 
 from . import BIGINT, BYTEA, TEXT, Kind
@@ -218,6 +219,8 @@ def _sqlite_kind(declared: str) -> Optional[Kind]:
 def _sqlite_column(row: Sequence[Any], is_utf8: bool) -> Seen:
     _, name, declared, _, default, _, hidden = row
     refusal = "is generated, so that a write changes it unsaid" if hidden else None
+    if re.split(r"[ (]", declared or "", maxsplit=1)[0].upper() in getattr(sys.modules.get("sqlite3"), "converters", {}):
+        refusal = f"is of type {declared}, for which a converter is registered that may make other values of its own"
     return Seen(name, declared or "none", _sqlite_kind(declared), constant(default), is_utf8, None, refusal)
 
 

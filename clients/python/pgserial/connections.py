@@ -1,5 +1,6 @@
 """Connections and cursors that behave as the driver's own, and are recorded."""
 
+import operator
 import weakref
 from typing import Any, Callable, Dict, Iterator, List, Optional, Tuple
 
@@ -7,16 +8,21 @@ from .drivers import Came, Sqlite
 from .effects import Control
 
 from .steps import (
-    Begin, Commit, Executed, Inner, LeftOut, Rollback, Savepoint, Script, Session, Setting, Spoils, Step, copy_of, is_looped,
-    many_of, step_of,
+    Begin, Commit, Executed, Inner, LeftOut, NoText, Rollback, Savepoint, Script, Session, Setting, Spoils, Step, copy_of,
+    is_looped, many_of, step_of,
 )  # fmt: skip
 
 
-def _text_of(operation: Any, raw: Any) -> str:
-    """The text of what is executed: a text, bytes, or what psycopg composes."""
+def _text_of(operation: Any, raw: Any) -> Optional[str]:
+    """The text of what is executed: a text, bytes, or what psycopg composes; None where it is none of these."""
+    if isinstance(operation, str):
+        return str.__str__(operation)
     if isinstance(operation, bytes):
         return operation.decode("utf-8", "surrogateescape")
-    return str(operation.as_string(raw)) if hasattr(operation, "as_string") else str(operation)
+    try:
+        return str(operation.as_string(raw))
+    except Exception:  # whatever it is, the driver meets it too
+        return None
 
 
 def _parameters(words: Tuple[Any, ...], named: Dict[str, Any]) -> Any:
@@ -243,6 +249,8 @@ class Cursor(_Proxy):
     def _step(self, operation: Any, parameters: Any) -> Step:
         session = self._connection._session
         text = _text_of(operation, self._connection.wrapped)
+        if text is None:
+            return NoText(session, operation)
         is_served = getattr(self.wrapped, "name", None) is not None
         return step_of(session, text, parameters, self._looked_at(), is_served)
 
@@ -258,7 +266,7 @@ class Cursor(_Proxy):
         """Executes a statement once for each of several parameters."""
         session = self._connection._session
         text = _text_of(operation, self._connection.wrapped)
-        if words or named or session.recorder.is_over or not session.guarded(is_looped, session, text):
+        if words or named or text is None or session.recorder.is_over or not session.guarded(is_looped, session, text):
             return self._many(operation, text, list(several), *words, **named)
         count, total = 0, 0
         for parameters in several:
@@ -269,12 +277,12 @@ class Cursor(_Proxy):
         self._count = total
         return self if session.driver.many_gives_cursor else None
 
-    def _many(self, operation: Any, text: str, several: List[Any], *words: Any, **named: Any) -> Any:
+    def _many(self, operation: Any, text: Optional[str], several: List[Any], *words: Any, **named: Any) -> Any:
         """The same by one call of the driver."""
         self._came, self._count = None, None
         session = self._connection._session
         value = session.take(
-            lambda: many_of(session, text, several, self._looked_at()),
+            lambda: NoText(session, operation) if text is None else many_of(session, text, several, self._looked_at()),
             lambda: self.wrapped.executemany(operation, several, *words, **named),
         )
         return self if value is not None and value is self.wrapped else value
@@ -283,22 +291,29 @@ class Cursor(_Proxy):
 
     def fetchone(self) -> Any:
         """The next row."""
+        row = self._left(self.wrapped.fetchone)
         if self._came is None:
-            return self.wrapped.fetchone()
+            return row
         rows = self._served(1)
         return rows[0] if rows else None
 
     def fetchmany(self, *words: Any, **named: Any) -> Any:
         """The next rows."""
+        rows = self._left(self.wrapped.fetchmany, *words, **named)
         if self._came is None:
-            return self.wrapped.fetchmany(*words, **named)
-        return self._served(words[0] if words else named.get("size", self.wrapped.arraysize))
+            return rows
+        size = words[0] if words else named.get("size", self.wrapped.arraysize)
+        return self._served(self._connection._session.driver.most(operator.index(size)))
 
     def fetchall(self) -> Any:
         """The rows that are left."""
-        if self._came is None:
-            return self.wrapped.fetchall()
-        return self._served(None)
+        rows = self._left(self.wrapped.fetchall)
+        return rows if self._came is None else self._served(None)
+
+    def _left(self, call: Callable[..., Any], *words: Any, **named: Any) -> Any:
+        """What the driver gives. Where its rows are kept here it has none left, and says so; or it raises what it would
+        have raised, at a number that is none or once it is closed."""
+        return call(*words, **named) if self._came is None or self._came.error is None else None
 
     def _served(self, size: Optional[int]) -> List[Any]:
         """The next of the rows that are kept; all that are left where no size is given."""
@@ -308,7 +323,8 @@ class Cursor(_Proxy):
         rows, self._at = came.served[self._at : end], end
         if came.error is not None and (size is None or len(rows) < size):
             raise came.error
-        return rows if came.made is None else [came.made(row) for row in rows]
+        made = came.maker() if came.maker is not None else None
+        return rows if made is None else [made(row) for row in rows]
 
     def __iter__(self) -> Any:
         return self if self._came is not None else iter(self.wrapped)
@@ -316,10 +332,10 @@ class Cursor(_Proxy):
     def __next__(self) -> Any:
         if self._came is None:
             return next(self.wrapped)
-        rows = self._served(1)
-        if not rows:
+        row = self.fetchone()
+        if row is None:
             raise StopIteration
-        return rows[0]
+        return row
 
     def __enter__(self) -> Any:
         entered = type(self.wrapped).__enter__(self.wrapped)
@@ -355,21 +371,24 @@ class Cursor(_Proxy):
         )
 
     def _copy_expert(self, text: Any, *words: Any, **named: Any) -> Any:
-        said = _text_of(text, self._connection.wrapped)
+        said = _text_of(text, self._connection.wrapped) or ""
         return self._taken(lambda session: copy_of(session, said), lambda: self.wrapped.copy_expert(text, *words, **named))
 
     def _copy(self, text: Any, *words: Any, **named: Any) -> Any:
-        said = _text_of(text, self._connection.wrapped)
+        said = _text_of(text, self._connection.wrapped) or ""
         return self._taken(lambda session: copy_of(session, said), lambda: self.wrapped.copy(text, *words, **named))
 
     def _executescript(self, text: str) -> Any:
-        value = self._taken(lambda session: Script(session, text), lambda: self.wrapped.executescript(text))
+        value = self._taken(
+            lambda session: Script(session, text) if isinstance(text, str) else NoText(session, text),
+            lambda: self.wrapped.executescript(text),
+        )
         return self if value is self.wrapped else value
 
     def _stream(self, operation: Any, *words: Any, **named: Any) -> Iterator[Any]:
         """Rows as they come: what is executed only when the first is asked for is taken for read then."""
         session = self._connection._session
-        text = _text_of(operation, self._connection.wrapped)
+        text = _text_of(operation, self._connection.wrapped) or ""
         step = session.guarded(step_of, session, text, _parameters(words, named), self._looked_at(), True)
         if step is not None:
             session.guarded(step.before)

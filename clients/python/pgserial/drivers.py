@@ -1,7 +1,7 @@
 """What drivers differ in: the state of a transaction, the codes of errors, rows that have come, and the catalog."""
 
 import sys
-from typing import Any, Callable, List, Mapping, NamedTuple, Optional, Sequence, Tuple, Union
+from typing import Any, Callable, Iterable, List, Mapping, NamedTuple, Optional, Sequence, Tuple, Union
 
 from .catalog import Refused, Table, declared_table, postgres_table, sqlite_table
 from .sql import PARAMSTYLES
@@ -21,7 +21,7 @@ class Came(NamedTuple):
 
     result: Result
     served: Optional[Rows] = None
-    made: Optional[Callable[[Any], Any]] = None
+    maker: Optional[Callable[[], Optional[Callable[[Any], Any]]]] = None  # gives what makes them so when they are asked for
     error: Optional[BaseException] = None  # what the application meets behind these rows
 
 
@@ -92,6 +92,12 @@ class Driver:
         kinds = [getattr(self._module, name, None) for name in _SURE]
         return isinstance(error, (*_BEFORE_IT_IS_SENT, *[kind for kind in kinds if isinstance(kind, type)]))
 
+    # parameters
+
+    def adapts(self, value: object) -> bool:
+        """Whether something else may be sent in place of a value, as the application has registered it for its class."""
+        return hasattr(value, "__conform__")
+
     # rows
 
     def count(self, cursor: Any) -> int:
@@ -124,6 +130,10 @@ class Driver:
                 rows.append(row)
         except Exception as error:  # the application's own, when it comes so far
             return rows, error
+
+    def most(self, size: int) -> Optional[int]:
+        """How many rows `fetchmany` gives for a number at most; None where it gives all."""
+        return max(size, 0)
 
     # tables
 
@@ -210,6 +220,12 @@ class Postgres(Driver):
             return super().is_answer(error)
         return code[:2] != "08" and code[:3] != "57P" and code != "40003"
 
+    def adapts(self, value: object) -> bool:
+        if hasattr(value, "adapted"):  # psycopg2's own, as Binary: it is looked into
+            return False
+        known = getattr(getattr(self._module, "extensions", None), "adapters", {})  # of psycopg2, by class and protocol
+        return super().adapts(value) or any(kind is type(value) for kind, _ in known)
+
     def came(self, cursor: Any, shows: bool) -> Came:
         if not shows or cursor.description is None:
             return Came(Result(self.count(cursor)))
@@ -263,9 +279,17 @@ class Sqlite(Driver):
     many_gives_cursor = True
 
     def is_open(self) -> Optional[bool]:
-        return bool(self._raw.in_transaction)
+        return not self.is_dead() and bool(self._raw.in_transaction)
+
+    def is_dead(self) -> bool:
+        try:
+            return self._raw.in_transaction is None
+        except self._module.ProgrammingError:  # it is closed
+            return True
 
     def is_autocommit(self) -> bool:
+        if self.is_dead():
+            return False
         mode: object = getattr(self._raw, "autocommit", None)
         return mode is True or (mode is not False and self._raw.isolation_level is None)
 
@@ -277,6 +301,9 @@ class Sqlite(Driver):
     def is_answer(self, error: BaseException) -> bool:
         return isinstance(error, self._module.Error) or super().is_answer(error)
 
+    def adapts(self, value: object) -> bool:
+        return super().adapts(value) or (type(value), self._module.PrepareProtocol) in self._module.adapters
+
     def came(self, cursor: Any, shows: bool) -> Came:
         if not shows or cursor.description is None:
             return Came(Result(self.count(cursor), (), cursor.lastrowid))
@@ -285,10 +312,19 @@ class Sqlite(Driver):
             rows, error = self._taken(cursor)
         finally:
             cursor.row_factory = factory
-        made = None if factory is None else lambda row: factory(cursor, row)
+
+        def maker() -> Optional[Callable[[Any], Any]]:
+            made = cursor.row_factory
+            return None if made is None else lambda row: made(cursor, row)
+
         if error is not None:
-            return Came(Result(-1), rows, made, error)
-        return Came(Result(self._shown(cursor, rows), rows, cursor.lastrowid), rows, made)
+            return Came(Result(-1), rows, maker, error)
+        # Older versions count what RETURNING shows only when all was fetched: a row is shown for each that was changed.
+        return Came(Result(len(rows), rows, cursor.lastrowid), rows, maker)
+
+    def most(self, size: int) -> Optional[int]:
+        # Most versions give all for a number below 1: this one is asked.
+        return size if size > 0 or not self._module.connect(":memory:").execute("SELECT 1").fetchmany(0) else None
 
     def opened(self, names: Wanted) -> List[Tuple[Table, Rows]]:
         begins = not self.is_open()
@@ -307,6 +343,8 @@ _DRIVERS = {"psycopg2": Postgres, "psycopg": Postgres, "sqlite3": Sqlite}
 
 def driver_of(raw: Any, style: Optional[str]) -> Driver:
     """The driver of a connection, by the modules of its class and of those that this one is derived from."""
+    if not all(callable(getattr(raw, name, None)) for name in ("cursor", "commit", "rollback", "close")):
+        raise Refused(f"a {type(raw).__name__} is no connection of PEP 249")
     modules = [kind.__module__.partition(".")[0] for kind in type(raw).__mro__]
     known = next((name for name in modules if name in _DRIVERS), None)
     if hasattr(raw, "__aenter__") or bool(getattr(raw, "async_", False)) or bool(getattr(raw, "async", False)):
@@ -318,8 +356,21 @@ def driver_of(raw: Any, style: Optional[str]) -> Driver:
 
 def wanted_tables(tables: Any) -> Wanted:
     """The tables that are named, each with the columns that are named, or None for all."""
-    if isinstance(tables, str):
+    if isinstance(tables, (str, bytes)) or not isinstance(tables, Iterable):
         raise Refused("tables are a list of names, or a mapping of names to lists of columns")
-    if isinstance(tables, Mapping):
-        return {name: list(columns) if isinstance(columns, (set, tuple)) else columns for name, columns in tables.items()}
-    return {name: None for name in tables}
+    tables = tables if isinstance(tables, Mapping) else list(tables)
+    for name in tables:
+        if not isinstance(name, str):
+            raise Refused(f"a table's name is a str, and no {type(name).__name__}")
+    if not isinstance(tables, Mapping):
+        return {name: None for name in tables}
+    return {name: _wanted_columns(name, columns) for name, columns in tables.items()}
+
+
+def _wanted_columns(table: str, columns: Any) -> Union[None, Sequence[str], Mapping[str, str]]:
+    """The columns that are named of a table: some, with their kinds perhaps, or None for all."""
+    if columns is None or isinstance(columns, Mapping):
+        return columns
+    if isinstance(columns, (str, bytes)) or not isinstance(columns, Iterable):
+        raise Refused(f"the columns of table {table} are a list of names, or a mapping of names to kinds")
+    return list(columns)

@@ -2,7 +2,10 @@
 
 import bisect
 import re
-from typing import Any, Dict, Iterator, List, NamedTuple, Optional, Tuple
+from dataclasses import dataclass
+from typing import Any, Dict, Iterator, List, Optional, Tuple
+
+MOST_NESTED = 100
 
 
 class Malformed(ValueError):
@@ -13,14 +16,16 @@ class Malformed(ValueError):
         self.line = line
 
 
-class Keyword(NamedTuple):
+@dataclass(frozen=True)
+class Keyword:
     """A keyword, without its colon."""
 
     name: str
 
 
-class Symbol(NamedTuple):
-    """A symbol."""
+@dataclass(frozen=True)
+class Symbol:
+    """A symbol, or a number that isn't whole."""
 
     name: str
 
@@ -36,34 +41,54 @@ class Map(Dict[Any, Any]):
 
 
 _ENDS = {"(": ")", "[": "]", "{": "}", "#{": "}"}
+_WHOLE = r"[+-]?(?:0|[1-9][0-9]*)"
+_DELIMITED = r"(?![^\s,;\"()\[\]{}])"
 _TOKEN = re.compile(
-    r"(?P<space>[\s,]+|;[^\n]*)|(?P<numbers>\[(?:[+-]?\d+\s+)*[+-]?\d+\])|"
-    r'(?P<string>"(?:[^"\\]|\\.)*")|(?P<character>\\(?:[a-z]+|u[0-9a-fA-F]{4}|.))'
-    r"|(?P<open>#\{|[(\[{])|(?P<close>[)\]}])|(?P<discard>#_)|(?P<tag>#(?=[a-zA-Z])|\^)|(?P<atom>[^\s,;\"()\[\]{}]+)",
-    re.DOTALL,
+    rf"(?P<space>[\s,]+|;[^\n]*)|(?P<numbers>\[(?:{_WHOLE}\s+)*{_WHOLE}\])|"
+    r'(?P<string>"(?:[^"\\]|\\.)*")|(?P<character>\\(?:u[0-9a-fA-F]{4}|[a-z]+|\S)' + _DELIMITED + ")"
+    r"|(?P<open>#\{|[(\[{])|(?P<close>[)\]}])|(?P<discard>#_)|(?P<tag>#(?=[a-zA-Z])|\^)|(?P<atom>[^\x00-\x20,;\"\\()\[\]{}\ud800-\udfff][^\x00-\x20,;\"()\[\]{}\ud800-\udfff]*)",
+    re.ASCII | re.DOTALL,
 )
 _CHARACTERS = {"newline": "\n", "space": " ", "tab": "\t", "return": "\r", "formfeed": "\f", "backspace": "\b"}
-_ESCAPES = {"n": "\n", "t": "\t", "r": "\r", "f": "\f", "b": "\b"}
-_INTEGER = re.compile(r"([+-]?\d+)N?")
+_ESCAPES = {"n": "\n", "t": "\t", "r": "\r", "f": "\f", "b": "\b", '"': '"', "\\": "\\"}
+_ESCAPE = re.compile(r"\\(u[0-9a-fA-F]{4}|.)", re.DOTALL)
+_HALF = re.compile("[\ud800-\udfff]")
+_INTEGER = re.compile(rf"({_WHOLE})N?")
+_NUMBER = re.compile(rf"{_WHOLE}(?:\.[0-9]*)?(?:[eE][+-]?[0-9]+)?M?|{_WHOLE}/[0-9]+")
+_LIKE_NUMBER = re.compile(r"[+-]?[0-9]")
+
+
+def _escaped(found: "re.Match[str]") -> str:
+    """What an escape stands for; KeyError where it is none."""
+    return chr(int(found[1][1:], 16)) if len(found[1]) == 5 else _ESCAPES[found[1]]
 
 
 def _unescaped(text: str) -> str:
-    plain = re.sub(r"\\u([0-9a-fA-F]{4})", lambda found: chr(int(found[1], 16)), text)
-    return re.sub(r"\\(.)", lambda found: _ESCAPES.get(found[1], found[1]), plain, flags=re.DOTALL)
+    """A text between quotes, of its escapes; two halves of a character are one. ValueError or KeyError where it is none."""
+    plain = _ESCAPE.sub(_escaped, text)
+    return plain.encode("utf-16", "surrogatepass").decode("utf-16") if _HALF.search(plain) else plain
+
+
+def _character(name: str) -> str:
+    """The character of this name; ValueError or KeyError where there is none."""
+    if len(name) == 1:
+        return name
+    return _unescaped("\\" + name) if len(name) == 5 and name[0] == "u" else _CHARACTERS[name]
 
 
 class Reader:
     """Reads one form after another."""
 
     def __init__(self, text: str) -> None:
-        self._text, self._place = text, 0
+        self._text, self._place, self._depth = text, 0, 0
         self._newlines = [found.start() for found in re.finditer("\n", text)]
 
     def _line(self, place: int) -> int:
         """The line of a place, counted from 1."""
         return bisect.bisect_left(self._newlines, place) + 1
 
-    def _fault(self, why: str) -> Malformed:
+    def fault(self, why: str) -> Malformed:
+        """What is wrong where the reader stands."""
         return Malformed(self._line(self._place), why)
 
     def _token(self) -> Optional[Tuple[str, str, int]]:
@@ -71,7 +96,7 @@ class Reader:
         while self._place < len(self._text):
             found = _TOKEN.match(self._text, self._place)
             if found is None:
-                raise self._fault("this is no EDN")
+                raise self.fault("this is no EDN")
             place, self._place = self._place, found.end()
             if found.lastgroup != "space":
                 return found.lastgroup or "", found[0], place
@@ -80,58 +105,94 @@ class Reader:
     def forms(self) -> Iterator[Any]:
         """The forms of the text."""
         while True:
-            token = self._token()
+            token = self._undiscarded()
             if token is None:
                 return
-            if token[0] == "discard":
-                self._form(self._due())
+            yield self._form(token)
+
+    def _undiscarded(self) -> Optional[Tuple[str, str, int]]:
+        """The next token behind the forms that are discarded, one for each sign of it."""
+        due = 0
+        while True:
+            token = self._token()
+            if token is None and due:
+                raise self.fault("the text ends too early")
+            if token is not None and token[0] == "discard":
+                due += 1
+            elif token is not None and due:
+                self._form(token)
+                due -= 1
             else:
-                yield self._form(token)
+                return token
 
     def _due(self) -> Tuple[str, str, int]:
-        token = self._token()
+        token = self._undiscarded()
         if token is None:
-            raise self._fault("the text ends too early")
+            raise self.fault("the text ends too early")
         return token
 
     def _form(self, token: Tuple[str, str, int]) -> Any:
+        kind, text, _ = token
+        try:
+            if kind == "numbers":  # most of a long history
+                return Vector(map(int, text[1:-1].split()))
+            if kind == "string":
+                return _unescaped(text[1:-1])
+            if kind == "character":
+                return _character(text[1:])
+            if kind == "atom":
+                return self._atom(text)
+        except (KeyError, ValueError):
+            told = text if len(text) < 30 else text[:30] + ".."
+            raise self.fault(f"{told} is no text, character, word or number that can be read") from None
+        return self._nested(token)
+
+    def _nested(self, token: Tuple[str, str, int]) -> Any:
+        """A form that has others within."""
+        self._depth += 1
+        if self._depth > MOST_NESTED:
+            raise self.fault(f"more than {MOST_NESTED} forms stand within one another")
         kind, text, place = token
-        if kind == "numbers":  # most of a long history
-            return Vector(map(int, text[1:-1].split()))
         if kind == "open":
-            return self._collection(text, place)
-        if kind == "string":
-            return _unescaped(text[1:-1])
-        if kind == "character":
-            return _CHARACTERS.get(text[1:], _unescaped(text) if text[1:2] == "u" and len(text) > 2 else text[1:])
-        if kind == "tag":  # a record or a date: what it tags says all that is needed
+            form = self._collection(text, place)
+        elif kind == "tag":  # a record or a date: what it tags says all that is needed
             self._form(self._due())
-            return self._form(self._due())
-        if kind == "atom":
-            return self._atom(text)
-        raise self._fault(f"{text} stands too early")
+            form = self._form(self._due())
+        else:
+            raise self.fault(f"{text} stands too early")
+        self._depth -= 1
+        return form
 
     def _atom(self, text: str) -> Any:
         """A word or a number. True, false, and a number with a fraction are symbols: each is like nothing but itself."""
         if text == "nil":
             return None
         if text.startswith(":"):
+            if len(text) == 1:
+                raise ValueError(text)
             return Keyword(text[1:])
         whole = _INTEGER.fullmatch(text)
-        return int(whole[1]) if whole else Symbol(text)
+        if whole:
+            return int(whole[1])
+        if _LIKE_NUMBER.match(text) and not _NUMBER.fullmatch(text):
+            raise ValueError(text)
+        return Symbol(text)
 
     def _collection(self, opens: str, place: int) -> Any:
         forms = self._until(_ENDS[opens])
-        if opens == "#{":
-            return frozenset(forms)
-        if opens != "{":
+        if opens in ("(", "["):
             return Vector(forms)
-        if len(forms) % 2:
-            raise self._fault("a map has a key without a value")
+        if opens == "{" and len(forms) % 2:
+            raise self.fault("a map has a key without a value")
+        keys = forms if opens == "#{" else forms[::2]
         try:
-            told = Map(zip(forms[::2], forms[1::2]))
+            if len(set(keys)) < len(keys):
+                raise self.fault("a map has a key, or a set an element, twice")
         except TypeError:
-            raise self._fault("a map's key is a map") from None
+            raise self.fault("a map's key, or a set's element, is a map or has one") from None
+        if opens == "#{":
+            return frozenset(keys)
+        told = Map(zip(keys, forms[1::2]))
         told.line = self._line(place)
         return told
 
@@ -140,14 +201,18 @@ class Reader:
         forms: List[Any] = []
         while True:
             token = self._due()
-            if token[0] == "discard":
-                self._form(self._due())
-            elif token[0] != "close":
+            if token[0] != "close":
                 forms.append(self._form(token))
             elif token[1] == closes:
                 return forms
             else:
-                raise self._fault(f"{token[1]} stands where {closes} is due")
+                raise self.fault(f"{token[1]} stands where {closes} is due")
+
+
+_TO_ESCAPES = {
+    **{number: f"\\u{number:04x}" for number in range(32)},
+    **str.maketrans({"\\": "\\\\", '"': '\\"', "\n": "\\n", "\t": "\\t", "\r": "\\r"}),
+}
 
 
 def written(value: Any) -> str:
@@ -159,10 +224,7 @@ def written(value: Any) -> str:
     if isinstance(value, Symbol):
         return value.name
     if isinstance(value, str):
-        escaped = (
-            value.replace("\\", "\\\\").replace('"', '\\"').replace("\n", "\\n").replace("\t", "\\t").replace("\r", "\\r")
-        )
-        return f'"{escaped}"'
+        return '"' + value.translate(_TO_ESCAPES) + '"'
     if isinstance(value, dict):
         return "{" + ", ".join(f"{written(key)} {written(each)}" for key, each in value.items()) + "}"
     if isinstance(value, frozenset):

@@ -12,11 +12,11 @@ import re
 import sys
 from typing import Any, Dict, Iterable, Iterator, List, NamedTuple, Optional, Sequence, Set, Tuple
 
-from . import BIGINT, MOST_SESSIONS, TEXT, Kind, _value
+from . import BIGINT, BYTEA, MOST_SESSIONS, TEXT, Kind, _value
 from . import sql
 from .edn import Keyword, Malformed, Map, Reader, Vector, written
 from .effects import READING
-from .values import Spelling, Unsaid, plain
+from .values import MOST_BYTES, Spelling, Unsaid, plain
 
 READ, WRITE, APPEND = Keyword("r"), Keyword("w"), Keyword("append")
 _TYPES = ("invoke", "ok", "fail", "info")
@@ -48,13 +48,27 @@ class Transaction(NamedTuple):
 
 def _operations(text: str) -> List[Map]:
     """The operations of a history: one after another, or in one vector."""
-    forms = list(Reader(text).forms())
-    if len(forms) == 1 and isinstance(forms[0], Vector):
-        forms = list(forms[0])
-    for form in forms:
-        if not isinstance(form, Map):
+    reader = Reader(text)
+    forms: List[Any] = []
+    for form in reader.forms():
+        is_all = isinstance(form, Vector) and not forms
+        if not isinstance(form, Map) and not is_all:
+            raise reader.fault("a history has operations alone, each a map")
+        forms.append(form)
+    if forms and isinstance(forms[0], Vector):
+        if len(forms) > 1 or not all(isinstance(form, Map) for form in forms[0]):
             raise Malformed(1, "a history has operations alone, each a map")
+        return list(forms[0])
     return forms
+
+
+def _has_map(form: Any) -> bool:
+    """Whether a form is a map, or one stands in it."""
+    try:
+        hash(form)
+        return False
+    except TypeError:
+        return True
 
 
 def _micros(operation: Map) -> Tuple[Micro, ...]:
@@ -70,8 +84,10 @@ def _micros(operation: Map) -> Tuple[Micro, ...]:
             )
         if micro[0] != READ and micro[2] is None:
             raise Malformed(operation.line, f"{written(micro)} writes nil, which is what stands for no value")
-        if any(isinstance(part, Map) for part in micro):
-            raise Malformed(operation.line, f"a key or a value of {written(micro)} is a map")
+        if micro[1] is None:
+            raise Malformed(operation.line, f"the key of {written(micro)} is nil")
+        if _has_map(micro):
+            raise Malformed(operation.line, f"a key or a value of {written(micro)} is a map, or has one")
         micros.append(Micro(*micro))
     return tuple(micros)
 
@@ -101,6 +117,8 @@ def transactions_of(text: str) -> List[Transaction]:
         process, kind = operation.get(Keyword("process")), _type_of(operation)
         if isinstance(process, Keyword):  # the nemesis
             continue
+        if _has_map(process):
+            raise Malformed(operation.line, "the process of an operation is a map, or has one")
         if kind == "invoke":
             if process in pending:
                 raise Malformed(operation.line, f"process {written(process)} has an operation that hasn't ended")
@@ -201,11 +219,16 @@ class Column:
 # ---- writing a transcript
 
 
+def _is_too_long(command: str) -> bool:
+    return len(command) * 4 > MOST_BYTES and len(command.encode("utf-8")) > MOST_BYTES
+
+
 class _Writer:
     """Writes the transcript of a history."""
 
     def __init__(self, transactions: Sequence[Transaction]) -> None:
         self._lists = Lists(transactions)
+        self._told = transactions
         self._all = [one for one in transactions if one.type != "fail"]
         registers = _registers(transactions, self._lists)
         micros = [micro for one in transactions for micro in one.micros if micro.key not in self._lists.keys]
@@ -253,8 +276,14 @@ class _Writer:
         for name, (keys, key, value) in used.items():
             for each in keys:
                 first = value.literal(0 if name == "lists" else None)
-                yield from (f"> 1 INSERT INTO {name} VALUES ({key.literal(each)}, {first});", "  1 INSERT 0 1")
+                command = f"INSERT INTO {name} VALUES ({key.literal(each)}, {first})"
+                if _is_too_long(command):
+                    raise self._too_long(next(one.line for one in self._told for micro in one.micros if micro.key == each))
+                yield from (f"> 1 {command};", "  1 INSERT 0 1")
         yield from ("> 1 COMMIT;", "  1 COMMIT")
+
+    def _too_long(self, line: int) -> Malformed:
+        return Malformed(line, f"a key or a value makes a statement of more than {MOST_BYTES} bytes")
 
     def _begin(self, one: Transaction) -> Iterator[str]:
         for session in range(1, MOST_SESSIONS + 1):
@@ -271,6 +300,8 @@ class _Writer:
         for micro in one.micros:
             if one.type == "ok" or micro.does != READ:
                 command, reply = self._said(micro)
+                if _is_too_long(command):
+                    raise self._too_long(one.line)
                 yield f"> {session} {command};"
                 yield from (f"  {session} {line}" for line in reply)
         yield f"> {session} COMMIT;"
@@ -308,6 +339,10 @@ def transcript(history: str) -> str:
 
 
 # ---- a transcript as a history
+
+
+_SESSION = "[1-9]|[1-5][0-9]|6[0-4]"
+_KINDS = {kind.name: kind for kind in (BIGINT, TEXT, BYTEA)}
 
 
 class _Recorded:
@@ -350,9 +385,13 @@ class _History:
             raise Malformed(number, "no line of a transcript")
 
     def _ask(self, number: int, line: str) -> None:
-        found = re.fullmatch(r"(\d+) (.*);", line)
+        found = re.fullmatch(rf"({_SESSION}) (.*);", line)
+        if found and int(found[1]) in self._asked:
+            raise Malformed(number, "a session asks that awaits a reply")
         if found:
             self._asked[int(found[1])] = _Asked(found[2], number)
+        elif line[:1].isdigit():
+            raise Malformed(number, "no line of a session")
         elif line.startswith("OPEN "):
             raise Malformed(number, "a transcript that opens a dump")
         elif line != "CHECKPOINT;":
@@ -360,25 +399,27 @@ class _History:
 
     def _create(self, number: int, line: str) -> None:
         found = re.fullmatch(r"create\s+table\s+(\w+)\s*\((.*)\)\s*;", line, re.IGNORECASE)
-        if not found:
+        columns = [column.lower().split() for column in found[2].split(",")] if found else []
+        if not found or any(len(column) < 2 or column[1] not in _KINDS for column in columns):
             raise Malformed(number, "no table")
-        columns = [column.lower().split() for column in found[2].split(",")]
-        self._tables[found[1].lower()] = _Table([column[0] for column in columns], [Kind(column[1]) for column in columns])
+        self._tables[found[1].lower()] = _Table([column[0] for column in columns], [_KINDS[column[1]] for column in columns])
 
     def _answer(self, number: int, line: str) -> None:
-        session, _, said = line.partition(" ")
+        found = re.fullmatch(rf"({_SESSION}) (.*)", line)
         if self._due is not None:
-            self._row(said)
-            return
-        if not session.isdigit() or int(session) not in self._asked:
-            return
-        asked = self._asked.pop(int(session))
-        self._take(int(session), asked, said, number)
+            self._row(number, line)
+        elif found and int(found[1]) in self._asked:
+            self._take(int(found[1]), self._asked.pop(int(found[1])), found[2], number)
+        elif line not in ("CHECKPOINT", "CREATE TABLE") and not line.startswith("ERROR "):
+            raise Malformed(number, "a reply to nothing")
 
-    def _row(self, said: str) -> None:
+    def _row(self, number: int, line: str) -> None:
         assert self._due is not None
         one, asked, left = self._due
-        self._rows.append(said[2:])
+        before = f"{one.session} | "
+        if not line.startswith(before):
+            raise Malformed(number, "a row is due")
+        self._rows.append(line[len(before) :])
         self._due = (one, asked, left - 1)
         if left == 1:
             rows, self._rows, self._due = self._rows, [], None
@@ -399,10 +440,13 @@ class _History:
             and not said.startswith("ERROR")
             and word not in ("EXPORT", "IMPORT", "POLL", "PRUNE", "DUMP")
         ):
-            self._answered(self._open[session], asked, said)
+            self._answered(self._open[session], asked, said, number)
 
-    def _answered(self, one: _Recorded, asked: _Asked, said: str) -> None:
-        count = int(said.split(" ")[-1])
+    def _answered(self, one: _Recorded, asked: _Asked, said: str, number: int) -> None:
+        found = re.fullmatch(r"(?:SELECT|UPDATE|DELETE|INSERT 0) ([0-9]{1,18})", said)
+        if not found:
+            raise Malformed(number, "no reply to a statement")
+        count = int(found[1])
         if said.startswith("SELECT ") and count:
             self._due = (one, asked, count)
         else:
@@ -414,9 +458,13 @@ class _History:
             one.micros += self._micros(tree, count, rows)
         except Unsaid as unsaid:
             raise Malformed(asked.line, f"a history has reads and writes of single rows: {unsaid}") from None
+        except (ValueError, RecursionError):
+            raise Malformed(asked.line, "a statement or a row that can't be read") from None
 
     def end(self, number: int) -> None:
         """No line follows."""
+        if self._due is not None:
+            raise Malformed(number, "a row is due")
         for session, asked in self._asked.items():
             one = self._open.pop(session, None) if asked.text == "COMMIT" else None
             if one is not None:
@@ -431,8 +479,10 @@ class _History:
         if name not in self._tables:
             raise Unsaid(f"there is no table {name}")
         table = self._tables[name]
+        if tree.table.alias or tree.table.schema or getattr(tree, "returning", ()) or getattr(tree, "limit", None) is not None:
+            raise Unsaid("no statement of a transcript")
         if isinstance(tree, sql.Insert):
-            values = [plain(kind, value.value) for kind, value in zip(table.kinds, tree.rows[0])]
+            values = self._inserted(table, tree)
             return [
                 (WRITE, self._key(name, values[0], at), value) for at, value in enumerate(values) if at and value is not None
             ]
@@ -442,6 +492,15 @@ class _History:
         if isinstance(tree, sql.Delete):
             raise Unsaid("a DELETE")
         return [self._write(name, table, row, column.text, value, count) for column, value in tree.assigned]
+
+    def _inserted(self, table: _Table, tree: sql.Insert) -> List[Any]:
+        """The values of the one row that an INSERT has."""
+        row = tree.rows[0]
+        if tree.columns is not None or len(tree.rows) > 1 or len(row) != len(table.kinds):
+            raise Unsaid("an INSERT of other than one value for each column")
+        if not all(isinstance(value, sql.Constant) for value in row):
+            raise Unsaid("it inserts something else than values")
+        return [plain(kind, value.value) for kind, value in zip(table.kinds, row)]
 
     def _row_of(self, table: _Table, where: Sequence[Any]) -> Any:
         """The key that conditions ask for."""
@@ -456,6 +515,8 @@ class _History:
     ) -> List[Tuple[Keyword, Any, Any]]:
         places = [at for item in tree.shown for at in self._places(table, item)]
         fields = rows[0].encode("utf-8").split(b"\t") if rows else []
+        if len(rows) > 1 or (rows and len(fields) != len(places)):
+            raise Unsaid("its rows are other than one, or have other fields than it shows")
         values = [_value(table.kinds[at], field) for at, field in zip(places, fields)] or [None] * len(places)
         told = [(READ, self._key(name, row, at), value) for at, value in zip(places, values) if at]
         if not told:
@@ -521,9 +582,10 @@ def main() -> int:
     try:
         with open(0 if given.file == "-" else given.file, encoding="utf-8", newline="") as file:
             text = file.read()
-        sys.stdout.write(history(text) if given.edn else transcript(text))
+        told = history(text) if given.edn else transcript(text)
+        sys.stdout.buffer.write(told.encode("utf-8"))
     except (Malformed, OSError, UnicodeDecodeError) as error:
-        print(str(error).replace("history line", "transcript line") if given.edn else error, file=sys.stderr)
+        print(re.sub("^history line", "transcript line", str(error)) if given.edn else error, file=sys.stderr)
         return 1
     return 0
 

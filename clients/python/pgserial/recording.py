@@ -15,13 +15,14 @@ import argparse
 import collections
 import contextlib
 import os
+import re
 import subprocess
 import sys
 import threading
 import warnings
 from typing import Any, Counter, Deque, Dict, FrozenSet, Iterable, List, NamedTuple, Optional, Sequence, Set, Tuple
 
-from . import MOST_SESSIONS, _program
+from . import MOST_SESSIONS, InterfaceError, _program
 from .catalog import MOST_TABLES, Names, Refused, Table
 from .connections import Connection, Cursor, Transaction
 from .drivers import Driver, driver_of, wanted_tables
@@ -29,7 +30,7 @@ from .effects import READING, why_it_may_write
 from .sql import Token
 from .steps import Session
 from .translation import Translator
-from .values import Spelling, Unsaid
+from .values import MOST_BYTES, Spelling, Unsaid
 
 __all__ = ["Connection", "Cursor", "Recorder", "RecordingWarning", "Refused", "Transaction", "Verdict", "verdict"]
 
@@ -101,6 +102,9 @@ class Recorder:
                 session.driver.is_of(connection) for session in self._sessions.values()
             ):
                 raise Refused("the connection is wrapped already")
+            if self._file < 0:
+                self._warn(f"the recording {self.path} is closed, and a connection that is wrapped now isn't recorded")
+                return Connection(connection, Session(self, driver, 0))
             if self._tables is None:
                 self._open(driver)
             while self._dropped:
@@ -118,10 +122,12 @@ class Recorder:
                 for why, count in self.left_out.items():
                     self.write(f"{_LEFT_OUT} {count}: {_shown(why)}\n")
                 self.is_over = True
-            os.close(self._file)
+            with contextlib.suppress(OSError):  # somebody has closed it
+                os.close(self._file)
             self._file = -1
-        with contextlib.suppress(OSError, ValueError):  # standard error may be closed
-            print(self.summary(), file=sys.stderr)
+        if sys.stderr is not None:
+            with contextlib.suppress(OSError, ValueError):  # standard error may be closed
+                print(self.summary(), file=sys.stderr)
 
     def summary(self) -> str:
         """What was recorded, in words."""
@@ -166,7 +172,10 @@ class Recorder:
         lines = []
         for row in rows:
             literals = [self._opening(table, place, value) for place, value in enumerate(row)]
-            lines += [f"> 1 INSERT INTO {table.name} VALUES ({', '.join(literals)});", "  1 INSERT 0 1"]
+            command = f"INSERT INTO {table.name} VALUES ({', '.join(literals)})"
+            if len(command.encode("utf-8")) > MOST_BYTES:
+                raise Refused(f"table {table.real} has a row that makes a statement of more than {MOST_BYTES} bytes")
+            lines += [f"> 1 {command};", "  1 INSERT 0 1"]
         return lines
 
     def _opening(self, table: Table, place: int, value: object) -> str:
@@ -281,7 +290,9 @@ class Recorder:
         try:
             warnings.warn(words, RecordingWarning, stacklevel=2)
         except RecordingWarning:  # where warnings are errors: the application's call isn't one
-            print(f"RecordingWarning: {words}", file=sys.stderr)
+            if sys.stderr is not None:
+                with contextlib.suppress(OSError, ValueError):
+                    print(f"RecordingWarning: {words}", file=sys.stderr)
 
     # numbers of sessions
 
@@ -343,7 +354,8 @@ def _whole(data: bytes) -> bytes:
     lines = data.split(b"\n")[:-1]
     at = next((at for at in range(len(lines) - 1, -1, -1) if b" | " not in lines[at][:7]), 0)
     head = lines[at].split(b" ") if lines else []
-    if head[:2] == [b"", b""] and head[3:4] == [b"SELECT"] and head[-1].isdigit() and len(lines) - at - 1 < int(head[-1]):
+    is_select = head[:2] == [b"", b""] and head[3:4] == [b"SELECT"] and re.fullmatch(rb"[0-9]{1,18}", head[-1])
+    if is_select and len(lines) - at - 1 < int(head[-1]):
         lines = lines[:at]
     return b"".join(line + b"\n" for line in lines)
 
@@ -352,21 +364,25 @@ def verdict(path: Any, program: Any = None, words: Sequence[str] = ()) -> Verdic
     """What `pgserial check` tells of a recording, which may be the beginning that a killed process has left."""
     with open(path, "rb") as file:
         data = _whole(file.read())
-    done = subprocess.run([_program(program), "check", "-", *words], input=data, capture_output=True, check=False)
+    command = [_program(program), "check", "-", *words]
+    try:
+        done = subprocess.run(command, input=data, capture_output=True, check=False)
+    except OSError as error:
+        raise InterfaceError(f"{command[0]} can't be run: {error.strerror}") from None
     lines = done.stdout.decode("utf-8", "replace").split("\n")[:-1]
     answer = _ANSWERS.get(done.returncode, "refused")
     said = f"serializable: {answer}"
     if answer == "refused":
         spoiled = [line.decode("utf-8", "replace") for line in data.split(b"\n") if line.startswith(b"of no use, ")]
-        told = spoiled[:1] or done.stderr.decode("utf-8", "replace").split("\n")[:2]
-        return Verdict(answer, f"no verdict: {'; '.join(told).strip('; ')}", lines)
+        told = "; ".join(spoiled[:1] or done.stderr.decode("utf-8", "replace").split("\n")[:2]).strip("; ")
+        return Verdict(answer, f"no verdict: {told or f'the program ended with status {done.returncode}'}", lines)
     return Verdict(answer, said + _beside(data.decode("utf-8", "replace")), lines)
 
 
 def _beside(text: str) -> str:
     """What a verdict doesn't speak of, in words."""
     comments = [line for line in text.split("\n") if line.startswith("-- ")]
-    left = [line[len(_LEFT_OUT) + 1 :] for line in comments if line.startswith(_LEFT_OUT + " ")]
+    left = [line[len(_LEFT_OUT) + 1 :] for line in comments if re.match(_LEFT_OUT + r" [0-9]{1,18}: ", line)]
     not_said = sum(line.startswith("-- not said, ") for line in comments)
     ended = [line[3:] for line in comments if line.startswith("-- The recording ends here")]
     told = ""
@@ -384,7 +400,11 @@ def main() -> int:
     words.add_argument("--program", help="the program pgserial, where it is neither $PGSERIAL nor on the PATH")
     words.add_argument("--no-time", action="store_true", help="whoever committed first may come second")
     given = words.parse_args()
-    told = verdict(given.transcript, given.program, ["--no-time"] if given.no_time else [])
+    try:
+        told = verdict(given.transcript, given.program, ["--no-time"] if given.no_time else [])
+    except (OSError, InterfaceError) as error:
+        print(error, file=sys.stderr)
+        return 1
     print(told)
     return {"yes": 0, "unknown": 4, "no": 5}.get(told.answer, 1)
 

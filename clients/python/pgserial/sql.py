@@ -25,6 +25,7 @@ class Token(NamedTuple):
         return self.kind == "sign" and self.value in signs
 
 
+MOST_DIGITS = 1000  # of a number that is taken for a whole one
 Key = Union[int, str]  # of a parameter: its place, counted from 0, or its name
 
 _PERCENT = r"(?P<slot>%(?:\((?P<slot_name>[^)]*)\))?[sbt](?!\w))|(?P<percent>%%)"
@@ -33,15 +34,15 @@ _COLON = r"(?P<slot>(?<!:):(?P<slot_name>[^\W\d]\w*))"
 _SLOTS = {
     "pyformat": _PERCENT,
     "format": _PERCENT,
-    "qmark": r"(?P<slot>\?(?P<slot_number>\d*)|[:@$](?P<slot_name>[^\W\d]\w*))",
+    "qmark": r"(?P<slot>\?(?P<slot_number>[0-9]{0,9})|[:@$](?P<slot_name>[^\W\d]\w*))",
     "named": _COLON,
-    "numeric": r"(?P<slot>(?<!:):(?P<slot_number>\d+))",
+    "numeric": r"(?P<slot>(?<!:):(?P<slot_number>[0-9]{1,9}))",
 }
-_BEFORE = r"""(?P<space>\s+|--[^\n]*)|(?P<comment>/\*)|(?P<string>'(?:[^']|'')*')
-|(?P<escaped>[eE]'(?:[^'\\]|''|\\.)*')|(?P<bytes>[xX]'[0-9a-fA-F]*')
+_BEFORE = r"""(?P<space>[ \t\r\f\v\x0a]+)|(?P<line>--[^\n]*)|(?P<comment>/\*)|(?P<string>'(?:[^']|'')*')
+|(?P<escaped>[eE]'(?:[^'\\]|''|\\.)*')|(?P<bytes>[xX]'(?:[0-9a-fA-F]{2})*')
 |(?P<dollar>\$(?P<tag>[A-Za-z_]*)\$(?s:(?P<inside>.*?))\$(?P=tag)\$)|(?P<quoted>"(?:[^"]|"")+"|`[^`]+`)
 |(?P<number>\d+(?:\.\d*)?(?:[eE][+-]?\d+)?|\.\d+)|(?P<word>[^\W\d][\w$]*)|(?P<cast>::)|"""
-_AFTER = r"|(?P<sign><>|!=|<=|>=|==|\|\||[^\s\w'\"`])"
+_AFTER = r"|(?P<sign><>|!=|<=|>=|==|\|\||[^ \t-\r\w'\"`])"
 _BARE = re.compile(_BEFORE.replace("\n", "") + _AFTER[1:])
 
 
@@ -77,11 +78,17 @@ def _string(text: str, percent_is_doubled: bool) -> str:
 
 
 def _number(text: str) -> object:
-    return int(text) if text.isdigit() else float(text)
+    return int(text) if text.isdigit() and len(text) <= MOST_DIGITS else float(text)
+
+
+def _pass_line(comment: str) -> None:
+    """Refuses a comment that ends at a carriage return for some databases, and goes on for others."""
+    if "\r" in comment.rstrip("\r"):
+        raise Unsaid("a carriage return stands in a comment")
 
 
 def _token(found: "re.Match[str]", count: int, doubled: bool) -> Token:
-    """The token that was found, behind so many parameters without a name."""
+    """The token that was found, behind parameters of so many places."""
     kind, text, start = found.lastgroup or "", found[0], found.start()
     groups = found.groupdict()
     if groups.get("slot") is not None:
@@ -113,15 +120,20 @@ def tokens_of(text: str, style: str, is_given: bool) -> List[Token]:
     lexer = _BARE if is_percent and not is_given else _LEXERS[style]
     tokens: List[Token] = []
     place, count = 0, 0
+    if "\0" in text:
+        raise Unsaid("a zero byte stands in it")
     while place < len(text):
         found = lexer.match(text, place)
         if found is None:
             raise Unsaid(f"what begins with {text[place : place + 20]!r}")
         place = _past_comment(text, place) if found["comment"] else found.end()
-        if found["comment"] or found["space"]:
+        if found["line"]:
+            _pass_line(found["line"])
+        if found["comment"] or found["space"] or found["line"]:
             continue
         token = _token(found, count, is_percent and is_given)
-        count += token.kind == "slot" and isinstance(token.value, int)
+        if token.kind == "slot" and isinstance(token.value, int):
+            count = max(count, token.value + 1)  # one without a number comes behind the greatest before it
         tokens.append(token)
     return tokens
 
@@ -286,6 +298,11 @@ _COMPARES = {"=": "=", "==": "=", "<>": "<>", "!=": "<>", "<": "<", "<=": "<=", 
 _TURNED = {"<": ">", "<=": ">=", ">": "<", ">=": "<="}
 
 
+def _are_one(one: Any, other: Constant) -> bool:
+    """Whether two values are the same whole number, of which no digit was lost."""
+    return one == other and isinstance(one.value, int) and isinstance(other.value, int)
+
+
 class Parser:
     """Reads one statement by recursive descent."""
 
@@ -365,6 +382,9 @@ class Parser:
         return Table(schema, name, self._alias())
 
     def _alias(self) -> Optional[Name]:
+        token = self._token(1) if self._is_word("as") else self._token()
+        if token is not None and token.kind == "name" and "[" in token.value:
+            raise Unsaid("a name with a type, by which sqlite3 may convert what is shown")
         token = self._token()
         if self._take_word("as"):
             return self._name()
@@ -462,7 +482,7 @@ class Parser:
         value, sign = self._value(), self._next()
         self._expect(sign.kind == "sign" and sign.value in _COMPARES)
         said, token = _COMPARES[sign.value], self._token()
-        if said == "=" and token is not None and token.kind == "number" and value == Constant(token.value):
+        if said == "=" and token is not None and token.kind == "number" and _are_one(value, Constant(token.value)):
             self._place += 1
             return []
         return [Comparison(self._column(), _TURNED.get(said, said), value)]

@@ -76,7 +76,7 @@ class Session:
 
     def _ended_unseen(self) -> None:
         """Its transaction has ended by something that was no step: it may have been rolled back."""
-        if self.has_written:
+        if self.has_written and not self.driver.is_dead():
             self.recorder.spoil("a transaction ended by a way that isn't recorded", "")
         else:
             self.recorder.write(self.exchange("ROLLBACK", "ROLLBACK"))
@@ -490,6 +490,19 @@ class Spoils(Step):
             self.after()
 
 
+class NoText(Spoils):
+    """What is executed and can't be read as a text. Where the driver finds fault with it too, nothing is done."""
+
+    def __init__(self, session: Session, operation: Any) -> None:
+        super().__init__(session, type(operation).__name__, "what is executed is no text")
+
+    def failed(self, error: BaseException) -> None:
+        if self.session.driver.is_answer(error):
+            Step.failed(self, error)
+        else:
+            self.after()
+
+
 class Many(Step):
     """A statement that the driver executes for many parameters at once."""
 
@@ -592,7 +605,7 @@ def step_of(session: Session, text: str, parameters: Any, cursor: Executed, is_s
     if is_served:
         return LeftOut(session, text, "its rows stay on the server")
     try:
-        return Statement(session, plan.saying.told(Arguments(parameters)), text, cursor)
+        return Statement(session, plan.saying.told(Arguments(parameters, session.driver.adapts)), text, cursor)
     except Unsaid as unsaid:
         return _unsaid_step(session, text, str(unsaid), "it writes" if plan.saying.writes else None)
 
@@ -639,6 +652,6 @@ def many_of(session: Session, text: str, several: List[Any], cursor: Executed) -
     if not plan.saying.writes:
         return LeftOut(session, text, "executemany of a SELECT")
     try:
-        return Many(session, [plan.saying.told(Arguments(parameters)) for parameters in several], text, cursor)
+        return Many(session, [plan.saying.told(Arguments(parameters, session.driver.adapts)) for parameters in several], text, cursor)
     except Unsaid as unsaid:
         return Spoils(session, text, str(unsaid))

@@ -1,6 +1,6 @@
 """A statement as the application sends it, said in the words of a transcript."""
 
-from typing import Any, Dict, FrozenSet, Iterable, List, Mapping, NamedTuple, Optional, Sequence, Tuple
+from typing import Any, Callable, Dict, FrozenSet, Iterable, List, Mapping, NamedTuple, Optional, Sequence, Tuple
 
 from . import BIGINT, BYTEA, TEXT, Kind, sql
 from .catalog import MADE, Column, Names
@@ -24,20 +24,31 @@ class Result(NamedTuple):
     key: object = None
 
 
-class Arguments:
-    """The parameters of one execution."""
+_SENT_AS_THEY_ARE = (type(None), bool, int, float, str, bytes, bytearray, memoryview)
 
-    def __init__(self, parameters: Any) -> None:
-        self._parameters = parameters
+
+class Arguments:
+    """The parameters of one execution. `adapts` tells whether the driver may send something else in place of a value."""
+
+    def __init__(self, parameters: Any, adapts: Callable[[object], bool] = lambda value: False) -> None:
+        self._parameters, self._adapts = parameters, adapts
 
     def value(self, key: sql.Key) -> object:
         """The value of a parameter."""
-        try:
-            if isinstance(key, int) and isinstance(self._parameters, Mapping):
-                return list(self._parameters.values())[key]
-            return self._parameters[key]
-        except (LookupError, TypeError):
-            raise Unsaid(f"there is no parameter {key}") from None
+        given = self._parameters
+        if isinstance(given, Mapping):  # one that makes what it lacks isn't asked for it, since the driver asks too
+            is_there = isinstance(key, str) and key in given
+        elif isinstance(given, Sequence):
+            is_there = isinstance(key, int) and 0 <= key < len(given)
+        else:
+            raise Unsaid(f"its parameters are a {type(given).__name__}")
+        if not is_there:
+            raise Unsaid(f"there is no parameter {key}")
+        value: object = given[key]
+        for each in value if isinstance(value, (list, tuple)) else (value,):
+            if type(each) not in _SENT_AS_THEY_ARE and self._adapts(each):
+                raise Unsaid(f"the driver sends something else in place of a {type(each).__name__}")
+        return value
 
 
 class Told:
@@ -535,6 +546,8 @@ class Translator:
             return Plan(saying=_SAYINGS[type(tree)](self._names, spelling, tree))
         except Unsaid as unsaid:
             return self._unsaid(tokens, str(unsaid))
+        except RecursionError:
+            return self._unsaid(tokens, "it is nested too deeply")
 
     def _unsaid(self, tokens: List[sql.Token], why: str) -> Plan:
         """What can't be said: whether it may write."""

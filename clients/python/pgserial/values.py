@@ -26,25 +26,26 @@ def _bigint(value: object) -> int:
         raise Unsaid(f"a bigint is no {type(value).__name__}")
     if not -(2**63) <= value < 2**63:
         raise Unsaid("a bigint has 64 bits")
-    return int(value)
+    return int.__int__(value)  # its own digits, whatever a subclass shows
 
 
 def _text(value: object) -> str:
     if not isinstance(value, str):
         raise Unsaid(f"a text is no {type(value).__name__}")
+    value = str.__str__(value)  # its own letters, whatever a subclass (as an Enum) shows
     if "\0" in value:
         raise Unsaid("a text has no zero byte")
     try:
         value.encode("utf-8")
     except UnicodeEncodeError:
         raise Unsaid("a text has no half characters") from None
-    return str(value)
+    return value
 
 
 def _bytea(value: object) -> bytes:
     value = getattr(value, "adapted", value)  # psycopg2 wraps bytes so
     if isinstance(value, (bytes, bytearray, memoryview)):
-        return bytes(value)
+        return memoryview(value).tobytes()
     raise Unsaid(f"a bytea is no {type(value).__name__}")
 
 
