@@ -1,9 +1,9 @@
 -- What stands in a list, and what some or all of it pass.
-use Rattle.std.proofs.Common.{◌≡◌, ◌⊎◌, refl, sym, ap, subst, ◌∙◌, ◌<◌, ◌≤◌, ◌+◌, ℕ, zero, suc, Bool, true, false, true≢false, if◌then◌else◌, inl, inr, List, [], ◌∷◌, find, Some, arith}
+use Rattle.std.proofs.Common.{◌≡◌, ◌⊎◌, refl, sym, ap, subst, ◌∙◌, ◌<◌, ◌≤◌, ℕ, zero, suc, Bool, true, false, true≢false, if◌then◌else◌, inl, inr, List, [], ◌∷◌, length, find, Some, arith}
 use Rattle.std.proofs.lemmas.Bool.{cases_eq, cases_Bool, or_cases, or_left, or_right, and_parts, cond_both}
 use Rattle.std.proofs.lemmas.Option.{same_Some}
 use Rattle.std.specs.List.{filter, list_all, list_any}
-use Rattle.certificate.specs.Knowledge.{places_from}
+use Rattle.certificate.specs.Knowledge.{places_below}
 use Rattle.certificate.specs.Order.{Among}
 
 module _ {T : Type 0} (p : T → Bool) where
@@ -60,10 +60,20 @@ module _ {T : Type 0} (p : T → Bool) where
       go more (inl t) = let same : y ≡ x = same_Some y x (sym (ap (λ b. if b then Some y else find p ys) t) ∙ e) in (inl (sym same), subst (λ z. p z ≡ true) same t)
       go more (inr t) = let r = more (sym (ap (λ b. if b then Some y else find p ys) t) ∙ e) in (inr r.0, r.1)
 
-pub among-places : (x m n : ℕ) → m ≤ x → x < m + n → Among x (places_from m n)
-among-places x m zero l u = absurd (omega (arith, l, u))
-among-places x m (suc n) l u = go (λ h. among-places x (suc m) n h (omega (arith, u))) (cases_eq x m)
+-- a list in which nothing stands
+pub none-all : {T : Type 0} (xs : List T) → ((x : T) → Among x xs → ⊥) → list_all (λ z. false) xs ≡ true
+none-all [] n = refl
+none-all (x ∷ xs) n = absurd (n x (inl refl))
+
+-- one in which something stands
+pub none-false : {T : Type 0} (xs : List T) → 1 ≤ length xs → false ≡ list_all (λ z. false) xs
+none-false [] l = absurd (omega (arith, l))
+none-false (x ∷ xs) l = refl
+
+pub among-places : (x n : ℕ) → x < n → Among x (places_below n)
+among-places x zero l = absurd (omega (arith, l))
+among-places x (suc n) l = go (among-places x n) (cases_eq x n)
   where
-    go : (suc m ≤ x → Among x (places_from (suc m) n)) → (x ≡ m) ⊎ (x ≡ m → ⊥) → (x ≡ m) ⊎ Among x (places_from (suc m) n)
+    go : (x < n → Among x (places_below n)) → (x ≡ n) ⊎ (x ≡ n → ⊥) → (x ≡ n) ⊎ Among x (places_below n)
     go more (inl e) = inl e
     go more (inr d) = inr (more (omega (arith, l, d)))

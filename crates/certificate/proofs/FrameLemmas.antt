@@ -5,11 +5,15 @@ use Rattle.std.proofs.lemmas.Option.{same_Some}
 use Rattle.certificate.specs.Board.{Board}
 use Rattle.certificate.specs.Knowledge.{Known}
 use Rattle.certificate.specs.Order.{Among, Turn, Play, Valid, IsBefore, IsThere}
-use Rattle.certificate.specs.Frames.{Assumption, Before, Present, Absent, Frame, is_fair, supposed, contrary, IsSo, IsAssumed, AllAssumed, Sound}
+use Rattle.certificate.specs.declared.certificate.Assumption.{Assumption}
+use Rattle.certificate.specs.declared.certificate.Assumption.TheVariants.{Before, Present, Absent}
+use Rattle.certificate.specs.Frames.{Frame, is_fair, supposed, contrary, IsSo, IsAssumed, AllAssumed, Sound}
 
-among-more : {T : Type 0} (Q : T → Type 0) (x : T) (xs : List T) → Q x → ((y : T) → Among y xs → Q y) → (y : T) → Among y (x ∷ xs) → Q y
-among-more Q x xs q all y (inl e) = subst Q (sym e) q
-among-more Q x xs q all y (inr a) = all y a
+pub among-more : {T : Type 0} (Q : T → Type 0) (x : T) (xs : List T) → Q x → ((y : T) → Among y xs → Q y) → (y : T) → Among y (xs ++ x ∷ []) → Q y
+among-more Q x [] q all y (inl e) = subst Q (sym e) q
+among-more Q x [] q all y (inr a) = absurd a
+among-more Q x (z ∷ zs) q all y (inl e) = all y (inl e)
+among-more Q x (z ∷ zs) q all y (inr a) = among-more Q x zs q (λ v h. all v (inr h)) y a
 
 get-pushed : {T : Type 0} (xs : List T) (x : T) (i : ℕ) (y : T) → slice_get (xs ++ x ∷ []) i ≡ Some y → (slice_get xs i ≡ Some y) ⊎ ((i ≡ length xs) × (y ≡ x))
 get-pushed [] x zero y e = inr (refl, sym (same_Some x y e))

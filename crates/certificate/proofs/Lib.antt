@@ -1,6 +1,13 @@
 pub mod AmongLemmas
+pub mod CertificateLemmas
 pub mod FrameLemmas
+pub mod LeftLemmas
 pub mod PlayLemmas
+pub mod RecordingLemmas
 pub mod RuleLemmas
 pub mod SourceLemmas
+pub mod StandingLemmas
+pub mod StateLemmas
+pub mod SumLemmas
+pub mod ViewLemmas
 pub mod WriterLemmas

@@ -1,16 +1,16 @@
 -- What the rules tell holds of every order that explains the recording.
-use Rattle.std.proofs.Common.{◌≡◌, ◌⊎◌, refl, sym, ap, subst, ◌∙◌, ◌<◌, ℕ, suc, Bool, true, false, true≢false, not, ◌&&◌, ◌||◌, ◌==◌, inl, inr, List, [], ◌∷◌, slice_get, Some, arith}
+use Rattle.std.proofs.Common.{◌≡◌, ◌⊎◌, refl, sym, ap, subst, ◌∙◌, ◌<◌, ℕ, suc, Bool, true, false, true≢false, not, ◌&&◌, ◌||◌, ◌==◌, inl, inr, List, [], ◌∷◌, slice_get, Option, Some, None, arith}
 use Rattle.std.proofs.lemmas.Bool.{cases_order, or_cases, and_parts, and_from, eqb-true, eqb-false, ne_eqb, not-true, not_from_false, false_from_ne_true}
 use Rattle.std.proofs.lemmas.Option.{same_Some}
-use Rattle.std.specs.List.{list_all, list_any}
+use Rattle.std.specs.List.{list_all}
 use Rattle.certificate.specs.Board.{Board, Effect, Keeps, Leaves, Adds, Unknown}
 use Rattle.certificate.specs.Knowledge as known
-use Rattle.certificate.specs.Knowledge.{Cell, Excluded, Finding, Known, places_from}
+use Rattle.certificate.specs.Knowledge.{Cell, Excluded, Finding, Known, places_below}
 use Rattle.certificate.specs.Order.{Among, Turn, Does, Play, Exact, Valid, IsBefore, IsThere, IsExcluded, IsFound, AllKeep, IsUnwritten, IsLeftBy}
 use Rattle.certificate.specs.Rules as rule
-use Rattle.certificate.proofs.AmongLemmas.{any-one, one-any, all-each, among-filter, filter-among, among-places}
+use Rattle.certificate.proofs.AmongLemmas.{any-one, one-any, all-each, among-filter, filter-among, none-all, among-places}
 use Rattle.certificate.proofs.WriterLemmas.{left-by}
-use Rattle.certificate.proofs.SourceLemmas.{before-is, there-is, way-left, no-writer, sure-writer, passes-effect}
+use Rattle.certificate.proofs.SourceLemmas.{before-is, there-is, way-left, no-writer, sure-writer, passes-effect, found-is}
 
 module _ {W S P : Type 0} (b : Board W S P) (exact : Exact b) (order : List ℕ) (turns : P → ℕ → Turn S) (play : Play b order turns) (k : Known S P) (valid : Valid b order turns k) where
   -- From whom the transaction at place j has the cell: the opening, or one of the sources.
@@ -45,9 +45,14 @@ module _ {W S P : Type 0} (b : Board W S P) (exact : Exact b) (order : List ℕ)
 
   not-overwritten : (c : Cell P) (i j x y : ℕ) → slice_get order i ≡ Some x → slice_get order j ≡ Some y → AllKeep b order turns c (suc i) j → known.is_overwritten b k c x y ≡ false
   not-overwritten c i j x y at-x at-y all = false_from_ne_true (known.is_overwritten b k c x y) (λ t.
-      let z = any-one (λ z. known.comes_before b k x z && known.comes_before b k z y) (known.writers b k c) t in
-      let h = and_parts (known.comes_before b k x z.0) (known.comes_before b k z.0 y) z.2 in
-      none-between c i j x y z.0 at-x at-y all (filter-among (known.is_writer b k c) z.0 (places_from 0 b.count) z.1) h.0 h.1)
+      let z = any-one (λ z. known.comes_before b k x z) (known.writers b k c y) t in
+      let h = and_parts (known.comes_before b k z.0 y) (known.is_writer b k c z.0) (filter-among (λ z. known.comes_before b k z y && known.is_writer b k c z) z.0 (places_below b.count) z.1) in
+      none-between c i j x y z.0 at-x at-y all h.1 z.2 h.0)
+
+  no-first : (c : Cell P) (j y : ℕ) → slice_get order j ≡ Some y → AllKeep b order turns c 0 j → list_all (λ z. false) (known.writers b k c y) ≡ true
+  no-first c j y at-y all = none-all (known.writers b k c y) (λ z a.
+      let h = and_parts (known.comes_before b k z y) (known.is_writer b k c z) (filter-among (λ z. known.comes_before b k z y && known.is_writer b k c z) z (places_below b.count) a) in
+      none-first c j y z at-y all h.1 h.0)
 
   not-absent : (i x : ℕ) → slice_get order i ≡ Some x → known.is_among x k.absent ≡ false
   not-absent i x at = false_from_ne_true (known.is_among x k.absent) (λ t.
@@ -60,33 +65,30 @@ module _ {W S P : Type 0} (b : Board W S P) (exact : Exact b) (order : List ℕ)
     where
       go : IsUnwritten b order turns c j ⊎ ((i x n : ℕ) × (w : W) × IsLeftBy b order turns c j i x n w) → Opened may c j y ⊎ ((i x n : ℕ) × (w : W) × IsFrom may c j y i x n w)
       go (inl h) = inl (
-        and_from (may (b.opening c.spot c.column)) (not (list_any (λ z. known.comes_before b k z y) (known.writers b k c)))
+        and_from (may (b.opening c.spot c.column)) (list_all (λ z. false) (known.writers b k c y))
             (subst (λ s. may s ≡ true) h.state m)
-            (not_from_false (list_any (λ z. known.comes_before b k z y) (known.writers b k c))
-            (false_from_ne_true (list_any (λ z. known.comes_before b k z y) (known.writers b k c)) (λ t.
-            let z = any-one (λ z. known.comes_before b k z y) (known.writers b k c) t in
-            none-first c j y z.0 at h.kept (filter-among (known.is_writer b k c) z.0 (places_from 0 b.count) z.1) z.2))),
+            (no-first c j y at h.kept),
         h,
       )
       go (inr (i, x, n, w, h)) =
           let pass = passes-effect b exact order turns play k valid may c i x (b.effect c.spot w c.column) h.at (subst (λ s. may s ≡ true) h.state m) h.writes (h.way.does c.column) in
           let may-leave = one-any (λ v. known.passes b k may x c.spot (b.effect c.spot v c.column)) w (known.left b k x c.spot) (way-left b exact order turns play k valid x i n c.spot w h.at h.way) pass in
-          let may-be = and_from (not (x == y) && not (known.is_among x k.absent) && not (known.comes_before b k y x) && known.may_leave b k may x c) (not (known.is_overwritten b k c x y))
-          (and_from (not (x == y) && not (known.is_among x k.absent) && not (known.comes_before b k y x)) (known.may_leave b k may x c)
+          let may-be = and_from (not (x == y) && not (known.is_among x k.absent) && not (known.comes_before b k y x) && not (known.is_overwritten b k c x y)) (known.may_leave b k may x c)
+          (and_from (not (x == y) && not (known.is_among x k.absent) && not (known.comes_before b k y x)) (not (known.is_overwritten b k c x y))
           (and_from (not (x == y) && not (known.is_among x k.absent)) (not (known.comes_before b k y x))
           (and_from (not (x == y)) (not (known.is_among x k.absent))
           (not_from_false (x == y) (different i j x y h.earlier h.at at))
           (not_from_false (known.is_among x k.absent) (not-absent i x h.at)))
           (not_from_false (known.comes_before b k y x) (not-later i j x y h.earlier h.at at)))
-          may-leave)
-          (not_from_false (known.is_overwritten b k c x y) (not-overwritten c i j x y h.at at h.kept)) in
+          (not_from_false (known.is_overwritten b k c x y) (not-overwritten c i j x y h.at at h.kept)))
+          may-leave in
           inr (
             i,
             x,
             n,
             w,
             record {
-              among = among-filter (known.may_be_from b k may c y) x (places_from 0 b.count) (among-places x 0 b.count (omega arith) (omega (arith, play.within i x h.at))) may-be;
+              among = among-filter (known.may_be_from b k may c y) x (places_below b.count) (among-places x b.count (play.within i x h.at)) may-be;
               passes = pass;
               left = h;
             },
@@ -198,32 +200,39 @@ module _ {W S P : Type 0} (b : Board W S P) (exact : Exact b) (order : List ℕ)
       go c p (inl o) = absurd (true≢false (sym o.0 ∙ not-true (known.may_be_first b k (known.one_allows b k (w ∷ []) column) c y) p.1))
       go c p (inr (m, x, q, u, f)) = absurd (true≢false (sym (all-each (λ (z : ℕ). false) x (known.sources b k (known.one_allows b k (w ∷ []) column) c y) p.0 f.among)))
 
-  leaves-is : (v : S) (c : Cell P) (i x : ℕ) (e : Effect S) → rule.leaves_same b k v e ≡ true → Does b (turns c.spot i).before c.column ((turns c.spot i).after c.column) e → (turns c.spot i).after c.column ≡ v
-  leaves-is v c i x Keeps h d = absurd (true≢false (sym h))
-  leaves-is v c i x (Leaves s) h d = d ∙ exact.state s v h
-  leaves-is v c i x (Adds q z) h d = absurd (true≢false (sym h))
-  leaves-is v c i x Unknown h d = absurd (true≢false (sym h))
+  leaves-is : (v : S) (c : Cell P) (i x : ℕ) (e : Effect S) → slice_get order i ≡ Some x → rule.leaves_same b k v x c.spot e ≡ true
+      → Does b (turns c.spot i).before c.column ((turns c.spot i).after c.column) e → (turns c.spot i).after c.column ≡ v
+  leaves-is v c i x Keeps at h d = absurd (true≢false (sym h))
+  leaves-is v c i x (Leaves s) at h d = d ∙ exact.state s v h
+  leaves-is v c i x (Adds q z) at h d = go (known.found_in b k x c.spot q) refl h
+    where
+      go : (o : Option S) → known.found_in b k x c.spot q ≡ o → rule.is_sum b k v z o ≡ true → (turns c.spot i).after c.column ≡ v
+      go None e h = absurd (true≢false (sym h))
+      go (Some u) e h =
+          let p = and_parts (not (b.overflows u z)) (b.same_state (b.plus u z) v) h in
+          d ∙ ap (λ s. b.plus s z) (found-is b exact order turns play k valid x i q c.spot u at e) ∙ exact.state (b.plus u z) v p.1
+  leaves-is v c i x Unknown at h d = absurd (true≢false (sym h))
 
   pub found-holds : (v : S) (c : Cell P) (y : ℕ) → rule.is_found b k v c y ≡ true → IsFound b order turns (record { place = y; cell = c; state = v })
   found-holds v c y h i at =
-      let p = and_parts (list_all (rule.leaves_only b k v c y) (known.sources b k (known.asks b k c y) c y)) (not (known.may_be_first b k (known.asks b k c y) c y) || b.same_state (b.opening c.spot c.column) v) h in
+      let p = and_parts (list_all (rule.leaves_only b k (known.asks b k c y) v c) (known.sources b k (known.asks b k c y) c y)) (not (known.may_be_first b k (known.asks b k c y) c y) || b.same_state (b.opening c.spot c.column) v) h in
       go p.0 (or_cases (not (known.may_be_first b k (known.asks b k c y) c y)) (b.same_state (b.opening c.spot c.column) v) p.1) (from-whom (known.asks b k c y) c i y at (asked c i y at))
     where
-      go : list_all (rule.leaves_only b k v c y) (known.sources b k (known.asks b k c y) c y) ≡ true
+      go : list_all (rule.leaves_only b k (known.asks b k c y) v c) (known.sources b k (known.asks b k c y) c y) ≡ true
           → (not (known.may_be_first b k (known.asks b k c y) c y) ≡ true) ⊎ (b.same_state (b.opening c.spot c.column) v ≡ true)
           → Opened (known.asks b k c y) c i y ⊎ ((m x n : ℕ) × (w : W) × IsFrom (known.asks b k c y) c i y m x n w) → (turns c.spot i).before c.column ≡ v
       go each (inl d) (inl o) = absurd (true≢false (sym o.0 ∙ not-true (known.may_be_first b k (known.asks b k c y) c y) d))
       go each (inr e) (inl o) = o.1.state ∙ exact.state (b.opening c.spot c.column) v e
       go each first (inr (m, x, n, w, f)) =
-          let only = all-each (rule.leaves_only b k v c y) x (known.sources b k (known.asks b k c y) c y) each f.among in
+          let only = all-each (rule.leaves_only b k (known.asks b k c y) v c) x (known.sources b k (known.asks b k c y) c y) each f.among in
           let left = way-left b exact order turns play k valid x m n c.spot w f.left.at f.left.way in
-          let t = all-each (λ u. not (known.passes b k (known.asks b k c y) x c.spot (b.effect c.spot u c.column)) || rule.leaves_same b k v (b.effect c.spot u c.column)) w (known.left b k x c.spot) only left in
-          f.left.state ∙ leaves m x n w f (or_cases (not (known.passes b k (known.asks b k c y) x c.spot (b.effect c.spot w c.column))) (rule.leaves_same b k v (b.effect c.spot w c.column)) t)
+          let t = all-each (λ u. not (known.passes b k (known.asks b k c y) x c.spot (b.effect c.spot u c.column)) || rule.leaves_same b k v x c.spot (b.effect c.spot u c.column)) w (known.left b k x c.spot) only left in
+          f.left.state ∙ leaves m x n w f (or_cases (not (known.passes b k (known.asks b k c y) x c.spot (b.effect c.spot w c.column))) (rule.leaves_same b k v x c.spot (b.effect c.spot w c.column)) t)
         where
           leaves : (m x n : ℕ) (w : W) → IsFrom (known.asks b k c y) c i y m x n w
-              → (not (known.passes b k (known.asks b k c y) x c.spot (b.effect c.spot w c.column)) ≡ true) ⊎ (rule.leaves_same b k v (b.effect c.spot w c.column) ≡ true) → (turns c.spot m).after c.column ≡ v
+              → (not (known.passes b k (known.asks b k c y) x c.spot (b.effect c.spot w c.column)) ≡ true) ⊎ (rule.leaves_same b k v x c.spot (b.effect c.spot w c.column) ≡ true) → (turns c.spot m).after c.column ≡ v
           leaves m x n w f (inl d) = absurd (true≢false (sym f.passes ∙ not-true (known.passes b k (known.asks b k c y) x c.spot (b.effect c.spot w c.column)) d))
-          leaves m x n w f (inr e) = leaves-is v c m x (b.effect c.spot w c.column) e (f.left.way.does c.column)
+          leaves m x n w f (inr e) = leaves-is v c m x (b.effect c.spot w c.column) f.left.at e (f.left.way.does c.column)
 
   -- ---- contradictions
 

@@ -6,7 +6,7 @@ use Rattle.std.specs.List.{list_any}
 use Rattle.std.specs.Option.{option_map}
 use Rattle.certificate.specs.Board.{Board, Effect, Keeps, Leaves, Adds, Unknown, is_write}
 use Rattle.certificate.specs.Knowledge as known
-use Rattle.certificate.specs.Knowledge.{Cell, Excluded, Finding, Known, places_from}
+use Rattle.certificate.specs.Knowledge.{Cell, Excluded, Finding, Known}
 use Rattle.certificate.specs.Order.{Among, Turn, Does, HasWay, Play, Exact, Valid, IsBefore, IsThere, AllKeep}
 use Rattle.certificate.proofs.AmongLemmas.{any-one, all-each, find-one}
 
@@ -74,7 +74,7 @@ module _ {W S P : Type 0} (b : Board W S P) (exact : Exact b) (order : List ℕ)
   pub no-writer : (c : Cell P) (i j m x : ℕ) → AllKeep b order turns c i j → i ≤ m → m < j → slice_get order m ≡ Some x → known.is_writer b k c x ≡ true → ⊥
   no-writer c i j m x all l u at h = sure-writer c i j m x all l u at (and_parts (known.is_present b k x) (known.surely_writes b k x c) h).1
 
-  found-is : (x i m : ℕ) (s : P) (v : S) → slice_get order i ≡ Some x → known.found_in b k x s m ≡ Some v → (turns s i).before m ≡ v
+  pub found-is : (x i m : ℕ) (s : P) (v : S) → slice_get order i ≡ Some x → known.found_in b k x s m ≡ Some v → (turns s i).before m ≡ v
   found-is x i m s v at e = go (find (λ f. f.place == x && f.cell.column == m && b.same_spot f.cell.spot s) k.findings) refl
     where
       go : (o : Option (Finding S P)) → find (λ f. f.place == x && f.cell.column == m && b.same_spot f.cell.spot s) k.findings ≡ o → (turns s i).before m ≡ v

@@ -24,5 +24,10 @@ pub record Board (W S P : Type 0) : Type 0 where
   pub opening : P → ℕ → S  -- the column's state before all transactions
   pub plus : S → ℤ → S  -- a state with a number added
   pub overflows : S → ℤ → Bool  -- which is out of range
+  pub counts : W → ℕ → Bool  -- by a way, a statement of the transaction, by its number, chose the row
+  pub may_count : ℕ → P → W → ℕ → Bool  -- by a way of a transaction at a spot, it may have
+  pub tells : ℕ → P → ℕ → ℕ → Bool  -- a statement of a transaction chose so many rows of the spot's table, by its answer
+  pub keys : P → List P  -- the spots of its table that may ever have a row
+  pub same_table : P → P → Bool
   pub same_spot : P → P → Bool
   pub same_state : S → S → Bool

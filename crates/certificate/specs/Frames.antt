@@ -1,14 +1,10 @@
 -- What is supposed, and what is known under it.
-use Rattle.std.specs.Prelude.{◌≡◌, ◌≤◌, ℕ, ◌==◌, Bool, true, not, Option, Some, None, List, ◌∷◌, slice_get}
+use Rattle.std.specs.Prelude.{◌≡◌, ◌≤◌, ℕ, ◌==◌, Bool, true, not, Option, Some, None, List, slice_get}
+use Rattle.certificate.specs.declared.certificate.Assumption.{Assumption}
+use Rattle.certificate.specs.declared.certificate.Assumption.TheVariants.{Before, Present, Absent}
 use Rattle.certificate.specs.Board.{Board}
-use Rattle.certificate.specs.Knowledge.{Known}
+use Rattle.certificate.specs.Knowledge.{Known, with_pair, with_present, with_absent}
 use Rattle.certificate.specs.Order.{Turn, Valid, IsBefore, IsThere}
-
--- that the first comes before the second; that the order has a transaction, or hasn't
-pub data Assumption : Type 0 where
-  Before : ℕ → ℕ → Assumption
-  Present : ℕ → Assumption
-  Absent : ℕ → Assumption
 
 -- What is known under what is supposed, and under all that the frames before it suppose. The first supposes nothing.
 pub record Frame (S P : Type 0) : Type 0 where
@@ -23,14 +19,14 @@ is_fair (Absent x) = true
 
 module _ {S P : Type 0} where
   abbrev pub supposed : Known S P → Assumption → Known S P
-  supposed k (Before x y) = record k { pairs = (x, y) ∷ k.pairs }
-  supposed k (Present x) = record k { present = x ∷ k.present }
-  supposed k (Absent x) = record k { absent = x ∷ k.absent }
+  supposed k (Before x y) = with_pair k x y
+  supposed k (Present x) = with_present k x
+  supposed k (Absent x) = with_absent k x
 
   abbrev pub contrary : Known S P → Assumption → Known S P
-  contrary k (Before x y) = record k { pairs = (y, x) ∷ k.pairs }
-  contrary k (Present x) = record k { absent = x ∷ k.absent }
-  contrary k (Absent x) = record k { present = x ∷ k.present }
+  contrary k (Before x y) = with_pair k y x
+  contrary k (Present x) = with_absent k x
+  contrary k (Absent x) = with_present k x
 
 module _ {W S P : Type 0} (b : Board W S P) (order : List ℕ) (turns : P → ℕ → Turn S) where
   -- what is supposed holds of the order

@@ -1,5 +1,5 @@
 -- What a certificate has shown so far, and from whom a transaction may have what it found.
-use Rattle.std.specs.Prelude.{ℕ, ℤ, zero, suc, ◌==◌, Bool, true, false, not, ◌&&◌, ◌||◌, Option, Some, None, List, [], ◌∷◌, find, if◌then◌else◌}
+use Rattle.std.specs.Prelude.{ℕ, ℤ, zero, suc, ◌==◌, Bool, true, false, not, ◌&&◌, ◌||◌, Option, Some, None, List, [], ◌∷◌, ◌++◌, find, if◌then◌else◌}
 use Rattle.std.specs.List.{filter, list_all, list_any}
 use Rattle.std.specs.Option.{option_map}
 use Rattle.certificate.specs.Board.{Board, Effect, Keeps, Leaves, Adds, Unknown, is_write}
@@ -29,13 +29,37 @@ pub record Known (S P : Type 0) : Type 0 where
   pub present : List ℕ
   pub absent : List ℕ
 
+module _ {S P : Type 0} where
+  -- ---- one fact more
+
+  abbrev pub with_pair : Known S P → ℕ → ℕ → Known S P
+  with_pair k x y = record k { pairs = k.pairs ++ (x, y) ∷ [] }
+
+  abbrev pub with_excluded : Known S P → ℕ → P → ℕ → Known S P
+  with_excluded k x s n = record k { excluded = k.excluded ++ record { place = x; spot = s; way = n } ∷ [] }
+
+  abbrev pub with_found : Known S P → ℕ → Cell P → S → Known S P
+  with_found k x c v = record k { findings = k.findings ++ record { place = x; cell = c; state = v } ∷ [] }
+
+  abbrev pub with_present : Known S P → ℕ → Known S P
+  with_present k x = record k { present = k.present ++ x ∷ [] }
+
+  abbrev pub with_absent : Known S P → ℕ → Known S P
+  with_absent k x = record k { absent = k.absent ++ x ∷ [] }
+
 abbrev pub is_among : ℕ → List ℕ → Bool
 is_among i is = list_any (λ j. j == i) is
 
--- the places from one on, so many
-abbrev pub places_from : ℕ → ℕ → List ℕ
-places_from n zero = []
-places_from n (suc m) = n ∷ places_from (suc n) m
+-- the places below one, the last first
+abbrev pub places_below : ℕ → List ℕ
+places_below zero = []
+places_below (suc n) = n ∷ places_below n
+
+module _ {W S P : Type 0} (b : Board W S P) where
+  -- no spot stands twice
+  abbrev pub are_apart : List P → Bool
+  are_apart [] = true
+  are_apart (s ∷ ss) = not (list_any (b.same_spot s) ss) && are_apart ss
 
 module _ {W S P : Type 0} (b : Board W S P) (k : Known S P) where
   -- ---- who is there, and before whom
@@ -90,23 +114,24 @@ module _ {W S P : Type 0} (b : Board W S P) (k : Known S P) where
   abbrev pub is_writer : Cell P → ℕ → Bool
   is_writer c y = is_present y && surely_writes y c
 
-  abbrev pub writers : Cell P → List ℕ
-  writers c = filter (is_writer c) (places_from 0 b.count)
+  -- those that write the cell before y
+  abbrev pub writers : Cell P → ℕ → List ℕ
+  writers c y = filter (λ z. comes_before z y && is_writer c z) (places_below b.count)
 
   -- a writer stands between x and y
   abbrev pub is_overwritten : Cell P → ℕ → ℕ → Bool
-  is_overwritten c x y = list_any (λ z. comes_before x z && comes_before z y) (writers c)
+  is_overwritten c x y = list_any (λ z. comes_before x z) (writers c y)
 
   -- y may have the cell from x, where what it asks of the cell is this
   abbrev pub may_be_from : (S → Bool) → Cell P → ℕ → ℕ → Bool
-  may_be_from may c y x = not (x == y) && not (is_among x k.absent) && not (comes_before y x) && may_leave may x c && not (is_overwritten c x y)
+  may_be_from may c y x = not (x == y) && not (is_among x k.absent) && not (comes_before y x) && not (is_overwritten c x y) && may_leave may x c
 
   abbrev pub sources : (S → Bool) → Cell P → ℕ → List ℕ
-  sources may c y = filter (may_be_from may c y) (places_from 0 b.count)
+  sources may c y = filter (may_be_from may c y) (places_below b.count)
 
   -- y may have the cell from the opening
   abbrev pub may_be_first : (S → Bool) → Cell P → ℕ → Bool
-  may_be_first may c y = may (b.opening c.spot c.column) && not (list_any (λ z. comes_before z y) (writers c))
+  may_be_first may c y = may (b.opening c.spot c.column) && list_all (λ z. false) (writers c y)
 
   -- one of these ways may begin where the column has this state
   abbrev pub one_allows : List W → ℕ → S → Bool

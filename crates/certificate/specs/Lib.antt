@@ -1,7 +1,10 @@
 pub mod Board
 pub mod Cells
+pub mod Certificates
 pub mod Frames
 pub mod Knowledge
 pub mod Order
 pub mod Recorded
 pub mod Rules
+pub mod Views
+pub mod Sums

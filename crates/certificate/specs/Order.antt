@@ -1,17 +1,19 @@
 -- What an order that explains a recording makes of each spot, and when what is known holds of it.
-use Rattle.std.specs.Prelude.{◌≡◌, ◌⊎◌, ◌<◌, ◌≤◌, ℕ, suc, true, Some, List, [], ◌∷◌, slice_get}
+use Rattle.std.specs.Prelude.{◌≡◌, ◌⊎◌, ◌<◌, ◌≤◌, ℕ, suc, Bool, true, Some, List, [], ◌∷◌, length, slice_get}
+use Rattle.std.specs.List.{list_all, list_any}
 use Rattle.certificate.specs.Board.{Board, Effect, Keeps, Leaves, Adds, Unknown}
-use Rattle.certificate.specs.Knowledge.{Cell, Excluded, Finding, Known}
+use Rattle.certificate.specs.Knowledge.{Cell, Excluded, Finding, Known, are_apart}
 
 -- it stands in the list
 abbrev pub Among : {T : Type 0} → T → List T → Type 0
 Among x [] = ⊥
 Among x (y ∷ ys) = (x ≡ y) ⊎ Among x ys
 
--- the states of a spot's columns before a transaction, and after it
+-- the states of a spot's columns before a transaction, and after it, and which of its statements, by their numbers, chose the row
 pub record Turn (S : Type 0) : Type 0 where
   pub before : ℕ → S
   pub after : ℕ → S
+  pub chosen : ℕ → Bool
 
 module _ {W S P : Type 0} (b : Board W S P) where
   -- what an effect makes of a column
@@ -26,8 +28,10 @@ module _ {W S P : Type 0} (b : Board W S P) where
     pub way : slice_get (b.ways x s) n ≡ Some w
     pub allowed : (column : ℕ) → b.allows w column (turn.before column) ≡ true
     pub does : (column : ℕ) → Does turn.before column (turn.after column) (b.effect s w column)
+    pub counted : (j : ℕ) → b.counts w j ≡ true → turn.chosen j ≡ true
+    pub may_count : (j : ℕ) → turn.chosen j ≡ true → b.may_count x s w j ≡ true
 
-  -- An order of places in which each transaction stands at most once, and once if it committed; time is kept; and at each spot each did one of its ways, beginning where the one before it ended.
+  -- An order of places in which each transaction stands at most once, and once if it committed; time is kept; and at each spot each did one of its ways, beginning where the one before it ended; and each statement chose as many rows as it was answered.
   pub record Play (order : List ℕ) (turns : P → ℕ → Turn S) : Type 0 where
     pub once : (i j x : ℕ) → slice_get order i ≡ Some x → slice_get order j ≡ Some x → i ≡ j
     pub within : (i x : ℕ) → slice_get order i ≡ Some x → x < b.count
@@ -36,6 +40,10 @@ module _ {W S P : Type 0} (b : Board W S P) where
     pub opened : (s : P) (column : ℕ) → (turns s 0).before column ≡ b.opening s column
     pub joined : (s : P) (i column : ℕ) → (turns s (suc i)).before column ≡ (turns s i).after column
     pub ways : (s : P) (i x : ℕ) → slice_get order i ≡ Some x → (n : ℕ) × (w : W) × HasWay x s (turns s i) n w
+    pub no_fewer : (i x : ℕ) (s : P) (j n : ℕ) (ss : List P) → slice_get order i ≡ Some x → b.tells x s j n ≡ true → list_all (b.same_table s) ss ≡ true → are_apart b ss ≡ true
+        → ((u : P) → Among u ss → (turns u i).chosen j ≡ true) → length ss ≤ n
+    pub no_more : (i x : ℕ) (s : P) (j n : ℕ) (ss : List P) → slice_get order i ≡ Some x → b.tells x s j n ≡ true
+        → ((u : P) → Among u (b.keys s) → (turns u i).chosen j ≡ true → list_any (b.same_spot u) ss ≡ true) → n ≤ length ss
 
   -- words for what is the same say so
   pub record Exact : Type 0 where

@@ -1,8 +1,8 @@
 -- What a line of a certificate may say, by what is known so far.
-use Rattle.std.specs.Prelude.{ℕ, ◌==◌, Bool, false, not, ◌&&◌, ◌||◌, [], ◌∷◌}
+use Rattle.std.specs.Prelude.{ℕ, ℤ, ◌==◌, Bool, false, not, ◌&&◌, ◌||◌, Option, Some, None, [], ◌∷◌}
 use Rattle.std.specs.List.{list_all}
-use Rattle.certificate.specs.Board.{Board, Effect, Leaves}
-use Rattle.certificate.specs.Knowledge.{Cell, Known, comes_before, is_present, left, surely_writes, passes, sources, may_be_first, one_allows, asks}
+use Rattle.certificate.specs.Board.{Board, Effect, Keeps, Leaves, Adds, Unknown}
+use Rattle.certificate.specs.Knowledge.{Cell, Known, comes_before, is_present, left, surely_writes, found_in, passes, sources, may_be_first, one_allows, asks}
 
 module _ {W S P : Type 0} (b : Board W S P) (k : Known S P) where
   -- x comes before y, and y before z
@@ -33,17 +33,24 @@ module _ {W S P : Type 0} (b : Board W S P) (k : Known S P) where
   abbrev pub is_needless : W → Cell P → ℕ → Bool
   is_needless w c y = list_all (λ z. false) (sources b k (one_allows b k (w ∷ []) c.column) c y) && not (may_be_first b k (one_allows b k (w ∷ []) c.column) c y)
 
-  -- what is left by an effect is this state
-  abbrev pub leaves_same : S → Effect S → Bool
-  leaves_same v (Leaves s) = b.same_state s v
-  leaves_same v _ = false
+  -- what x leaves by an effect at a spot is this state
+  abbrev pub is_sum : S → ℤ → Option S → Bool
+  is_sum v d None = false
+  is_sum v d (Some s) = not (b.overflows s d) && b.same_state (b.plus s d) v
 
-  abbrev pub leaves_only : S → Cell P → ℕ → ℕ → Bool
-  leaves_only v c y z = list_all (λ w. not (passes b k (asks b k c y) z c.spot (b.effect c.spot w c.column)) || leaves_same v (b.effect c.spot w c.column)) (left b k z c.spot)
+  abbrev pub leaves_same : S → ℕ → P → Effect S → Bool
+  leaves_same v x s Keeps = false
+  leaves_same v x s (Leaves u) = b.same_state u v
+  leaves_same v x s (Adds m d) = is_sum v d (found_in b k x s m)
+  leaves_same v x s Unknown = false
+
+  -- what z leaves in the cell is this state, or isn't what is asked
+  abbrev pub leaves_only : (S → Bool) → S → Cell P → ℕ → Bool
+  leaves_only may v c z = list_all (λ w. not (passes b k may z c.spot (b.effect c.spot w c.column)) || leaves_same v z c.spot (b.effect c.spot w c.column)) (left b k z c.spot)
 
   -- all from whom y may have the cell leave this state
   abbrev pub is_found : S → Cell P → ℕ → Bool
-  is_found v c y = list_all (leaves_only v c y) (sources b k (asks b k c y) c y) && (not (may_be_first b k (asks b k c y) c y) || b.same_state (b.opening c.spot c.column) v)
+  is_found v c y = list_all (λ z. leaves_only (asks b k c y) v c z) (sources b k (asks b k c y) c y) && (not (may_be_first b k (asks b k c y) c y) || b.same_state (b.opening c.spot c.column) v)
 
   -- ---- contradictions
 

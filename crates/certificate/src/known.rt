@@ -1,15 +1,19 @@
 //! What a certificate has shown so far.
 
-ghost use Rattle.std.specs.Prelude.{◌≡◌, ◌==◌, ◌&&◌, []};
+ghost use Rattle.std.specs.Prelude.{◌≡◌, ◌==◌, ◌&&◌, ◌++◌, ◌∷◌, [], IfOk, IfErr, OnOk};
 ghost use Rattle.std.specs.List.{list_any};
 ghost use Rattle.std.specs.Option.{option_copied};
+ghost use Rattle.value.specs.Refusals.{out_of_memory};
 ghost use Rattle.certificate.specs.Cells.{found_at, same_spot};
-ghost use Rattle.certificate.specs.Knowledge.{Cell as AnyCell, Excluded as AnyExcluded, Finding as AnyFinding, Known as AnyKnown, is_among};
+ghost use Rattle.certificate.specs.Knowledge.{Cell as AnyCell, Excluded as AnyExcluded, Finding as AnyFinding, Known as AnyKnown, is_among, with_absent, with_excluded, with_found, with_pair, with_present};
+ghost use Rattle.certificate.specs.Frames.{contrary, supposed};
 
+use crate::certificate::Assumption;
 use schema::catalog::TableNo;
 use std::alloc::{Allocator, Global};
 use std::marker::Model;
 use value::key::Key;
+use value::refusal::Refusal;
 use value::value::Value;
 
 /// A key of a table.
@@ -105,6 +109,44 @@ impl<A: Allocator> Spot<A> {
     {
         self.table.place() == other.table.place() && self.key == other.key
     }
+
+    /// An equal spot, with memory of its own. Refused only for want of it (53200).
+    pub fn copy(&self, alloc: A) -> Result<Spot<A>, Refusal>
+        ensures ok { IfOk result (λ s. s ≡ self.now) }
+        ensures err { IfErr result (λ e. e ≡ out_of_memory) }
+    {
+        Ok(Spot {
+            table: self.table,
+            key: self.key.copy(alloc)?,
+        })
+    }
+}
+
+impl<A: Allocator> Cell<A> {
+    /// An equal cell, with memory of its own. Refused only for want of it (53200).
+    pub fn copy(&self, alloc: A) -> Result<Cell<A>, Refusal>
+        ensures ok { IfOk result (λ c. c ≡ self.now) }
+        ensures err { IfErr result (λ e. e ≡ out_of_memory) }
+    {
+        Ok(Cell {
+            spot: self.spot.copy(alloc)?,
+            column: self.column,
+        })
+    }
+}
+
+/// An equal state, with memory of its own. Refused only for want of it (53200).
+pub(crate) fn copy_state<A: Allocator>(
+    alloc: A,
+    state: &Option<Value<A>>,
+) -> Result<Option<Value<A>>, Refusal>
+    ensures ok { IfOk result (λ s. s ≡ state.now) }
+    ensures err { IfErr result (λ e. e ≡ out_of_memory) }
+{
+    match state {
+        None => Ok(None),
+        Some(value) => Ok(Some(value.copy(alloc)?)),
+    }
 }
 
 impl<A: Allocator> Excluded<A> {
@@ -114,6 +156,18 @@ impl<A: Allocator> Excluded<A> {
     {
         self.place == place && self.way == way && self.spot.is(spot)
     }
+
+    // An equal one.
+    fn copy(&self, alloc: A) -> Result<Excluded<A>, Refusal>
+        ensures ok { IfOk result (λ e. e ≡ self.now) }
+        ensures err { IfErr result (λ e. e ≡ out_of_memory) }
+    {
+        Ok(Excluded {
+            place: self.place,
+            spot: self.spot.copy(alloc)?,
+            way: self.way,
+        })
+    }
 }
 
 impl<A: Allocator> Finding<A> {
@@ -122,6 +176,20 @@ impl<A: Allocator> Finding<A> {
         ensures { result ≡ (self.now.place == place && self.now.cell.column == column && same_spot self.now.cell.spot spot.now) }
     {
         self.place == place && self.cell.column == column && self.cell.spot.is(spot)
+    }
+
+    // An equal one.
+    fn copy(&self, alloc: A) -> Result<Finding<A>, Refusal>
+    where
+        A: Copy,
+        ensures ok { IfOk result (λ f. f ≡ self.now) }
+        ensures err { IfErr result (λ e. e ≡ out_of_memory) }
+    {
+        Ok(Finding {
+            place: self.place,
+            cell: self.cell.copy(alloc)?,
+            state: copy_state(alloc, &self.state)?,
+        })
     }
 }
 
@@ -167,6 +235,63 @@ fn has_excluded<A: Allocator>(
     ensures { result ≡ list_any (λ e. e.place == place && e.way == way && same_spot e.spot spot.now) excluded.now }
 {
     excluded.iter().any(|known| known.is_of(place, spot, way))
+}
+
+// Equal pairs.
+fn copy_pairs<A: Allocator>(
+    alloc: A,
+    pairs: &[(usize, usize)],
+) -> Result<Vec<(usize, usize), A>, Refusal>
+    ensures ok { IfOk result (λ copy. copy.items ≡ pairs.now) }
+    ensures err { IfErr result (λ e. e ≡ out_of_memory) }
+{
+    let mut copy = Vec::with_capacity(alloc, pairs.len())?;
+    for pair in pairs {
+        copy.push(*pair)?;
+    }
+    Ok(copy)
+}
+
+// Equal places.
+fn copy_places<A: Allocator>(alloc: A, places: &[usize]) -> Result<Vec<usize, A>, Refusal>
+    ensures ok { IfOk result (λ copy. copy.items ≡ places.now) }
+    ensures err { IfErr result (λ e. e ≡ out_of_memory) }
+{
+    let mut copy = Vec::with_capacity(alloc, places.len())?;
+    for place in places {
+        copy.push(*place)?;
+    }
+    Ok(copy)
+}
+
+// Equal excluded ways.
+fn copy_excluded<A: Allocator + Copy>(
+    alloc: A,
+    excluded: &[Excluded<A>],
+) -> Result<Vec<Excluded<A>, A>, Refusal>
+    ensures ok { IfOk result (λ copy. copy.items ≡ excluded.now) }
+    ensures err { IfErr result (λ e. e ≡ out_of_memory) }
+{
+    let mut copy = Vec::with_capacity(alloc, excluded.len())?;
+    for way in excluded {
+        copy.push(way.copy(alloc)?)?;
+    }
+    Ok(copy)
+}
+
+// Equal findings.
+fn copy_findings<A: Allocator + Copy>(
+    alloc: A,
+    findings: &[Finding<A>],
+) -> Result<Vec<Finding<A>, A>, Refusal>
+    ensures ok { IfOk result (λ copy. copy.items ≡ findings.now) }
+    ensures err { IfErr result (λ e. e ≡ out_of_memory) }
+{
+    let mut copy = Vec::with_capacity(alloc, findings.len())?;
+    for finding in findings {
+        copy.push(finding.copy(alloc)?)?;
+    }
+    Ok(copy)
 }
 
 impl<A: Allocator> Known<A> {
@@ -218,5 +343,107 @@ impl<A: Allocator> Known<A> {
         ensures { option_copied result ≡ found_at place spot.now self.now.findings column }
     {
         found_in(self.findings.as_slice(), place, spot, column)
+    }
+
+    /// The same is known, in memory of its own. Refused only for want of it (53200).
+    pub fn copy(&self, alloc: A) -> Result<Known<A>, Refusal>
+    where
+        A: Copy,
+        ensures ok { IfOk result (λ k. k ≡ self.now) }
+        ensures err { IfErr result (λ e. e ≡ out_of_memory) }
+    {
+        Ok(Known {
+            pairs: copy_pairs(alloc, self.pairs.as_slice())?,
+            excluded: copy_excluded(alloc, self.excluded.as_slice())?,
+            findings: copy_findings(alloc, self.findings.as_slice())?,
+            present: copy_places(alloc, self.present.as_slice())?,
+            absent: copy_places(alloc, self.absent.as_slice())?,
+        })
+    }
+
+    /// It is known too that one comes before another.
+    pub fn tell_pair(&mut self, first: usize, second: usize) -> Result<(), Refusal>
+        ensures ok { OnOk result (self.new ≡ with_pair self.old first second) }
+        ensures err { IfErr result (λ e. e ≡ out_of_memory) }
+    {
+        self.pairs.push((first, second))?;
+        Ok(())
+    }
+
+    /// It is known too that the order has a transaction.
+    pub fn tell_present(&mut self, place: usize) -> Result<(), Refusal>
+        ensures ok { OnOk result (self.new ≡ with_present self.old place) }
+        ensures err { IfErr result (λ e. e ≡ out_of_memory) }
+    {
+        self.present.push(place)?;
+        Ok(())
+    }
+
+    /// It is known too that the order hasn't a transaction.
+    pub fn tell_absent(&mut self, place: usize) -> Result<(), Refusal>
+        ensures ok { OnOk result (self.new ≡ with_absent self.old place) }
+        ensures err { IfErr result (λ e. e ≡ out_of_memory) }
+    {
+        self.absent.push(place)?;
+        Ok(())
+    }
+
+    /// It is known too that a way of a transaction at a spot is out of the question.
+    pub fn tell_excluded(
+        &mut self,
+        alloc: A,
+        place: usize,
+        spot: &Spot<A>,
+        way: usize,
+    ) -> Result<(), Refusal>
+        ensures ok { OnOk result (self.new ≡ with_excluded self.old place spot.now way) }
+        ensures err { IfErr result (λ e. e ≡ out_of_memory) }
+    {
+        let spot = spot.copy(alloc)?;
+        self.excluded.push(Excluded { place, spot, way })?;
+        Ok(())
+    }
+
+    /// It is known too what a transaction found in a cell.
+    pub fn tell_found(
+        &mut self,
+        alloc: A,
+        place: usize,
+        cell: &Cell<A>,
+        state: &Option<Value<A>>,
+    ) -> Result<(), Refusal>
+    where
+        A: Copy,
+        ensures ok { OnOk result (self.new ≡ with_found self.old place cell.now state.now) }
+        ensures err { IfErr result (λ e. e ≡ out_of_memory) }
+    {
+        let cell = cell.copy(alloc)?;
+        let state = copy_state(alloc, state)?;
+        self.findings.push(Finding { place, cell, state })?;
+        Ok(())
+    }
+
+    /// It is known too what is supposed.
+    pub fn suppose(&mut self, premise: Assumption) -> Result<(), Refusal>
+        ensures ok { OnOk result (self.new ≡ supposed self.old premise) }
+        ensures err { IfErr result (λ e. e ≡ out_of_memory) }
+    {
+        match premise {
+            Assumption::Before(first, second) => self.tell_pair(first, second),
+            Assumption::Present(place) => self.tell_present(place),
+            Assumption::Absent(place) => self.tell_absent(place),
+        }
+    }
+
+    /// It is known too that what was supposed isn't so.
+    pub fn refute(&mut self, premise: Assumption) -> Result<(), Refusal>
+        ensures ok { OnOk result (self.new ≡ contrary self.old premise) }
+        ensures err { IfErr result (λ e. e ≡ out_of_memory) }
+    {
+        match premise {
+            Assumption::Before(first, second) => self.tell_pair(second, first),
+            Assumption::Present(place) => self.tell_absent(place),
+            Assumption::Absent(place) => self.tell_present(place),
+        }
     }
 }

@@ -7,11 +7,13 @@ ghost use Rattle.schema.specs.Plain.{is_sound};
 ghost use Rattle.value.specs.declared.value.Value.{Value as AnyValue};
 ghost use Rattle.orders.specs.Explains.{Trace, Explains, all_fit};
 ghost use Rattle.certificate.specs.Board.{Board};
-ghost use Rattle.certificate.specs.Frames.{Assumption, Frame, IsAssumed, Sound, contrary, is_fair, supposed};
+ghost use Rattle.certificate.specs.declared.certificate.Assumption.{Assumption};
+ghost use Rattle.certificate.specs.Frames.{Frame, IsAssumed, Sound, contrary, is_fair, supposed};
 ghost use Rattle.certificate.specs.Knowledge.{Cell, Known};
 ghost use Rattle.certificate.specs.Order.{Exact, IsBefore, IsExcluded, IsFound, IsThere, Play, Turn, Valid};
 ghost use Rattle.certificate.specs.Recorded.{board_of};
 ghost use Rattle.certificate.specs.Rules as rule;
+ghost use Rattle.certificate.specs.Sums as sum;
 ghost use Rattle.certificate.specs.declared.known.Spot.{Spot as AnySpot};
 
 use std::alloc::Allocator;
@@ -62,6 +64,25 @@ pub fn contradictions_refute<W, S, P>()
         (k : Known S P) → Valid b order turns k → (c : Cell P) → (y : ℕ) → rule.is_sourceless b k c y ≡ true → ⊥ }
     ensures wayless { (b : Board W S P) → Exact b → (order : List ℕ) → (turns : P → ℕ → Turn S) → Play b order turns →
         (k : Known S P) → Valid b order turns k → (y : ℕ) → (s : P) → rule.is_wayless b k y s ≡ true → ⊥ }
+{}
+
+/// No play has a statement that surely chose more rows of a table than its answer tells, or can't have chosen so many; nor
+/// does a transaction go a way by which one of its statements would have.
+pub fn numbers_hold<W, S, P>()
+    ensures overfull { (b : Board W S P) → Exact b → (order : List ℕ) → (turns : P → ℕ → Turn S) → Play b order turns →
+        (k : Known S P) → Valid b order turns k → (y j n : ℕ) → (s : P) → (ss : List P) →
+        sum.is_overfull b k y j n s ss ≡ true → ⊥ }
+    ensures lacking { (b : Board W S P) → Exact b → (order : List ℕ) → (turns : P → ℕ → Turn S) → Play b order turns →
+        (k : Known S P) → Valid b order turns k → (y j n : ℕ) → (s : P) → (ss : List P) →
+        sum.is_lacking b k y j n s ss ≡ true → ⊥ }
+    ensures more { (b : Board W S P) → Exact b → (order : List ℕ) → (turns : P → ℕ → Turn S) → Play b order turns →
+        (k : Known S P) → Valid b order turns k → (w : W) → (m y j n : ℕ) → (s : P) → (ss : List P) →
+        slice_get (b.ways y s) m ≡ Some w → sum.would_overfill b k w y j n s ss ≡ true →
+        IsExcluded b order turns (record { place = y; spot = s; way = m }) }
+    ensures fewer { (b : Board W S P) → Exact b → (order : List ℕ) → (turns : P → ℕ → Turn S) → Play b order turns →
+        (k : Known S P) → Valid b order turns k → (w : W) → (m y j n : ℕ) → (s : P) → (ss : List P) →
+        slice_get (b.ways y s) m ≡ Some w → sum.would_lack b k w y j n s ss ≡ true →
+        IsExcluded b order turns (record { place = y; spot = s; way = m }) }
 {}
 
 /// What is known under suppositions stays so: by a rule, by one more supposition, and where one has come to a

@@ -2,6 +2,12 @@
 
 #![tactic(auto)]
 
+pub mod certificate;
+pub mod checking;
 pub mod known;
 pub mod laws;
+pub mod recording;
+mod rules;
+mod sources;
+mod standing;
 pub mod states;

@@ -23,7 +23,7 @@ use Rattle.statement.specs.Evaluation.{outcome, after, lacks_value, lacks_row, l
 use Rattle.statement.proofs.LawsLemmas.{sound_ordered}
 use Rattle.statement.proofs.RowsLemmas.{found_in}
 use Rattle.statement.proofs.Suffices.{same_itself, fault_or, table_or}
-use Rattle.ways.specs.Counts.{chooses}
+use Rattle.ways.specs.Counts.{chooses, inserts}
 use Rattle.ways.specs.Ways.{column_of, value_meets}
 use Rattle.ways.specs.Symbolic.{leaves_out, may_choose, looks_at}
 use Rattle.ways.proofs.WayLemmas.{holds_by}
@@ -235,3 +235,40 @@ module _ {A : Type 0} where
           keeps_chosen X u t k cs (λ row. Some (updated_row more row).1) e)))
       go (Delete u cs) e =
           table_or none code.ForeignKeyViolation (least_table u (chosen X u cs) 0 c X) _ refl (λ free. keeps_chosen X u t k cs (λ row. None) e)
+
+  -- Where there is no row, none comes but by its own INSERT.
+  pub absence_kept : (c : Catalog) (q : Statement A) (X : Tables A) (t : ℕ) (k : Value A) → is_sound c X ≡ true → row_at X t k ≡ None → inserts t k q ≡ false → row_at (after c q X) t k ≡ None
+  absence_kept c q X t k s absent h = row_kept (outcome c q X).changes X t k (go q h) ∙ absent
+    where
+      none : List (Change A) → Type 0
+      none xs = left_by t k xs ≡ None
+
+      unchosen : (u : ℕ) (cs : List (Condition A)) (row : Row A) → In row (chosen X u cs) → (eqb u t && same k row.0) ≡ false
+      unchosen u cs row i = parts (eqb u t) (same k row.0) refl refl
+        where
+          parts : (a b : Bool) → eqb u t ≡ a → same k row.0 ≡ b → (a && b) ≡ false
+          parts false b e f = refl
+          parts true false e f = refl
+          parts true true e f =
+              let r = in_chosen c X u cs row s i in
+              let there : row_at X t k ≡ Some row.1 = ap (λ n. row_at X n k) (sym (eqb-true u t e)) ∙ ap (row_at X u) (same_value k row.0 f) ∙ r.0 in
+              absurd (nothing (sym absent ∙ there))
+            where
+              nothing : (let o : Option (List (Value A)) = None in o ≡ Some row.1) → ⊥
+              nothing p = cc
+
+      go : (q : Statement A) → inserts t k q ≡ false → none (outcome c q X).changes
+      go (Select u p cs) e = refl
+      go (Insert u []) e = refl
+      go (Insert u (v ∷ fields)) e =
+          fault_or none code.NotNullViolation (least_column lacks_value 0 (columns_of c u) (v ∷ fields)) _ refl (λ full.
+          fault_or none code.UniqueViolation (cond (is_some (row_at X u v)) (Some 0) None) _ refl (λ unique.
+          fault_or none code.ForeignKeyViolation (least_column (lacks_row X) 0 (columns_of c u) (v ∷ fields)) _ refl (λ there.
+          untouched t k (puts u (v, fields)) None e refl)))
+      go (Update u more cs) e =
+          fault_or none code.NotNullViolation (first_bad (assigned_lacks_value more) (columns_of c u) (map (updated_row more) (chosen X u cs))) _ refl (λ full.
+          fault_or none code.NumericValueOutOfRange (first_bad (assigned_out_of_range more) (columns_of c u) (map (updated_row more) (chosen X u cs))) _ refl (λ small.
+          fault_or none code.ForeignKeyViolation (first_bad (assigned_lacks_row X more) (columns_of c u) (map (updated_row more) (chosen X u cs))) _ refl (λ there.
+          left_none u t k (λ row. Some (updated_row more row).1) (chosen X u cs) (unchosen u cs))))
+      go (Delete u cs) e =
+          table_or none code.ForeignKeyViolation (least_table u (chosen X u cs) 0 c X) _ refl (λ free. left_none u t k (λ row. None) (chosen X u cs) (unchosen u cs))

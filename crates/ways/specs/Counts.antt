@@ -41,6 +41,16 @@ module _ {A : Type 0} where
   chooses t k (Update u more cs) X = u == t && is_chosen k cs (row_at X t k)
   chooses t k (Delete u cs) X = u == t && is_chosen k cs (row_at X t k)
 
+  -- the key that a statement puts into table t
+  abbrev pub inserted_key : ℕ → Statement A → Option (Value A)
+  inserted_key t (Insert u (v ∷ fields)) = if u == t then Some v else None
+  inserted_key t q = None
+
+  -- it is k
+  abbrev pub inserts : ℕ → Value A → Statement A → Bool
+  inserts t k (Insert u (v ∷ fields)) = u == t && same k v
+  inserts t k q = false
+
   -- statement j does, counted from 0, in the run of the statements from X on
   abbrev pub chosen_in : Catalog → ℕ → Value A → List (Statement A × Reply A) → Tables A → ℕ → Bool
   chosen_in c t k [] X j = false

@@ -1,0 +1,9 @@
+use Rattle.std.proofs.Common.{◌≡◌, ◌∙◌, ap, subst, IfOk}
+use Rattle.certificate.specs.Certificates.{outcome_of, closing}
+use Rattle.certificate.specs.Recorded.{board}
+use Rattle.certificate.specs.Rules.{is_sourceless}
+use Rattle.certificate.proofs.recording.Recording.read_sourceless.Goals as goal
+
+pub returns-clause-ok : goal.returns-clause-ok
+returns-clause-ok g c =
+    subst (λ h. IfOk c.close.result (λ step. outcome_of step c.close.new.self ≡ closing c.args.standing.now h)) (c.in_ok-holds.ensures.ok ∙ ap (λ k. is_sourceless (board c.args.self.now) k c.args.cell.now c.args.reader) c.known.ensures) c.close.ensures.ok

@@ -1,0 +1,10 @@
+//! Tests alone: worked certificates, and each with a line changed.
+
+#![tactic(auto)]
+
+#[cfg(test)]
+mod examples;
+#[cfg(test)]
+mod recorded;
+#[cfg(test)]
+mod words;
