@@ -1,0 +1,300 @@
+//! What transactions needed that time alone doesn't tell.
+
+ghost use Rattle.std.specs.Prelude.{◌≡◌, IfErr};
+ghost use Rattle.value.specs.Refusals.{out_of_memory};
+
+use crate::history::{Column, History, Need};
+use crate::lists::{at, list_at, push_at};
+use crate::visits::Visit;
+use certificate::states::one_allows;
+use std::alloc::Allocator;
+use value::refusal::Refusal;
+use value::value::Value;
+use ways::way::{After, Field, Way};
+
+/// From whom a reader may have a column, as far as time tells.
+#[derive(Drop)]
+struct Window<A: Allocator> {
+    candidates: Vec<usize, A>,
+    from_opening: bool,
+}
+
+/// A look back from a reader at the writers of a column: those that were found, and the begin of the last who leaves none
+/// that had ended before.
+#[derive(Drop)]
+struct Back<A: Allocator> {
+    reader: usize,
+    column: u32,
+    found: Vec<usize, A>,
+    bound: u64,
+}
+
+// Whether anything may be at a visit, and nothing is done.
+fn is_idle<A: Allocator>(visit: &Visit<A>) -> bool {
+    !visit.may_write() && visit.absent() > 0 && visit.free() > 0
+}
+
+// The columns of which a visit needs something.
+fn needed_columns<A: Allocator>(alloc: A, visit: &Visit<A>) -> Result<Vec<u32, A>, Refusal>
+    ensures { IfErr result (λ e. e ≡ out_of_memory) }
+{
+    let mut columns = Vec::new(alloc);
+    if is_idle(visit) {
+        return Ok(columns);
+    }
+    visit.push_columns(&mut columns)?;
+    let is_mixed = visit.free() > 0 && visit.free() < visit.ways.len();
+    if (columns.is_empty() || is_mixed) && !columns.as_slice().contains(&0) {
+        columns.push(0)?;
+    }
+    Ok(columns)
+}
+
+// Whether one of some ways begins without a row.
+fn allow_absence<A: Allocator>(ways: &[Way<A>]) -> bool {
+    for way in ways {
+        if way.is_absent {
+            return true;
+        }
+    }
+    false
+}
+
+// Whether a way leaves in a column what a reader asks of it, where that is known without anything else.
+fn leaves_asked<A: Allocator>(
+    way: &Way<A>,
+    key: &Value<A>,
+    column: u32,
+    reader: &[Way<A>],
+) -> bool {
+    match &way.after {
+        After::Gone => !way.is_absent && allow_absence(reader),
+        After::Anything => false,
+        After::Row(fields) => {
+            if column == 0 {
+                way.is_absent && one_allows(reader, column, Some(key))
+            } else {
+                match fields.as_slice().get(column.saturating_sub(1) as usize) {
+                    Some(Field::Given(value)) => one_allows(reader, column, Some(value)),
+                    _ => false,
+                }
+            }
+        }
+    }
+}
+
+impl<A: Allocator> History<A> {
+    /// Adds what a visit needed.
+    pub(crate) fn add_needs(&mut self, alloc: A, visit: usize) -> Result<(), Refusal>
+    where
+        A: Copy,
+        ensures { IfErr result (λ e. e ≡ out_of_memory) }
+    {
+        let columns = match self.visits.get(visit) {
+            Some(visit) => needed_columns(alloc, visit)?,
+            None => Vec::new(alloc),
+        };
+        for column in &columns {
+            self.add_need(alloc, visit, *column)?;
+        }
+        Ok(())
+    }
+
+    // Adds what a visit needed of a column.
+    fn add_need(&mut self, alloc: A, visit: usize, column: u32) -> Result<(), Refusal>
+    where
+        A: Copy,
+        ensures { IfErr result (λ e. e ≡ out_of_memory) }
+    {
+        let number = self.find_column(alloc, visit, column)?;
+        let window = self.window(alloc, number, visit, column)?;
+        if self.is_told(&window, visit, column) {
+            return Ok(());
+        }
+        let first = self.candidates.len();
+        for candidate in &window.candidates {
+            self.candidates.push(*candidate)?;
+        }
+        self.needs.push(Need {
+            visit,
+            column,
+            first,
+            below: self.candidates.len(),
+            from_opening: window.from_opening,
+        })?;
+        Ok(())
+    }
+
+    // The number of a column of a visit's key.
+    fn find_column(&mut self, alloc: A, visit: usize, column: u32) -> Result<usize, Refusal>
+    where
+        A: Copy,
+        ensures { IfErr result (λ e. e ≡ out_of_memory) }
+    {
+        let key = match self.visits.get(visit) {
+            Some(visit) => visit.key,
+            None => return Ok(usize::MAX),
+        };
+        for number in list_at(self.columns_of.as_slice(), key) {
+            if self.is_column(*number, column) {
+                return Ok(*number);
+            }
+        }
+        let number = self.columns.len();
+        let made = self.make_column(alloc, key, column)?;
+        self.columns.push(made)?;
+        push_at(self.columns_of.as_mut_slice(), key, number)?;
+        Ok(number)
+    }
+
+    // Whether a number is that of a column.
+    fn is_column(&self, number: usize, column: u32) -> bool {
+        match self.columns.get(number) {
+            Some(found) => found.column == column,
+            None => false,
+        }
+    }
+
+    // A column of a key, and those who may have written it.
+    fn make_column(&self, alloc: A, key: usize, column: u32) -> Result<Column<A>, Refusal>
+    where
+        A: Copy,
+        ensures { IfErr result (λ e. e ≡ out_of_memory) }
+    {
+        let mut made = Column {
+            key,
+            column,
+            writers: Vec::new(alloc),
+            ends: Vec::new(alloc),
+        };
+        let mut last: u64 = 0;
+        for (begin, visit) in list_at(self.writers.as_slice(), key) {
+            if self.may_write(*visit, column) {
+                last = last.max(self.times.end(self.place_of(*visit)));
+                made.writers.push((*begin, *visit))?;
+                made.ends.push(last)?;
+            }
+        }
+        Ok(made)
+    }
+
+    // Whether a visit may have written a column.
+    fn may_write(&self, visit: usize, column: u32) -> bool {
+        match (self.visits.get(visit), self.spot_of(visit)) {
+            (Some(visit), Some(spot)) => visit.may_write_column(spot, column),
+            _ => false,
+        }
+    }
+
+    // Whether a visit surely wrote a column.
+    fn always_writes(&self, visit: usize, column: u32) -> bool {
+        match (self.visits.get(visit), self.spot_of(visit)) {
+            (Some(visit), Some(spot)) => visit.always_writes(spot, column),
+            _ => false,
+        }
+    }
+
+    // The writers of a column that time leaves to a reader, the last first. One who surely wrote it and had ended before
+    // the reader began leaves none that had ended before he began.
+    fn window(
+        &self,
+        alloc: A,
+        number: usize,
+        reader: usize,
+        column: u32,
+    ) -> Result<Window<A>, Refusal>
+    where
+        A: Copy,
+        ensures { IfErr result (λ e. e ≡ out_of_memory) }
+    {
+        let mut back = Back {
+            reader: self.place_of(reader),
+            column,
+            found: Vec::new(alloc),
+            bound: 0,
+        };
+        if let Some(asked) = self.columns.get(number) {
+            let end = self.times.end(back.reader);
+            let writers = asked.writers.as_slice();
+            let below = writers.partition_point(|writer| writer.0 <= end);
+            for index in (0..below).rev() {
+                if at(asked.ends.as_slice(), index, 0) < back.bound {
+                    break;
+                }
+                self.look_back(at(writers, index, (0, usize::MAX)), &mut back)?;
+            }
+        }
+        self.close(alloc, &back)
+    }
+
+    // Looks at the next writer, who began at a time.
+    fn look_back(&self, writer: (u64, usize), back: &mut Back<A>) -> Result<(), Refusal>
+        ensures { IfErr result (λ e. e ≡ out_of_memory) }
+    {
+        let (began, visit) = writer;
+        let place = self.place_of(visit);
+        let ended = self.times.end(place);
+        if ended < back.bound || place == back.reader {
+            return Ok(());
+        }
+        back.found.push(visit)?;
+        let is_before = ended < self.times.begin(back.reader);
+        if is_before && began > back.bound && self.always_writes(visit, back.column) {
+            back.bound = began;
+        }
+        Ok(())
+    }
+
+    // The window of those that were found, without those that had ended before the bound.
+    fn close(&self, alloc: A, back: &Back<A>) -> Result<Window<A>, Refusal>
+    where
+        A: Copy,
+        ensures { IfErr result (λ e. e ≡ out_of_memory) }
+    {
+        let mut candidates = Vec::with_capacity(alloc, back.found.len())?;
+        for visit in &back.found {
+            if self.times.end(self.place_of(*visit)) >= back.bound {
+                candidates.push(*visit)?;
+            }
+        }
+        Ok(Window {
+            candidates,
+            from_opening: back.bound == 0,
+        })
+    }
+
+    // Whether time tells all that can be known of a need: only one has written before, or none, and what is there is
+    // what the reader asks.
+    fn is_told(&self, window: &Window<A>, reader: usize, column: u32) -> bool {
+        let Some(visit) = self.visits.get(reader) else {
+            return false;
+        };
+        if visit.sums(column) || (visit.ways.len() != 1 && visit.may_write()) {
+            return false;
+        }
+        match window.candidates.as_slice() {
+            [] => self.opening_serves(visit, reader, column),
+            [writer] => !window.from_opening && self.serves(*writer, visit, column),
+            _ => false,
+        }
+    }
+
+    // Whether the opening has what a reader asks of a column.
+    fn opening_serves(&self, visit: &Visit<A>, reader: usize, column: u32) -> bool {
+        one_allows(visit.ways.as_slice(), column, self.opening(reader, column))
+    }
+
+    // Whether a writer who had ended before a reader began surely left what the reader asks of a column.
+    fn serves(&self, writer: usize, reader: &Visit<A>, column: u32) -> bool {
+        if !self.times.precedes(self.place_of(writer), reader.place) {
+            return false;
+        }
+        let (Some(visit), Some(spot)) = (self.visits.get(writer), self.spot_of(writer)) else {
+            return false;
+        };
+        match visit.ways.as_slice() {
+            [way] => leaves_asked(way, spot.key.value(), column, reader.ways.as_slice()),
+            _ => false,
+        }
+    }
+}

@@ -1,0 +1,177 @@
+//! The shortest ways to say that one transaction comes before another.
+
+ghost use Rattle.std.specs.Prelude.{◌≡◌, IfErr};
+ghost use Rattle.value.specs.Refusals.{out_of_memory};
+
+use crate::history::History;
+use crate::lists::at;
+use crate::solver::Solver;
+use std::alloc::Allocator;
+use std::collections::{BTreeMap, VecDeque};
+use value::refusal::Refusal;
+
+/// The next transaction of a path, and the fact by which the one before comes before it; none where time tells it.
+#[derive(Clone, Copy)]
+pub(crate) struct Step {
+    pub(crate) place: usize,
+    pub(crate) fact: Option<usize>,
+}
+
+/// A search by breadth for the last of a path, by facts with lower numbers than one.
+#[derive(Drop)]
+struct Walk<A: Allocator> {
+    last: usize,
+    fact: usize,
+    /// For each that was reached, from whom, and by which fact.
+    came: BTreeMap<usize, Step, A>,
+    queue: VecDeque<usize, A>,
+    /// Those who began from this rank on were all reached.
+    reached: usize,
+}
+
+impl<A: Allocator> Walk<A> {
+    // Reaches a transaction from another, if it wasn't reached.
+    fn reach(&mut self, from: usize, place: usize, fact: Option<usize>) -> Result<(), Refusal>
+    where
+        A: Clone,
+        ensures { IfErr result (λ e. e ≡ out_of_memory) }
+    {
+        if self.came.contains_key(&place) {
+            return Ok(());
+        }
+        self.came.insert(place, Step { place: from, fact })?;
+        self.queue.push_back(place)?;
+        Ok(())
+    }
+
+    // Whether the last is reached.
+    fn is_done(&self) -> bool {
+        self.came.contains_key(&self.last)
+    }
+
+    // The path from the first to the last.
+    fn path(&self, alloc: A, first: usize) -> Result<Vec<Step, A>, Refusal>
+        ensures { IfErr result (λ e. e ≡ out_of_memory) }
+    {
+        let mut path = Vec::new(alloc);
+        let mut place = self.last;
+        for _ in 0..self.came.len() {
+            if place == first {
+                break;
+            }
+            let Some(step) = self.came.get(&place) else {
+                break;
+            };
+            path.push(Step {
+                place,
+                fact: step.fact,
+            })?;
+            place = step.place;
+        }
+        path.as_mut_slice().reverse();
+        Ok(path)
+    }
+}
+
+impl<A: Allocator> Solver<A> {
+    /// The shortest path from one transaction to another that is known to come after it, by time and by facts with lower
+    /// numbers than one.
+    pub(crate) fn path(
+        &self,
+        alloc: A,
+        history: &History<A>,
+        pair: (usize, usize),
+        fact: usize,
+    ) -> Result<Vec<Step, A>, Refusal>
+    where
+        A: Copy,
+        ensures { IfErr result (λ e. e ≡ out_of_memory) }
+    {
+        let (first, last) = pair;
+        let mut walk = Walk {
+            last,
+            fact,
+            came: BTreeMap::new(alloc),
+            queue: VecDeque::new(alloc),
+            reached: history.by_begin.len(),
+        };
+        walk.reach(first, first, None)?;
+        for _ in 0..history.times.count() {
+            let Some(place) = walk.queue.pop_front() else {
+                break;
+            };
+            self.go_on(history, &mut walk, place)?;
+            if walk.is_done() {
+                break;
+            }
+        }
+        walk.path(alloc, first)
+    }
+
+    // Reaches all that come right after a transaction.
+    fn go_on(&self, history: &History<A>, walk: &mut Walk<A>, place: usize) -> Result<(), Refusal>
+    where
+        A: Copy,
+        ensures { IfErr result (λ e. e ≡ out_of_memory) }
+    {
+        if history.times.precedes(place, walk.last) {
+            return walk.reach(place, walk.last, None);
+        }
+        self.go_by_facts(walk, place)?;
+        self.go_by_time(history, walk, place)
+    }
+
+    // Whether a path may go through a transaction.
+    fn leads(&self, walk: &Walk<A>, place: usize) -> bool {
+        place == walk.last || self.order.has(place, walk.last)
+    }
+
+    // Reaches those that a fact tells to come after a transaction.
+    fn go_by_facts(&self, walk: &mut Walk<A>, place: usize) -> Result<(), Refusal>
+    where
+        A: Copy,
+        ensures { IfErr result (λ e. e ≡ out_of_memory) }
+    {
+        let mut next = self.last_edge(place);
+        for _ in 0..self.facts.len() {
+            let Some(number) = next else {
+                return Ok(());
+            };
+            let Some(edge) = self.edge(number) else {
+                return Ok(());
+            };
+            if edge.fact < walk.fact && self.leads(walk, edge.to) {
+                walk.reach(place, edge.to, Some(edge.fact))?;
+            }
+            next = edge.next;
+        }
+        Ok(())
+    }
+
+    // Reaches those that began after a transaction had ended, and from which a fact goes on.
+    fn go_by_time(
+        &self,
+        history: &History<A>,
+        walk: &mut Walk<A>,
+        place: usize,
+    ) -> Result<(), Refusal>
+    where
+        A: Copy,
+        ensures { IfErr result (λ e. e ≡ out_of_memory) }
+    {
+        let ranks = history.by_begin.as_slice();
+        let end = history.times.end(place);
+        let first = ranks.partition_point(|rank| rank.0 <= end);
+        for rank in first..walk.reached {
+            let (begin, other) = at(ranks, rank, (u64::MAX, 0));
+            if begin > history.times.end(walk.last) {
+                break;
+            }
+            if self.last_edge(other).is_some() && self.leads(walk, other) {
+                walk.reach(place, other, None)?;
+            }
+        }
+        walk.reached = walk.reached.min(first);
+        Ok(())
+    }
+}
