@@ -1,0 +1,10 @@
+//! Certificates in words: why no order of transactions explains what their clients were answered.
+
+#![tactic(auto)]
+
+pub mod account;
+mod anomaly;
+mod cycle;
+mod phrases;
+mod sight;
+mod telling;

@@ -1,0 +1,346 @@
+//! What a transaction found in a cell, and in which lines cells were read and written.
+
+ghost use Rattle.std.specs.Prelude.{◌≡◌, IfErr};
+ghost use Rattle.value.specs.Refusals.{out_of_memory};
+
+use crate::account::Account;
+use crate::phrases::{append_line, append_word};
+use certificate::certificate::Line;
+use certificate::known::{Cell, Spot};
+use copytext::write_field;
+use orders::transaction::{Answered, Transaction};
+use statement::condition::{Comparison, Condition};
+use statement::statement::{Assignment, Source, Statement};
+use std::alloc::{Allocator, Global};
+use value::refusal::Refusal;
+use value::value::Value;
+use ways::cover::{is_looked_at, ways_of};
+use ways::way::{Atom, Way};
+
+/// What a transaction found in a cell, as far as its replies tell.
+#[derive(Drop)]
+pub(crate) enum Sight<A: Allocator = Global> {
+    /// There was no row.
+    Absent,
+    /// There was a row.
+    There,
+    Value(Value<A>),
+    Unknown,
+}
+
+// The value that an atom says a column had.
+fn value_told<A: Allocator + Copy>(
+    alloc: A,
+    atom: &Atom<A>,
+    column: u32,
+) -> Result<Option<Value<A>>, Refusal>
+    ensures memory { IfErr result (λ e. e ≡ out_of_memory) }
+{
+    if !atom.truth {
+        return Ok(None);
+    }
+    match &atom.condition {
+        Condition::Compare(on, Comparison::Equal, value) if *on == column => {
+            Ok(Some(value.copy(alloc)?))
+        }
+        Condition::IsNull(on) if *on == column => Ok(Some(Value::Null)),
+        _ => Ok(None),
+    }
+}
+
+// What a way says of a column before.
+fn sight_by<A: Allocator + Copy>(alloc: A, way: &Way<A>, column: u32) -> Result<Sight<A>, Refusal>
+    ensures memory { IfErr result (λ e. e ≡ out_of_memory) }
+{
+    if way.is_absent {
+        return Ok(Sight::Absent);
+    }
+    if column == 0 {
+        return Ok(Sight::There);
+    }
+    for atom in way.atoms.as_slice() {
+        if let Some(value) = value_told(alloc, atom, column)? {
+            return Ok(Sight::Value(value));
+        }
+    }
+    Ok(Sight::Unknown)
+}
+
+// Whether two ways say the same.
+fn are_alike<A: Allocator>(first: &Sight<A>, second: &Sight<A>) -> bool {
+    match (first, second) {
+        (Sight::Absent, Sight::Absent) | (Sight::There, Sight::There) => true,
+        (Sight::Value(value), Sight::Value(other)) => value == other,
+        _ => false,
+    }
+}
+
+// What two ways say together.
+fn both<A: Allocator>(first: Sight<A>, second: Sight<A>) -> Sight<A> {
+    if are_alike(&first, &second) {
+        first
+    } else {
+        Sight::Unknown
+    }
+}
+
+// Whether a line of a certificate excludes a way.
+fn excludes<A: Allocator>(line: &Line<A>, place: usize, spot: &Spot<A>, number: usize) -> bool {
+    match line {
+        Line::Needless { reader, cell, way } => {
+            *reader == place && *way == number && cell.spot.is(spot)
+        }
+        _ => false,
+    }
+}
+
+impl<A: Allocator> Account<'_, A> {
+    // Whether a way of a transaction is excluded somewhere.
+    fn is_excluded(&self, place: usize, spot: &Spot<A>, number: usize) -> bool {
+        self.lines
+            .iter()
+            .any(|line| excludes(line, place, spot, number))
+    }
+
+    // What the ways that are left say of a cell.
+    fn sight_of(
+        &self,
+        alloc: A,
+        place: usize,
+        cell: &Cell<A>,
+        ways: &[Way<A>],
+    ) -> Result<Sight<A>, Refusal>
+    where
+        A: Copy,
+        ensures memory { IfErr result (λ e. e ≡ out_of_memory) }
+    {
+        let mut seen = None;
+        for (number, way) in ways.iter().enumerate() {
+            if self.is_excluded(place, &cell.spot, number) {
+                continue;
+            }
+            let sight = sight_by(alloc, way, cell.column)?;
+            seen = match seen {
+                Some(other) => Some(both(other, sight)),
+                None => Some(sight),
+            };
+        }
+        Ok(seen.unwrap_or(Sight::Unknown))
+    }
+
+    // What a transaction found in a cell.
+    fn sight(
+        &self,
+        alloc: A,
+        transaction: &Transaction<A>,
+        place: usize,
+        cell: &Cell<A>,
+    ) -> Result<Sight<A>, Refusal>
+    where
+        A: Copy,
+        ensures memory { IfErr result (λ e. e ≡ out_of_memory) }
+    {
+        let ways = ways_of(
+            alloc,
+            self.catalog,
+            cell.spot.table,
+            cell.spot.key.value(),
+            transaction.statements.as_slice(),
+        )?;
+        self.sight_of(alloc, place, cell, ways.as_slice())
+    }
+}
+
+// Whether a statement looks at a spot, and writes there if asked so.
+fn looks<A: Allocator>(answered: &[Answered<A>], spot: &Spot<A>, writes: bool) -> bool {
+    match answered {
+        [only] => {
+            (only.statement.writes() || !writes)
+                && is_looked_at(spot.table, spot.key.value(), answered)
+        }
+        _ => false,
+    }
+}
+
+// The place of the first statement that looks at a spot, and writes there if asked so.
+fn first_look<A: Allocator>(
+    statements: &[Answered<A>],
+    spot: &Spot<A>,
+    writes: bool,
+) -> Option<usize> {
+    statements
+        .chunks(1)
+        .position(|answered| looks(answered, spot, writes))
+}
+
+impl<A: Allocator> Account<'_, A> {
+    // The line of a transaction's statement at a place.
+    fn statement_line(&self, place: usize, statement: usize) -> Option<u64> {
+        self.names.get(place)?.lines.get(statement).copied()
+    }
+
+    // The line where a transaction first looked at a spot, or wrote there.
+    fn line_at(&self, place: usize, spot: &Spot<A>, writes: bool) -> Option<u64> {
+        let transaction = self.transactions.get(place)?;
+        let statement = first_look(transaction.statements.as_slice(), spot, writes)?;
+        self.statement_line(place, statement)
+    }
+
+    /// Appends the line where a transaction first looked at a spot, or wrote there.
+    pub(crate) fn append_line_at(
+        &self,
+        place: usize,
+        spot: &Spot<A>,
+        writes: bool,
+        text: &mut Vec<u8, A>,
+    ) -> Result<(), Refusal>
+        ensures memory { IfErr result (λ e. e ≡ out_of_memory) }
+    {
+        match self.line_at(place, spot, writes) {
+            Some(line) => append_line(line, text),
+            None => Ok(()),
+        }
+    }
+
+    /// Appends what a transaction read in a cell, as in `2 read t id = 1 v as 5 (line 12)`.
+    pub(crate) fn append_seen(
+        &self,
+        alloc: A,
+        place: usize,
+        cell: &Cell<A>,
+        text: &mut Vec<u8, A>,
+    ) -> Result<(), Refusal>
+    where
+        A: Copy,
+        ensures memory { IfErr result (λ e. e ≡ out_of_memory) }
+    {
+        let Some(transaction) = self.transactions.get(place) else {
+            return Ok(());
+        };
+        let sight = self.sight(alloc, transaction, place, cell)?;
+        self.append_party(place, text)?;
+        append_word(" read ", text)?;
+        match sight {
+            Sight::Absent => self.append_spot(&cell.spot, text)?,
+            _ => self.append_cell(cell, text)?,
+        }
+        append_sight(&sight, text)?;
+        self.append_line_at(place, &cell.spot, false, text)
+    }
+}
+
+// Whether a source gives a value.
+fn gives<A: Allocator>(source: &Source<A>, value: &Value<A>) -> bool {
+    match source {
+        Source::Literal(literal) => literal == value,
+        Source::Sum(_, _) => false,
+    }
+}
+
+// Whether one of some assignments sets a column to a value.
+fn sets<A: Allocator>(assignments: &[Assignment<A>], column: u32, value: &Value<A>) -> bool {
+    assignments.iter().any(|assignment| assignment.column == column
+        && gives(&assignment.source, value))
+}
+
+// Whether a statement writes a value into a column.
+fn writes_value<A: Allocator>(statement: &Statement<A>, column: u32, value: &Value<A>) -> bool {
+    match statement {
+        Statement::Insert(_, values) => values.as_slice().get(column as usize) == Some(value),
+        Statement::Update(_, assignments, _) => sets(assignments.as_slice(), column, value),
+        Statement::Select(_, _, _) | Statement::Delete(_, _) => false,
+    }
+}
+
+// Whether a statement writes a column.
+fn writes_column<A: Allocator>(statement: &Statement<A>, column: u32) -> bool {
+    match statement {
+        Statement::Insert(_, _) | Statement::Delete(_, _) => true,
+        Statement::Update(_, assignments, _) => assignments
+            .as_slice()
+            .iter()
+            .any(|assignment| assignment.column == column),
+        Statement::Select(_, _, _) => false,
+    }
+}
+
+/// Whether a value was written into a cell, and whether it was left there.
+#[derive(Clone, Copy)]
+struct ValueWritten {
+    at_all: bool,
+    at_last: bool,
+}
+
+// What a transaction did with a value and a cell.
+fn written<A: Allocator>(
+    transaction: &Transaction<A>,
+    cell: &Cell<A>,
+    value: &Value<A>,
+) -> ValueWritten {
+    let mut written = ValueWritten {
+        at_all: false,
+        at_last: false,
+    };
+    for answered in transaction.statements.chunks(1) {
+        if let [only] = answered {
+            if writes_column(&only.statement, cell.column)
+                && is_looked_at(cell.spot.table, cell.spot.key.value(), answered)
+            {
+                written.at_last = writes_value(&only.statement, cell.column, value);
+                written.at_all = written.at_all || written.at_last;
+            }
+        }
+    }
+    written
+}
+
+impl<A: Allocator + Copy> Account<'_, A> {
+    /// What is said of a cell that a reader can't have found as it did: a value that somebody wrote and wrote over, or that
+    /// nobody wrote, or another state.
+    pub(crate) fn left_by_nobody(
+        &self,
+        alloc: A,
+        reader: usize,
+        cell: &Cell<A>,
+    ) -> Result<&'static str, Refusal>
+        ensures memory { IfErr result (λ e. e ≡ out_of_memory) }
+    {
+        let Some(transaction) = self.transactions.get(reader) else {
+            return Ok("\n");
+        };
+        let Sight::Value(value) = self.sight(alloc, transaction, reader, cell)? else {
+            return Ok(", as nobody can have left it\n");
+        };
+        let mut all = ValueWritten {
+            at_all: false,
+            at_last: false,
+        };
+        for other in self.transactions {
+            let one = written(other, cell, &value);
+            all.at_all = all.at_all || one.at_all;
+            all.at_last = all.at_last || one.at_last;
+        }
+        Ok(match all {
+            ValueWritten { at_last: true, .. } => ", as nobody can have left it\n",
+            ValueWritten { at_all: true, .. } =>
+                ", as nobody left it in the end: intermediate read\n",
+            _ => ", which nobody wrote: aborted read\n",
+        })
+    }
+}
+
+// Appends what was found.
+fn append_sight<A: Allocator>(sight: &Sight<A>, text: &mut Vec<u8, A>) -> Result<(), Refusal>
+    ensures memory { IfErr result (λ e. e ≡ out_of_memory) }
+{
+    match sight {
+        Sight::Absent => append_word(" as absent", text),
+        Sight::There => append_word(" as there", text),
+        Sight::Value(Value::Null) => append_word(" as null", text),
+        Sight::Value(value) => {
+            append_word(" as ", text)?;
+            write_field(value, text)
+        }
+        Sight::Unknown => Ok(()),
+    }
+}
