@@ -1,13 +1,18 @@
 //! The judgement of a transcript.
 
-ghost use Rattle.std.specs.Prelude.{◌≡◌, IfOk, true};
-ghost use Rattle.orders.specs.Explains.{all_fit};
+ghost use Rattle.std.specs.Prelude.{◌≡◌, IfOk, IfSome, true};
+ghost use Rattle.orders.specs.Explains.{all_fit, Unexplained};
 ghost use Rattle.orders.specs.Found.{Tells};
 ghost use Rattle.schema.specs.Plain.{is_sound};
 
 use crate::fault::Fault;
 use crate::task::Task;
+use certificate::certificate::Line;
+use certificate::checking::{Verdict, check};
+use certificate::recording::Recording;
 use dumpplan::{Jobs, NoGate};
+use finding::cycles::with_cycle;
+use finding::find::find;
 use orders::search::{Answer, Found, search};
 use orders::stop::{Stop, find_stop};
 use program::files::{Files, ReadError};
@@ -18,6 +23,7 @@ use schema::tables::Tables;
 use std::alloc::{Allocator, Global};
 use std::thread::Threads;
 use transcript::traces::{Traces, read_traces};
+use value::refusal::Refusal;
 use value::text::Text;
 
 /// What was found of a transcript: the tables that it begins with, what was recorded, and the answer.
@@ -27,7 +33,9 @@ pub(crate) struct Judgement<A: Allocator = Global> {
     pub(crate) tables: Tables<A>,
     pub(crate) traces: Traces<A>,
     pub(crate) answer: Answer<A>,
-    /// Where no order explains it: the longest that was found, and why none goes on.
+    /// Where no order explains it, and a certificate of that was found and taken: its lines.
+    pub(crate) certificate: Option<Vec<Line<A>, A>>,
+    /// Where no order explains it, and none was found: the longest order, and why none goes on.
     pub(crate) stop: Option<Stop<A>>,
 }
 
@@ -116,6 +124,111 @@ fn searched<'p, A: Allocator + Copy>(
     }
 }
 
+// Whether the checker takes a certificate's lines.
+fn is_taken<A: Allocator + Copy>(
+    alloc: A,
+    recording: &Recording<'_, A>,
+    lines: &[Line<A>],
+) -> Result<bool, Refusal>
+    ensures refutes { IfOk result (λ b. b ≡ true → all_fit recording.now.catalog recording.now.transactions ≡ true →
+        is_sound recording.now.catalog recording.now.opening ≡ true →
+        Unexplained recording.now.catalog recording.now.opening recording.now.transactions) }
+{
+    match check(alloc, recording, lines)? {
+        Verdict::Taken => Ok(true),
+        Verdict::Refused(_) => Ok(false),
+    }
+}
+
+// Puts a cycle at the end of a certificate, in place of its last line; gives that.
+fn turn<A: Allocator>(
+    lines: &mut Vec<Line<A>, A>,
+    fact: Line<A>,
+    end: Line<A>,
+) -> Result<Option<Line<A>>, Refusal> {
+    let last = lines.pop();
+    lines.push(fact)?;
+    lines.push(end)?;
+    Ok(last)
+}
+
+// Takes that back.
+fn turn_back<A: Allocator>(
+    lines: &mut Vec<Line<A>, A>,
+    last: Option<Line<A>>,
+) -> Result<(), Refusal> {
+    let _end = lines.pop();
+    let _fact = lines.pop();
+    match last {
+        Some(last) => Ok(lines.push(last)?),
+        None => Ok(()),
+    }
+}
+
+// Whether the checker takes a certificate, with a cycle at its end where one tells as much.
+fn is_taken_by_cycle<A: Allocator + Copy>(
+    alloc: A,
+    recording: &Recording<'_, A>,
+    lines: &mut Vec<Line<A>, A>,
+) -> Result<bool, Refusal>
+    ensures refutes { IfOk result (λ b. b ≡ true → all_fit recording.now.catalog recording.now.transactions ≡ true →
+        is_sound recording.now.catalog recording.now.opening ≡ true →
+        Unexplained recording.now.catalog recording.now.opening recording.now.transactions) }
+{
+    let Some((fact, end)) = with_cycle(alloc, recording, lines.as_slice())? else {
+        return is_taken(alloc, recording, lines.as_slice());
+    };
+    let last = turn(lines, fact, end)?;
+    if is_taken(alloc, recording, lines.as_slice())? {
+        return Ok(true);
+    }
+    turn_back(lines, last)?;
+    is_taken(alloc, recording, lines.as_slice())
+}
+
+// A certificate that no order explains what was recorded, where one is found and the checker takes it.
+fn certified<'p, A: Allocator + Copy>(
+    alloc: A,
+    catalog: &Catalog<A>,
+    tables: &Tables<A>,
+    traces: &Traces<A>,
+    steps: u32,
+) -> Result<Option<Vec<Line<A>, A>>, Fault<'p>>
+    requires fit { all_fit catalog.now traces.now.transactions.items ≡ true }
+    requires sound { is_sound catalog.now tables.now ≡ true }
+    ensures refutes { IfOk result (λ o. IfSome o (λ lines.
+        Unexplained catalog.now tables.now traces.now.transactions.items)) }
+{
+    let transactions = traces.transactions.as_slice();
+    let lines = match find(alloc, catalog, tables, transactions, u64::from(steps)) {
+        Ok(Some(lines)) => lines,
+        Ok(None) => return Ok(None),
+        Err(_) => return Err(Fault::Memory),
+    };
+    let recording = Recording {
+        catalog,
+        opening: tables,
+        transactions,
+    };
+    let mut lines = lines;
+    match is_taken_by_cycle(alloc, &recording, &mut lines) {
+        Ok(true) => Ok(Some(lines)),
+        Ok(false) => Ok(None),
+        Err(_) => Err(Fault::Memory),
+    }
+}
+
+// As many steps as mostly serve to follow the order by end, where the transactions have one.
+fn few_steps(transactions: usize, steps: u32) -> u32 {
+    let few = transactions
+        .saturating_add(transactions / 5 * 3)
+        .saturating_add(1000);
+    match u32::try_from(few) {
+        Ok(few) => few.min(steps),
+        Err(_) => steps,
+    }
+}
+
 // Where a search stops that found no order.
 fn stopped<'p, A: Allocator + Copy>(
     alloc: A,
@@ -159,6 +272,28 @@ fn judged<'p, A: Allocator + Copy>(
         Ok(traces) => traces,
         Err(fault) => return Err(Fault::Transcript(fault)),
     };
+    let few = few_steps(traces.transactions.len(), task.steps);
+    let quick = searched(alloc, &catalog, &tables, &traces, few)?;
+    if let Answer::Yes(_) = quick.answer {
+        return Ok(Judgement {
+            catalog,
+            tables,
+            traces,
+            answer: quick.answer,
+            certificate: None,
+            stop: None,
+        });
+    }
+    if let Some(certificate) = certified(alloc, &catalog, &tables, &traces, task.steps)? {
+        return Ok(Judgement {
+            catalog,
+            tables,
+            traces,
+            answer: Answer::No,
+            certificate: Some(certificate),
+            stop: None,
+        });
+    }
     let found = searched(alloc, &catalog, &tables, &traces, task.steps)?;
     let stop = stopped(alloc, &catalog, &tables, &traces, &found)?;
     let Found { answer, .. } = found;
@@ -167,6 +302,7 @@ fn judged<'p, A: Allocator + Copy>(
         tables,
         traces,
         answer,
+        certificate: None,
         stop,
     })
 }

@@ -2,9 +2,11 @@
 
 use crate::fault::Fault;
 use crate::judge::Judgement;
+use certificate::certificate::Line;
 use itoa::Buffer;
 use orders::search::Answer;
 use orders::stop::{Hindered, Hindrance, Stop};
+use reasons::account::Account;
 use script::printing::reply_text;
 use statement::reply::Reply;
 use std::alloc::{AllocError, AllocFailed, Allocator};
@@ -140,11 +142,31 @@ fn stop_text<A: Allocator + Copy>(
     Ok(text)
 }
 
+// A certificate in words, and that there is no order.
+fn certificate_text<A: Allocator + Copy>(
+    alloc: A,
+    judgement: &Judgement<A>,
+    lines: &[Line<A>],
+) -> Result<Vec<u8, A>, NoMemory> {
+    let account = Account {
+        catalog: &judgement.catalog,
+        transactions: judgement.traces.transactions.as_slice(),
+        names: judgement.traces.names.as_slice(),
+        lines,
+    };
+    let mut text = account.text(alloc)?;
+    text.extend_from_slice(b"check no\n")?;
+    Ok(text)
+}
+
 /// The lines of a judgement.
 pub(crate) fn judgement_text<A: Allocator + Copy>(
     alloc: A,
     judgement: &Judgement<A>,
 ) -> Result<Vec<u8, A>, NoMemory> {
+    if let Some(lines) = &judgement.certificate {
+        return certificate_text(alloc, judgement, lines.as_slice());
+    }
     match (&judgement.answer, &judgement.stop) {
         (Answer::Yes(order), _) => {
             let mut text = order_text(alloc, judgement.traces.names.as_slice(), order.as_slice())?;
