@@ -92,12 +92,21 @@ impl<A: Allocator + Copy> Reading<'_, A> {
         !ways.is_empty() && ways.iter().all(|way| writes(way, &cell.spot, cell.column))
     }
 
+    // Whether a transaction comes after the reader: by what was told, or by time.
+    fn is_later(&self, place: usize, by_time: bool) -> bool {
+        if by_time {
+            self.recording.precedes(self.reader, place)
+        } else {
+            self.known.has_pair(self.reader, place)
+        }
+    }
+
     // Who may have left what the reader found, and comes after it.
-    fn later_source(&self, alloc: A) -> Result<Option<usize>, Refusal>
+    fn later_source(&self, alloc: A, by_time: bool) -> Result<Option<usize>, Refusal>
         ensures memory { IfErr result (λ e. e ≡ out_of_memory) }
     {
         for place in 0..self.recording.count() {
-            if self.recording.comes_before(self.known, self.reader, place)
+            if self.is_later(place, by_time)
                 && self.may_leave(place, self.ways(alloc, place)?.as_slice())
             {
                 return Ok(Some(place));
@@ -123,6 +132,7 @@ impl<A: Allocator + Copy> Reading<'_, A> {
         for place in (0..self.recording.count()).rev() {
             if self.is_earlier(place, by_time)
                 && self.surely_write(self.ways(alloc, place)?.as_slice())
+                && self.is_left_before(alloc, place)?
             {
                 return Ok(Some(place));
             }
@@ -130,8 +140,8 @@ impl<A: Allocator + Copy> Reading<'_, A> {
         Ok(None)
     }
 
-    // Whether there was what the reader found before all transactions, or somebody may have left it.
-    fn is_left(&self, alloc: A) -> Result<bool, Refusal>
+    // Whether there was what the reader found before a writer: before all transactions, or somebody may have left it.
+    fn is_left_before(&self, alloc: A, writer: usize) -> Result<bool, Refusal>
         ensures memory { IfErr result (λ e. e ≡ out_of_memory) }
     {
         let cell = self.cell;
@@ -140,7 +150,9 @@ impl<A: Allocator + Copy> Reading<'_, A> {
             return Ok(true);
         }
         for place in 0..self.recording.count() {
-            if self.may_leave(place, self.ways(alloc, place)?.as_slice()) {
+            if self.recording.comes_before(self.known, place, writer)
+                && self.may_leave(place, self.ways(alloc, place)?.as_slice())
+            {
                 return Ok(true);
             }
         }
@@ -169,10 +181,10 @@ impl<A: Allocator + Copy> Reading<'_, A> {
     }
 
     // The lines that tell a cycle with who left what the reader found.
-    fn left_later(&self, alloc: A) -> Result<Option<(Line<A>, Line<A>)>, Refusal>
+    fn left_later(&self, alloc: A, by_time: bool) -> Result<Option<(Line<A>, Line<A>)>, Refusal>
         ensures memory { IfErr result (λ e. e ≡ out_of_memory) }
     {
-        let Some(source) = self.later_source(alloc)? else {
+        let Some(source) = self.later_source(alloc, by_time)? else {
             return Ok(None);
         };
         let told = Line::Source {
@@ -189,20 +201,24 @@ impl<A: Allocator + Copy> Reading<'_, A> {
         )))
     }
 
-    // The lines of a cycle, where there is one.
+    // The lines of a cycle by what was told, or by time.
+    fn cycle_by(&self, alloc: A, by_time: bool) -> Result<Option<(Line<A>, Line<A>)>, Refusal>
+        ensures memory { IfErr result (λ e. e ≡ out_of_memory) }
+    {
+        if let Some(lines) = self.overwritten(alloc, by_time)? {
+            return Ok(Some(lines));
+        }
+        self.left_later(alloc, by_time)
+    }
+
+    // The lines of a cycle, where there is one: rather by what was told than by time.
     fn cycle(&self, alloc: A) -> Result<Option<(Line<A>, Line<A>)>, Refusal>
         ensures memory { IfErr result (λ e. e ≡ out_of_memory) }
     {
-        if !self.is_left(alloc)? {
-            return Ok(None);
-        }
-        if let Some(lines) = self.left_later(alloc)? {
+        if let Some(lines) = self.cycle_by(alloc, false)? {
             return Ok(Some(lines));
         }
-        if let Some(lines) = self.overwritten(alloc, false)? {
-            return Ok(Some(lines));
-        }
-        self.overwritten(alloc, true)
+        self.cycle_by(alloc, true)
     }
 }
 
