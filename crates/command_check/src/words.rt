@@ -97,8 +97,8 @@ fn tell_words<W: Write, E: Write>(error: &Error, out: &mut W, err: &mut E) -> u8
 
 /// Does what the words behind `pgserial check` ask for, and gives the exit status: 0 where some order
 /// explains what the transcript tells, 5 where none does, 4 where the steps ran out; 1 where the transcript or its dump
-/// is refused, or it was out of memory; 2 for mistaken words; 3 where a file or standard output failed. The order and
-/// the answer are written to `out`, why there is none to `err`.
+/// is refused, or it was out of memory; 2 for mistaken words; 3 where a file or standard output failed. The order or
+/// the reasons, and the answer, are written to `out`, a fault to `err`.
 pub fn check_words<A, F, W, E, T>(
     machine: &Machine<'_, F, T, A>,
     words: &[&str],

@@ -244,9 +244,9 @@ fn cycle_for<A: Allocator + Copy>(
     reading.cycle(alloc)
 }
 
-/// The lines of a certificate, whose last tells a cycle where it told that nobody is left from whom a reader has what it
-/// found, and a cycle tells it as well. It is as good a certificate, or none: only the checker says so. Refused only for
-/// want of memory (53200).
+/// Two lines that tell a cycle, to stand in place of a certificate's last, where that says that nobody is left from whom a
+/// reader has what it found, and a cycle says it as well. Whether the lines are a certificate then, only the checker says.
+/// Refused only for want of memory (53200).
 pub fn with_cycle<A: Allocator + Copy>(
     alloc: A,
     recording: &Recording<'_, A>,

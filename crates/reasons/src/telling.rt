@@ -385,7 +385,7 @@ impl<A: Allocator + Copy> Account<'_, A> {
         Ok(depth)
     }
 
-    /// The certificate in words: a line for each fact that it tells, in its order, with the session's lines in which it was
+    /// The certificate in words: a line for each fact that it tells, in its order, with the transcript's lines in which it was
     /// seen; then the cycle, by the transactions' numbers, and the name of the anomaly where it has one. What follows from a
     /// supposition stands two spaces to the right. Refused only for want of memory (53200).
     pub fn text(&self, alloc: A) -> Result<Vec<u8, A>, Refusal>
