@@ -10,7 +10,7 @@ use Rattle.orders.specs.Explains.{Unexplained, all_fit}
 use Rattle.ways.specs.declared.way.Way.{Way}
 use Rattle.certificate.specs.declared.certificate.Assumption.{Assumption}
 use Rattle.certificate.specs.declared.certificate.Line.{Line}
-use Rattle.certificate.specs.declared.certificate.Line.TheVariants.{Joined, Source, Later, Earlier, Common, Needless, Found, Suppose, Cycle, Sourceless, Wayless}
+use Rattle.certificate.specs.declared.certificate.Line.TheVariants.{Joined, Source, Later, Earlier, Common, Needless, Found, Suppose, Cycle, Sourceless, Wayless, TooMany, TooFew, Overfull, Lacking}
 use Rattle.certificate.specs.declared.checking.Verdict.{Verdict}
 use Rattle.certificate.specs.declared.checking.Verdict.TheVariants as verdict
 use Rattle.certificate.specs.declared.known.Spot.{Spot}
@@ -18,10 +18,12 @@ use Rattle.certificate.specs.Board.{Board}
 use Rattle.certificate.specs.Certificates.{Standing, Outcome, Wrong, On, Closed, most_suppositions, beginning, told, opened, opening, closed, closing, is_number_needless, next, judged_on, judged}
 use Rattle.certificate.specs.Frames.{Frame, is_fair, Sound}
 use Rattle.certificate.specs.Knowledge.{Cell, Known, with_pair, with_excluded, with_found, with_present}
+use Rattle.certificate.specs.Numbers.{is_overfull, is_lacking, is_too_many, is_too_few}
 use Rattle.certificate.specs.Order.{Turn, Play, Exact, Valid, IsBefore, IsThere, IsExcluded, IsFound}
 use Rattle.certificate.specs.Recorded.{Recording, board}
 use Rattle.certificate.specs.Rules.{is_joined, is_source, is_later, is_earlier, is_common, is_needless, is_found, is_cycle, is_sourceless, is_wayless}
 use Rattle.certificate.proofs.FrameLemmas.{among-more, sound-told, sound-more, sound-closed, sound-first}
+use Rattle.certificate.proofs.NumberLemmas as numbers
 use Rattle.certificate.proofs.PlayLemmas.{play-of, turns_of}
 use Rattle.certificate.proofs.RecordingLemmas.{board-exact}
 use Rattle.certificate.proofs.RuleLemmas as rules
@@ -175,6 +177,12 @@ module _ {A : Type 0} (r : Recording A) (order : List ℕ) (turns : Spot A → �
   next-good s (Suppose a) g = opening-good (board r) order turns play s a g
   next-good s (Cycle x y) g = closing-good (board r) order turns play s (is_cycle (board r) s.known x y) g (λ h v. rules.no-cycle (board r) exact order turns play s.known v x y h)
   next-good s (Sourceless y c) g = closing-good (board r) order turns play s (is_sourceless (board r) s.known c y) g (λ h v. rules.not-sourceless (board r) exact order turns play s.known v c y h)
+  next-good s (TooMany y j p n) g = told-good (board r) order turns play s (is_too_many r s.known y j p n) (with_excluded s.known y p n) g
+      (λ h v. excluded-valid (board r) order turns play s.known y p n v (numbers.too-many-excluded r order turns play s.known v y j p n h))
+  next-good s (TooFew y j p n) g = told-good (board r) order turns play s (is_too_few r s.known y j p n) (with_excluded s.known y p n) g
+      (λ h v. excluded-valid (board r) order turns play s.known y p n v (numbers.too-few-excluded r order turns play s.known v y j p n h))
+  next-good s (Overfull y j) g = closing-good (board r) order turns play s (is_overfull r s.known y j) g (λ h v. numbers.overfull-refutes r order turns play s.known v y j h)
+  next-good s (Lacking y j) g = closing-good (board r) order turns play s (is_lacking r s.known y j) g (λ h v. numbers.lacking-refutes r order turns play s.known v y j h)
   next-good s (Wayless y p) g = closing-good (board r) order turns play s (is_wayless (board r) s.known y p) g (λ h v. rules.not-wayless (board r) exact order turns play s.known v y p h)
 
   judged-good : (lines : List (Line A)) (n : ℕ) (s : Standing (Option (Value A)) (Spot A)) → IsSound (board r) order turns play s → judged r n s lines ≡ verdict.Taken → ⊥

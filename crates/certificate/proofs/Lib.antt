@@ -2,6 +2,7 @@ pub mod AmongLemmas
 pub mod CertificateLemmas
 pub mod FrameLemmas
 pub mod LeftLemmas
+pub mod NumberLemmas
 pub mod PlayLemmas
 pub mod RecordingLemmas
 pub mod RuleLemmas

@@ -4,7 +4,7 @@ use Rattle.std.specs.Option.{option_map_or}
 use Rattle.value.specs.declared.value.Value.{Value}
 use Rattle.certificate.specs.declared.certificate.Assumption.{Assumption}
 use Rattle.certificate.specs.declared.certificate.Line.{Line}
-use Rattle.certificate.specs.declared.certificate.Line.TheVariants.{Joined, Source, Later, Earlier, Common, Needless, Found, Suppose, Cycle, Sourceless, Wayless}
+use Rattle.certificate.specs.declared.certificate.Line.TheVariants.{Joined, Source, Later, Earlier, Common, Needless, Found, Suppose, Cycle, Sourceless, Wayless, TooMany, TooFew, Overfull, Lacking}
 use Rattle.certificate.specs.declared.known.Spot.{Spot}
 use Rattle.certificate.specs.declared.standing.Step.{Step}
 use Rattle.certificate.specs.declared.standing.Step.TheVariants as step
@@ -12,6 +12,7 @@ use Rattle.certificate.specs.declared.checking.Verdict.{Verdict}
 use Rattle.certificate.specs.declared.checking.Verdict.TheVariants as verdict
 use Rattle.certificate.specs.Frames.{Frame, is_fair, supposed, contrary}
 use Rattle.certificate.specs.Knowledge.{Cell, Known, with_pair, with_excluded, with_found, with_present}
+use Rattle.certificate.specs.Numbers.{is_overfull, is_lacking, is_too_many, is_too_few}
 use Rattle.certificate.specs.Recorded.{Recording, board}
 use Rattle.certificate.specs.Rules.{is_joined, is_source, is_later, is_earlier, is_common, is_needless, is_found, is_cycle, is_sourceless, is_wayless}
 
@@ -86,6 +87,10 @@ module _ {A : Type 0} (r : Recording A) where
   next s (Cycle x y) = closing s (is_cycle (board r) s.known x y)
   next s (Sourceless y c) = closing s (is_sourceless (board r) s.known c y)
   next s (Wayless y spot) = closing s (is_wayless (board r) s.known y spot)
+  next s (TooMany y j spot n) = told s (is_too_many r s.known y j spot n) (with_excluded s.known y spot n)
+  next s (TooFew y j spot n) = told s (is_too_few r s.known y j spot n) (with_excluded s.known y spot n)
+  next s (Overfull y j) = closing s (is_overfull r s.known y j)
+  next s (Lacking y j) = closing s (is_lacking r s.known y j)
 
   -- what comes of the line at place n, and of those after it
   abbrev pub judged_on : Outcome (Option (Value A)) (Spot A) → ℕ → (Standing (Option (Value A)) (Spot A) → Verdict) → List (Line A) → Verdict

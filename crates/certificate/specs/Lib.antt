@@ -3,6 +3,7 @@ pub mod Cells
 pub mod Certificates
 pub mod Frames
 pub mod Knowledge
+pub mod Numbers
 pub mod Order
 pub mod Recorded
 pub mod Rules

@@ -64,6 +64,21 @@ pub enum Line<A: Allocator = Global> {
         cell: Cell<A>,
         state: Option<Value<A>>,
     },
+    /// By the way with this number of the transaction at the spot, the statement, by its place in the transaction's list,
+    /// would have chosen more rows than its reply tells: the way is out of the question.
+    TooMany {
+        place: usize,
+        statement: usize,
+        spot: Spot<A>,
+        way: usize,
+    },
+    /// By it the statement can't have chosen as many rows as its reply tells.
+    TooFew {
+        place: usize,
+        statement: usize,
+        spot: Spot<A>,
+        way: usize,
+    },
     /// This is supposed from here to the contradiction that closes it.
     Suppose(Assumption),
     /// A contradiction: each of two that are there comes before the other.
@@ -80,5 +95,15 @@ pub enum Line<A: Allocator = Global> {
     Wayless {
         place: usize,
         spot: Spot<A>,
+    },
+    /// A contradiction: the statement of the transaction surely chose more rows of its table than its reply tells.
+    Overfull {
+        place: usize,
+        statement: usize,
+    },
+    /// A contradiction: it can't have chosen as many.
+    Lacking {
+        place: usize,
+        statement: usize,
     },
 }

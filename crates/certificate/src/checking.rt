@@ -181,6 +181,70 @@ impl<'r, A: Allocator + Copy> Recording<'r, A> {
         standing.close(holds)
     }
 
+    fn read_too_many(
+        &self,
+        alloc: A,
+        standing: &mut Standing<A>,
+        place: usize,
+        statement: usize,
+        spot: &Spot<A>,
+        way: usize,
+    ) -> Result<Step, Refusal>
+        ensures ok { IfOk result (λ step. outcome_of step standing.new ≡
+            next self.now standing.old (Line.TooMany place statement spot.now way)) }
+        ensures err { IfErr result (λ e. e ≡ out_of_memory) }
+    {
+        let holds = self.is_too_many(alloc, standing.known(), place, statement, spot, way)?;
+        standing.tell_excluded(alloc, holds, place, spot, way)
+    }
+
+    fn read_too_few(
+        &self,
+        alloc: A,
+        standing: &mut Standing<A>,
+        place: usize,
+        statement: usize,
+        spot: &Spot<A>,
+        way: usize,
+    ) -> Result<Step, Refusal>
+        ensures ok { IfOk result (λ step. outcome_of step standing.new ≡
+            next self.now standing.old (Line.TooFew place statement spot.now way)) }
+        ensures err { IfErr result (λ e. e ≡ out_of_memory) }
+    {
+        let holds = self.is_too_few(alloc, standing.known(), place, statement, spot, way)?;
+        standing.tell_excluded(alloc, holds, place, spot, way)
+    }
+
+    fn read_overfull(
+        &self,
+        alloc: A,
+        standing: &mut Standing<A>,
+        place: usize,
+        statement: usize,
+    ) -> Result<Step, Refusal>
+        ensures ok { IfOk result (λ step. outcome_of step standing.new ≡
+            next self.now standing.old (Line.Overfull place statement)) }
+        ensures err { IfErr result (λ e. e ≡ out_of_memory) }
+    {
+        let holds = self.is_overfull(alloc, standing.known(), place, statement)?;
+        standing.close(holds)
+    }
+
+    fn read_lacking(
+        &self,
+        alloc: A,
+        standing: &mut Standing<A>,
+        place: usize,
+        statement: usize,
+    ) -> Result<Step, Refusal>
+        ensures ok { IfOk result (λ step. outcome_of step standing.new ≡
+            next self.now standing.old (Line.Lacking place statement)) }
+        ensures err { IfErr result (λ e. e ≡ out_of_memory) }
+    {
+        let holds = self.is_lacking(alloc, standing.known(), place, statement)?;
+        standing.close(holds)
+    }
+
     // What comes of a line.
     fn read(&self, alloc: A, standing: &mut Standing<A>, line: &Line<A>) -> Result<Step, Refusal>
         ensures ok { IfOk result (λ step. outcome_of step standing.new ≡ next self.now standing.old line.now) }
@@ -227,6 +291,24 @@ impl<'r, A: Allocator + Copy> Recording<'r, A> {
                 alloc, standing, *reader, cell,
             ),
             Line::Wayless { place, spot } => self.read_wayless(alloc, standing, *place, spot),
+            Line::TooMany {
+                place,
+                statement,
+                spot,
+                way,
+            } => self.read_too_many(alloc, standing, *place, *statement, spot, *way),
+            Line::TooFew {
+                place,
+                statement,
+                spot,
+                way,
+            } => self.read_too_few(alloc, standing, *place, *statement, spot, *way),
+            Line::Overfull { place, statement } => self.read_overfull(
+                alloc, standing, *place, *statement,
+            ),
+            Line::Lacking { place, statement } => self.read_lacking(
+                alloc, standing, *place, *statement,
+            ),
         }
     }
 }

@@ -6,6 +6,7 @@ pub mod certificate;
 pub mod checking;
 pub mod known;
 pub mod laws;
+pub mod numbers;
 pub mod recording;
 mod rules;
 mod sources;

@@ -220,8 +220,8 @@ impl<'r, A: Allocator + Copy> Recording<'r, A> {
         )
     }
 
-    // The transaction at a place.
-    fn transaction(&self, place: usize) -> Option<&Transaction<A>>
+    /// The transaction at a place.
+    pub(crate) fn transaction(&self, place: usize) -> Option<&Transaction<A>>
         ensures { option_copied result ≡ slice_get self.now.transactions place }
     {
         self.transactions.get(place)

@@ -28,8 +28,8 @@ fn is_wayless<A: Allocator>(ways: &[Way<A>]) -> bool
     }
 }
 
-// The way with a number.
-fn way_at<A: Allocator>(ways: &[Way<A>], number: usize) -> Option<&Way<A>>
+/// The way with a number.
+pub(crate) fn way_at<A: Allocator>(ways: &[Way<A>], number: usize) -> Option<&Way<A>>
     ensures { option_copied result ≡ slice_get ways.now number }
 {
     ways.get(number)

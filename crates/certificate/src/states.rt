@@ -47,8 +47,8 @@ fn is_so<A: Allocator>(value: &Value<A>, comparison: Comparison, other: &Value<A
     !is_null(value) && !is_null(other) && compares(comparison, value.cmp(other))
 }
 
-// Whether a value of the condition's column meets it.
-fn value_meets<A: Allocator>(value: &Value<A>, condition: &Condition<A>) -> bool
+/// Whether a value of the condition's column meets it.
+pub fn value_meets<A: Allocator>(value: &Value<A>, condition: &Condition<A>) -> bool
     ensures { result ≡ value_meets value.now condition.now }
 {
     match condition {

@@ -109,6 +109,43 @@ fn longer_rule(words: &[&str], first: &str) -> Result<Line, Refusal> {
     rule(words, first)
 }
 
+fn spot_at(words: &[&str], at: usize) -> Result<Spot, Refusal> {
+    let word = words.get(at).ok_or(not_a_case())?;
+    spot(*word)
+}
+
+fn number(words: &[&str], first: &str) -> Result<Line, Refusal> {
+    if first == "overfull" {
+        return Ok(Line::Overfull {
+            place: place(words, 1)?,
+            statement: place(words, 2)?,
+        });
+    }
+    if first == "lacking" {
+        return Ok(Line::Lacking {
+            place: place(words, 1)?,
+            statement: place(words, 2)?,
+        });
+    }
+    if first == "toomany" {
+        return Ok(Line::TooMany {
+            place: place(words, 1)?,
+            statement: place(words, 2)?,
+            spot: spot_at(words, 3)?,
+            way: place(words, 4)?,
+        });
+    }
+    if first == "toofew" {
+        return Ok(Line::TooFew {
+            place: place(words, 1)?,
+            statement: place(words, 2)?,
+            spot: spot_at(words, 3)?,
+            way: place(words, 4)?,
+        });
+    }
+    longer_rule(words, first)
+}
+
 fn contradiction(words: &[&str], first: &str) -> Result<Line, Refusal> {
     if first == "cycle" {
         return Ok(Line::Cycle {
@@ -129,7 +166,7 @@ fn contradiction(words: &[&str], first: &str) -> Result<Line, Refusal> {
             spot: spot(*word)?,
         });
     }
-    longer_rule(words, first)
+    number(words, first)
 }
 
 fn supposition(words: &[&str]) -> Result<Assumption, Refusal> {

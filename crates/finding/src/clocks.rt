@@ -266,7 +266,8 @@ impl<A: Allocator> Clocks<A> {
         Ok(row)
     }
 
-    /// Notes that the first comes before the second, where the contrary isn't known, and adds those whose clocks change.
+    /// Notes that the first comes before the second, where the contrary isn't known, and adds those that more is known to come
+    /// before.
     pub(crate) fn insert(
         &mut self,
         alloc: A,
@@ -284,7 +285,7 @@ impl<A: Allocator> Clocks<A> {
             self.move_later(chain, *from, first, past.as_slice(), changed)?;
         }
         for (chain, below) in past.iter().enumerate() {
-            self.move_earlier(chain, *below, second, future.as_slice(), changed)?;
+            self.move_earlier(chain, *below, second, future.as_slice())?;
         }
         Ok(())
     }
@@ -318,7 +319,6 @@ impl<A: Allocator> Clocks<A> {
         below: usize,
         second: usize,
         future: &[usize],
-        changed: &mut Vec<usize, A>,
     ) -> Result<(), Refusal>
         ensures { IfErr result (λ e. e ≡ out_of_memory) }
     {
@@ -328,7 +328,6 @@ impl<A: Allocator> Clocks<A> {
                 return Ok(());
             }
             self.lower(place, future)?;
-            changed.push(place)?;
         }
         Ok(())
     }

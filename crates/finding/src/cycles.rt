@@ -25,6 +25,18 @@ fn tell<A: Allocator + Copy>(alloc: A, known: &mut Known<A>, line: &Line<A>) -> 
         Line::Needless { reader, cell, way } => {
             known.tell_excluded(alloc, *reader, &cell.spot, *way)
         }
+        Line::TooMany {
+            place,
+            spot,
+            way,
+            ..
+        }
+        | Line::TooFew {
+            place,
+            spot,
+            way,
+            ..
+        } => known.tell_excluded(alloc, *place, spot, *way),
         _ => Ok(()),
     }
 }

@@ -3,7 +3,7 @@
 ghost use Rattle.std.specs.Prelude.{◌≡◌, IfErr};
 ghost use Rattle.value.specs.Refusals.{out_of_memory};
 
-use crate::facts::{Reason, Rule, Sight};
+use crate::facts::{Counting, Reason, Rule, Sight};
 use crate::history::{History, copy_spot};
 use crate::lists::{at, put, repeated};
 use crate::paths::Step;
@@ -264,7 +264,16 @@ impl<A: Allocator> Solver<A> {
             | Rule::Needless(sight, _)
             | Rule::Found(sight, _)
             | Rule::Sourceless(sight) => self.line_of_sight(alloc, history, rule, sight),
-            Rule::Supposed(_) | Rule::Refuted(_, _) => Ok(None),
+            Rule::Supposed(_) | Rule::Refuted(_, _) | Rule::Weighed => Ok(None),
+            Rule::TooMany(counting, visit, way) | Rule::TooFew(counting, visit, way) => {
+                miscounted(alloc, history, rule, counting, (visit, way))
+            }
+            Rule::Overfull(Counting { place, statement }) => {
+                Ok(Some(Line::Overfull { place, statement }))
+            }
+            Rule::Lacking(Counting { place, statement }) => {
+                Ok(Some(Line::Lacking { place, statement }))
+            }
             Rule::Cycle(first, second) => Ok(Some(Line::Cycle { first, second })),
             Rule::Wayless(visit) => wayless(alloc, history, visit),
         }
@@ -362,6 +371,38 @@ fn needless<A: Allocator>(
         reader: visit.place,
         cell,
         way,
+    })
+}
+
+// The line of a way, by its number among all, by which a statement would have chosen too many rows, or too few.
+fn miscounted<A: Allocator>(
+    alloc: A,
+    history: &History<A>,
+    rule: Rule,
+    counting: Counting,
+    at: (usize, usize),
+) -> Result<Option<Line<A>>, Refusal>
+    ensures { IfErr result (λ e. e ≡ out_of_memory) }
+{
+    let (Some(visit), Some(spot)) = (history.visit(at.0), history.spot_of(at.0)) else {
+        return Ok(None);
+    };
+    let spot = copy_spot(alloc, spot)?;
+    let way = at.1.saturating_sub(visit.first_way);
+    let Counting { place, statement } = counting;
+    Ok(match rule {
+        Rule::TooMany(_, _, _) => Some(Line::TooMany {
+            place,
+            statement,
+            spot,
+            way,
+        }),
+        _ => Some(Line::TooFew {
+            place,
+            statement,
+            spot,
+            way,
+        }),
     })
 }
 

@@ -16,6 +16,13 @@ pub(crate) struct Sight {
     pub(crate) column: u32,
 }
 
+/// A statement whose answer tells how many rows it chose, by its transaction and its number there.
+#[derive(Clone, Copy)]
+pub(crate) struct Counting {
+    pub(crate) place: usize,
+    pub(crate) statement: usize,
+}
+
 /// What a fact tells, and by which rule. Transactions are places.
 #[derive(Clone, Copy)]
 pub(crate) enum Rule {
@@ -33,6 +40,13 @@ pub(crate) enum Rule {
     Cycle(usize, usize),
     Sourceless(Sight),
     Wayless(usize),
+    /// At which keys a statement surely chose the row, or can't have. No line tells it.
+    Weighed,
+    /// The way of a visit, by its number among all.
+    TooMany(Counting, usize, usize),
+    TooFew(Counting, usize, usize),
+    Overfull(Counting),
+    Lacking(Counting),
 }
 
 /// What a fact rests on: another fact, or that the first comes before the second.

@@ -3,10 +3,11 @@
 ghost use Rattle.std.specs.Prelude.{◌≡◌, IfErr};
 ghost use Rattle.value.specs.Refusals.{out_of_memory};
 
+use crate::counts::Sum;
 use crate::keys::Keys;
 use crate::lists::{at, empty_lists, list_at, push_at};
 use crate::times::Times;
-use crate::visits::{Visit, is_writer, keys_of, visit_of};
+use crate::visits::{Visit, keys_of, visit_of};
 use certificate::known::{Cell, Spot};
 use orders::transaction::{Answered, Transaction};
 use schema::catalog::Catalog;
@@ -15,8 +16,14 @@ use std::alloc::Allocator;
 use value::refusal::Refusal;
 use value::value::Value;
 
+/// More keys at which transactions look than so many are too many, each counted for each transaction.
+const MOST_LOOKS: usize = 64_000_000;
 /// More visits than so many are too many.
-pub(crate) const MOST_VISITS: usize = 2_000_000;
+const MOST_VISITS: usize = 2_000_000;
+/// More ways than so many are too many.
+const MOST_WAYS: usize = 1_000_000;
+/// More candidates than so many are too many.
+const MOST_CANDIDATES: usize = 16_000_000;
 
 /// A column of a key, and who may have written it, by begin.
 #[derive(Drop)]
@@ -57,6 +64,12 @@ pub(crate) struct History<A: Allocator> {
     /// For each transaction the needs of which it is the reader or a candidate.
     pub(crate) watchers: Vec<Vec<usize, A>, A>,
     pub(crate) ways: usize,
+    /// Statements whose answers tell how many rows they chose, without their keys.
+    pub(crate) sums: Vec<Sum<A>, A>,
+    /// For each transaction its own.
+    pub(crate) sums_of: Vec<Vec<usize, A>, A>,
+    /// Statements that can't have chosen as many rows as they were answered, by transaction and number.
+    pub(crate) impossible: Vec<(usize, usize), A>,
 }
 
 impl<A: Allocator> History<A> {
@@ -89,7 +102,11 @@ impl<A: Allocator> History<A> {
             candidates: Vec::new(alloc),
             watchers,
             ways: 0,
+            sums: Vec::new(alloc),
+            sums_of: empty_lists(alloc, transactions.len())?,
+            impossible: Vec::new(alloc),
         };
+        history.add_sums(alloc, transactions)?;
         let are_few = history.add_transactions(alloc, catalog, transactions)?;
         Ok(if are_few { Some(history) } else { None })
     }
@@ -109,20 +126,28 @@ impl<A: Allocator> History<A> {
         for (place, transaction) in transactions.iter().enumerate() {
             let keys = keys_of(alloc, &self.keys, transaction)?;
             count = keys.len().saturating_add(count);
-            if count > MOST_VISITS {
+            if count > MOST_LOOKS || self.is_large() {
                 return Ok(false);
             }
             let statements = transaction.statements.as_slice();
             self.add_writes(alloc, catalog, place, statements, keys.as_slice())?;
         }
         self.sort_writers()?;
-        self.add_write_needs(alloc)?;
-        self.add_reads(alloc, catalog, transactions)?;
+        if !(self.add_write_needs(alloc)? && self.add_reads(alloc, catalog, transactions)?) {
+            return Ok(false);
+        }
         self.watch()?;
         Ok(true)
     }
 
-    // Adds the visits of a transaction in tables that it writes.
+    /// Whether there is more than can be looked at.
+    pub(crate) fn is_large(&self) -> bool {
+        self.visits.len() > MOST_VISITS
+            || self.ways > MOST_WAYS
+            || self.candidates.len() > MOST_CANDIDATES
+    }
+
+    // Adds the visits of a transaction in tables that it writes, but for keys whose rows it only counts.
     fn add_writes(
         &mut self,
         alloc: A,
@@ -136,7 +161,7 @@ impl<A: Allocator> History<A> {
         ensures { IfErr result (λ e. e ≡ out_of_memory) }
     {
         for key in keys {
-            if is_writer(&self.keys, *key, statements) {
+            if self.is_early(statements, (place, *key)) {
                 self.add_write(alloc, catalog, place, statements, *key)?;
             }
         }
@@ -163,11 +188,13 @@ impl<A: Allocator> History<A> {
             let writer = (self.times.begin(place), self.visits.len());
             push_at(self.writers.as_mut_slice(), key, writer)?;
         }
-        self.push_visit(visit)
+        let number = self.visits.len();
+        self.push_visit(visit)?;
+        self.note_counted(number)
     }
 
-    // The visit of a transaction at a key, if there is one.
-    fn make_visit(
+    /// The visit of a transaction at a key, if there is one.
+    pub(crate) fn make_visit(
         &self,
         alloc: A,
         catalog: &Catalog<A>,
@@ -185,8 +212,8 @@ impl<A: Allocator> History<A> {
         }
     }
 
-    // Adds a visit, and numbers its ways.
-    fn push_visit(&mut self, visit: Visit<A>) -> Result<(), Refusal>
+    /// Adds a visit, and numbers its ways.
+    pub(crate) fn push_visit(&mut self, visit: Visit<A>) -> Result<(), Refusal>
         ensures { IfErr result (λ e. e ≡ out_of_memory) }
     {
         let Visit {
@@ -218,84 +245,20 @@ impl<A: Allocator> History<A> {
         Ok(())
     }
 
-    // Adds what those needed who write.
-    fn add_write_needs(&mut self, alloc: A) -> Result<(), Refusal>
+    // Adds what those needed who write: whether it isn't too much.
+    fn add_write_needs(&mut self, alloc: A) -> Result<bool, Refusal>
     where
         A: Copy,
         ensures { IfErr result (λ e. e ≡ out_of_memory) }
     {
         for visit in 0..self.visits.len() {
-            self.add_needs(alloc, visit)?;
-        }
-        Ok(())
-    }
-
-    // Adds the visits of transactions in tables that they only read, where time doesn't tell all of them.
-    fn add_reads(
-        &mut self,
-        alloc: A,
-        catalog: &Catalog<A>,
-        transactions: &[Transaction<A>],
-    ) -> Result<(), Refusal>
-    where
-        A: Copy,
-        ensures { IfErr result (λ e. e ≡ out_of_memory) }
-    {
-        for (place, transaction) in transactions.iter().enumerate() {
-            let keys = keys_of(alloc, &self.keys, transaction)?;
-            let statements = transaction.statements.as_slice();
-            self.add_reads_of(alloc, catalog, place, statements, keys.as_slice())?;
-        }
-        Ok(())
-    }
-
-    // Adds those of one transaction.
-    fn add_reads_of(
-        &mut self,
-        alloc: A,
-        catalog: &Catalog<A>,
-        place: usize,
-        statements: &[Answered<A>],
-        keys: &[usize],
-    ) -> Result<(), Refusal>
-    where
-        A: Copy,
-        ensures { IfErr result (λ e. e ≡ out_of_memory) }
-    {
-        for key in keys {
-            if !is_writer(&self.keys, *key, statements) {
-                self.add_read(alloc, catalog, place, statements, *key)?;
+            let must_tell = self.is_mixed(visit);
+            self.add_needs(alloc, visit, must_tell)?;
+            if self.is_large() {
+                return Ok(false);
             }
         }
-        Ok(())
-    }
-
-    // Adds the visit of a transaction at a key of a table that it only reads.
-    fn add_read(
-        &mut self,
-        alloc: A,
-        catalog: &Catalog<A>,
-        place: usize,
-        statements: &[Answered<A>],
-        key: usize,
-    ) -> Result<(), Refusal>
-    where
-        A: Copy,
-        ensures { IfErr result (λ e. e ≡ out_of_memory) }
-    {
-        let Some(visit) = self.make_visit(alloc, catalog, statements, (place, key))? else {
-            return Ok(());
-        };
-        let (needs, ways) = (self.needs.len(), self.ways);
-        let number = self.visits.len();
-        let is_impossible = visit.ways.is_empty();
-        self.push_visit(visit)?;
-        self.add_needs(alloc, number)?;
-        if self.needs.len() == needs && !is_impossible {
-            let _ = self.visits.pop();
-            self.ways = ways;
-        }
-        Ok(())
+        Ok(true)
     }
 
     // Notes who is the reader of each need, and who its candidates are.
@@ -348,6 +311,11 @@ impl<A: Allocator> History<A> {
             Some(visit) => visit.place,
             None => usize::MAX,
         }
+    }
+
+    /// The number of a visit's key.
+    pub(crate) fn key_of(&self, visit: usize) -> Option<usize> {
+        Some(self.visits.get(visit)?.key)
     }
 
     /// The key of a visit.

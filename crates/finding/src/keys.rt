@@ -18,6 +18,7 @@ use std::collections::BTreeMap;
 use value::key::Key;
 use value::refusal::Refusal;
 use value::value::Value;
+use ways::numbers::{inserted_key, table_of};
 
 /// Keys of tables, by number, and the rows that they have at first.
 #[derive(Drop)]
@@ -25,17 +26,9 @@ pub(crate) struct Keys<A: Allocator> {
     tables: Vec<BTreeMap<Key<A>, usize, A>, A>,
     spots: Vec<Spot<A>, A>,
     opening: Vec<Option<Row<A>>, A>,
+    // Which keys a statement puts in.
+    is_inserted: Vec<bool, A>,
     is_scanned: Vec<bool, A>,
-}
-
-/// The table of a statement.
-pub(crate) fn table_of<A: Allocator>(statement: &Statement<A>) -> TableNo {
-    match statement {
-        Statement::Select(table, _, _)
-        | Statement::Insert(table, _)
-        | Statement::Update(table, _, _)
-        | Statement::Delete(table, _) => *table,
-    }
 }
 
 // The key that conditions name.
@@ -110,6 +103,7 @@ impl<A: Allocator> Keys<A> {
             tables,
             spots: Vec::new(alloc),
             opening: Vec::new(alloc),
+            is_inserted: Vec::new(alloc),
             is_scanned: repeated(alloc, count, false)?,
         })
     }
@@ -133,6 +127,7 @@ impl<A: Allocator> Keys<A> {
             table,
             key: key.copy(alloc)?,
         })?;
+        self.is_inserted.push(false)?;
         numbers.insert(key, self.spots.len().saturating_sub(1))?;
         Ok(())
     }
@@ -145,6 +140,7 @@ impl<A: Allocator> Keys<A> {
     {
         for answered in statements {
             self.add_named(alloc, &answered.statement)?;
+            self.note_inserted(alloc, &answered.statement)?;
             self.add_shown(alloc, &answered.statement, &answered.reply)?;
         }
         Ok(())
@@ -164,6 +160,21 @@ impl<A: Allocator> Keys<A> {
                 Ok(())
             }
         }
+    }
+
+    // Notes that a statement puts a key in.
+    fn note_inserted(&mut self, alloc: A, statement: &Statement<A>) -> Result<(), Refusal>
+    where
+        A: Copy,
+        ensures { IfErr result (λ e. e ≡ out_of_memory) }
+    {
+        let table = table_of(statement);
+        if let Some(value) = inserted_key(table, statement)
+            && let Some(number) = self.number(alloc, table, value)?
+        {
+            put(self.is_inserted.as_mut_slice(), number, true);
+        }
+        Ok(())
     }
 
     // Adds the keys that a reply shows.
@@ -254,6 +265,12 @@ impl<A: Allocator> Keys<A> {
         self.spots.get(key)
     }
 
+    /// Whether a key may ever have a row: it has one at first, or a statement puts it in.
+    pub(crate) fn may_exist(&self, key: usize) -> bool {
+        at(self.is_inserted.as_slice(), key, false)
+            || matches!(self.opening.get(key), Some(Some(_)))
+    }
+
     /// The state of a column at first.
     pub(crate) fn state(&self, key: usize, column: u32) -> Option<&Value<A>> {
         let Some(Some(row)) = self.opening.get(key) else {
@@ -307,8 +324,12 @@ impl<A: Allocator> Keys<A> {
         }
     }
 
-    // Adds the numbers of all keys of a table.
-    fn push_table(&self, table: TableNo, numbers: &mut Vec<usize, A>) -> Result<(), Refusal>
+    /// Adds the numbers of all keys of a table.
+    pub(crate) fn push_table(
+        &self,
+        table: TableNo,
+        numbers: &mut Vec<usize, A>,
+    ) -> Result<(), Refusal>
         ensures { IfErr result (λ e. e ≡ out_of_memory) }
     {
         let Some(keys) = self.tables.get(table.place() as usize) else {

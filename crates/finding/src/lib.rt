@@ -3,8 +3,10 @@
 #![tactic(auto)]
 
 mod clocks;
+mod counts;
 pub mod cycles;
 mod explain;
+mod extension;
 mod facts;
 pub mod find;
 mod history;
@@ -14,9 +16,12 @@ mod look;
 mod needs;
 mod order;
 mod paths;
+mod reads;
 mod rules;
 mod sets;
+mod settled;
 mod solver;
+mod sums;
 mod suppose;
 mod times;
 mod visits;

@@ -14,9 +14,9 @@ use ways::way::{After, Field, Way};
 
 /// From whom a reader may have a column, as far as time tells.
 #[derive(Drop)]
-struct Window<A: Allocator> {
-    candidates: Vec<usize, A>,
-    from_opening: bool,
+pub(crate) struct Window<A: Allocator> {
+    pub(crate) candidates: Vec<usize, A>,
+    pub(crate) from_opening: bool,
 }
 
 /// A look back from a reader at the writers of a column: those that were found, and the begin of the last who leaves none
@@ -34,12 +34,16 @@ fn is_idle<A: Allocator>(visit: &Visit<A>) -> bool {
     !visit.may_write() && visit.absent() > 0 && visit.free() > 0
 }
 
-// The columns of which a visit needs something.
-fn needed_columns<A: Allocator>(alloc: A, visit: &Visit<A>) -> Result<Vec<u32, A>, Refusal>
+// The columns of which a visit needs something. Of one that counts it must be known what was there.
+fn needed_columns<A: Allocator>(
+    alloc: A,
+    visit: &Visit<A>,
+    must_tell: bool,
+) -> Result<Vec<u32, A>, Refusal>
     ensures { IfErr result (λ e. e ≡ out_of_memory) }
 {
     let mut columns = Vec::new(alloc);
-    if is_idle(visit) {
+    if !must_tell && is_idle(visit) {
         return Ok(columns);
     }
     visit.push_columns(&mut columns)?;
@@ -84,31 +88,45 @@ fn leaves_asked<A: Allocator>(
 }
 
 impl<A: Allocator> History<A> {
-    /// Adds what a visit needed.
-    pub(crate) fn add_needs(&mut self, alloc: A, visit: usize) -> Result<(), Refusal>
+    /// Adds what a visit needed; where it must be known which of its ways it went, also what time tells.
+    pub(crate) fn add_needs(
+        &mut self,
+        alloc: A,
+        visit: usize,
+        must_tell: bool,
+    ) -> Result<(), Refusal>
     where
         A: Copy,
         ensures { IfErr result (λ e. e ≡ out_of_memory) }
     {
         let columns = match self.visits.get(visit) {
-            Some(visit) => needed_columns(alloc, visit)?,
+            Some(visit) => needed_columns(alloc, visit, must_tell)?,
             None => Vec::new(alloc),
         };
         for column in &columns {
-            self.add_need(alloc, visit, *column)?;
+            self.add_need(alloc, visit, *column, must_tell)?;
         }
         Ok(())
     }
 
     // Adds what a visit needed of a column.
-    fn add_need(&mut self, alloc: A, visit: usize, column: u32) -> Result<(), Refusal>
+    fn add_need(
+        &mut self,
+        alloc: A,
+        visit: usize,
+        column: u32,
+        must_tell: bool,
+    ) -> Result<(), Refusal>
     where
         A: Copy,
         ensures { IfErr result (λ e. e ≡ out_of_memory) }
     {
-        let number = self.find_column(alloc, visit, column)?;
-        let window = self.window(alloc, number, visit, column)?;
-        if self.is_told(&window, visit, column) {
+        let Some(key) = self.key_of(visit) else {
+            return Ok(());
+        };
+        let number = self.find_column(alloc, key, column)?;
+        let window = self.window(alloc, number, self.place_of(visit), column)?;
+        if !must_tell && self.is_told(&window, visit, column) {
             return Ok(());
         }
         let first = self.candidates.len();
@@ -125,16 +143,17 @@ impl<A: Allocator> History<A> {
         Ok(())
     }
 
-    // The number of a column of a visit's key.
-    fn find_column(&mut self, alloc: A, visit: usize, column: u32) -> Result<usize, Refusal>
+    /// The number of a column of a key.
+    pub(crate) fn find_column(
+        &mut self,
+        alloc: A,
+        key: usize,
+        column: u32,
+    ) -> Result<usize, Refusal>
     where
         A: Copy,
         ensures { IfErr result (λ e. e ≡ out_of_memory) }
     {
-        let key = match self.visits.get(visit) {
-            Some(visit) => visit.key,
-            None => return Ok(usize::MAX),
-        };
         for number in list_at(self.columns_of.as_slice(), key) {
             if self.is_column(*number, column) {
                 return Ok(*number);
@@ -194,9 +213,9 @@ impl<A: Allocator> History<A> {
         }
     }
 
-    // The writers of a column that time leaves to a reader, the last first. One who surely wrote it and had ended before
-    // the reader began leaves none that had ended before he began.
-    fn window(
+    /// The writers of a column that time leaves to a reader, a transaction, the last first. One who surely wrote it and had
+    /// ended before the reader began leaves none that had ended before he began.
+    pub(crate) fn window(
         &self,
         alloc: A,
         number: usize,
@@ -208,7 +227,7 @@ impl<A: Allocator> History<A> {
         ensures { IfErr result (λ e. e ≡ out_of_memory) }
     {
         let mut back = Back {
-            reader: self.place_of(reader),
+            reader,
             column,
             found: Vec::new(alloc),
             bound: 0,

@@ -46,8 +46,8 @@ impl<A: Allocator> Order<A> {
         }
     }
 
-    /// Notes that the first comes before the second, where the contrary isn't known, and adds those of which more is known
-    /// now.
+    /// Notes that the first comes before the second, where the contrary isn't known, and adds those that more is known to
+    /// come before.
     pub(crate) fn insert(
         &mut self,
         alloc: A,

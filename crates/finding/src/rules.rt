@@ -3,7 +3,7 @@
 ghost use Rattle.std.specs.Prelude.{◌≡◌, IfErr};
 ghost use Rattle.value.specs.Refusals.{out_of_memory};
 
-use crate::facts::{Reasons, Rule, Sight};
+use crate::facts::{Counting, Reasons, Rule, Sight};
 use crate::history::{History, Need};
 use crate::look::{Look, sum};
 use crate::solver::Solver;
@@ -21,13 +21,27 @@ struct Reading {
 }
 
 impl<A: Allocator> Solver<A> {
-    /// Tells what the recording tells at once: a visit that has no way.
+    /// Tells what the recording tells at once: a visit that has no way, or a number of rows that can't be.
     pub(crate) fn tell_impossible(&mut self, history: &History<A>) -> Result<Option<usize>, Refusal>
         ensures { IfErr result (λ e. e ≡ out_of_memory) }
     {
         for (number, visit) in history.visits.as_slice().iter().enumerate() {
             if visit.ways.is_empty() && self.is_present(visit.place) {
                 return Ok(Some(self.tell(Rule::Wayless(number), &[])?));
+            }
+        }
+        self.tell_impossible_number(history)
+    }
+
+    // Tells a number of rows that can't be, if there is one.
+    fn tell_impossible_number(&mut self, history: &History<A>) -> Result<Option<usize>, Refusal>
+        ensures { IfErr result (λ e. e ≡ out_of_memory) }
+    {
+        for at in &history.impossible {
+            let (place, statement) = *at;
+            if self.is_present(place) {
+                let rule = Rule::Lacking(Counting { place, statement });
+                return Ok(Some(self.tell(rule, &[])?));
             }
         }
         Ok(None)
@@ -37,7 +51,7 @@ impl<A: Allocator> Solver<A> {
     pub(crate) fn wake_all(&mut self, history: &History<A>) -> Result<(), Refusal>
         ensures { IfErr result (λ e. e ≡ out_of_memory) }
     {
-        for need in 0..history.needs.len() {
+        for need in 0..history.needs.len().saturating_add(history.sums.len()) {
             self.wake(need)?;
         }
         Ok(())
@@ -54,7 +68,7 @@ impl<A: Allocator> Solver<A> {
         ensures { IfErr result (λ e. e ≡ out_of_memory) }
     {
         for _ in 0..self.steps {
-            let Some(need) = self.next_need() else {
+            let Some(need) = self.next_need(history)? else {
                 return Ok(None);
             };
             self.steps = self.steps.saturating_sub(1);
@@ -78,7 +92,8 @@ impl<A: Allocator> Solver<A> {
         ensures { IfErr result (λ e. e ≡ out_of_memory) }
     {
         let Some(need) = history.need(number) else {
-            return Ok(None);
+            let sum = number.saturating_sub(history.needs.len());
+            return self.examine_sum(alloc, history, sum);
         };
         let reading = Reading {
             need: number,
@@ -182,8 +197,8 @@ impl<A: Allocator> Solver<A> {
         Ok(true)
     }
 
-    // Tells that no way is left of a visit, if that is so.
-    fn wayless(
+    /// Tells that no way is left of a visit, if that is so.
+    pub(crate) fn wayless(
         &mut self,
         alloc: A,
         history: &History<A>,

@@ -72,6 +72,19 @@ fn members<A: Allocator>(alloc: A, set: &[u64]) -> Result<Vec<usize, A>, Refusal
     Ok(places)
 }
 
+// The words of a set that aren't empty, each with its number.
+fn parts<A: Allocator>(alloc: A, set: &[u64]) -> Result<Vec<(usize, u64), A>, Refusal>
+    ensures { IfErr result (λ e. e ≡ out_of_memory) }
+{
+    let mut parts = Vec::new(alloc);
+    for (number, word) in set.iter().enumerate() {
+        if *word != 0 {
+            parts.push((number, *word))?;
+        }
+    }
+    Ok(parts)
+}
+
 // Those of a set that aren't in another.
 fn without<A: Allocator>(alloc: A, set: &[u64], other: &[u64]) -> Result<Vec<u64, A>, Refusal>
     ensures { IfErr result (λ e. e ≡ out_of_memory) }
@@ -209,7 +222,8 @@ impl<A: Allocator> Sets<A> {
         Ok(set)
     }
 
-    /// Notes that the first comes before the second, where the contrary isn't known, and adds those whose sets change.
+    /// Notes that the first comes before the second, where the contrary isn't known, and adds those that more is known to
+    /// come before.
     pub(crate) fn insert(
         &mut self,
         alloc: A,
@@ -226,13 +240,29 @@ impl<A: Allocator> Sets<A> {
         add(future.as_mut_slice(), second);
         let later = self.later(alloc, first, future.as_slice())?;
         let earlier = self.earlier(alloc, second, past.as_slice())?;
+        self.join_all(true, later.as_slice(), alloc, past.as_slice())?;
+        self.join_all(false, earlier.as_slice(), alloc, future.as_slice())?;
         for place in &later {
-            self.join(true, *place, past.as_slice())?;
             changed.push(*place)?;
         }
-        for place in &earlier {
-            self.join(false, *place, future.as_slice())?;
-            changed.push(*place)?;
+        Ok(())
+    }
+
+    // Adds all of a set to one of each transaction's sets.
+    fn join_all(
+        &mut self,
+        is_before: bool,
+        places: &[usize],
+        alloc: A,
+        set: &[u64],
+    ) -> Result<(), Refusal>
+    where
+        A: Copy,
+        ensures { IfErr result (λ e. e ≡ out_of_memory) }
+    {
+        let parts = parts(alloc, set)?;
+        for place in places {
+            self.join(is_before, *place, parts.as_slice())?;
         }
         Ok(())
     }
@@ -259,13 +289,13 @@ impl<A: Allocator> Sets<A> {
         members(alloc, left.as_slice())
     }
 
-    // Adds all of a set to one of a transaction's sets.
-    fn join(&mut self, is_before: bool, place: usize, set: &[u64]) -> Result<(), Refusal>
+    // Adds the words of a set, each of which has its number, to one of a transaction's sets.
+    fn join(&mut self, is_before: bool, place: usize, parts: &[(usize, u64)]) -> Result<(), Refusal>
         ensures { IfErr result (λ e. e ≡ out_of_memory) }
     {
         let first = place.saturating_mul(self.width);
-        for (number, more) in set.iter().enumerate() {
-            let word = first.saturating_add(number);
+        for (number, more) in parts {
+            let word = first.saturating_add(*number);
             let old = self.word(is_before, word);
             if *more & !old != 0 {
                 self.keep(is_before, word, old)?;

@@ -16,7 +16,7 @@ use value::value::Value;
 /// That a transaction comes before another, by a fact, and the edge from the same transaction that was told before it.
 #[derive(Clone, Copy)]
 pub(crate) struct Edge {
-    from: usize,
+    pub(crate) from: usize,
     pub(crate) to: usize,
     pub(crate) fact: usize,
     pub(crate) next: Option<usize>,
@@ -31,7 +31,7 @@ pub(crate) struct Level {
     cursor: usize,
 }
 
-/// Facts, what they tell, and which needs have still to be looked at.
+/// Facts, what they tell, and which needs have still to be looked at. Numbers behind those of needs are those of sums.
 #[derive(Drop)]
 pub(crate) struct Solver<A: Allocator> {
     pub(crate) order: Order<A>,
@@ -46,6 +46,9 @@ pub(crate) struct Solver<A: Allocator> {
     pub(crate) refutations: Vec<Vec<Line<A>, A>, A>,
     queue: VecDeque<usize, A>,
     is_queued: Vec<bool, A>,
+    // Those that more is known to come before, since the needs that hang on them were last looked at.
+    moved: Vec<usize, A>,
+    has_moved: Vec<bool, A>,
     is_settled: Vec<bool, A>,
     settled: Vec<usize, A>,
     pub(crate) levels: Vec<Level, A>,
@@ -67,7 +70,7 @@ impl<A: Allocator> Solver<A> {
         ensures { IfErr result (λ e. e ≡ out_of_memory) }
     {
         let count = history.times.count();
-        let needs = history.needs.len();
+        let asked = history.needs.len().saturating_add(history.sums.len());
         Ok(Solver {
             order,
             facts: Vec::new(alloc),
@@ -80,8 +83,10 @@ impl<A: Allocator> Solver<A> {
             last_state: repeated(alloc, history.visits.len(), None)?,
             refutations: Vec::new(alloc),
             queue: VecDeque::new(alloc),
-            is_queued: repeated(alloc, needs, false)?,
-            is_settled: repeated(alloc, needs, false)?,
+            is_queued: repeated(alloc, asked, false)?,
+            moved: Vec::new(alloc),
+            has_moved: repeated(alloc, count, false)?,
+            is_settled: repeated(alloc, asked, false)?,
             settled: Vec::new(alloc),
             levels: Vec::new(alloc),
             cursor: 0,
@@ -161,6 +166,11 @@ impl<A: Allocator> Solver<A> {
         }
     }
 
+    /// All edges, in the order in which they were told.
+    pub(crate) fn edges(&self) -> &[Edge] {
+        self.edges.as_slice()
+    }
+
     /// A fact, by its number.
     pub(crate) fn fact(&self, number: usize) -> Option<Fact> {
         match self.facts.get(number) {
@@ -201,7 +211,7 @@ impl<A: Allocator> Solver<A> {
         Ok(())
     }
 
-    // The same, also where they seemed settled.
+    // The same, also where they seemed settled, and its sums.
     fn stir(&mut self, history: &History<A>, place: usize) -> Result<(), Refusal>
         ensures { IfErr result (λ e. e ≡ out_of_memory) }
     {
@@ -209,20 +219,78 @@ impl<A: Allocator> Solver<A> {
             put(self.is_settled.as_mut_slice(), *need, false);
             self.wake(*need)?;
         }
+        self.wake_sums(history, place)
+    }
+
+    // All sums of a transaction are looked at again.
+    fn wake_sums(&mut self, history: &History<A>, place: usize) -> Result<(), Refusal>
+        ensures { IfErr result (λ e. e ≡ out_of_memory) }
+    {
+        for sum in history.sums_of(place) {
+            self.wake(history.needs.len().saturating_add(*sum))?;
+        }
         Ok(())
     }
 
-    /// The next need to be looked at.
-    pub(crate) fn next_need(&mut self) -> Option<usize> {
+    // More is known to come before a transaction.
+    fn move_later(&mut self, place: usize) -> Result<(), Refusal>
+        ensures { IfErr result (λ e. e ≡ out_of_memory) }
+    {
+        if !at(self.has_moved.as_slice(), place, true) {
+            put(self.has_moved.as_mut_slice(), place, true);
+            self.moved.push(place)?;
+        }
+        Ok(())
+    }
+
+    // The last of those that have moved; from now on it hasn't.
+    fn pop_moved(&mut self) -> Option<usize> {
+        let place = self.moved.pop()?;
+        put(self.has_moved.as_mut_slice(), place, false);
+        Some(place)
+    }
+
+    // All needs that hang on those that have moved are looked at again.
+    fn wake_moved(&mut self, history: &History<A>) -> Result<(), Refusal>
+        ensures { IfErr result (λ e. e ≡ out_of_memory) }
+    {
+        for _ in 0..self.moved.len() {
+            if let Some(place) = self.pop_moved() {
+                self.wake_watchers(history, place)?;
+            }
+        }
+        Ok(())
+    }
+
+    // Takes a need off the queue.
+    fn pop_need(&mut self) -> Option<usize> {
         let need = self.queue.pop_front()?;
         put(self.is_queued.as_mut_slice(), need, false);
         Some(need)
     }
 
+    /// The next need to be looked at. What hangs on transactions that have moved comes once nothing else is left.
+    pub(crate) fn next_need(&mut self, history: &History<A>) -> Result<Option<usize>, Refusal>
+        ensures { IfErr result (λ e. e ≡ out_of_memory) }
+    {
+        if self.queue.is_empty() {
+            self.wake_moved(history)?;
+        }
+        Ok(self.pop_need())
+    }
+
     /// No need is looked at any more.
     pub(crate) fn forget_queue(&mut self) {
         for _ in 0..self.queue.len() {
-            let _ = self.next_need();
+            let _ = self.pop_need();
+        }
+        self.forget_moved();
+    }
+
+    // None of those that have moved is looked at any more.
+    fn forget_moved(&mut self) {
+        for _ in 0..self.moved.len() {
+            let _ = self.pop_moved();
         }
     }
 
@@ -289,7 +357,7 @@ impl<A: Allocator> Solver<A> {
         let mut changed = Vec::new(alloc);
         self.order.insert(alloc, first, second, &mut changed)?;
         for place in &changed {
-            self.wake_watchers(history, *place)?;
+            self.move_later(*place)?;
         }
         Ok(None)
     }
@@ -439,7 +507,11 @@ impl<A: Allocator> Solver<A> {
             | Rule::Supposed(Assumption::Present(place) | Assumption::Absent(place)) => {
                 self.forget_presence(place, number)
             }
-            Rule::Needless(_, way) => put(self.excluded.as_mut_slice(), way, None),
+            Rule::Needless(_, way) | Rule::TooMany(_, _, way) | Rule::TooFew(_, _, way) => put(
+                self.excluded.as_mut_slice(),
+                way,
+                None,
+            ),
             Rule::Found(_, state) => self.forget_state(state),
             Rule::Refuted(assumption, refutation) => {
                 self.refutations.truncate(refutation);

@@ -3,7 +3,7 @@
 ghost use Rattle.std.specs.Prelude.{◌≡◌, IfErr};
 ghost use Rattle.value.specs.Refusals.{out_of_memory};
 
-use crate::keys::{Keys, table_of};
+use crate::keys::Keys;
 use certificate::known::Spot;
 use certificate::states::writes;
 use orders::transaction::{Answered, Transaction};
@@ -12,6 +12,7 @@ use statement::condition::Condition;
 use std::alloc::Allocator;
 use value::refusal::Refusal;
 use ways::cover::{is_looked_at, ways_of};
+use ways::numbers::{has, table_of};
 use ways::way::{After, Field, Way};
 
 /// A transaction at a key that it looks at: the ways in which it may have been there. Ways are numbered through all
@@ -25,7 +26,7 @@ pub(crate) struct Visit<A: Allocator> {
 }
 
 /// Whether one of the statements of a transaction writes rows of the table.
-fn writes_table<A: Allocator>(statements: &[Answered<A>], spot: &Spot<A>) -> bool {
+pub(crate) fn writes_table<A: Allocator>(statements: &[Answered<A>], spot: &Spot<A>) -> bool {
     for answered in statements {
         if answered.statement.writes()
             && table_of(&answered.statement).place() == spot.table.place()
@@ -34,6 +35,16 @@ fn writes_table<A: Allocator>(statements: &[Answered<A>], spot: &Spot<A>) -> boo
         }
     }
     false
+}
+
+/// Whether by a way a statement, by its number, chose the row.
+pub(crate) fn counts<A: Allocator>(way: &Way<A>, statement: usize) -> bool {
+    has(statement, way.counted.as_slice())
+}
+
+/// Whether by a way it may have.
+pub(crate) fn may_count<A: Allocator>(way: &Way<A>, statement: usize) -> bool {
+    counts(way, statement) || has(statement, way.may_count.as_slice())
 }
 
 // Whether a field is another than it was.
@@ -97,6 +108,16 @@ impl<A: Allocator> Visit<A> {
         Ok(())
     }
 
+    /// Whether by each of its ways a statement, by its number, chose the row.
+    pub(crate) fn always_counts(&self, statement: usize) -> bool {
+        self.ways.iter().all(|way| counts(way, statement))
+    }
+
+    /// Whether by one of them it may have.
+    pub(crate) fn sometimes_counts(&self, statement: usize) -> bool {
+        self.ways.iter().any(|way| may_count(way, statement))
+    }
+
     /// How many ways begin without a row.
     pub(crate) fn absent(&self) -> usize {
         let mut count: usize = 0;
@@ -135,8 +156,8 @@ fn way_sums<A: Allocator>(way: &Way<A>, column: u32) -> bool {
     false
 }
 
-// The column that a condition is on.
-fn column_of<A: Allocator>(condition: &Condition<A>) -> u32 {
+/// The column that a condition is on.
+pub(crate) fn column_of<A: Allocator>(condition: &Condition<A>) -> u32 {
     match condition {
         Condition::Compare(column, _, _)
         | Condition::Between(column, _, _)
@@ -232,16 +253,4 @@ pub(crate) fn visit_of<A: Allocator + Copy>(
         first_way: 0,
         ways,
     }))
-}
-
-/// Whether a transaction writes rows of a key's table.
-pub(crate) fn is_writer<A: Allocator>(
-    keys: &Keys<A>,
-    key: usize,
-    statements: &[Answered<A>],
-) -> bool {
-    match keys.spot(key) {
-        Some(spot) => writes_table(statements, spot),
-        None => false,
-    }
 }

@@ -1,6 +1,6 @@
 //! Recordings that no order explains, each with an anomaly that is known by name.
 
-use crate::cases::{expect, expect_none};
+use crate::cases::{expect, expect_none, expect_order};
 use value::refusal::Refusal;
 
 // Both read what was there, and both write it.
@@ -486,4 +486,37 @@ const FINE: &str = "\
 #[test]
 fn no_certificate_where_an_order_explains(rt: HostRuntime) -> Result<(), Refusal> {
     expect_none(&rt, rt.alloc(), FINE)
+}
+
+// The last to commit read what the one before it has overwritten: it comes before that one.
+const READ_BEFORE: &str = "\
+> CREATE TABLE t (id bigint PRIMARY KEY, v bigint);
+> 9 BEGIN;
+  9 BEGIN
+> 9 INSERT INTO t VALUES (1, 0);
+  9 INSERT 0 1
+> 9 INSERT INTO t VALUES (2, 0);
+  9 INSERT 0 1
+> 9 COMMIT;
+  9 COMMIT
+> 1 BEGIN;
+  1 BEGIN
+> 2 BEGIN;
+  2 BEGIN
+> 1 SELECT v FROM t WHERE id = 1;
+  1 SELECT 1
+  1 | 0
+> 2 UPDATE t SET v = 1 WHERE id = 1;
+  2 UPDATE 1
+> 2 COMMIT;
+  2 COMMIT
+> 1 UPDATE t SET v = 1 WHERE id = 2;
+  1 UPDATE 1
+> 1 COMMIT;
+  1 COMMIT
+";
+
+#[test]
+fn an_order_keeps_what_must_be(rt: HostRuntime) -> Result<(), Refusal> {
+    expect_order(&rt, rt.alloc(), READ_BEFORE, &[0, 2, 1])
 }

@@ -1,6 +1,6 @@
 //! What the tests share: how many lines a certificate for a transcript has.
 
-use finding::find::find;
+use finding::find::{Conclusion, find};
 use schema::catalog::Catalog;
 use schema::tables::Tables;
 use std::alloc::Global;
@@ -23,8 +23,17 @@ fn catalog_of(alloc: Global, text: &str) -> Result<Catalog, Refusal> {
     }
 }
 
-// How many lines the certificate has that is found for a transcript; none where none is found.
-fn lines_of(alloc: Global, text: &str) -> Result<Option<usize>, Refusal> {
+// What comes of looking for a certificate that a transcript has no order: how many lines one has, or an order that is worth
+// a try.
+#[derive(Drop)]
+enum Shown {
+    Lines(usize),
+    Order(Vec<usize>),
+    Nothing,
+}
+
+// What comes of it.
+fn look_for(alloc: Global, text: &str) -> Result<Shown, Refusal> {
     let catalog = catalog_of(alloc, text)?;
     let opening = Tables::new(alloc, &catalog)?;
     let traces = match read_traces(alloc, &catalog, true, text.as_bytes()) {
@@ -33,21 +42,40 @@ fn lines_of(alloc: Global, text: &str) -> Result<Option<usize>, Refusal> {
     };
     let transactions = traces.transactions.as_slice();
     match find(alloc, &catalog, &opening, transactions, 10_000)? {
-        Some(lines) => Ok(Some(lines.len())),
-        None => Ok(None),
+        Some(Conclusion::Certificate(lines)) => Ok(Shown::Lines(lines.len())),
+        Some(Conclusion::Order(places)) => Ok(Shown::Order(places)),
+        None => Ok(Shown::Nothing),
     }
 }
 
 /// Ends the test where no certificate of so many lines is found for a transcript.
 pub fn expect(rt: &impl Abort, alloc: Global, text: &str, lines: usize) -> Result<(), Refusal> {
-    let found = lines_of(alloc, text)?;
-    assert!(rt; found == Some(lines), "{text}");
+    let shown = look_for(alloc, text)?;
+    assert!(rt;
+        matches!(shown, Shown::Lines(found) if found == lines),
+        "{text}"
+    );
     Ok(())
 }
 
 /// Ends the test where one is found.
 pub fn expect_none(rt: &impl Abort, alloc: Global, text: &str) -> Result<(), Refusal> {
-    let found = lines_of(alloc, text)?;
-    assert!(rt; found.is_none(), "{text}");
+    let shown = look_for(alloc, text)?;
+    assert!(rt; !matches!(shown, Shown::Lines(_)), "{text}");
+    Ok(())
+}
+
+/// Ends the test where this order isn't found.
+pub fn expect_order(
+    rt: &impl Abort,
+    alloc: Global,
+    text: &str,
+    order: &[usize],
+) -> Result<(), Refusal> {
+    let is_found = match look_for(alloc, text)? {
+        Shown::Order(found) => found.as_slice() == order,
+        _ => false,
+    };
+    assert!(rt; is_found, "{text}");
     Ok(())
 }

@@ -6,3 +6,5 @@
 mod anomalies;
 #[cfg(test)]
 mod cases;
+#[cfg(test)]
+mod counted;

@@ -56,7 +56,11 @@ pub(crate) fn told_pair<A: Allocator>(line: &Line<A>) -> Option<(usize, usize)> 
 pub(crate) fn is_contradiction<A: Allocator>(line: &Line<A>) -> bool {
     matches!(
         line,
-        Line::Cycle { .. } | Line::Sourceless { .. } | Line::Wayless { .. }
+        Line::Cycle { .. }
+            | Line::Sourceless { .. }
+            | Line::Wayless { .. }
+            | Line::Overfull { .. }
+            | Line::Lacking { .. }
     )
 }
 

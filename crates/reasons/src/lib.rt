@@ -5,6 +5,7 @@
 pub mod account;
 mod anomaly;
 mod cycle;
+mod numbers;
 mod phrases;
 mod sight;
 mod telling;

@@ -53,8 +53,8 @@ impl<A: Allocator> Account<'_, A> {
         append_number(self.number(place), text)
     }
 
-    // The name of a table.
-    fn table(&self, table: TableNo) -> &str {
+    /// The name of a table.
+    pub(crate) fn table(&self, table: TableNo) -> &str {
         if self.catalog.has(table) {
             self.catalog.table(table).name()
         } else {
@@ -62,8 +62,8 @@ impl<A: Allocator> Account<'_, A> {
         }
     }
 
-    // The name of a table's column, counted from 0.
-    fn column(&self, table: TableNo, column: u32) -> &str {
+    /// The name of a table's column, counted from 0.
+    pub(crate) fn column(&self, table: TableNo, column: u32) -> &str {
         if !self.catalog.has(table) {
             return "?";
         }

@@ -90,6 +90,18 @@ fn excludes<A: Allocator>(line: &Line<A>, place: usize, spot: &Spot<A>, number: 
         Line::Needless { reader, cell, way } => {
             *reader == place && *way == number && cell.spot.is(spot)
         }
+        Line::TooMany {
+            place: of,
+            spot: at,
+            way,
+            ..
+        }
+        | Line::TooFew {
+            place: of,
+            spot: at,
+            way,
+            ..
+        } => *of == place && *way == number && at.is(spot),
         _ => false,
     }
 }
@@ -174,8 +186,8 @@ fn first_look<A: Allocator>(
 }
 
 impl<A: Allocator> Account<'_, A> {
-    // The line of a transaction's statement at a place.
-    fn statement_line(&self, place: usize, statement: usize) -> Option<u64> {
+    /// The line of a transaction's statement at a place.
+    pub(crate) fn statement_line(&self, place: usize, statement: usize) -> Option<u64> {
         self.names.get(place)?.lines.get(statement).copied()
     }
 

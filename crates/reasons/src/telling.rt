@@ -310,6 +310,20 @@ impl<A: Allocator + Copy> Account<'_, A> {
                 append_indent(at.depth, text)?;
                 self.append_wayless(*place, spot, text)
             }
+            Line::Overfull { place, statement } => {
+                append_indent(at.depth, text)?;
+                self.append_miscount(at.place, *place, *statement, ", but more were there", text)
+            }
+            Line::Lacking { place, statement } => {
+                append_indent(at.depth, text)?;
+                self.append_miscount(
+                    at.place,
+                    *place,
+                    *statement,
+                    ", but so many can't have been there",
+                    text,
+                )
+            }
             _ => Ok(()),
         }
     }
@@ -340,6 +354,18 @@ impl<A: Allocator + Copy> Account<'_, A> {
                 reader,
                 cell,
             } => { self.append_common(alloc, *first, *reader, cell, text) }
+            Line::TooMany {
+                place,
+                statement,
+                spot,
+                ..
+            } => { self.append_counted(*place, *statement, spot, " not among them\n", text) }
+            Line::TooFew {
+                place,
+                statement,
+                spot,
+                ..
+            } => { self.append_counted(*place, *statement, spot, " among them\n", text) }
             Line::Suppose(assumption) => self.append_supposed(*assumption, text),
             _ => Ok(()),
         }
@@ -350,7 +376,7 @@ impl<A: Allocator + Copy> Account<'_, A> {
     fn append_told(
         &self,
         alloc: A,
-        depth: usize,
+        at: At,
         line: &Line<A>,
         text: &mut Vec<u8, A>,
     ) -> Result<(), Refusal>
@@ -359,10 +385,11 @@ impl<A: Allocator + Copy> Account<'_, A> {
         if matches!(
             line,
             Line::Joined { .. } | Line::Needless { .. } | Line::Found { .. }
-        ) {
+        ) || self.is_counted_again(at.place, line)
+        {
             return Ok(());
         }
-        append_indent(depth, text)?;
+        append_indent(at.depth, text)?;
         self.append_fact(alloc, line, text)
     }
 
@@ -398,7 +425,7 @@ impl<A: Allocator + Copy> Account<'_, A> {
                 depth = self.append_closing(alloc, At { place, depth }, line, &mut text)?;
                 continue;
             }
-            self.append_told(alloc, depth, line, &mut text)?;
+            self.append_told(alloc, At { place, depth }, line, &mut text)?;
             if let Line::Suppose(_) = line {
                 depth = depth.saturating_add(1);
             }

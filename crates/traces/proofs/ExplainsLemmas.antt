@@ -1,4 +1,4 @@
--- Each order that is serial for a legal history explains whatever is told of what it committed.
+-- Each order that is serial for a legal history explains whatever is recorded of what it committed.
 use Rattle.std.proofs.Common.{◌≡◌, refl, sym, ap, subst, ◌∙◌, ℕ, zero, suc, ◌<◌, ◌≤◌, Bool, true, false, not, ◌&&◌, ◌⊎◌, inl, inr, List, [], ◌∷◌, length, map, nat_lt, slice_get, Option, Some, None, IfSome, arith}
 use Rattle.std.proofs.Math.Bool.{and-false}
 use Rattle.std.proofs.lemmas.Bool.{ltb-false, le-ltb}
@@ -30,9 +30,9 @@ use Rattle.traces.proofs.RecordedLemmas.{AllAnswered, run_answered}
 use Rattle.traces.specs.Traces.{AreToldBy, IsExplainedBy, IsRecording, IsToldBy, trace_of, traces}
 
 module _ {A : Type 0} where
-  -- ---- what is told, place by place
+  -- ---- what is recorded, place by place
 
-  -- what is told of the transaction at a place
+  -- what is recorded of the transaction at a place
   told_at : (clock : ℕ → ℕ) (ts : List (Txn A)) (rs : List (Trace A)) → AreToldBy clock ts rs → (i : ℕ) (t : Txn A) → slice_get ts i ≡ Some t → (r : Trace A) × (slice_get rs i ≡ Some r) × IsToldBy clock t r
   told_at clock [] rs a i t e = cc
   told_at clock (u ∷ ts) [] a i t e = absurd a
@@ -51,7 +51,7 @@ module _ {A : Type 0} where
 
   -- ---- time
 
-  -- One that had not ended before another began, or that this may follow by its import, isn't told to have.
+  -- A transaction that had not ended before another began, or that this may follow by its import, isn't recorded as if it had.
   told_late : (clock : ℕ → ℕ) → ((m n : ℕ) → m ≤ n → clock m ≤ clock n) → (t u : Txn A) (b a : Trace A) → IsToldBy clock t b → IsToldBy clock u a → (t.begin ≤ u.end) ⊎ (t.imported ≡ true) → precedes a b ≡ false
   told_late clock steady t u b a tb ua (inr m) = ap (λ x. ended_before a.end b.begin && not x) (tb.imported m) ∙ and-false (ended_before a.end b.begin)
   told_late clock steady t u b a tb ua (inl l) = go a.end refl ua.end

@@ -1,4 +1,4 @@
--- What is told of the committed transactions of a history, as the check of recorded histories reads it of any database.
+-- What is recorded of the committed transactions of a history, as the check of recorded histories reads it of any database.
 -- Sources: Papadimitriou, "The serializability of concurrent database updates" (JACM 1979), for orders; Herlihy and Wing, "Linearizability" (TOPLAS 1990), for the times of requests and replies.
 use Rattle.std.specs.Prelude.{◌≡◌, ℕ, ◌≤◌, true, Some, IfSome, List, [], ◌∷◌, map, slice_get}
 use Rattle.std.specs.List.Sorted.{IsPermutation}
@@ -23,7 +23,7 @@ module _ {A : Type 0} where
 
   -- ---- by a clock of one's own
 
-  -- What a client may tell of a transaction: its BEGIN was sent before it began, and the reply to its COMMIT came, if at all, after it had ended.
+  -- What a client may record of a transaction: its BEGIN was sent before it began, and the reply to its COMMIT came, if at all, after it had ended.
   pub record IsToldBy (clock : ℕ → ℕ) (t : Txn A) (r : Trace A) : Type 0 where
     pub begin : r.begin ≤ clock t.begin
     pub end : IfSome r.end (λ e. clock t.end ≤ e)
@@ -35,7 +35,7 @@ module _ {A : Type 0} where
   AreToldBy clock (t ∷ ts) (r ∷ rs) = IsToldBy clock t r × AreToldBy clock ts rs
   AreToldBy clock _ _ = ⊥
 
-  -- What clients may tell of what was committed: each transaction once, in whatever order, by a clock that doesn't go back.
+  -- What clients may record of what was committed: each transaction once, in whatever order, by a clock that doesn't go back.
   pub record IsRecording (w : World A) (rs : List (Trace A)) : Type 0 where
     pub clock : ℕ → ℕ
     pub steady : (m n : ℕ) → m ≤ n → clock m ≤ clock n

@@ -1,4 +1,4 @@
-//! That the search for an order (crate orders) never answers no of what is told of a legal history.
+//! That the search for an order (crate orders) never answers no to what is recorded of a legal history.
 
 ghost use Rattle.std.specs.Prelude.{◌≡◌, IsTrue, List};
 ghost use Rattle.history.specs.Serial.{IsSerial};
@@ -14,9 +14,9 @@ pub fn serial_orders_explain<A: Allocator>()
     ensures { AfterLegal (λ (w : World A). (order : List (Txn A)) → IsSerial w order → IsExplainedBy w order) }
 {}
 
-/// Whatever is told of what a legal history committed is explained: in any order, by any clock that
-/// doesn't go back, with or without the replies to COMMITs. The traces are such a recording. And all
-/// statements fit the tables, so an exact search may be asked of it; it never answers no.
+/// Whatever is recorded of what a legal history committed is explained: in any order, by any clock that doesn't go
+/// back, with or without the replies to COMMITs. The traces are such a recording. And all statements fit the tables, so
+/// an exact search may be asked of it; it never answers no.
 pub fn recordings_are_explained<A: Allocator>()
     ensures explained { AfterLegal (λ (w : World A). (rs : List (AnyTrace A)) → IsRecording w rs →
         Unexplained w.catalog w.opening rs → ⊥) }

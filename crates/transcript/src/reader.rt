@@ -37,6 +37,8 @@ struct Due<A: Allocator> {
 #[derive(Drop)]
 pub(crate) struct Reader<A: Allocator> {
     sessions: Vec<Session<A>, A>,
+    // How many checkpoints await their replies.
+    checkpoints: u64,
     due: Option<Due<A>>,
     // The lines of the BEGINs that were answered BEGIN.
     begins: Vec<u64, A>,
@@ -154,13 +156,14 @@ impl<A: Allocator + Copy> Reader<A> {
         let sessions = sessions(alloc)?;
         Ok(Reader {
             sessions,
+            checkpoints: 0,
             due: None,
             begins: Vec::new(alloc),
             ended: Vec::new(alloc),
         })
     }
 
-    // A session's command. Tables that are created or opened, and checkpoints, were read elsewhere.
+    // A command. Tables that are created or opened were read elsewhere.
     fn ask(
         &mut self,
         alloc: A,
@@ -169,10 +172,27 @@ impl<A: Allocator + Copy> Reader<A> {
         line: &[u8],
     ) -> Result<(), Reason> {
         if !begins_with_digit(line) {
+            self.ask_checkpoint(line);
             return Ok(());
         }
         let (session, asked) = asked_in(alloc, catalog, line)?;
         session_at(self.sessions.as_mut_slice(), session)?.ask(asked, number)
+    }
+
+    // A command without a session, which may be a checkpoint.
+    fn ask_checkpoint(&mut self, line: &[u8]) {
+        if line == b"CHECKPOINT;".as_slice() {
+            self.checkpoints = self.checkpoints.saturating_add(1);
+        }
+    }
+
+    // A checkpoint's reply, where one awaits it.
+    fn answer_checkpoint(&mut self) -> Result<(), Reason> {
+        if self.checkpoints == 0 {
+            return Err(Reason::Unasked);
+        }
+        self.checkpoints -= 1;
+        Ok(())
     }
 
     // Whether more rows of a SELECT follow.
@@ -270,7 +290,7 @@ impl<A: Allocator + Copy> Reader<A> {
             return self.settle();
         }
         if is_of_checkpoint(line) {
-            return Ok(());
+            return self.answer_checkpoint();
         }
         self.answer(alloc, catalog, number, line)
     }

@@ -70,9 +70,13 @@ fn all_fit<A: Allocator>(catalog: &Catalog<A>, transactions: &[Transaction<A>]) 
     true
 }
 
-// The number of the transaction whose BEGIN stands in a line: BEGINs are counted that were answered so.
+// The number of the transaction whose BEGIN stands in a line: BEGINs are counted that were answered so, whose lines these
+// are, in order.
 fn number_of(begins: &[u64], line: u64) -> u64 {
-    begins.iter().filter(|begin| **begin <= line).count() as u64
+    match begins.binary_search(&line) {
+        Ok(before) => (before as u64).saturating_add(1),
+        Err(before) => before as u64,
+    }
 }
 
 impl<A: Allocator> Traces<A> {
@@ -108,7 +112,8 @@ fn gathered<A: Allocator + Copy>(
     reader: Reader<A>,
     has_time: bool,
 ) -> Result<Traces<A>, Reason> {
-    let (all, begins) = reader.into_parts();
+    let (all, mut begins) = reader.into_parts();
+    begins.sort()?;
     let mut traces = Traces {
         transactions: Vec::new(alloc),
         names: Vec::new(alloc),

@@ -33,9 +33,14 @@ pub(crate) fn cut(byte: u8, text: &[u8]) -> Option<(&[u8], &[u8])>
     }
 }
 
-/// The number of one or more digits, where 64 bits hold it.
+// Whether a text of digits has a zero at its start that is left out where numbers are printed.
+fn has_leading_zero(text: &[u8]) -> bool {
+    text.len() > 1 && text[0] == b'0'
+}
+
+/// The number of one or more digits, as it is printed, where 64 bits hold it.
 pub(crate) fn number(text: &[u8]) -> Option<u64> {
-    if !text.iter().all(|byte| byte.is_ascii_digit()) {
+    if has_leading_zero(text) || !text.iter().all(|byte| byte.is_ascii_digit()) {
         return None;
     }
     match str::from_utf8(text) {

@@ -1,5 +1,5 @@
 -- As many rows are chosen as there are keys whose row is.
-use Rattle.std.proofs.Common.{◌≡◌, refl, sym, ap, subst, ◌∙◌, ℕ, zero, suc, ◌≤◌, pos, Bool, true, false, true≢false, cond, not, ◌&&◌, ◌⊎◌, inl, inr, List, [], ◌∷◌, ◌++◌, map, length, Option, Some, None, eqb, arith}
+use Rattle.std.proofs.Common.{◌≡◌, refl, sym, ap, subst, ◌∙◌, ℕ, zero, suc, ◌≤◌, pos, Bool, true, false, true≢false, cond, not, ◌&&◌, ◌⊎◌, inl, inr, List, [], ◌∷◌, ◌++◌, map, length, Option, Some, None, eqb, arith, option_map, option_and_then, slice_get}
 use Rattle.std.proofs.lemmas.Bool.{eq-eqb, eqb-true, and_parts, and_from}
 use Rattle.std.specs.List.{filter}
 use Rattle.std.specs.FinMap.{is_sorted}
@@ -30,7 +30,9 @@ use Rattle.statement.specs.Fits.{fits}
 use Rattle.statement.proofs.LawsLemmas.{sound_after}
 use Rattle.statement.proofs.Suffices.{same_itself}
 use Rattle.orders.specs.Explains.{agrees, alone, are_fit, same_bag}
-use Rattle.ways.specs.Counts.{is_chosen, chooses, chosen_in, has_key, are_apart, of_table, number_in, number_told, number_at}
+use Rattle.std.specs.Option.{option_map_or}
+use Rattle.orders.specs.declared.transaction.Answered.{Answered}
+use Rattle.ways.specs.Counts.{is_chosen, chooses, chosen_in, has_key, are_apart, of_table, number_in, number_told, number_at, names_key, named_at, table_of, table_at}
 use Rattle.ways.proofs.BagLemmas.{cut_at, length_cut, in_cut, same_rows-there, same_rows-count}
 use Rattle.ways.proofs.ChoiceLemmas.{not_is}
 use Rattle.ways.proofs.LeftLemmas.{in_filter, table_sorted, chosen_there, chosen_is-row}
@@ -214,3 +216,21 @@ module _ {A : Type 0} where
   told_at_most c t (q ∷ qs) X Y (suc j) n ks s z a e f =
       let p = and_parts (fits c q.0) (are_fit c qs) z in
       told_at_most c t qs (after c q.0 X) Y j n ks (sound_after c q.0 X p.0 s) p.1 (first_answered c q qs X Y a).1 e f
+
+module _ {A : Type 0} where
+  -- ---- statements by number
+
+  pub number-at : (t : ℕ) (qs : List (Answered A)) (j : ℕ) → number_at t (map (λ (a : Answered A). (a.statement, a.reply)) qs) j ≡ option_and_then (λ (a : Answered A). number_told t a.statement a.reply) (slice_get qs j)
+  number-at t [] j = refl
+  number-at t (a ∷ qs) zero = refl
+  number-at t (a ∷ qs) (suc j) = number-at t qs j
+
+  pub named-at : (k : Value A) (qs : List (Answered A)) (j : ℕ) → named_at k (map (λ (a : Answered A). (a.statement, a.reply)) qs) j ≡ option_map_or (λ (a : Answered A). names_key k a.statement) (slice_get qs j) false
+  named-at k [] j = refl
+  named-at k (a ∷ qs) zero = refl
+  named-at k (a ∷ qs) (suc j) = named-at k qs j
+
+  pub table-at : (qs : List (Answered A)) (j : ℕ) → table_at (map (λ (a : Answered A). (a.statement, a.reply)) qs) j ≡ option_map (λ (a : Answered A). table_of a.statement) (slice_get qs j)
+  table-at [] j = refl
+  table-at (a ∷ qs) zero = refl
+  table-at (a ∷ qs) (suc j) = table-at qs j

@@ -1,5 +1,5 @@
 -- Which statements of a run choose the row of a key, and what a way tells of it.
-use Rattle.std.specs.Prelude.{◌≡◌, ℕ, zero, suc, ◌==◌, pos, Bool, true, false, not, ◌&&◌, ◌||◌, Option, Some, None, List, [], ◌∷◌, length, slice_get, if◌then◌else◌}
+use Rattle.std.specs.Prelude.{◌≡◌, ℕ, zero, suc, ◌==◌, pos, Bool, true, false, not, ◌&&◌, ◌||◌, Option, Some, None, option_map, List, [], ◌∷◌, length, slice_get, if◌then◌else◌}
 use Rattle.std.specs.List.{list_any}
 use Rattle.std.specs.Option.{option_map_or}
 use Rattle.value.specs.declared.value.Value.{Value}
@@ -110,3 +110,14 @@ module _ {A : Type 0} where
   number_at t [] j = None
   number_at t (q ∷ qs) zero = number_told t q.0 q.1
   number_at t (q ∷ qs) (suc j) = number_at t qs j
+
+  -- the table of a statement
+  abbrev pub table_of : Statement A → ℕ
+  table_of (Select t p cs) = t
+  table_of (Insert t values) = t
+  table_of (Update t more cs) = t
+  table_of (Delete t cs) = t
+
+  -- the same of statement j
+  abbrev pub table_at : List (Statement A × Reply A) → ℕ → Option ℕ
+  table_at qs j = option_map (λ q. table_of q.0) (slice_get qs j)

@@ -6,6 +6,7 @@ mod choice;
 mod column;
 pub mod cover;
 pub mod laws;
+pub mod numbers;
 pub mod sight;
 mod step;
 mod tell;

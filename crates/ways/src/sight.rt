@@ -42,8 +42,8 @@ fn pins_key<A: Allocator>(key: &Value<A>, condition: &Condition<A>) -> bool
     }
 }
 
-// Whether one of the conditions leaves no key but this.
-fn pins<A: Allocator>(key: &Value<A>, conditions: &[Condition<A>]) -> bool
+/// Whether one of the conditions leaves no key but this.
+pub(crate) fn pins<A: Allocator>(key: &Value<A>, conditions: &[Condition<A>]) -> bool
     ensures { result ≡ spec.pins key.now conditions.now }
 {
     conditions.iter().any(|condition| pins_key(key, condition))
@@ -122,8 +122,8 @@ fn some_seen<A: Allocator>(rows: &[Values<A>]) -> Sight<A>
     }
 }
 
-// Whether the key is among the columns shown.
-fn shows_key(columns: &[u32]) -> bool
+/// Whether the key is among the columns shown.
+pub(crate) fn has_key_column(columns: &[u32]) -> bool
     ensures { result ≡ list_any (λ n. n == 0) columns.now }
 {
     columns.iter().any(|column| *column == 0)
@@ -158,7 +158,7 @@ fn sight_of_columns<A: Allocator + Copy>(
     if pins(key, conditions) {
         return first_seen(alloc, rows);
     }
-    if shows_key(columns) {
+    if has_key_column(columns) {
         return seen(alloc, find_row(key, columns, rows));
     }
     Ok(some_seen(rows))

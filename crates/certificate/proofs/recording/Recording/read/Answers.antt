@@ -25,3 +25,11 @@ returns-in-Found-clause-ok g c =
 pub returns-in-Sourceless-clause-ok : goal.returns-in-Sourceless-clause-ok
 returns-in-Sourceless-clause-ok g c =
     subst (λ l. IfOk c.read_sourceless.result (λ step. outcome_of step c.read_sourceless.new.standing ≡ next c.args.self.now c.args.standing.now l)) (sym c.in-Sourceless.is) c.read_sourceless.ensures.ok
+
+pub returns-in-TooMany-clause-ok : goal.returns-in-TooMany-clause-ok
+returns-in-TooMany-clause-ok g c =
+    subst (λ l. IfOk c.read_too_many.result (λ step. outcome_of step c.read_too_many.new.standing ≡ next c.args.self.now c.args.standing.now l)) (sym c.in-TooMany.is) c.read_too_many.ensures.ok
+
+pub returns-in-TooFew-clause-ok : goal.returns-in-TooFew-clause-ok
+returns-in-TooFew-clause-ok g c =
+    subst (λ l. IfOk c.read_too_few.result (λ step. outcome_of step c.read_too_few.new.standing ≡ next c.args.self.now c.args.standing.now l)) (sym c.in-TooFew.is) c.read_too_few.ensures.ok

@@ -1,0 +1,5 @@
+pub mod Names
+pub mod Outcomes
+pub mod Reading
+pub mod Words
+pub mod Writing
