@@ -1,4 +1,4 @@
--- Trackers that answer alike, whatever is told of later.
+-- Trackers that answer alike, whatever is reported later.
 use Rattle.std.proofs.Common.{◌≡◌, refl, sym, ap, subst, ◌∙◌, ℕ, ◌+◌, ◌<◌, ◌≤◌, Bool, true, false, cond, not, ◌&&◌, ◌||◌, ◌⊎◌, inl, inr, List, [], ◌∷◌, ◌++◌, map, Option, Some, None, fold, eqb, nat_lt, arith, append-nil}
 use Rattle.std.proofs.lemmas.Bool.{and_parts, and_from, or_cases, or_left, or_right, false_from_ne_true, ltb-true, lt-ltb, eqb-true, eq-eqb, le-ltb}
 use Rattle.std.proofs.lemmas.List.Elements.{filter-append}
@@ -61,7 +61,7 @@ module _ (o : ℕ) (r : Tracked) (h : IsProper r) (old : IsOldest o r) where
         subst Late (sym m.2) (late m.0 (In-filter (without t) m.0 r.parties m.1).0));
   }
 
-  -- ---- the two trackers, one told what the other is told
+  -- ---- the two trackers, one given the reports that the other is given
 
   module _ (keep : ℕ → Bool) (s : Tracked) (thin : Thinned o keep s r) where
     abbrev k : Party → Bool
@@ -273,7 +273,7 @@ module _ (o : ℕ) (r : Tracked) (h : IsProper r) (old : IsOldest o r) where
       dooms = λ t. asked (λ u q. dooms_of u s ≡ dooms_of u r) t (λ p f e. dooms_alike t p f e);
     }
 
--- ---- whatever is told
+-- ---- whatever is reported
 
 tells_all : (o : ℕ) (keep : ℕ → Bool) (more : List Told) (s r : Tracked) → IsProper r → IsOldest o r → Thinned o keep s r → Each (IsFrom o) more → CanTellAll more r → CanTellAll more s
 tells_all o keep [] s r h old thin from can = tt

@@ -83,7 +83,7 @@ module _ (r : Tracked) (h : IsProper r) (t : ℕ) where
       ap (λ cs. caused (node_after t n) (edge_of (node_after t n) reads) a b (earliest (node_after t n) (edge_of (node_after t n) reads) cs))
       (filter_none (is_dangerous (node_after t n) (edge_of (node_after t n) reads) a b) r.parties (λ c k. none_without a b c i j k x y))
 
-  -- Of another first, the committer is the pivot.
+  -- Where another transaction is the first, the committer is the pivot.
   pub through_committer : (x : Party) → In x r.parties → x.number ≡ t → Each (IsThrough t n r.parties x) r.parties
   through_committer x i e = Each-all (IsThrough t n r.parties x) r.parties (λ a j other. only_one (through t n r.parties a) t r.parties x h.rising i e (λ b k y. none_through a b j k other y))
 

@@ -120,7 +120,7 @@ knows_readers ps i p s lt e = ((Each-In IsSorted ps p s.1.sorted here).1, Each-a
     here : In p ps
     here = subst (λ (x : Party). In x ps) (sym e) (get-In ps i p lt)
 
--- ---- who holds one
+-- ---- which transactions hold one
 
 any_both : (f k : Party → Bool) (ps : List Party) → list_any f (filter k ps) ≡ list_any (λ q. k q && f q) ps
 any_both f k [] = refl

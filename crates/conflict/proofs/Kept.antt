@@ -1,4 +1,4 @@
--- What the calls of a tracker leave is proper, and what was told.
+-- What the calls of a tracker leave is proper, and what was reported.
 use Rattle.std.proofs.Common.{◌≡◌, refl, sym, ap, subst, ◌∙◌, ℕ, ◌+◌, ◌<◌, ◌≤◌, Bool, true, false, cond, not, ◌&&◌, ◌||◌, ◌⊎◌, inl, inr, List, [], ◌∷◌, ◌++◌, map, fold, length, Option, Some, None, Result, Ok, Err, OnOk, OnErr, eqb, nat_lt, arith}
 use Rattle.std.proofs.Math.Bool.{and-false}
 use Rattle.std.proofs.lemmas.Bool.{eqb-true}

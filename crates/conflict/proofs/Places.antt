@@ -74,7 +74,7 @@ at_within t [] i at = absurd at
 at_within t (p ∷ ps) zero at = omega arith
 at_within t (p ∷ ps) (suc i) at = let l = at_within t ps i at in omega (arith, l)
 
--- those behind one that is before t, and t
+-- those after one that is before t, and t
 at_above : (t n : ℕ) (ps : List Party) (i : ℕ) → Each (λ (q : Party). n < q.number) ps → IsAt i t ps → n < t
 at_above t n [] i all at = absurd at
 at_above t n (p ∷ ps) zero all at = let a = all.0 in omega (arith, a, at)
@@ -376,7 +376,7 @@ erased_at t ps i x mid one new r edges at a e gone first second =
         ap (λ ns. record p { outs = cond (is_among p.number x.ins) (without t p.outs) p.outs; ins = ns }) (all_same (is_among p.number x.outs) p.ins (λ h. ap (λ n. is_among n p.ins) (sym number) ∙ sym (both x p here j) ∙ h))
         ∙ ap (λ ns. record p { outs = ns; ins = without t p.ins }) (all_same (is_among p.number x.ins) p.outs (λ h. ap (λ n. is_among n p.outs) (sym number) ∙ both p x j here ∙ h))
 
--- nobody goes
+-- no transaction goes
 forgetful_none : (t : ℕ) (ps : List Party) → map (forgetful false t) ps ≡ ps
 forgetful_none t [] = refl
 forgetful_none t (p ∷ ps) = ap (λ qs. p ∷ qs) (forgetful_none t ps)

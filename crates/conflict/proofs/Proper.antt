@@ -1,4 +1,4 @@
--- What is told keeps the transactions in their order, and free of dangerous structures.
+-- What is reported keeps the transactions in their order, and free of dangerous structures.
 use Rattle.std.proofs.Common.{◌≡◌, refl, sym, ap, subst, ◌∙◌, ℕ, ◌+◌, ◌<◌, ◌≤◌, Bool, true, false, true≢false, cond, not, ◌&&◌, ◌||◌, ◌⊎◌, inl, inr, List, [], ◌∷◌, ◌++◌, map, None, eqb, nat_lt, nat_le, arith}
 use Rattle.std.proofs.lemmas.Bool.{not_from_false, not-true, and_parts, and_from, false_from_ne_true}
 use Rattle.std.proofs.lemmas.Bool.Decides.{nat_tests}

@@ -55,7 +55,7 @@ module _ {T : Type 0} (node : T → Node) (edge : T → T → Bool) where
   pub no_cause : (ts : List T) → ((a b c : T) → In a ts → In b ts → In c ts → is_dangerous node edge a b c ≡ false) → first_cause node edge ts ≡ None
   no_cause ts h = first_some-none (from ts) ts (λ a i. first_some-none (through ts a) ts (λ b j. no_through ts a b (λ c k. h a b c i j k)))
 
-  -- The same is named where those that are part of one stay.
+  -- The same structure is named where those that are part of one stay.
   pub cause-kept : (k : T → Bool) (ts : List T) → ((a b c : T) → In a ts → In b ts → In c ts → is_dangerous node edge a b c ≡ true → (k a ≡ true) × (k b ≡ true) × (k c ≡ true))
       → first_cause node edge (filter k ts) ≡ first_cause node edge ts
   cause-kept k ts h =

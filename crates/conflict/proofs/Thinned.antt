@@ -66,7 +66,7 @@ module _ (o : ℕ) (r : Tracked) (h : IsProper r) (old : IsOldest o r) where
   out_recent : (p q : Party) → In p r.parties → In q r.parties → p.active ≡ true → edge p q ≡ true → is_recent o q ≡ true
   out_recent p q i j a e = late_recent o r.begun r.commits q (num q j) (let x = oldest p i a in let y = above p q e in omega (arith, x, y))
 
-  -- ---- what is needed after something is told was needed before
+  -- ---- what is needed after a report was needed before it
 
   module _ (f : Party → Party) (number : (p : Party) → (f p).number ≡ p.number)
       (recent_back : (p : Party) → In p r.parties → is_recent o (f p) ≡ true → is_recent o p ≡ true)

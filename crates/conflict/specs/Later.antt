@@ -1,11 +1,11 @@
--- What is told later, and trackers that answer alike whatever that is.
+-- What is reported later, and trackers that answer alike whatever that is.
 use Rattle.std.specs.Prelude.{◌≡◌, ℕ, ◌<◌, ◌≤◌, ◌==◌, Bool, true, false, not, ◌&&◌, Option, Some, None, List, [], ◌∷◌}
 use Rattle.std.specs.List.{list_any}
 use Rattle.value.specs.declared.refusal.Mode.{Mode}
 use Rattle.value.specs.declared.refusal.TxnNo.{TxnNo}
 use Rattle.conflict.specs.Tracked.{Each, Party, Tracked, after_begin, after_edge, after_move, after_commit, after_drop, cause_of, first_out, dooms_of, is_recent, party_of}
 
--- what is told of transactions
+-- what is reported of transactions
 pub data Told : Type 0 where
   Begins : ℕ → Mode → ℕ → Told  -- it has begun, in a mode, with a snapshot
   Reads : ℕ → ℕ → Told  -- it has read what the second wrote
@@ -28,7 +28,7 @@ all_told (x ∷ xs) s = all_told xs (told x s)
 abbrev pub has_committed : ℕ → List Party → Bool
 has_committed t ps = list_any (λ (p : Party). not p.active && p.number == t) ps
 
--- What may be told: numbers rise, no snapshot is of commits to come, of a reader and a writer one hasn't committed, and no commit makes a structure.
+-- What may be reported: numbers rise, no snapshot is of commits to come, of a reader and a writer one hasn't committed, and no commit makes a structure.
 abbrev pub CanTell : Told → Tracked → Type 0
 CanTell (Begins t m n) s = (s.begun < t) × (n ≤ s.commits)
 CanTell (Reads t u) s = (has_committed t s.parties && has_committed u s.parties) ≡ false
@@ -40,7 +40,7 @@ abbrev pub CanTellAll : List Told → Tracked → Type 0
 CanTellAll [] s = Unit {0}
 CanTellAll (x ∷ xs) s = CanTell x s × CanTellAll xs (told x s)
 
--- so of each pair, a reader and a writer
+-- each pair, a reader and a writer, may be reported
 abbrev pub CanTellEdges : List (TxnNo × TxnNo) → Tracked → Type 0
 CanTellEdges es s = Each (λ e. (has_committed e.0.0 s.parties && has_committed e.1.0 s.parties) ≡ false) es
 
@@ -62,7 +62,7 @@ pub record AnswersAlike (o : ℕ) (s r : Tracked) : Type 0 where
   pub first_out : (t : ℕ) → is_recent_from o (party_of t r) ≡ true → first_out t s ≡ first_out t r
   pub dooms : (t : ℕ) → is_recent_from o (party_of t r) ≡ true → dooms_of t s ≡ dooms_of t r
 
--- Whatever is told later of snapshots from o on: if it may be told of r, it may be told of s, and the answers are the same.
+-- Whatever is reported later of snapshots from o on: if it may be reported to r, it may be reported to s, and the answers are the same.
 pub record Alike (o : ℕ) (s r : Tracked) : Type 0 where
   pub tells : (more : List Told) → Each (IsFrom o) more → CanTellAll more r → CanTellAll more s
   pub answers : (more : List Told) → Each (IsFrom o) more → CanTellAll more r → AnswersAlike o (all_told more s) (all_told more r)

@@ -51,7 +51,7 @@ reads p q = is_among q.number p.outs
 abbrev pub edge : Party → Party → Bool
 edge = edge_of node reads
 
--- ---- what is told
+-- ---- what is reported
 
 abbrev pub may_write : Mode → Bool
 may_write ReadWrite = true
@@ -78,7 +78,7 @@ with_edge b t u p = with_in b t u (with_out b t u p)
 abbrev pub after_edge : ℕ → ℕ → Tracked → Tracked
 after_edge t u s = record s { parties = map (with_edge s.begun t u) s.parties }
 
--- so of each pair, a reader and a writer
+-- with an edge of each pair, a reader and a writer
 abbrev pub with_edges : ℕ → List (TxnNo × TxnNo) → List Party → List Party
 with_edges b [] ps = ps
 with_edges b (e ∷ es) ps = with_edges b es (map (with_edge b e.0.0 e.1.0) ps)
@@ -116,7 +116,7 @@ after_commit t s = record {
   parties = map (with_commit t (s.commits + 1)) s.parties;
 }
 
--- it doesn't know t, where t goes
+-- the transaction p without what it knows of t, where t goes
 abbrev pub forgetful : Bool → ℕ → Party → Party
 forgetful goes t p = record p { outs = if goes then without t p.outs else p.outs; ins = if goes then without t p.ins else p.ins }
 
@@ -178,11 +178,11 @@ lesser n p = if p.active && nat_lt p.snapshot n then p.snapshot else n
 
 -- ---- what may be forgotten, once no snapshot is taken below o any more
 
--- It is active, or a commit above o may still close a structure that begins at it.
+-- A transaction is active, or a commit above o may still close a structure that begins at it.
 abbrev pub is_recent : ℕ → Party → Bool
 is_recent o p = p.active || nat_lt o (bound node edge p)
 
--- it is recent, or one that is has an edge to it
+-- a transaction is recent, or a recent one has an edge to it
 abbrev pub is_needed : ℕ → List Party → Party → Bool
 is_needed o ps p = is_recent o p || list_any (λ q. is_recent o q && edge q p) ps
 
@@ -191,7 +191,7 @@ after_forget o s = record s { parties = filter (is_needed o s.parties) s.parties
 
 -- ---- what is always so
 
--- it holds of each
+-- a property holds of each element
 abbrev pub Each : {X : Type 0} → (X → Type 0) → List X → Type 0
 Each P [] = Unit {0}
 Each P (x ∷ xs) = P x × Each P xs

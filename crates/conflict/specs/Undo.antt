@@ -43,11 +43,11 @@ taken_back (n ∷ ns) ps = without_note n (taken_back ns ps)
 abbrev pub is_tracked : ℕ → List Party → Bool
 is_tracked t ps = list_any (λ (p : Party). p.number == t) ps
 
--- they stand by their numbers, and so do those that each knows
+-- the transactions stand by their numbers, and so do those that each knows
 abbrev pub AreSorted : List Party → Type 0
 AreSorted ps = Rising ps × Each IsSorted ps
 
--- they stand by their numbers, and each edge is known on both sides
+-- the transactions stand by their numbers, and each edge is known on both sides
 abbrev pub AreSound : List Party → Type 0
 AreSound ps = Rising ps × AreEdges ps
 

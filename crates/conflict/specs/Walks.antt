@@ -14,7 +14,7 @@ IsAt i t [] = ⊥
 IsAt zero t (p ∷ ps) = p.number ≡ t
 IsAt (suc i) t (p ∷ ps) = IsAt i t ps
 
--- those of these numbers that are there
+-- the transactions of these numbers that are there
 abbrev pub found : List ℕ → List Party → List Party
 found [] ps = []
 found (n ∷ ns) ps = option_to_list (find (λ (p : Party). p.number == n) ps) ++ found ns ps
@@ -49,7 +49,7 @@ is_unseen p q = is_other node reads p q && nat_lt p.snapshot q.commit
 
 -- ---- what holds a transaction
 
--- it was found, and is recent, and doesn't see what p wrote
+-- a transaction was found, and is recent, and doesn't see what p wrote
 abbrev pub is_holding : ℕ → Party → Option Party → Bool
 is_holding o p None = false
 is_holding o p (Some q) = is_recent o q && is_unseen q p
@@ -79,15 +79,15 @@ abbrev pub closed_by : ℕ → ℕ → Party → Party → Option Node → Optio
 closed_by t n a b None = None
 closed_by t n a b (Some c) = if is_pair t n a b && nat_le c.commit (bound (node_after t n) (edge_of (node_after t n) reads) a) then Some (structure (node_after t n a) (node_after t n b) c) else None
 
--- that of another and the committer x
+-- the structure of another transaction and the committer x
 abbrev pub from_other : ℕ → ℕ → Party → Option Node → Party → Option Cause
 from_other t n x last a = if a.number == t then None else closed_by t n a x last
 
--- that of the committer and b
+-- the structure of the committer and b
 abbrev pub from_own : ℕ → ℕ → List Party → Party → Party → Option Cause
 from_own t n ps x b = closed_by t n x b (last_of t n ps b)
 
--- the one whose first transaction is less, where the second's is t
+-- the structure whose first transaction is less, where the second's is t
 abbrev pub sooner : ℕ → Option Cause → Option Cause → Option Cause
 sooner t None o = o
 sooner t (Some c) None = Some c

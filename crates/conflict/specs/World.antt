@@ -20,7 +20,7 @@ module _ {T : Type 0} (node : T → Node) (edge : T → T → Bool) where
   abbrev pub first_commit_out : List T → T → Option ℕ
   first_commit_out ts t = option_map (λ u. (node u).commit) (earliest node edge (filter (edge t) ts))
 
-  -- It only reads; nobody has an edge to it; and no commit that it doesn't see has an edge to one that its snapshot shows (section 4.1).
+  -- A transaction only reads; no transaction has an edge to it; and no commit that it doesn't see has an edge to one that its snapshot shows (section 4.1).
   pub record IsSafeReader (ts : List T) (t : T) : Type 0 where
     pub reader : (node t).read_write ≡ false
     pub unwritten : Each (λ a. edge a t ≡ false) ts

@@ -79,7 +79,7 @@ fn last_with<A: Allocator>(
     }
 }
 
-// Of the transactions of these numbers that may close a structure on a pivot, the first to commit.
+// The first to commit of the transactions of these numbers that may close a structure on a pivot.
 fn last_among<A: Allocator>(
     commit: Commit,
     parties: &[Party<A>],
@@ -98,7 +98,7 @@ fn last_among<A: Allocator>(
     last
 }
 
-// Of the transactions that may close a structure on a pivot, the first to commit.
+// The first to commit of the transactions that may close a structure on a pivot.
 fn last_of<A: Allocator>(commit: Commit, parties: &[Party<A>], pivot: &Party<A>) -> Option<Facts>
     requires { Rising parties.now }
     ensures { result ≡ last_of commit.txn commit.number parties.now pivot.now }
@@ -228,7 +228,7 @@ fn from_committer<A: Allocator>(
     None
 }
 
-// The one whose first transaction is less, where the second's is the committer.
+// The structure whose first transaction is less, where the second's is the committer.
 fn sooner(commit: Commit, other: Option<Cause>, own: Option<Cause>) -> Option<Cause>
     ensures { result ≡ sooner commit.txn other own }
 {

@@ -13,8 +13,8 @@ use std::alloc::{Allocator, Global};
 use std::marker::Model;
 use value::refusal::{Cause, Mode, Refusal, TxnNo};
 
-/// What is known of transactions that may be part of a dangerous structure: those that are active,
-/// and those that have committed and may still matter. Contracts see what was told of each.
+/// What is known of transactions that may be part of a dangerous structure: those that are active, and those that have
+/// committed and may still matter. Contracts see what was reported of each.
 pub struct Conflicts<A: Allocator = Global> {
     begun: u64,
     commits: u64,
@@ -71,8 +71,8 @@ impl<A: Allocator> Conflicts<A> {
         }
     }
 
-    /// Of each pair the first has read what the second wrote. Of one that hasn't begun
-    /// nothing is kept.
+    /// Reports that the first of each pair has read what the second wrote. Of a transaction that hasn't begun nothing
+    /// is kept.
     pub fn edges(&mut self, alloc: A, pairs: &[(TxnNo, TxnNo)]) -> Result<(), Refusal>
         requires { CanTellEdges pairs.now self.old }
         ensures ok { OnOk result (self.new ≡ after_edges pairs.now self.old) }
@@ -152,9 +152,8 @@ impl<A: Allocator> Conflicts<A> {
         parties::remove(&mut self.parties, txn.0);
     }
 
-    /// Forgets transactions on which no answer rests any more, where no snapshot is below a number:
-    /// whatever is told later of snapshots from there on, the answers are the same. It takes no
-    /// memory.
+    /// Forgets transactions on which no answer rests any more, where no snapshot is below a number: whatever is
+    /// reported later of snapshots from there on, the answers are the same. It takes no memory.
     pub fn forget(&mut self, oldest: u64)
         requires { IsOldest oldest self.old }
         ensures left { self.new ≡ after_forget oldest self.old }
@@ -218,8 +217,8 @@ impl<A: Allocator> Conflicts<A> {
             .count()
     }
 
-    /// The least snapshot of an active transaction, or the last commit where none is below it: no
-    /// answer rests on what was told of transactions before that alone.
+    /// The least snapshot of an active transaction, or the last commit where none is below it: no answer rests on what
+    /// was reported of transactions before that alone.
     pub fn oldest(&self) -> u64
         ensures oldest { IsOldest result self.now }
         ensures latest { (o : ℕ) → IsOldest o self.now → o ≤ result }

@@ -21,7 +21,7 @@ pub const MAX_DOOMS: usize = 63;
 /// for all of them in itself.
 #[derive(Drop)]
 pub struct Dooms {
-    // The first so many of these.
+    // The first `count` of these.
     causes: [Cause; 63],
     count: usize,
 }

@@ -1,4 +1,4 @@
-//! Edges that are told at once: all are added, or none.
+//! Edges that are reported at once: all are added, or none.
 
 ghost use Rattle.std.specs.Prelude.{◌≡◌, map, IfErr, OnErr, OnOk};
 ghost use Rattle.value.specs.Refusals.{out_of_memory};
@@ -113,7 +113,7 @@ fn take_back<A: Allocator>(parties: &mut Vec<Party<A>, A>, notes: Vec<(bool, u64
     }
 }
 
-/// Of each pair the first has read what the second wrote. Of the first so many that began.
+/// Adds that the first of each pair has read what the second wrote, of the first `begun` transactions.
 pub fn add_all<A: Allocator>(
     alloc: A,
     parties: &mut Vec<Party<A>, A>,

@@ -7,10 +7,9 @@ ghost use Rattle.conflict.specs.Later.{Alike, AnswersAlike, CanTell, IsFrom, IsO
 ghost use Rattle.conflict.specs.Tracked.{Each, IsProper, Party, Tracked, after_forget, edge, least_out, node, reads};
 ghost use Rattle.conflict.specs.World.{AreIdle, AreSpared, first_commit_out, least_of, shows};
 
-/// What is left by forgetting answers alike with all that was told, whatever is told later of
-/// snapshots from there on. Two that answer alike still do so once both are told the same, and from
-/// a later snapshot on; so one who knows that a tracker answers alike with all that was ever told
-/// knows it again after each call.
+/// What is left by forgetting answers alike with all that was reported, whatever is reported later of snapshots from
+/// there on. Two that answer alike still do so once the same is reported to both, and from a later snapshot on. So a
+/// caller who knows that a tracker answers alike with all that was ever reported knows it again after each call.
 pub fn forgetting_changes_no_answer()
     ensures forget { (o : ℕ) (s : Tracked) → IsProper s → IsOldest o s → Alike o (after_forget o s) s }
     ensures told { (o : ℕ) (s r : Tracked) (x : Told) → Alike o s r → IsFrom o x → CanTell x r →
@@ -21,14 +20,14 @@ pub fn forgetting_changes_no_answer()
     ensures answers { (o : ℕ) (s r : Tracked) → Alike o s r → AnswersAlike o s r }
 {}
 
-/// What is told keeps transactions in their order, and free of dangerous structures.
+/// What is reported keeps transactions in their order, and free of dangerous structures.
 pub fn what_is_told_is_proper()
     ensures { (s : Tracked) (x : Told) → IsProper s → CanTell x s → IsProper (told x s) }
 {}
 
-/// Where isolation knows the same of transactions of any kind and of those that are tracked, but for
-/// the places of their ends, and the same three of them are dangerous structures, the same structure
-/// is named of both. So what a tracker answers is what a history's transactions say.
+/// Where isolation knows the same of transactions of any kind and of those that are tracked, except for the places of
+/// their ends, and the same three of them are dangerous structures, the same structure is named of both. So what a
+/// tracker answers is what a history's transactions say.
 pub fn structures_are_those_of_the_tracked<T>()
     ensures { (n : T → Node) (e : T → T → Bool) (f : T → Party) (ts : List T) →
         ((t : T) → record (n t) { place = 0 } ≡ node (f t)) →
@@ -46,8 +45,8 @@ pub fn dooms_are_those_of_the_tracked<T>()
         dooms n r ts c ≡ dooms node reads (map f ts) (f c) }
 {}
 
-/// The first commit to which a transaction has a conflict out is that which is told of what is
-/// tracked of it. From it alone come the serial key of a commit, and whether it spoils a snapshot.
+/// The first commit to which a transaction has a conflict out is the one that the tracker answers for it. From it alone
+/// come the serial key of a commit, and whether it spoils a snapshot.
 pub fn first_outs_are_those_of_the_tracked<T>()
     ensures tracked { (n : T → Node) (e : T → T → Bool) (f : T → Party) (ts : List T) (t : T) →
         ((u : T) → record (n u) { place = 0 } ≡ node (f u)) →

@@ -124,8 +124,7 @@ pub fn oldest<A: Allocator>(parties: &[Party<A>], number: u64) -> u64
     oldest
 }
 
-/// A reader knows that it has read what a writer wrote, of the first so many that began; whether that
-/// is new.
+/// A reader knows that it has read what a writer wrote, of the first `begun` transactions; whether that is new.
 pub fn add_out<A: Allocator>(
     parties: &mut Vec<Party<A>, A>,
     begun: u64,
@@ -146,8 +145,7 @@ pub fn add_out<A: Allocator>(
     parties[place].read(begun, writer)
 }
 
-/// A writer knows that a reader has read what it wrote, of the first so many that began; whether that
-/// is new.
+/// A writer knows that a reader has read what it wrote, of the first `begun` transactions; whether that is new.
 pub fn add_in<A: Allocator>(
     parties: &mut Vec<Party<A>, A>,
     begun: u64,
@@ -250,7 +248,7 @@ fn out_with<A: Allocator>(
     }
 }
 
-// Of the writers of these numbers that a reader doesn't see, the first to commit.
+// The first to commit of the writers of these numbers that a reader doesn't see.
 fn first_written<A: Allocator>(
     parties: &[Party<A>],
     reader: &Party<A>,
@@ -267,7 +265,7 @@ fn first_written<A: Allocator>(
     first
 }
 
-// Of those to which a transaction has an edge, the first to commit.
+// The first to commit of those to which a transaction has an edge.
 fn first_unseen<A: Allocator>(parties: &[Party<A>], reader: &Party<A>) -> Option<Facts>
     requires rising { Rising parties.now }
     requires sorted { Ascending reader.now.outs }

@@ -20,7 +20,7 @@ pub struct Facts {
     pub read_write: bool,
     /// It sees the commits up to this number.
     pub snapshot: u64,
-    /// It hasn't committed yet.
+    /// Whether it hasn't committed yet.
     pub active: bool,
     pub committed: bool,
     /// The number of its commit, from 1; 0 where it has none.
@@ -259,7 +259,7 @@ impl<A: Allocator> Party<A> {
         }
     }
 
-    /// It has read what a writer wrote, of the first so many that began; whether that is new.
+    /// Notes that it has read what a writer wrote, of the first `begun` transactions; whether that is new.
     pub fn read(&mut self, begun: u64, writer: u64) -> Result<bool, Refusal>
         requires { Ascending self.old.outs }
         ensures ok { OnOk result (self.new ≡ with_out begun self.old.number writer self.old) }
@@ -274,7 +274,7 @@ impl<A: Allocator> Party<A> {
         numbers::put(&mut self.outs, writer)
     }
 
-    /// A reader, of the first so many that began, has read what it wrote; whether that is new.
+    /// Notes that a reader, of the first `begun` transactions, has read what it wrote; whether that is new.
     pub fn be_read(&mut self, begun: u64, reader: u64) -> Result<bool, Refusal>
         requires { Ascending self.old.ins }
         ensures ok { OnOk result (self.new ≡ with_in begun reader self.old.number self.old) }

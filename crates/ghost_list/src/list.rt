@@ -29,7 +29,7 @@ impl<T> GhostList<T> {
         GhostList { of: PhantomData }
     }
 
-    /// The same, and one more behind it.
+    /// The list, followed by one more item.
     pub fn and(&self, item: &T) -> GhostList<T>
         ensures { result.items ≡ self.now.items ++ item.now ∷ [] }
     {

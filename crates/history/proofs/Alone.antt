@@ -166,7 +166,7 @@ module _ {A : Type 0} where
       side (inl h) rest = footprint_names c q.0 n j k h
       side (inr h) rest = rest h
 
-  -- Who changes a key and doesn't mark a reference found no row with it there, and left none.
+  -- A statement that changes a key and doesn't mark a reference found no row with it there, and left none.
   along_marks : (c : Catalog) (qs : List (Statement A × Reply A)) (B : Tables A) (rs : List (Reading A)) (xs : List (Change A)) (ms : List (Mark A)) (n j : ℕ) (k p : Value A)
       → n < length B → refers c n j ≡ true → is_null k ≡ false → Along c qs B rs xs ms → list_any (touches n p) xs ≡ true → marks_reference ms n j k ≡ false
       → (row_naming B n j k p ≡ None) × (row_naming (put_all xs B) n j k p ≡ None)

@@ -51,7 +51,7 @@ module _ {A : Type 0} where
   failed Prune = Pruned
   failed _ = refuses code.InFailedSqlTransaction
 
-  -- Another's commit has ended it: the next reply that isn't to BEGIN, PRUNE or ROLLBACK tells why (40001).
+  -- Another's commit has ended the transaction: the next reply that isn't to BEGIN, PRUNE or ROLLBACK says why (40001).
   abbrev pub doomed : Cause → Action A → Reply A
   doomed c (Begin m) = refuses code.ActiveSqlTransaction
   doomed c Rollback = RolledBack
@@ -81,7 +81,7 @@ module _ {A : Type 0} where
   abbrev pub meets_another : World A → Txn A → List (Change A) → Bool
   meets_another w t xs = list_any (λ x. list_any (λ u. is_taken t u x) w.txns) xs
 
-  -- refused for the sake of a row that another has written: the first updater wins (40001; the manual, "Repeatable Read Isolation Level")
+  -- refused because of a row that another has written: the first updater wins (40001; the manual, "Repeatable Read Isolation Level")
   abbrev pub refuses_row : Reply A
   refuses_row = Refused (record { code = code.SerializationFailure; place = place.Row })
 
@@ -98,7 +98,7 @@ module _ {A : Type 0} where
 
   -- ---- snapshots of an open transaction
 
-  -- A deferrable transaction is told whether its snapshot is safe, with a new one where the old one can't become so; any other has nothing to poll for (55000).
+  -- The reply to a POLL says whether a deferrable transaction's snapshot is safe, with a new one where the old one can't become so; any other transaction has nothing to poll for (55000).
   abbrev pub poll_reply : World A → Txn A → Reply A
   poll_reply w t =
       if not (is_deferrable t.mode) then refuses code.ObjectNotInPrerequisiteState
@@ -180,7 +180,7 @@ module _ {A : Type 0} where
   IsAnswered w [] = Unit {0}
   IsAnswered w (e ∷ es) = Allowed w.catalog e.action × (e.reply ≡ reply_in w e.session e.action) × IsAnswered (follows w e) es
 
-  -- Events that a core can come to since this opening: it opened with sound tables, and each reply is the answer.
+  -- Events that a core can record since this opening: it opened with sound tables, and each reply is the answer.
   unfoldable pub Legal : Opening A → List (Record A) → Type 0
   Legal o es = (is_sound o.catalog o.tables ≡ true) × IsAnswered (start o) es
 
@@ -193,14 +193,14 @@ module _ {A : Type 0} where
   of_session s [] = []
   of_session s (e ∷ es) = if e.session == s then (e.action, e.reply) ∷ of_session s es else of_session s es
 
-  -- ---- reading beside the events
+  -- ---- reading that is no event
 
   -- the tables of the session's snapshot, where it is known to be safe
   abbrev pub view_from : Standing → World A → Txn A → Result (Tables A) Refusal
   view_from Failed w t = Err (of_code code.InFailedSqlTransaction)
   view_from _ w t = if t.known then Ok (tables_at w t.snapshot) else Err (of_code code.ObjectNotInPrerequisiteState)
 
-  -- the same of a session with this transaction, or with none
+  -- the tables that a session's view shows, where the session has this transaction, or none
   abbrev pub view_of : World A → Option (Txn A) → Result (Tables A) Refusal
   view_of w None = Err (of_code code.NoActiveSqlTransaction)
   view_of w (Some t) = view_from t.standing w t
@@ -215,7 +215,7 @@ module _ {A : Type 0} where
   reader_from Failed t = Err (of_code code.InFailedSqlTransaction)
   reader_from _ t = if must_wait t then Err (of_code code.ObjectNotInPrerequisiteState) else Ok t.own
 
-  -- the same of a session with this transaction, or with none
+  -- the tables that a session's SELECTs read, where the session has this transaction, or none
   abbrev pub reader_of : Option (Txn A) → Result (Tables A) Refusal
   reader_of None = Err (of_code code.NoActiveSqlTransaction)
   reader_of (Some t) = reader_from t.standing t

@@ -1,4 +1,4 @@
--- Checkpoints: a history goes on from the tables and the numbers that another has come to.
+-- Checkpoints: a history goes on from the tables and the numbers that another leaves.
 use Rattle.std.specs.Prelude.{◌+◌, length}
 use Rattle.history.specs.declared.base.Base.{Base}
 use Rattle.history.specs.Opening.{Opening}

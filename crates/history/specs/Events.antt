@@ -1,5 +1,5 @@
 -- What events make of transactions: a history's records, taken one after the other.
--- Sources: PostgreSQL's manual, "Transaction Isolation" (a snapshot is taken at the beginning, commits are seen whole or not at all) and "SET TRANSACTION" (DEFERRABLE, SNAPSHOT); the SSI paper, its section on safe retry for who is aborted.
+-- Sources: PostgreSQL's manual, "Transaction Isolation" (a snapshot is taken at the beginning, commits are seen whole or not at all) and "SET TRANSACTION" (DEFERRABLE, SNAPSHOT); the SSI paper, its section on safe retry for the choice of the transaction to abort.
 use Rattle.std.specs.Prelude.{ℕ, ◌+◌, ◌==◌, Bool, true, false, not, ◌&&◌, if◌then◌else◌, Option, Some, None, List, [], ◌∷◌, ◌++◌, length, map}
 use Rattle.std.specs.List.{find}
 use Rattle.value.specs.declared.refusal.Mode.{Mode}
@@ -49,11 +49,11 @@ module _ {A : Type 0} where
     marks = [];
   }
 
-  -- it is over with this event
+  -- the transaction, which is over with this event
   abbrev pub ended : World A → Standing → Txn A → Txn A
   ended w how t = record t { standing = how; end = w.place + 1 }
 
-  -- it has got this reply to a statement
+  -- the transaction, which has got this reply to a statement
   abbrev pub ran : World A → Statement A → Reply A → Txn A → Txn A
   ran w q reply t = record t {
     asked = true;
@@ -64,7 +64,7 @@ module _ {A : Type 0} where
     marks = t.marks ++ (outcome w.catalog q t.own).marks;
   }
 
-  -- it has got another snapshot
+  -- the transaction with another snapshot
   abbrev pub with_snapshot : World A → ℕ → ℕ → Txn A → Txn A
   with_snapshot w n place t = record t { snapshot = n; taken = place; own = tables_at w n }
 
@@ -101,7 +101,7 @@ module _ {A : Type 0} where
   moved w Rollback reply t = ended w Aborted t
   moved w _ _ t = t
 
-  -- once it is doomed: its session is told by the next reply that isn't about something else
+  -- once it is doomed: its session learns of that by the next reply that isn't about something else
   abbrev pub told : Action A → Standing → Standing
   told (Begin m) standing = standing
   told Prune standing = standing
@@ -187,7 +187,7 @@ module _ {A : Type 0} where
 
   -- ---- a history
 
-  -- the world at an opening: nobody has begun
+  -- the world at an opening: no transaction has begun
   abbrev pub start : Opening A → World A
   start o = record { catalog = o.catalog; opening = o.tables; base = o.base; log = []; txns = []; exports = []; place = o.base.events }
 
@@ -196,10 +196,10 @@ module _ {A : Type 0} where
   run w [] = w
   run w (e ∷ es) = run (follows w e) es
 
-  -- what the events since an opening have come to
+  -- the world after the events since an opening
   abbrev pub world_of : Opening A → List (Record A) → World A
   world_of o es = run (start o) es
 
-  -- what a history has come to
+  -- the world after a history
   abbrev pub world : Recorded A → World A
   world h = world_of h.opening h.records

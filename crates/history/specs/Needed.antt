@@ -29,8 +29,8 @@ module _ {A : Type 0} where
   abbrev pub is_settled : List (Txn A) → Txn A → Bool
   is_settled ts t = not (is_pending ts t) && not (is_spoilt ts t)
 
-  -- It only reads, and from a safe snapshot, whether that was asked for or not. PostgreSQL has no locks of it from then on (SXACT_FLAG_RO_SAFE),
-  -- and so from its BEGIN on where it begins while nobody is open who may write (GetSerializableTransactionSnapshotInt).
+  -- A transaction only reads, and from a safe snapshot, whether that was asked for or not. PostgreSQL has no locks of it from then on (SXACT_FLAG_RO_SAFE),
+  -- and so from its BEGIN on where it begins while no transaction is open that may write (GetSerializableTransactionSnapshotInt).
   abbrev pub is_safe_reader : List (Txn A) → Txn A → Bool
   is_safe_reader ts t = not (is_read_write t.mode) && (t.known || is_settled ts t)
 

@@ -138,12 +138,12 @@ module _ {A : Type 0} where
   read_by c [] = []
   read_by c (q ∷ qs) = footprint c q.0 ++ read_by c qs
 
-  -- and what they change
+  -- what these statements, done one after the other, change
   abbrev pub changed_by : Catalog → List (Statement A × Reply A) → Tables A → List (Change A)
   changed_by c [] X = []
   changed_by c (q ∷ qs) X = (outcome c q.0 X).changes ++ changed_by c qs (after c q.0 X)
 
-  -- and the references that they mark as read
+  -- the references that these statements, done one after the other, mark as read
   abbrev pub marked_by : Catalog → List (Statement A × Reply A) → Tables A → List (Mark A)
   marked_by c [] X = []
   marked_by c (q ∷ qs) X = (outcome c q.0 X).marks ++ marked_by c qs (after c q.0 X)
@@ -155,13 +155,13 @@ module _ {A : Type 0} where
     pub changes : t.changes ≡ changed_by w.catalog t.statements (tables_at w t.snapshot)
     pub marks : t.marks ≡ marked_by w.catalog t.statements (tables_at w t.snapshot)
 
-  -- So it is of all of them.
+  -- Each transaction's own tables, replies, reads, changes and marks are those of its statements done from the tables at its snapshot.
   abbrev pub AllDoneFromSnapshots : World A → Type 0
   AllDoneFromSnapshots w = AllByRecursion (λ t. IsDoneFromSnapshot w t) w.txns
 
   -- ---- checkpoints
 
-  -- v is what a history on the base of w has come to, and x what the same events have come to as events of w's own history.
+  -- v is the world after a history on the base of w, and x the world after the same events as events of w's own history.
   pub record ContinuesOn (w v x : World A) : Type 0 where
     pub order : serial_order x ≡ serial_order w ++ serial_order v
     pub keys_before : AllByRecursion (λ t. key x t ≡ key w t) (committed w)

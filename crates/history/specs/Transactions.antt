@@ -20,7 +20,7 @@ use Rattle.history.specs.declared.base.Base.{Base}
 -- How a transaction stands.
 pub data Standing : Type 0 where
   Open : Standing
-  Doomed : Cause → Standing  -- over, since it was the middle of a structure when another committed; its session has not been told yet
+  Doomed : Cause → Standing  -- over, since it was the middle of a structure when another committed; its session doesn't know yet
   Failed : Standing  -- over, but its session still owes a COMMIT or a ROLLBACK
   Aborted : Standing  -- rolled back, or refused at its COMMIT
   Done : Standing  -- committed
@@ -71,7 +71,7 @@ pub record Txn (A : Type 0) : Type 0 where
   pub changes : List (Change A)  -- what its statements wrote
   pub marks : List (Mark A)  -- the references of the rows that they wrote, before and after
 
--- An identifier of a snapshot: who exported it, and whether that one was known to be safe then.
+-- An identifier of a snapshot: the transaction that exported it, and whether its snapshot was known to be safe then.
 pub record Exported_snapshot : Type 0 where
   pub id : ℕ
   pub exporter : ℕ
@@ -79,7 +79,7 @@ pub record Exported_snapshot : Type 0 where
   pub taken : ℕ
   pub known : Bool
 
--- What a history has come to.
+-- The world after a history.
 pub record World (A : Type 0) : Type 0 where
   pub catalog : Catalog
   pub opening : Tables A

@@ -29,7 +29,7 @@ pub enum Action<A: Allocator = Global> {
     Commit,
     /// ROLLBACK, which is never refused where there is a transaction.
     Rollback,
-    /// PRUNE: that versions which no transaction can see any more are dropped. It changes no reply, and needs no
+    /// PRUNE: versions which no transaction can see any more are dropped. It changes no reply, and needs no
     /// transaction.
     Prune,
 }

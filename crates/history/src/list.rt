@@ -122,7 +122,7 @@ impl<A: Allocator> History<A> {
         &self.tables
     }
 
-    /// The opening tables, copied. Refused only for want of memory (53200).
+    /// The opening tables, copied. Refused only with 53200, out of memory.
     pub fn copy_tables(&self, alloc: A) -> Result<Tables<A>, Refusal>
     where
         A: Copy,

@@ -1,4 +1,4 @@
--- Rows that a snapshot shows, read from pages one after another, up to so many.
+-- Rows that a snapshot shows, read from pages one after another, up to a number.
 use Rattle.std.proofs.Common.{◌≡◌, refl, sym, ap, ◌∙◌, ℕ, ◌+◌, ◌<◌, ◌≤◌, true, false, List, [], ◌∷◌, ◌++◌, take, drop, length, Option, Some, None, Bor, get_or, arith, append_assoc}
 use Rattle.std.specs.List.{AllByRecursion, cons_option}
 use Rattle.std.specs.Option.{option_map}
@@ -19,7 +19,7 @@ use Rattle.mvrows.specs.Versions.{KeyVersions, VersionedRows, shown_fields, show
 use Rattle.mvrows.specs.HeldRows.{Held, chain_key, rows_in}
 
 module _ {A : Type 0} where
-  -- ---- the first so many
+  -- ---- the first n
 
   pub ended : (n : ℕ) (rows : List (Bor (Row A))) (more total : Rows A) → more ≡ [] → length rows ≤ n → take n (lent rows ++ more) ≡ take n total → lent rows ≡ take n total
   ended n rows more total none few so_far =
@@ -71,7 +71,7 @@ module _ {A : Type 0} where
       go None rest = rest
       go (Some f) rest = rw late.0 (ap (λ rows. (k.key, f) ∷ rows) rest)
 
-  -- those of a page stand behind the keys that are not
+  -- those of a page come after the keys that are not
   pub within_drop : (n : ℕ) (bound : Bound (Bor (Key A))) (i : ℕ) (keys : VersionedRows A) → AllByRecursion (λ k. is_within bound k.key ≡ false) (take i keys) → AllByRecursion (λ k. is_within bound k.key ≡ true) (drop i keys) → shown_rows n (drop i keys) ≡ rows_within (shown_rows n keys) bound
   within_drop n bound i keys early late = sym (
       ap (λ ks. rows_within (shown_rows n ks) bound) (sym (take-append-drop i keys)) ∙ within_append n bound (take i keys) (drop i keys)
@@ -79,7 +79,7 @@ module _ {A : Type 0} where
 
   -- ---- pages
 
-  -- those of a table stand behind the pages that have none
+  -- those of a table come after the pages that have none
   pub within_pages : (n : ℕ) (bound : Bound (Bor (Key A))) (leaves : List (Held A)) (i : ℕ) → AllByRecursion (λ h. is_before chain_key bound h.rows ≡ true) (take i leaves) → rows_within (shown_rows n (rows_in (drop i leaves))) bound ≡ rows_within (shown_rows n (rows_in leaves)) bound
   within_pages n bound leaves i early = sym (
       ap (λ hs. rows_within (shown_rows n (rows_in hs)) bound) (sym (take-append-drop i leaves))

@@ -1,4 +1,4 @@
--- A row that was kept without a list, in a list behind a newer version.
+-- A row that was kept without a list, in a list after a newer version.
 use Rattle.std.proofs.Common.{◌≡◌, sym, ap, ◌∙◌, true, true≢false, List, [], ◌∷◌, ◌++◌, map, Some}
 use Rattle.value.specs.declared.value.Value.{Value}
 use Rattle.mvrows.specs.declared.chain.Kept.{Kept}
@@ -42,7 +42,7 @@ module _ {A : Type 0} where
   key_of_list : (new : Kept A) (list : KeyVersions A) (k : Value A) → new ≡ Listed list → list ≡ keyed k [] → (kept_versions new).key ≡ k
   key_of_list new list k put empty = ap (λ h. (kept_versions h).key) put ∙ ap (λ (l : KeyVersions A). l.key) empty
 
-  -- each row stands beside its own key
+  -- each row stands with its own key
   pub second-stored : (old older new : Kept A) (list : KeyVersions A) (k : Value A) (v : Version A) (front items : List (Stored A)) → is_alone old ≡ true → k ≡ (kept_versions old).key → front ≡ stored k v ∷ [] → older ≡ old → new ≡ Listed list → list ≡ record { key = k; versions = [] } → items ≡ front ++ kept_alone older → items ≡ map (stored (kept_versions new).key) (map told items)
   second-stored old older new list k v front items alone is made took put empty pushed =
       pair-stored old k v items alone is (behind old older k v front items made took pushed)

@@ -119,7 +119,7 @@ module _ {A : Type 0} where
   pub settle-shared : (needed : Needed) (key : Value A) (h : Held A) → h.own ≡ false → IsOwnKey key h → h.rows ≡ settle_key needed key h.rows
   settle-shared needed key h shared own = sym (settle-missing needed key h.rows (own shared))
 
-  -- ---- a fresh key stands in a page that nobody shares
+  -- ---- a fresh key stands in a page that is not shared
 
   below-not_from : (commit : ℕ) (k : KeyVersions A) → AreBelow commit k.versions → is_from commit k ≡ false
   below-not_from commit k below = go k.versions below

@@ -312,7 +312,7 @@ module _ {A : Type 0} where
   pub settle-fresh : (needed : Needed) (commit : ℕ) (key k : Value A) (rows : VersionedRows A) → IsInOrder rows → IsFresh commit k rows → IsFresh commit k (settle_key needed key rows)
   settle-fresh needed commit key k rows sorted = found-settle needed (λ r. is_from commit r ≡ true) (settled-from needed commit) key k rows sorted
 
-  -- ---- the tables are as many
+  -- ---- there are as many tables as before
 
   pub length-settled : (needed : Needed) (xs : List (Change A)) (tables : List (VersionedRows A)) → length (settled needed xs tables) ≡ length tables
   length-settled needed [] tables = refl

@@ -27,7 +27,7 @@ module _ {A : Type 0} where
     pub undoable : AreUndoable commit leaves
     pub fresh : IsFresh commit key (rows_in leaves)
 
-  -- So it is with the key of each change, in all tables.
+  -- Pages that others share have versions below some commit alone, in all tables, and the newest version of the key of each change isn't one of these.
   pub record AreFresh (xs : List (Change A)) (tables : List (List (Held A))) : Type 0 where
     pub commit : ℕ
     pub undoable : AllByRecursion (AreUndoable commit) tables

@@ -17,7 +17,7 @@ module _ {A : Type 0} where
   abbrev pub chain_key : KeyVersions A → Key A
   chain_key k = k.key
 
-  -- the pages of a table, whoever has them
+  -- the pages of a table, shared or not
   abbrev pub pages_of : List (Held A) → List (VersionedRows A)
   pages_of leaves = map (λ h. h.rows) leaves
 
@@ -25,7 +25,7 @@ module _ {A : Type 0} where
   abbrev pub rows_in : List (Held A) → VersionedRows A
   rows_in leaves = flat_map (λ h. h.rows) leaves
 
-  -- those of each table
+  -- the keys of each table with their versions
   abbrev pub rows_held : List (List (Held A)) → List (VersionedRows A)
   rows_held tables = map rows_in tables
 

@@ -1,4 +1,4 @@
--- What installing, pruning and settling come to for snapshots.
+-- What installing, pruning and settling mean for snapshots.
 -- Source: Ports and Grittner, Serializable Snapshot Isolation in PostgreSQL, on snapshot isolation; PostgreSQL manual, Routine Vacuuming, on recovering disk space.
 use Rattle.std.specs.Prelude.{ℕ, ◌≡◌, ◌<◌, ◌≤◌, if◌then◌else◌, Some, List, length}
 use Rattle.std.specs.List.{AllByRecursion}
@@ -38,7 +38,7 @@ PruningIsHidden A = (tables : List (VersionedRows A)) (oldest snapshot : ℕ) �
 abbrev pub PruningLeavesOne : Type 0 → Type 0
 PruningLeavesOne A = (tables : List (VersionedRows A)) (oldest : ℕ) → ArePruned oldest (pruned oldest tables)
 
--- and the number of its last commit is as before, or was not above that number and is forgotten
+-- the number of a key's last commit is as before a pruning, or was not above the pruning's number and is forgotten
 abbrev pub PruningKeepsNewest : Type 0 → Type 0
 PruningKeepsNewest A = (tables : List (VersionedRows A)) (oldest t : ℕ) (key : Value A) → AreInOrder tables → KeepsNewest oldest (newest tables t key) (newest (pruned oldest tables) t key)
 
@@ -54,7 +54,7 @@ SettlingLeavesOne A = (tables : List (VersionedRows A)) (changes : List (Change 
 abbrev pub SettlingLeavesFew : Type 0 → Type 0
 SettlingLeavesFew A = (tables : List (VersionedRows A)) (changes : List (Change A)) (needed : Needed) → AreInOrder tables → KeysHaveFew needed changes (settled needed changes tables)
 
--- and the number of a key's last commit is as before, or was not above the oldest and is forgotten
+-- where keys are settled, the number of a key's last commit is as before, or was not above the oldest and is forgotten
 abbrev pub SettlingKeepsNewest : Type 0 → Type 0
 SettlingKeepsNewest A = (tables : List (VersionedRows A)) (changes : List (Change A)) (needed : Needed) (t : ℕ) (key : Value A) → AreInOrder tables → KeepsNewest needed.oldest (newest tables t key) (newest (settled needed changes tables) t key)
 

@@ -43,6 +43,6 @@ module _ {A : Type 0} where
   abbrev pub IsPruned : ℕ → KeyVersions A → Type 0
   IsPruned oldest k = length (filter (λ v. nat_le v.number oldest) k.versions) ≤ 1
 
-  -- so of each key of each table
+  -- of each key of each table at most one version isn't above the number
   abbrev pub ArePruned : ℕ → List (VersionedRows A) → Type 0
   ArePruned oldest tables = AllByRecursion (AllByRecursion (IsPruned oldest)) tables

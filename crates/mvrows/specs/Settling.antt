@@ -20,7 +20,7 @@ abbrev pub is_shown_to : List ℕ → ℕ → ℕ → Bool
 is_shown_to snapshots number next = list_any (λ s. nat_le number s && nat_lt s next) snapshots
 
 module _ {A : Type 0} where
-  -- of the versions behind one of this number those that one of these snapshots shows
+  -- of the versions after one of this number, those that one of these snapshots shows
   abbrev pub shown_versions : List ℕ → ℕ → List (Version A) → List (Version A)
   shown_versions snapshots next [] = []
   shown_versions snapshots next (v ∷ vs) = if is_shown_to snapshots v.number next then v ∷ shown_versions snapshots v.number vs else shown_versions snapshots next vs
@@ -73,6 +73,6 @@ module _ {A : Type 0} where
   abbrev pub AreFew : Needed → KeyVersions A → Type 0
   AreFew needed k = length k.versions ≤ length needed.snapshots + 1
 
-  -- so has the key of each change
+  -- the key of each change has at most one version more than there are snapshots
   abbrev pub KeysHaveFew : Needed → List (Change A) → List (VersionedRows A) → Type 0
   KeysHaveFew needed xs tables = AllByRecursion (λ x. IfSome (found x.key (versions_of tables x.table)) (AreFew needed)) xs

@@ -9,7 +9,7 @@ module _ {A : Type 0} where
   abbrev pub not_own : Held A → Held A
   not_own h = record h { own = false }
 
-  -- so are all of these
+  -- all of these pages shared
   abbrev pub all_shared : List (Held A) → List (Held A)
   all_shared leaves = map not_own leaves
 

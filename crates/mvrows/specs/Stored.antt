@@ -11,7 +11,7 @@ module _ {A : Type 0} where
   abbrev pub told : Stored A → Version A
   told s = record { number = s.number; fields = option_map (λ row. row.1) s.row }
 
-  -- a version as it is stored beside its key
+  -- a version as it is stored with its key
   abbrev pub stored : Value A → Version A → Stored A
   stored key v = record { number = v.number; row = option_map (λ fields. (key, fields)) v.fields }
 

@@ -20,6 +20,6 @@ module _ {A : Type 0} where
   abbrev pub was_there : ℕ → KeyVersions A → Bool
   was_there commit k = has_version (key_before commit k)
 
-  -- such a key without the versions of the commit; others as they are
+  -- a key that has a version from before the commit, without the versions of the commit; any other key as it is
   abbrev pub taken_back : ℕ → KeyVersions A → KeyVersions A
   taken_back commit k = if was_there commit k then key_before commit k else k

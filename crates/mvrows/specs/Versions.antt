@@ -11,7 +11,7 @@ use Rattle.schema.specs.declared.tables.Tables.{Tables}
 use Rattle.schema.specs.Rows.{Rows}
 use Rattle.schema.specs.Plain.{same}
 
--- what a commit left of a key: the fields beside it, or that it has no row; the number of the opening is 0
+-- what a commit left of a key: the other fields of its row, or that it has no row; the number of the opening is 0
 pub record Version (A : Type 0) : Type 0 where
   pub number : ℕ
   pub fields : Option (List (Value A))
@@ -44,7 +44,7 @@ module _ {A : Type 0} where
   abbrev pub version_at : ℕ → List (Version A) → Option (Version A)
   version_at snapshot versions = find (λ v. nat_le v.number snapshot) versions
 
-  -- the fields beside a key that a snapshot shows
+  -- the other fields of the row of a key that a snapshot shows
   abbrev pub shown_fields : ℕ → List (Version A) → Option (List (Value A))
   shown_fields snapshot versions = option_and_then (λ v. v.fields) (version_at snapshot versions)
 
@@ -80,10 +80,10 @@ module _ {A : Type 0} where
   abbrev pub AreBelow : ℕ → List (Version A) → Type 0
   AreBelow n versions = AllByRecursion (λ v. v.number < n) versions
 
-  -- so is each of a table
+  -- all versions of each key of a table are below this number
   abbrev pub RowsAreBelow : ℕ → VersionedRows A → Type 0
   RowsAreBelow n rows = AllByRecursion (λ k. AreBelow n k.versions) rows
 
-  -- so is each of all tables
+  -- all versions of each key of all tables are below this number
   abbrev pub TablesAreBelow : ℕ → List (VersionedRows A) → Type 0
   TablesAreBelow n tables = AllByRecursion (RowsAreBelow n) tables

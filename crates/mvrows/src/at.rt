@@ -1,4 +1,4 @@
-//! The tables at a snapshot, lent by those who keep their versions.
+//! The tables at a snapshot, lent by the owner of their versions.
 
 ghost use Rattle.std.specs.Prelude.{◌≡◌};
 ghost use Rattle.schema.specs.Rows.{HasTable};

@@ -22,8 +22,8 @@ use value::key::Key;
 use value::refusal::Refusal;
 use value::value::Value;
 
-// How a key's versions are kept. A row that is the only one, with its commit's number, needs no list
-// and no key beside its own.
+// How a key's versions are kept. A row that is the only one, with its commit's number, needs no list and no key except
+// its own.
 #[derive(Drop)]
 #[derive_where(Debug)]
 enum Kept<A: Allocator = Global> {
@@ -57,7 +57,7 @@ impl<A: Allocator> Keyed<A> for Chain<A> {
     }
 }
 
-// A key with the version that a commit left of it, alone: the fields beside it, if any.
+// A key with the version that a commit left of it, alone: the other fields of its row, if any.
 fn first<A: Allocator + Copy>(
     alloc: A,
     number: u64,

@@ -19,7 +19,7 @@ use std::marker::Model;
 use value::key::Key;
 use value::refusal::Refusal;
 
-/// A page of a table. It changes its own, and a copy of what views share.
+/// A page of a table. A change goes into the page itself, or into a copy of one that views share.
 #[derive(Drop)]
 #[derive_where(Debug)]
 pub(crate) struct Leaf<A: Allocator = Global> {
@@ -45,7 +45,7 @@ impl<A: Allocator> Paged<A> for Leaf<A> {
     }
 }
 
-// Moves the upper half of a page out, into one that nobody else has.
+// Moves the upper half of a page out, into one that isn't shared.
 fn cut<A: Allocator + Copy>(page: &mut Page<A>) -> Result<Leaf<A>, Refusal>
     requires { 2 ≤ length page.old }
     ensures parts { IfOk result (λ upper. page.new ++ upper.rows ≡ page.old) }
@@ -58,7 +58,7 @@ fn cut<A: Allocator + Copy>(page: &mut Page<A>) -> Result<Leaf<A>, Refusal>
 }
 
 impl<A: Allocator> Leaf<A> {
-    /// A page that nobody else has.
+    /// A page that isn't shared.
     pub fn of(page: Page<A>) -> Leaf<A>
         ensures { result ≡ record { own = true; rows = page } }
     {
@@ -117,7 +117,7 @@ impl<A: Allocator> Leaf<A> {
         }
     }
 
-    /// Prunes its own.
+    /// Prunes the page, unless it is shared.
     pub fn prune(&mut self, oldest: u64)
         ensures { self.new.rows ≡ own_pruned oldest self.old }
     {
@@ -127,7 +127,7 @@ impl<A: Allocator> Leaf<A> {
         }
     }
 
-    /// Settles a key of its own.
+    /// Settles a key of the page, unless it is shared.
     pub fn settle(&mut self, oldest: u64, snapshots: &[u64], key: &Key<A>)
         requires { IsOwnKey key.now self.old }
         ensures rows { self.new.rows ≡ settle_key (record { oldest = oldest; snapshots = snapshots.now }) key.now
@@ -149,7 +149,7 @@ impl<A: Allocator> Leaf<A> {
         self.page.share(alloc);
     }
 
-    /// Whether nobody else has the page.
+    /// Whether the page isn't shared.
     pub fn is_own(&self) -> bool
         ensures { result ≡ self.now.own }
     {
@@ -163,7 +163,7 @@ impl<A: Allocator> Leaf<A> {
         self.page().has_keys()
     }
 
-    /// Moves the upper half of the page out, into one that nobody else has.
+    /// Moves the upper half of the page out, into one that isn't shared.
     pub fn cut(&mut self, alloc: A) -> Result<Leaf<A>, Refusal>
     where
         A: Copy,

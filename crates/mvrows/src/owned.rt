@@ -1,4 +1,4 @@
-//! What is one's own, or what views share.
+//! Values that one owner has for itself, or that views share.
 
 ghost use Rattle.std.specs.Prelude.{◌≡◌, [], true, OnOk, OnErr, IfOk, IfErr};
 ghost use Rattle.value.specs.Refusals.{out_of_memory};
@@ -12,20 +12,20 @@ use value::refusal::Refusal;
 
 /// What views may share, and what is copied before a change of what they share.
 pub(crate) trait Copied<A: Allocator + Copy>: Drop {
-    /// Its keys with their versions: a copy has them too.
+    /// The value's keys with their versions: a copy has them too.
     ghost keys_of: { Self → VersionedRows A };
 
-    /// One without keys.
+    /// A value without keys.
     fn new(alloc: A) -> Self
         ensures { keys_of result ≡ [] };
 
-    /// Another of the same keys.
+    /// Another value of the same keys.
     fn copy(&self, alloc: A) -> Result<Self, Refusal>
         ensures ok { IfOk result (λ made. keys_of made ≡ keys_of self.now) }
         ensures err { IfErr result (λ e. e ≡ out_of_memory) };
 }
 
-/// What nobody else has, or what views share.
+/// A value that isn't shared, or one that views share.
 #[derive(Drop)]
 #[derive_where(Debug; T)]
 pub(crate) enum Owned<T, A: Allocator = Global> {
@@ -33,7 +33,7 @@ pub(crate) enum Owned<T, A: Allocator = Global> {
     Shared(Arc<T, A>),
 }
 
-// What it is, taken out for a change: a copy where views share it.
+// The value, taken out for a change: a copy where views share it.
 fn taken<T: Copied<A>, A: Allocator + Copy>(
     alloc: A,
     owned: Owned<T, A>,
@@ -55,7 +55,7 @@ fn taken<T: Copied<A>, A: Allocator + Copy>(
     }
 }
 
-// What it is, shared where there is memory for that.
+// The value, shared where there is memory for that.
 fn shared<T: Copied<A>, A: Allocator + Copy>(alloc: A, owned: Owned<T, A>) -> Owned<T, A>
     ensures { value_in result ≡ value_in owned }
 {
@@ -69,7 +69,7 @@ fn shared<T: Copied<A>, A: Allocator + Copy>(alloc: A, owned: Owned<T, A>) -> Ow
 }
 
 impl<T, A: Allocator> Owned<T, A> {
-    /// What it is.
+    /// The value.
     pub fn get(&self) -> &T
         ensures { result.now ≡ value_in self.now }
     {
@@ -79,7 +79,7 @@ impl<T, A: Allocator> Owned<T, A> {
         }
     }
 
-    /// Whether nobody else has it.
+    /// Whether it isn't shared.
     pub fn is_own(&self) -> bool
         ensures { result ≡ is_own self.now }
     {
@@ -88,7 +88,7 @@ impl<T, A: Allocator> Owned<T, A> {
 }
 
 impl<T: Copied<A>, A: Allocator + Copy> Owned<T, A> {
-    /// Moves it out, to be changed and put back: a copy where views share it.
+    /// Moves the value out, to be changed and put back: a copy where views share it.
     pub fn take(&mut self, alloc: A) -> Result<T, Refusal>
         ensures own { is_own self.old ≡ true → IfOk result (λ value. value ≡ value_in self.old) }
         ensures rows { IfOk result (λ value. T.keys_of value ≡ T.keys_of (value_in self.old)) }
@@ -105,7 +105,7 @@ impl<T: Copied<A>, A: Allocator + Copy> Owned<T, A> {
         }
     }
 
-    /// Takes it for itself: a copy, where views share it.
+    /// Takes the value for itself: a copy, where views share it.
     pub fn own(&mut self, alloc: A) -> Result<(), Refusal>
         ensures own { OnOk result (is_own self.new ≡ true) }
         ensures err { OnErr result (self.new ≡ self.old) }
@@ -117,7 +117,7 @@ impl<T: Copied<A>, A: Allocator + Copy> Owned<T, A> {
         Ok(())
     }
 
-    /// Lets views share it, where there is memory for that.
+    /// Lets views share the value, where there is memory for that.
     pub fn share(&mut self, alloc: A)
         ensures { value_in self.new ≡ value_in self.old }
     {
@@ -125,7 +125,7 @@ impl<T: Copied<A>, A: Allocator + Copy> Owned<T, A> {
         *self = shared(alloc, owned);
     }
 
-    /// A share of it; a copy where it could not be shared before.
+    /// A share of the value; a copy where it could not be shared before.
     pub fn lend(&self, alloc: A) -> Result<Owned<T, A>, Refusal>
         ensures ok { IfOk result (λ lent. T.keys_of (value_in lent) ≡ T.keys_of (value_in self.now)) }
         ensures err { IfErr result (λ e. e ≡ out_of_memory) }

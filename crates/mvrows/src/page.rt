@@ -81,7 +81,7 @@ fn first_shown<A: Allocator>(chains: &[Chain<A>], snapshot: u64) -> Option<&Row<
     None
 }
 
-// Appends the rows that a snapshot shows, up to so many in all.
+// Appends the rows that a snapshot shows, up to `most` in all.
 fn push_shown<'c, A: Allocator>(
     chains: &'c [Chain<A>],
     snapshot: u64,
@@ -206,7 +206,7 @@ impl<A: Allocator> Page<A> {
         first_shown(within, snapshot)
     }
 
-    /// Appends the rows within a bound that a snapshot shows, up to so many in all.
+    /// Appends the rows within a bound that a snapshot shows, up to `most` in all.
     pub fn push_rows<'p>(
         &'p self,
         snapshot: u64,

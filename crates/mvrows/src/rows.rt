@@ -166,7 +166,7 @@ fn settle_all<A: Allocator>(
     }
 }
 
-// Puts a copy of each row that a snapshot shows into as many tables without rows.
+// Puts a copy of each row that a snapshot shows into the tables `copies`, which have no rows yet.
 pub(crate) fn copy_all_shown<A: Allocator + Copy>(
     alloc: A,
     tables: &[SharedTable<A>],

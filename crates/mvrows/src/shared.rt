@@ -19,7 +19,7 @@ use value::key::Key;
 use value::refusal::Refusal;
 
 /// A table with the versions of its keys. A view takes a share of it, whatever its size. A change goes to a table that
-/// nobody else has: where a view has this one, to another list of the same pages.
+/// isn't shared: where a view has this one, to another list of the same pages.
 #[derive(Drop)]
 #[derive_where(Debug)]
 pub(crate) struct SharedTable<A: Allocator = Global> {
@@ -37,7 +37,7 @@ impl<A: Allocator> Model for SharedTable<A> {
 }
 
 impl<A: Allocator> SharedTable<A> {
-    /// A table that nobody else has.
+    /// A table that isn't shared.
     pub fn of(table: Table<A>) -> SharedTable<A>
         ensures { result ≡ table }
     {
@@ -96,7 +96,7 @@ impl<A: Allocator> SharedTable<A> {
         made
     }
 
-    /// Prunes its own.
+    /// Prunes the table, unless it is shared.
     pub fn prune(&mut self, oldest: u64)
         ensures { rows_in self.new ≡ own_pruned_in oldest self.old }
     {

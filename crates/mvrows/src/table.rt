@@ -63,7 +63,7 @@ impl<A: Allocator + Copy> Copied<A> for Table<A> {
         }
     }
 
-    // The same pages, shared; copies of those that could not be shared before.
+    // A table of the same pages, shared; copies of those that could not be shared before.
     fn copy(&self, alloc: A) -> Result<Table<A>, Refusal> {
         let mut leaves = Vec::with_capacity(alloc, self.leaves.len())?;
         for leaf in &self.leaves {
@@ -89,7 +89,7 @@ fn next_in<'l, A: Allocator>(
     None
 }
 
-// Appends the rows within a bound that a snapshot shows of some pages, up to so many in all.
+// Appends the rows within a bound that a snapshot shows of some pages, up to `most` in all.
 fn push_rows_in<'l, A: Allocator>(
     leaves: &'l [Leaf<A>],
     snapshot: u64,
@@ -161,7 +161,7 @@ fn with_room<A: Allocator + Copy>(
     }
 }
 
-// Puts rows of the opening behind the pages and a page to come, and gives the page that is then to come.
+// Puts rows of the opening after the pages and a page to come, and returns the page that is then to come.
 fn push_opened<A: Allocator + Copy>(
     alloc: A,
     leaves: &mut Vec<Leaf<A>, A>,
@@ -404,8 +404,7 @@ fn share_all<A: Allocator + Copy>(alloc: A, leaves: &mut Vec<Leaf<A>, A>)
     }
 }
 
-// Lets views share the page at a place, where there is memory for that, and says whether nobody else
-// had it.
+// Lets views share the page at a place, where there is memory for that, and returns whether it wasn't shared before.
 fn share_at<A: Allocator + Copy>(alloc: A, leaves: &mut Vec<Leaf<A>, A>, place: usize) -> bool
     ensures { pages_of leaves.new.items ≡ pages_of leaves.old.items }
 {
@@ -488,7 +487,7 @@ impl<A: Allocator> Table<A> {
         next_in(within, snapshot, bound)
     }
 
-    /// The first rows within a bound that a snapshot shows, so many at most.
+    /// The first rows within a bound that a snapshot shows, `most` at most.
     pub fn next_rows(
         &self,
         alloc: A,

@@ -43,11 +43,11 @@ impl<A: Allocator> Model for VersionList<A> {
 
     ghost view = { λ l. record { key = l.key; versions = map told l.versions.items } };
 
-    // Each row stands beside its own key.
+    // Each row stands with its own key.
     ghost invariant = { λ l. l.versions.items ≡ map (stored l.key) (map told l.versions.items) };
 }
 
-// The row of a key and the fields beside it, where there are any.
+// The row of a key and its other fields, where there are any.
 fn row_of<A: Allocator + Copy>(
     alloc: A,
     key: &Key<A>,
@@ -74,7 +74,7 @@ fn copy_row<A: Allocator + Copy>(alloc: A, row: &Option<Row<A>>) -> Result<Optio
 }
 
 impl<A: Allocator> Stored<A> {
-    /// What a commit left of a key: the fields beside it, if any.
+    /// What a commit left of a key: the other fields of its row, if any.
     pub fn of(
         alloc: A,
         number: u64,
@@ -101,7 +101,7 @@ impl<A: Allocator> Stored<A> {
         }
     }
 
-    // The row and its number. The row is moved out.
+    // The row and its number, moved out.
     fn take(&mut self) -> Option<(u64, Row<A>)>
         ensures taken { result ≡ option_map (λ row. (self.old.number, row)) self.old.row }
         ensures left { self.new ≡ record self.old { row = None } }
@@ -179,7 +179,7 @@ fn any_before<A: Allocator>(versions: &[Stored<A>], commit: u64) -> bool
     versions.iter().any(|version| is_before(version, commit))
 }
 
-// Whether one of these snapshots shows a version of this number, where the next has that number.
+// Whether one of these snapshots shows the version of a number, where the next newer one has the number `next`.
 fn is_shown_to(snapshots: &[u64], number: u64, next: u64) -> bool
     ensures { result ≡ is_shown_to snapshots.now number next }
 {

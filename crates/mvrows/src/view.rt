@@ -66,7 +66,7 @@ pub(crate) fn next_row<'t, A: Allocator>(
     table.next_row(snapshot, after)
 }
 
-/// The first rows within a bound that a snapshot shows of a table, so many at most.
+/// The first rows within a bound that a snapshot shows of a table, `most` at most.
 pub(crate) fn next_rows<'t, A: Allocator>(
     alloc: A,
     table: &'t Table<A>,

@@ -157,6 +157,6 @@ module _ {A : Type 0} where
                   spoils_it : history.spoils w.txns t u.0 ≡ true
                   spoils_it = and_from _ _ inside.1 (In-any (λ y. edge u.0 y && nat_le y.commit n) w.txns v (In-filter (λ (y : Txn A). is_done y.standing) v w.txns o.in_list).0 (and_from _ _ o.is_edge (le-leb v.commit n shown)))
 
-      -- a snapshot can't become safe where one of the keys tells so
+      -- a snapshot can't become safe exactly where one of the keys says so
       pub spoilt_is : is_spoilt w.txns t ≡ is_spoilt_by (keys_by_commit w) n
       spoilt_is = both_ways (is_spoilt w.txns t) (is_spoilt_by (keys_by_commit w) n) told tells

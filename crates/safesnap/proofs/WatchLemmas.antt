@@ -1,4 +1,4 @@
--- What is known of a snapshot that somebody is waited for.
+-- What is known of a snapshot while a transaction that was active at it is waited for.
 use Rattle.std.proofs.Common.{◌≡◌, refl, ◌≤◌, List, [], ◌∷◌, length, arith}
 use Rattle.value.specs.declared.refusal.TxnNo.{TxnNo}
 use Rattle.safesnap.specs.declared.waiting.State.TheVariants.{Wait}

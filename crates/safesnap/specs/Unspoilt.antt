@@ -1,5 +1,5 @@
 -- Snapshots that no commit has spoilt.
--- Source: Ports and Grittner, "Serializable Snapshot Isolation in PostgreSQL" (VLDB 2012), section 4.2: a snapshot isn't safe once one that was active at it commits with a conflict out to a commit that it shows. The serial keys tell that.
+-- Source: Ports and Grittner, "Serializable Snapshot Isolation in PostgreSQL" (VLDB 2012), section 4.2: a snapshot isn't safe once one that was active at it commits with a conflict out to a commit that it shows. The serial keys show that.
 use Rattle.std.specs.Prelude.{◌≡◌, ℕ, nat_le, nat_lt, Bool, false, ◌&&◌, if◌then◌else◌, List, map}
 use Rattle.std.specs.List.{AllByRecursion, list_any}
 use Rattle.value.specs.declared.refusal.TxnNo.{TxnNo}
@@ -29,6 +29,6 @@ AreUnspoilt ks ns = AllByRecursion (λ n. is_spoilt_by ks n ≡ false) ns
 abbrev pub unspoilt_in_place : ℕ × ℕ × ℕ → ℕ → ℕ → ℕ
 unspoilt_in_place k commits n = if spoils n k then commits else n
 
--- so of these snapshots
+-- what stands in the place of each of these snapshots after a commit with this key
 abbrev pub unspoilt_after : ℕ × ℕ × ℕ → ℕ → List ℕ → List ℕ
 unspoilt_after k commits ns = map (unspoilt_in_place k commits) ns

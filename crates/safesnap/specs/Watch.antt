@@ -19,7 +19,7 @@ opened at active = record { at = at; active = active; spoilt = false }
 abbrev pub is_txn : TxnNo → TxnNo → Bool
 is_txn t u = u.0 == t.0
 
--- those of two
+-- the numbers of two transactions
 abbrev pub is_other : TxnNo → TxnNo → Bool
 is_other t u = not (is_txn t u)
 

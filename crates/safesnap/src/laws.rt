@@ -1,4 +1,4 @@
-//! What the serial keys of commits tell of a snapshot, in every legal history.
+//! What the serial keys of commits say of a snapshot, in every legal history.
 
 ghost use Rattle.std.specs.Prelude.{◌≡◌, ℕ, ◌∷◌, [], ◌++◌, false, List};
 ghost use Rattle.history.specs.Transactions.{Txn, World, commits, is_spoilt};
@@ -9,9 +9,8 @@ ghost use Rattle.safesnap.specs.Unspoilt.{AreUnspoilt, is_spoilt_by, unspoilt_af
 
 use std::alloc::Allocator;
 
-/// An open transaction's snapshot can't become safe exactly where a commit spoils it that is told by
-/// its key: a read-write one above the snapshot, whose first conflict out is at or below it. No
-/// commit spoils the snapshot of all commits.
+/// An open transaction's snapshot can't become safe exactly where a commit spoils it, as its key shows: a read-write
+/// one above the snapshot, whose first conflict out is at or below it. No commit spoils the snapshot of all commits.
 pub fn spoilt_by_keys<A: Allocator>()
     ensures told { AfterLegal (λ (w : World A). (s : ℕ) (t : Txn A) → IsOpenOf w s t →
         is_spoilt w.txns t ≡ is_spoilt_by (keys_by_commit w) t.snapshot) }

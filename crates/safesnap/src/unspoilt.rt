@@ -55,7 +55,7 @@ fn leave_unspoilt(snapshot: &mut u64, key: SerialKey, commits: u64)
     }
 }
 
-// So of these snapshots.
+// A commit with a key leaves these snapshots, or, in the place of each that it spoils, that of all commits.
 fn leave_all_unspoilt(snapshots: &mut [u64], key: SerialKey, commits: u64)
     ensures { snapshots.new ≡ unspoilt_after (parts key) commits snapshots.old }
 {
@@ -65,7 +65,7 @@ fn leave_all_unspoilt(snapshots: &mut [u64], key: SerialKey, commits: u64)
 }
 
 impl Unspoilt {
-    /// That of so many commits, for each session.
+    /// The snapshot of `commits` commits, for each session.
     pub fn of(commits: u64) -> Unspoilt
         ensures { result ≡ replicate 64 commits }
     {
@@ -88,7 +88,7 @@ impl Unspoilt {
         self.snapshots.iter().any(|other| *other == snapshot)
     }
 
-    /// Whether a snapshot is one that no commit has spoilt: that of so many commits, all of them, or one
+    /// Whether a snapshot is one that no commit has spoilt: that of all commits, of which there are `commits`, or one
     /// of these.
     pub fn allows(&self, snapshot: u64, commits: u64) -> bool
         ensures { result ≡ (snapshot == commits || list_any (λ n. n == snapshot) self.now) }

@@ -15,14 +15,14 @@ pub const MAX_ACTIVE: usize = 64;
 pub enum State {
     /// Reading it can't be part of a dangerous structure.
     Safe,
-    /// That isn't known yet.
+    /// It isn't known yet whether it is safe.
     Wait,
     /// It can't become safe.
     Unsafe,
 }
 
-/// What is waited for by one who took a snapshot: the read-write transactions that were active then.
-/// It has room for all of them in itself.
+/// What a transaction that took a snapshot waits for: the read-write transactions that were active then. It has room
+/// for all of them in itself.
 #[derive(Drop)]
 pub struct Waiting {
     at: u64,
@@ -50,7 +50,7 @@ fn is_among(txn: TxnNo, numbers: &[TxnNo]) -> bool
     numbers.iter().any(|other| other.0 == txn.0)
 }
 
-// Moves all but one of these to the front, and answers how many there are.
+// Moves all but one of these to the front, and returns how many there are.
 fn keep_others(txn: TxnNo, numbers: &mut [TxnNo]) -> usize
     ensures within { result ≤ length numbers.old }
     ensures kept { take result numbers.new ≡ filter (is_other txn) numbers.old }

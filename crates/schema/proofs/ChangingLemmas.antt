@@ -238,7 +238,7 @@ module _ {A : Type 0} where
   put_change-last [] x above = refl
   put_change-last (y ∷ ys) x above = rw above.0 (ap (λ more. y ∷ more) (put_change-last ys x above.1))
 
-  above_key : (x y : Change A) → y.table ≡ x.table → value_cmp y.key x.key ≡ Less → change_cmp x y ≡ Greater
+  pub above_key : (x y : Change A) → y.table ≡ x.table → value_cmp y.key x.key ≡ Less → change_cmp x y ≡ Greater
   above_key x y same_table below =
       ap (λ t. ordering_then (nat_cmp x.table t) (value_cmp x.key y.key)) same_table
       ∙ ap (λ o. ordering_then o (value_cmp x.key y.key)) (nat_cmp-self x.table)

@@ -5,6 +5,7 @@ pub mod FindLemmas
 pub mod InsertingLemmas
 mod KeyedLemmas
 mod LevelsLemmas
+pub mod ListedLemmas
 pub mod LiteralLemmas
 mod MadeLemmas
 mod NamedLemmas

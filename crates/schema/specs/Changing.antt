@@ -1,6 +1,7 @@
 -- Changes by table, then by key: putting one in, and looking one up.
 -- Source: this project's choice.
-use Rattle.std.specs.Prelude.{ℕ, suc, ◌==◌, ◌&&◌, Option, List, [], ◌∷◌, ◌++◌, map, find, filter}
+use Rattle.std.specs.Prelude.{◌≡◌, ℕ, suc, ◌==◌, ◌&&◌, Option, List, [], ◌∷◌, ◌++◌, map, find, filter}
+use Rattle.std.specs.List.{AllByRecursion}
 use Rattle.std.specs.List.Sorted.{IsStrictlySortedBy}
 use Rattle.std.specs.Borrow.{Bor}
 use Rattle.std.specs.Option.{option_map}
@@ -45,6 +46,10 @@ module _ {A : Type 0} where
   -- the keys of a table's changes rise, so that each key has one at most
   abbrev pub IsByKey : List (Change A) → ℕ → Type 0
   IsByKey xs t = IsStrictlySortedBy value_cmp (map (λ x. x.key) (changes_at xs t))
+
+  -- changes of one table, by rising keys
+  abbrev pub AreOfTable : ℕ → List (Change A) → Type 0
+  AreOfTable t xs = AllByRecursion (λ x. x.table ≡ t) xs × IsStrictlySortedBy value_cmp (map (λ x. x.key) xs)
 
   -- ---- the changes of one table
 

@@ -5,6 +5,7 @@ pub mod Definition
 pub mod Inserting
 pub mod Keyed
 pub mod KeyedChange
+pub mod KeptChanges
 pub mod Left
 pub mod Levels
 pub mod Named
@@ -13,5 +14,6 @@ pub mod Paged
 pub mod Pages
 pub mod Plain
 pub mod Rows
+pub mod Said
 pub mod Walking
 pub mod WellFormed

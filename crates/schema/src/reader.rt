@@ -4,7 +4,8 @@ ghost use Rattle.std.specs.Prelude.{◌≡◌, ◌≤◌, ◌<◌, List, length,
 ghost use Rattle.std.specs.Option.{option_copied};
 ghost use Rattle.value.specs.Refusals.{out_of_memory};
 ghost use Rattle.schema.specs.Keyed.{start_of, shown_bound};
-ghost use Rattle.schema.specs.Rows.{Rows, HasTable, IsInKeyOrder, row_of, next_row, rows_left, rows_after, rows_within};
+ghost use Rattle.value.specs.declared.key.Key.{Key as AnyKey};
+ghost use Rattle.schema.specs.Rows.{Rows, HasTable, IsInKeyOrder, is_within, row_of, next_row, rows_left, rows_after, rows_within};
 ghost use Rattle.schema.specs.Plain.{rows_of};
 ghost use Rattle.schema.specs.Walking.{lent};
 
@@ -32,6 +33,7 @@ impl<'k, A: Allocator> Bound<&'k Key<A>> {
     pub fn of_values(self) -> Bound<&'k Value<A>>
         ensures next { (rows : Rows A) → next_row rows result ≡ next_row rows self.entry }
         ensures within { (rows : Rows A) → rows_within rows result ≡ rows_within rows self.entry }
+        ensures keys { (key : AnyKey A) → is_within result key ≡ is_within self.entry key }
     {
         match self {
             Bound::Start => Bound::Start,

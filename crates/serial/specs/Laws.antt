@@ -10,11 +10,11 @@ use Rattle.history.specs.Events.{world_of}
 use Rattle.history.specs.Answer.{Legal}
 
 module _ {A : Type 0} where
-  -- It holds of what every legal history has come to.
+  -- A property holds of the world after every legal history.
   abbrev pub AfterLegal : (World A → Type 0) → Type 0
   AfterLegal Holds = (o : Opening A) (es : List (Record A)) → Legal o es → Holds (world_of o es)
 
-  -- It holds of what every beginning of a legal history had come to, and what the whole has.
+  -- A property holds of the world after every beginning of a legal history, and the world after the whole.
   abbrev pub AfterMore : (World A → World A → Type 0) → Type 0
   AfterMore Holds = (o : Opening A) (es more : List (Record A)) → Legal o (es ++ more) → Holds (world_of o es) (world_of o (es ++ more))
 
@@ -22,11 +22,11 @@ module _ {A : Type 0} where
   abbrev pub polled_safe : ℕ → ℕ → Record A
   polled_safe s n = record { session = s; action = Poll; reply = Safe n }
 
-  -- Wherever a POLL was answered to be safe in a legal history, it holds of what that had come to with it, what the whole has, the session and the snapshot.
+  -- Wherever a POLL was answered to be safe in a legal history, a property holds of the world after that POLL, the world after the whole, the session and the snapshot.
   abbrev pub AfterSafe : (World A → World A → ℕ → ℕ → Type 0) → Type 0
   AfterSafe Holds = (o : Opening A) (es : List (Record A)) (s n : ℕ) (more : List (Record A)) → Legal o (es ++ polled_safe s n ∷ more)
       → Holds (world_of o (es ++ polled_safe s n ∷ [])) (world_of o (es ++ polled_safe s n ∷ more)) s n
 
-  -- It holds of an opening, of events since in whose history no session has a transaction any more, and of more events on what that has come to.
+  -- A property holds of an opening, of events since in whose history no session has a transaction any more, and of more events on the opening that these leave.
   abbrev pub AfterCheckpoint : (Opening A → List (Record A) → List (Record A) → Type 0) → Type 0
   AfterCheckpoint Holds = (o : Opening A) (es more : List (Record A)) → Legal o es → is_quiet (world_of o es) ≡ true → Legal (opening_after (world_of o es)) more → Holds o es more

@@ -91,10 +91,9 @@ pub fn always_sound<A: Allocator>()
     ensures { AfterLegal (λ (w : World A). (n : ℕ) → n ≤ commits w → IsTrue (is_sound w.catalog (tables_at w n))) }
 {}
 
-/// What a legal history has come to is an opening to go on from. Where no session has a transaction
-/// any more, the history followed by the events of a legal history on that opening is legal; its
-/// serial order is the first one's followed by the second one's, with the same keys; and the tables
-/// of each later commit are the same.
+/// The world after a legal history is an opening to go on from. Where no session has a transaction any more, the
+/// history followed by the events of a legal history on that opening is legal; its serial order is the first one's
+/// followed by the second one's, with the same keys; and the tables of each later commit are the same.
 pub fn continues_on_a_base<A: Allocator>()
     ensures opens { AfterLegal (λ (w : World A). Legal (opening_after w) []) }
     ensures legal { AfterCheckpoint (λ (o : Opening A) (es more : List (AnyRecord A)). Legal o (es ++ more)) }
@@ -178,8 +177,8 @@ pub fn what_is_kept_answers_alike<A: Allocator>()
         is_living (kept_of keep w.txns) x ≡ is_living w.txns x) }
 {}
 
-/// What doesn't matter any more never does again: an event adds to what matters but the transaction
-/// that it begins. And what matters can be told from what is kept alone.
+/// What doesn't matter any more never does again: an event adds nothing to what matters except the transaction that it
+/// begins. And what is kept alone shows what matters.
 pub fn what_is_dropped_never_matters_again<A: Allocator>()
     ensures later { AfterLegal (λ (w : World A). (s : ℕ) (a : AnyAction A) (n : ℕ) (keep : ℕ → Bool) →
         Allowed w.catalog a → Keeps w n keep

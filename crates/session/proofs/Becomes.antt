@@ -1,4 +1,4 @@
--- What one event makes of what is kept, beside what it makes of the world.
+-- What one event makes of what is kept, compared with what it makes of the world.
 use Rattle.std.proofs.Common.{◌≡◌, refl, sym, ap, ◌∙◌, ℕ, ◌+◌, Bool, true, cond, List, [], ◌∷◌, ◌++◌, length, length-append, map, Option, Some, None, arith}
 use Rattle.std.proofs.lemmas.List.{append-nil, map-append}
 use Rattle.std.proofs.lemmas.List.Elements.{filter-append}

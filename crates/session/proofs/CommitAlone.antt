@@ -1,4 +1,4 @@
--- No event commits a transaction but its session's COMMIT.
+-- No event commits a transaction, except its session's COMMIT.
 use Rattle.std.proofs.Common.{◌≡◌, ◌==◌, refl, sym, ap, ◌∙◌, ℕ, ◌+◌, Bool, true, false, true≢false, cond, not, ◌&&◌, ◌⊎◌, inl, inr, List, [], ◌∷◌, ◌++◌, Option, Some, None, arith}
 use Rattle.std.specs.List.{find}
 use Rattle.std.specs.Option.{option_map}

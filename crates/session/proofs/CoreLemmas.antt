@@ -65,7 +65,7 @@ all_kept p q (x ∷ xs) h = go (q x) refl (all_kept p q xs (λ y i. h y (inr i))
     go false e rest = rest ∙ sym (ap (λ b. b && list_all p xs) (h x (inl refl) e))
 
 module _ {A : Type 0} where
-  -- tables of a catalog are as many
+  -- a catalog and its tables are equally many
   lengths : (c : Catalog) (X : Tables A) → are_of c X ≡ true → length c ≡ length X
   lengths [] [] e = refl
   lengths [] (rows ∷ X) e = absurd (true≢false (sym e))

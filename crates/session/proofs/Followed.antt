@@ -61,7 +61,7 @@ module _ {A : Type 0} where
     same_kept = filter_alike (λ u. more u.number) (λ u. (r h l k).keep u.number) (w h l k).txns (λ u i. same_or ((r h l k).keep u.number) (eqb u.number next)
         (false_from_ne_true (eqb u.number next) (λ q. absurd (let b = (good h l k).numbered.bounded u i in let e : u.number ≡ next = eqb-true u.number next q in omega (arith, b, e)))))
 
-    -- The same, with the number of the next transaction among those that are kept.
+    -- What is kept of the history, with the number of the next transaction among the kept ones.
     pub widened : IsKept h l
     widened = record {
       legal = k.legal;
@@ -157,11 +157,11 @@ module _ {A : Type 0} where
         ∙ committed_alike next_world (good_next h.opening h.records k.legal s a allowed) (r h l k).oldest (r h l k).keep (keeps_next new)
         (λ x i d e. last_kept h.opening h.records k.legal s a allowed (r h l k).oldest (r h l k).keep (r h l k).keeps x i d (e ∙ follows_place old event))
 
-    -- It represents the world that the history has come to with the event, and has what that committed, with its key.
+    -- It represents the world that the history has with the event, and has what that committed, with its key.
     abbrev pub After : Ledger A → Type 0
     After m = Represents next_world m × (committed_at m.place m.txns ≡ committed_at next_world.place next_world.txns)
 
-  -- So does what a step leaves.
+  -- What a step leaves represents the world after the event, and has what that committed.
   pub comes_after : (h : Recorded A) (l : Ledger A) (k : IsKept h l) (s : ℕ) (a : Action A) (fits : Allowed h.opening.catalog a) (c : Catalog) (X : Tables A) → c ≡ h.opening.catalog → (tables : ℕ → Tables A)
       → ((t : Txn A) → current (w h l k) s ≡ Some t → t.own ≡ put_all t.changes (tables t.snapshot))
       → After h l k s a fits (kept_after (world_on c X l) s a (reply_in (w h l k) s a) (ready_for tables a (kept_current c X l s)))

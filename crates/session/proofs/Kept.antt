@@ -143,7 +143,7 @@ module _ {A : Type 0} where
   abbrev pub on : World A → Tables A → Base → List Exported_snapshot → World A
   on w X b xs = record { catalog = w.catalog; opening = X; base = b; log = []; txns = map kept w.txns; exports = xs; place = w.place }
 
-  -- The other numbers and identifiers come to the same.
+  -- The worlds w and v have equally many commits, the same next identifier and the same exported snapshots.
   pub record IsLike (w v : World A) : Type 0 where
     pub commits : commits v ≡ commits w
     pub next : next_identifier v ≡ next_identifier w

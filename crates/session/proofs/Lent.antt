@@ -132,7 +132,7 @@ module _ {A : Type 0} where
           ∙ same_reply thinned X l.base l.exports (versions_at rows) (like X) s a (λ t e. has_own s t (sym (thinned_current s) ∙ e))
           ∙ replies_kept h.opening h.records k.legal r.oldest r.keep r.keeps s a
 
-      -- the tables that the session's transaction comes to are the catalog's
+      -- the tables of the session's transaction, with its own changes, are the catalog's
       held_of : (c : Catalog) → c ≡ h.opening.catalog → (s : ℕ) (o : Option (Txn A)) → current w s ≡ o → HoldsCurrent c (versions_at rows) (option_map kept o)
       held_of c p s None e t f = cc
       held_of c p s (Some u) e t f =

@@ -1,4 +1,4 @@
--- What a POLL is told of its snapshot, and that no commit has spoilt a snapshot that stands for a session.
+-- What a POLL answers about its snapshot, and that no commit has spoilt a snapshot that stands for a session.
 use Rattle.std.proofs.Common.{◌≡◌, refl, sym, ap, subst, ◌∙◌, ℕ, ◌-◌, Bool, true, false, true≢false, cond, not, ◌&&◌, ◌||◌, List, [], ◌++◌, map, set, eqb, find, Option, Some, None, arith}
 use Rattle.std.specs.List.{list_any}
 use Rattle.std.specs.Option.{option_map, option_to_list}
@@ -58,7 +58,7 @@ unspoilt_now ks more o ends takes s snapshot c ns mid last h e none f g =
     taken false p = p
 
 module _ {A : Type 0} (h : Recorded A) (l : Ledger A) (k : IsKept h l) (ks : List (TxnNo × SerialKey)) (room : ℕ) (keys : HoldsKeys h ks room) where
-  -- the keys tell of a snapshot whether a commit has spoilt it
+  -- the keys say of a snapshot whether a commit has spoilt it
   pub by_keys : (t : Txn A) → In t (w h l k).txns → is_spoilt (w h l k).txns t ≡ is_spoilt_by (map keyed ks) t.snapshot
   by_keys t i = spoilt_is (w h l k) (good h l k) (ends_seen h.opening h.records k.legal) t i ∙ ap (λ xs. is_spoilt_by xs t.snapshot) (sym keys.keys)
 
@@ -66,7 +66,7 @@ module _ {A : Type 0} (h : Recorded A) (l : Ledger A) (k : IsKept h l) (ks : Lis
   pub none_spoils : is_spoilt_by (map keyed ks) l.base.commits ≡ false
   none_spoils = ap (λ xs. is_spoilt_by xs l.base.commits) keys.keys ∙ none_above (w h l k) (good h l k) l.base.commits (let e = (r h l k).commits in omega (arith, e))
 
-  -- ---- what a POLL is told
+  -- ---- what a POLL answers
 
   unknown : (a b d : Bool) → (a && not b) ≡ true → (not d && b) ≡ false
   unknown true true d e = absurd (true≢false (sym e))

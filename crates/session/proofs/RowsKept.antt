@@ -1,4 +1,4 @@
--- The versions that a core keeps beside its history.
+-- The versions that a core keeps for its history.
 use Rattle.std.proofs.Common.{◌≡◌, refl, sym, ap, subst, ◌∙◌, ℕ, suc, ◌+◌, ◌-◌, true, true≢false, Result, Ok, Err, List, [], ◌∷◌, map, take, arith}
 use Rattle.std.proofs.lemmas.Bool.{and_parts}
 use Rattle.std.specs.List.{AllByRecursion}
@@ -78,7 +78,7 @@ module _ {A : Type 0} where
     shown = λ n read. shown-pruned (lowest l) n rows (lowest-read l n read) ∙ held.shown n read;
   }
 
-  -- done, or refused for want of memory
+  -- done, or refused because memory ran out
   pub rows_prune : {T : Type 0} (h : Recorded A) (l : Ledger A) (rows more : List (VersionedRows A)) (n : ℕ) (g : Result T Refusal) → n ≡ lowest l → HoldsRows h l rows → OnOk g (more ≡ pruned n rows) → OnErr g (more ≡ rows) → HoldsRows h l more
   rows_prune h l rows more n (Ok x) e held done back = subst (HoldsRows h l) (sym (done ∙ ap (λ k. pruned k rows) e)) (rows_pruned h l rows held)
   rows_prune h l rows more n (Err x) e held done back = subst (HoldsRows h l) (sym back) held

@@ -86,7 +86,7 @@ module _ {A : Type 0} where
         safe (inl q) = or_left u.known _ q
         safe (inr q) = or_right u.known _ (settled u i q)
 
-    -- who doesn't hold back is a safe reader
+    -- a transaction that doesn't hold back is a safe reader
     from_computed : (u : Txn A) → In u old.txns → is_open u.standing ≡ true → is_safe_reader old.txns u ≡ false → n ≤ u.snapshot
     from_computed u i o s = by_test (is_safe_from ns (first_active l.txns) u) refl
       where
@@ -129,7 +129,7 @@ module _ {A : Type 0} where
         found y = let q = and_parts (eqb y.0.number u.number) (is_needed n ts y.0) y.2 in
             ap (is_needed n ts) ((good_world h.opening h.records k.legal).numbered.unique u y.0 (kept_in u j) (kept_in y.0 y.1) (sym (eqb-true y.0.number u.number q.0))) ∙ q.1
 
-    -- what matters can be told from what is kept
+    -- what is kept shows what matters
     met : (u : Txn A) → list_any (λ v. is_recent top v && edge v u) ts ≡ list_any (λ v. is_recent top v && edge v u) old.txns
     met u = any-kept (λ v. is_recent top v && edge v u) (λ v. (r h l k).keep v.number) old.txns
         (λ v j e. by_all (λ x. is_needed top old.txns x ≡ true → (r h l k).keep x.number ≡ true) old.txns v still.needed j

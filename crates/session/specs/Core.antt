@@ -32,7 +32,7 @@ module _ {A : Type 0} where
     pub represents : Represents (world h) l
     pub room : h.opening.base.events + h.most < 2 ^ 64
 
-  -- The list has the committed transactions with their keys, in the order of their commits, and there is room for as many as there may be events.
+  -- The list has the committed transactions with their keys, in the order of their commits, and it has room for as many as the history may have events.
   pub record HoldsKeys (h : Recorded A) (ks : List (TxnNo × SerialKey)) (capacity : ℕ) : Type 0 where
     pub keys : map keyed ks ≡ keys_by_commit (world h)
     pub few : length ks ≤ length h.records
@@ -76,7 +76,7 @@ module _ {A : Type 0} where
   from_opening most (Ok o) = Ok (record { opening = o; records = []; most = most })
   from_opening most (Err e) = Err e
 
-  -- The history goes on from the opening that it has come to; or it is refused, and is as it was.
+  -- The history goes on from its present opening; or it is refused, and is as it was.
   abbrev pub IsCheckpoint : Recorded A → ℕ → Result (Recorded A) (Recorded A × Refusal) → Type 0
   IsCheckpoint h most (Ok next) = from_opening most (checkpoint_answer h.opening h.records most) ≡ Ok next
   IsCheckpoint h most (Err back) = (back.0 ≡ h) × AnswersOrNoMemory (Err back.1) (from_opening most (checkpoint_answer h.opening h.records most))

@@ -6,7 +6,7 @@ use Rattle.history.specs.Needed.{Keeps, kept_of}
 use Rattle.transactions.specs.Ledger.{Ledger, kept}
 
 module _ {A : Type 0} where
-  -- Of the world's transactions there are at least those that matter, without statements and own tables; of its identifiers those that live;
+  -- What is kept has at least the world's transactions that matter, without statements and own tables; of the world's identifiers those that live;
   -- and all numbers are used up that the world has used up.
   pub record Represents (w : World A) (l : Ledger A) : Type 0 where
     pub oldest : ℕ

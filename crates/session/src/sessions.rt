@@ -147,7 +147,7 @@ fn open_on<A: Allocator + Copy>(
     open_history(alloc, history, keys, rows)
 }
 
-// Whether it is the action by which transactions commit.
+// Whether an action is the one by which transactions commit.
 fn is_commit<A: Allocator>(action: &Action<A>) -> bool
     ensures { result ≡ is_commit action.now }
 {
@@ -181,8 +181,7 @@ fn add_last<A: Allocator>(
     }
 }
 
-// Whether a history may not go on from a place for so many events: for none, or for more than can
-// be counted.
+// Whether a history may not go on from a place for `max_events` events: for none, or for more than can be counted.
 fn exceeds(place: u64, max_events: u32) -> bool
     ensures { result ≡ (max_events == 0 || nat_le (2 ^ 64) (place + max_events)) }
 {
@@ -329,8 +328,8 @@ impl<A: Allocator> Core<A> {
         Ok(answered.reply)
     }
 
-    // The answer to an event, recorded, where the history has room. A PRUNE drops versions before it,
-    // and after a COMMIT or a ROLLBACK goes what doesn't matter any more.
+    // The answer to an event, recorded, where the history has room. A PRUNE drops versions before it; after a COMMIT or
+    // a ROLLBACK, what doesn't matter any more is forgotten.
     fn advance(&mut self, alloc: A, event: Event<A>) -> Result<Reply<A>, Refusal>
     where
         A: Copy,
@@ -376,8 +375,8 @@ impl<A: Allocator> Core<A> {
         self.world.view(alloc, &self.rows, session)
     }
 
-    /// A core that goes on, for `max_events` events, from the tables and the numbers that this one has come to, as
-    /// `checkpoint` makes it; this one stays. It is refused as that is.
+    /// A core that goes on, for `max_events` events, from this one's present tables and numbers, as `checkpoint` makes
+    /// it; this one stays. It is refused as that is.
     pub fn next(&self, alloc: A, max_events: u32) -> Result<Core<A>, Refusal>
     where
         A: Copy,
@@ -387,10 +386,9 @@ impl<A: Allocator> Core<A> {
         go_on(alloc, &self.history, &self.world, &self.rows, max_events)
     }
 
-    /// A core that goes on, for `max_events` events, from the tables and the numbers that this one
-    /// has come to: the history before is given up. Refused while a session has a transaction
-    /// (55000), for no events or more than can be counted (54000), or out of memory; then the
-    /// core comes back as it was.
+    /// A core that goes on, for `max_events` events, from this one's present tables and numbers: the history before is
+    /// given up. Refused while a session has a transaction (55000), for no events or more than can be counted (54000),
+    /// or out of memory; then the core comes back as it was.
     pub fn checkpoint(self, alloc: A, max_events: u32) -> Result<Core<A>, (Core<A>, Refusal)>
     where
         A: Copy,

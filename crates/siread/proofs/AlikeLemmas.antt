@@ -95,7 +95,7 @@ module _ {A : Type 0} where
   ge_trans : (u v w : Value A) → is_ge (value_cmp u v) ≡ true → is_ge (value_cmp v w) ≡ true → is_ge (value_cmp u w) ≡ true
   ge_trans u v w h k = ge_is_le u w ∙ le_trans w v u (sym (ge_is_le v w) ∙ k) (sym (ge_is_le u v) ∙ h)
 
-  -- ---- what is told stays told
+  -- ---- what adds nothing still adds nothing later
 
   whole-more : (m : Extent A) (es : List (Extent A)) → covers_whole es ≡ true → covers_whole (m ∷ es) ≡ true
   whole-more Whole es h = refl
@@ -147,7 +147,7 @@ module _ {A : Type 0} where
       go true g = kept (list_any (same_extent m.extent) es) g
       go false g = g
 
-  -- ---- what is told changes no cover
+  -- ---- what adds nothing changes no cover
 
   -- a key between two of many
   among-between : (v : Value A) (keys : List (Value A)) (k : Value A) → is_between keys (One v) ≡ true → among (v ∷ keys) k ≡ among keys k
@@ -207,7 +207,7 @@ module _ {A : Type 0} where
   reference-between (Range a b) es j k h = absurd (true≢false (sym h))
   reference-between (Referencing i v) es j k h = absurd (true≢false (sym h))
 
-  -- an extent that isn't there, and is told
+  -- an extent that wasn't read, and adds nothing
   told-otherwise : (es : List (Extent A)) (e : Extent A) → list_any (same_extent e) es ≡ false → is_told (distinct es) e ≡ true → (covers_whole (distinct es) ≡ true) ⊎ (is_between (keys_of (distinct es)) e ≡ true)
   told-otherwise es e absent h = go (or_cases (covers_whole (distinct es) || list_any (same_extent e) (distinct es)) (is_between (keys_of (distinct es)) e) h)
     where
@@ -329,7 +329,7 @@ module _ {A : Type 0} where
       let p = or_parts (is_read r.table (same_extent r.extent) q) (list_any (is_read r.table (same_extent r.extent)) rs) h in
       (list_any-append (is_read q.table (same_extent q.extent)) rs (r ∷ []) ∙ ap (λ b. b || (is_read q.table (same_extent q.extent) r || false)) o.0 ∙ ap (λ b. b || false) (same_reading-turned r q p.0), once-push rs r o.1 p.1)
 
-  -- one that isn't told isn't there
+  -- a reading that adds something wasn't there
   pub not_there : (rs : List (Reading A)) (r : Reading A) → adds_nothing rs r ≡ false → list_any (is_read r.table (same_extent r.extent)) rs ≡ false
   not_there rs r h =
       is_found (same_extent r.extent) r.table rs

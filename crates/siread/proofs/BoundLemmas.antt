@@ -142,7 +142,7 @@ module _ {A : Type 0} where
   uncovered rs r h =
       (or_parts (covers_whole (read_in r.table rs)) (list_any (same_extent r.extent) (read_in r.table rs)) (or_parts (covers_whole (read_in r.table rs) || list_any (same_extent r.extent) (read_in r.table rs)) (is_between (keys_of (read_in r.table rs)) r.extent) h).0).0
 
-  -- one more of a form, where its table has fewer than so many
+  -- one more of a form, where its table has n at most
   within_one : (t n : ℕ) (f : Form) (rs : List (Reading A)) (r : Reading A) → count_in t f rs ≤ n + 1 → (r.table ≡ t → count_in t f rs ≤ n) → count_in t f (rs ++ r ∷ []) ≤ n + 1
   within_one t n f rs r h k = go (eqb r.table t) refl
     where

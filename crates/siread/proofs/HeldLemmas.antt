@@ -133,7 +133,7 @@ module _ {A : Type 0} where
   all-inside : (h : Reads A) (kept : List (Reading A)) (settled : ℕ) → parted_at settled kept ≡ h → kept ≡ all_of h
   all-inside h kept settled e = sym (take-append-drop settled kept) ∙ ap (λ (r : Reads A). all_of r) e
 
-  -- no keys stand behind all
+  -- no keys come after all
   pub few_behind : (kept : List (Reading A)) (n : ℕ) → n ≡ length kept → HasFewKeys (drop n kept)
   few_behind kept n e = subst (λ (ks : List (Reading A)). HasFewKeys ks) (sym (ap (λ m. drop m kept) e ∙ drop-length kept)) (few_none A)
 

@@ -232,7 +232,7 @@ module _ {A : Type 0} where
   inner_found t rs None o many e = tt
   inner_found t rs (Some i) o many e = inner_alike t rs i o many (sym e)
 
-  -- where there are so many, one is found
+  -- where there are more than nine keys, one is found
   pub inner_not_found : (t : ℕ) (rs : List (Reading A)) (found : Option ℕ) → IsEachOnce rs → ltb 9 (count_by (is_read t (has_form form.Key)) rs) ≡ true → found ≡ position (is_inner rs t) rs
       → IfNone found (count_in t form.Key rs ≤ 9)
   inner_not_found t rs None o many e =

@@ -1,4 +1,4 @@
--- What is found by walking the readings is what the list of the different extents of a table tells.
+-- What a walk over the readings finds is what the list of the different extents of a table says.
 use Rattle.std.proofs.Common.{◌≡◌, refl, sym, ap, ◌∙◌, ℕ, ◌+◌, Bool, true, false, cond, ◌&&◌, ◌||◌, List, [], ◌∷◌, length, eqb, ltb, suc, arith}
 use Rattle.std.proofs.lemmas.Bool.{eqb-true}
 use Rattle.std.proofs.lemmas.Bool.Decides.{nat_tests}

@@ -15,7 +15,7 @@ use Rattle.siread.specs.Extents.{is_read, is_sought, read_in, IsEachOnce}
 use Rattle.siread.specs.Reads.{CoverAlike}
 
 module _ {A : Type 0} where
-  -- a key between two of so many that they count as a range
+  -- a key between two of several keys that are enough to count as a range
   abbrev pub is_between : List (Value A) → Extent A → Bool
   is_between keys (One v) = has_many_keys keys && list_any (λ w. is_le (value_cmp w v)) keys && list_any (λ w. is_ge (value_cmp w v)) keys
   is_between keys _ = false
@@ -27,7 +27,7 @@ module _ {A : Type 0} where
   abbrev pub adds_nothing : List (Reading A) → Reading A → Bool
   adds_nothing rs r = is_told (read_in r.table rs) r.extent
 
-  -- The first so many are kept as they were; behind them no table has many keys, and still no two are the same.
+  -- The first `settled` readings are kept as they were; after them no table has many keys, and still no two are the same.
   pub record Grows (settled : ℕ) (old new : List (Reading A)) : Type 0 where
     pub within : settled ≤ length new
     pub before : take settled new ≡ take settled old
@@ -52,7 +52,7 @@ module _ {A : Type 0} where
     pub alike : CoverAlike (take place rs ++ drop (place + 1) rs) rs
     pub fewer : count_in t form.Key (take place rs ++ drop (place + 1) rs) + 1 ≡ count_in t form.Key rs
 
-  -- The first n cover alike with the first m of the old, and no table has many keys among them; those behind them are kept, and no two are the same.
+  -- The first n cover alike with the first m of the old, and no table has many keys among them; those after them are kept, and no two are the same.
   pub record Settles (old : List (Reading A)) (m : ℕ) (new : List (Reading A)) (n : ℕ) : Type 0 where
     pub within : n ≤ length new
     pub once : IsEachOnce new

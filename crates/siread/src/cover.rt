@@ -34,7 +34,7 @@ fn is_read_whole<A: Allocator>(readings: &[Reading<A>], table: TableNo) -> bool
     tally::is_form_read(readings, table, Form::Whole)
 }
 
-// Whether so many keys were read that they count as a range.
+// Whether enough keys were read that they count as a range.
 fn has_many_keys<A: Allocator>(readings: &[Reading<A>], table: TableNo) -> bool
     requires { IsEachOnce readings.now }
     ensures { result ≡ has_many_keys (keys_of (read_in table readings.now)) }
@@ -42,7 +42,7 @@ fn has_many_keys<A: Allocator>(readings: &[Reading<A>], table: TableNo) -> bool
     tally::count_read(readings, table, Form::Key) > MAX_KEYS
 }
 
-// Whether so many ranges were read that the table counts as read whole.
+// Whether enough ranges were read that the table counts as read whole.
 fn has_many_ranges<A: Allocator>(readings: &[Reading<A>], table: TableNo) -> bool
     requires { IsEachOnce readings.now }
     ensures { result ≡ has_many_ranges (read_in table readings.now) }
@@ -55,7 +55,7 @@ fn has_many_ranges<A: Allocator>(readings: &[Reading<A>], table: TableNo) -> boo
     }
 }
 
-// Whether so many references were read that the table counts as read whole.
+// Whether enough references were read that the table counts as read whole.
 fn has_many_references<A: Allocator>(readings: &[Reading<A>], table: TableNo) -> bool
     requires { IsEachOnce readings.now }
     ensures { result ≡ has_many_references (read_in table readings.now) }
@@ -148,7 +148,7 @@ pub fn covers_value<A: Allocator>(
     covers_whole(readings, table) || is_reference_read(readings, table, column, key)
 }
 
-// Whether an extent is a key between two of so many that they count as a range.
+// Whether an extent is a key between two of enough keys to count as a range.
 fn is_between<A: Allocator>(readings: &[Reading<A>], table: TableNo, extent: &Extent<A>) -> bool
     requires { IsEachOnce readings.now }
     ensures { result ≡ is_between (keys_of (read_in table readings.now)) extent.now }
@@ -194,21 +194,21 @@ fn is_inside<A: Allocator>(readings: &[Reading<A>], table: TableNo, extent: &Ext
     }
 }
 
-// Whether a reading is of such a key of the table.
+// Whether a reading is of a key of the table with another below it and another above it.
 fn is_inner<A: Allocator>(readings: &[Reading<A>], table: TableNo, reading: &Reading<A>) -> bool
     ensures { result ≡ is_inner readings.now table reading.now }
 {
     reading.table == table && is_inside(readings, table, &reading.extent)
 }
 
-// Whether there are more keys of the table than tell that they are many.
+// Whether there are more keys of the table than are needed to show that they are many.
 fn has_spare_keys<A: Allocator>(readings: &[Reading<A>], table: TableNo) -> bool
     ensures { result ≡ nat_lt 9 (count_by (is_read table (has_form Form.Key)) readings.now) }
 {
     tally::count_read(readings, table, Form::Key) > MAX_KEYS + 1
 }
 
-// The place of the first such key of the table.
+// The place of the first key of the table with another below it and another above it.
 fn first_inner<A: Allocator>(readings: &[Reading<A>], table: TableNo) -> Option<usize>
     ensures { result ≡ position (is_inner readings.now table) readings.now }
 {

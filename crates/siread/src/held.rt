@@ -46,7 +46,7 @@ impl<A: Allocator> Model for Held<A> {
     ghost invariant = { λ h. AreHeld h.settled h.kept.items };
 }
 
-// The first so many readings.
+// The first `count` readings.
 fn first<A: Allocator>(readings: &[Reading<A>], count: usize) -> &[Reading<A>]
     requires { count ≤ length readings.now }
     ensures { result.now ≡ take count readings.now }
@@ -54,7 +54,7 @@ fn first<A: Allocator>(readings: &[Reading<A>], count: usize) -> &[Reading<A>]
     &readings[..count]
 }
 
-// The readings behind the first so many.
+// The readings after the first `count`.
 fn behind<A: Allocator>(readings: &[Reading<A>], count: usize) -> &[Reading<A>]
     requires { count ≤ length readings.now }
     ensures { result.now ≡ drop count readings.now }
@@ -62,8 +62,8 @@ fn behind<A: Allocator>(readings: &[Reading<A>], count: usize) -> &[Reading<A>]
     &readings[count..]
 }
 
-// Adds a reading behind the first so many, and takes a spare key of its table away from those behind
-// them, where there then is one.
+// Adds a reading after the first `settled`, and takes a spare key of its table away from those after them, where there
+// then is one.
 fn push<A: Allocator>(kept: &mut Vec<Reading<A>, A>, settled: usize, reading: Reading<A>)
     requires room { vec_len kept.old < vec_capacity kept.old }
     requires within { settled ≤ length kept.old.items }
@@ -80,7 +80,7 @@ fn push<A: Allocator>(kept: &mut Vec<Reading<A>, A>, settled: usize, reading: Re
     }
 }
 
-// Adds a reading to those that are kept, behind the first so many, unless it changes no cover.
+// Adds a reading to those that are kept, after the first `settled`, unless it changes no cover.
 fn add<A: Allocator + Copy>(
     alloc: A,
     kept: &mut Vec<Reading<A>, A>,
@@ -103,7 +103,7 @@ fn add<A: Allocator + Copy>(
     Ok(())
 }
 
-// Adds readings to those that are kept, behind the first so many.
+// Adds readings to those that are kept, after the first `settled`.
 fn add_all<A: Allocator + Copy>(
     alloc: A,
     kept: &mut Vec<Reading<A>, A>,
@@ -123,8 +123,8 @@ fn add_all<A: Allocator + Copy>(
     Ok(())
 }
 
-// Takes one more in among the first so many, and a spare key of its table away from these, where
-// there then is one; answers how many they are.
+// Takes one more in among the first `settled`, and a spare key of its table away from these, where there then is one;
+// returns how many they are.
 fn take_in<A: Allocator>(kept: &mut Vec<Reading<A>, A>, settled: usize) -> usize
     requires within { settled < length kept.old.items }
     requires once { IsEachOnce kept.old.items }
@@ -141,7 +141,7 @@ fn take_in<A: Allocator>(kept: &mut Vec<Reading<A>, A>, settled: usize) -> usize
     }
 }
 
-// Takes so many in.
+// Takes `more` readings in; returns how many are in then.
 fn settle<A: Allocator>(kept: &mut Vec<Reading<A>, A>, settled: usize, more: usize) -> usize
     requires within { settled + more ≤ length kept.old.items }
     requires once { IsEachOnce kept.old.items }

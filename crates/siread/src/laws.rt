@@ -8,10 +8,9 @@ ghost use Rattle.siread.specs.Reads.{CoverAlike};
 
 use std::alloc::Allocator;
 
-/// Readings that cover alike cover the same keys and the same references, now and with any more
-/// readings after both. So one who knows that what locks keep for a transaction covers alike with
-/// all that it has read, knows it again after each read, and what the locks tell is the cover of all
-/// that it has read.
+/// Readings that cover alike cover the same keys and the same references, now and with any more readings after both. A
+/// caller who knows that what locks keep for a transaction covers alike with all that it has read knows that again
+/// after each read, and the cover of the locks is the cover of all that it has read.
 pub fn reads_cover_alike<A: Allocator>()
     ensures keys { (rs qs : List (AnyReading A)) → CoverAlike rs qs → (t : ℕ) → (k : AnyValue A) →
         covers rs t k ≡ covers qs t k }

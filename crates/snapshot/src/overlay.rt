@@ -39,10 +39,10 @@ fn is_before<A: Allocator>(row: Option<&Row<A>>, key: &Key<A>) -> bool
 // The change of a key, where no row comes before it.
 fn unless_before<'c, A: Allocator>(
     row: Option<&Row<A>>,
-    change: Option<(&'c Key<A>, &'c Option<Row<A>>)>,
-) -> Option<(&'c Key<A>, &'c Option<Row<A>>)>
-    ensures { option_map (λ p. (p.0.now, p.1.now)) result ≡
-        unless_before (option_copied row.entry) (option_map (λ p. (p.0.now, p.1.now)) change.entry) }
+    change: Option<(&'c Key<A>, Option<&'c Row<A>>)>,
+) -> Option<(&'c Key<A>, Option<&'c Row<A>>)>
+    ensures { option_map (λ p. (p.0.now, option_copied p.1)) result ≡
+        unless_before (option_copied row.entry) (option_map (λ p. (p.0.now, option_copied p.1)) change.entry) }
 {
     match change {
         None => None,
@@ -58,10 +58,10 @@ fn unless_before<'c, A: Allocator>(
 
 // Appends a row, where there is one.
 fn push_own<'c, A: Allocator>(
-    own: &'c Option<Row<A>>,
+    own: Option<&'c Row<A>>,
     rows: &mut Vec<&'c Row<A>, A>,
 ) -> Result<(), Refusal>
-    ensures ok { OnOk result (lent rows.new.items ≡ lent rows.old.items ++ listed own.now) }
+    ensures ok { OnOk result (lent rows.new.items ≡ lent rows.old.items ++ listed (option_copied own.entry)) }
     ensures err { IfErr result (λ e. e ≡ out_of_memory) }
 {
     if let Some(row) = own {
@@ -73,11 +73,11 @@ fn push_own<'c, A: Allocator>(
 // Takes the row of a change, where it has one, and goes past its key.
 fn take_own<'a, R: SnapshotReader<A>, A: Allocator + Copy>(
     key: &Key<A>,
-    own: &'a Option<Row<A>>,
+    own: Option<&'a Row<A>>,
     ahead: &mut Ahead<'_, R, A>,
     rows: &mut Vec<&'a Row<A>, A>,
 ) -> Result<(), Refusal>
-    ensures rows { OnOk result (lent rows.new.items ≡ lent rows.old.items ++ listed own.now) }
+    ensures rows { OnOk result (lent rows.new.items ≡ lent rows.old.items ++ listed (option_copied own.entry)) }
     ensures ahead { OnOk result (ahead.new ≡ past_key key.now ahead.old) }
     ensures err { IfErr result (λ e. e ≡ out_of_memory) }
 {
@@ -200,7 +200,7 @@ impl<'a, R: SnapshotReader<A>, A: Allocator> Overlay<'a, R, A> {
     {
         self.changes.in_key_order(table);
         match self.changes.get(table, key) {
-            Some(own) => own.as_ref(),
+            Some(own) => own,
             None => self.reader.get(table, key),
         }
     }

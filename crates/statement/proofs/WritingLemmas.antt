@@ -1,18 +1,22 @@
 -- Rows written in key order.
-use Rattle.std.proofs.Common.{◌≡◌, refl, sym, ap, ◌∙◌, ℕ, zero, suc, ◌<◌, Bool, true, false, cond, List, [], ◌∷◌, ◌++◌, map, take, length, get_or, Option, Some, Bor, append_assoc, arith, inl, inr}
+use Rattle.std.proofs.Common.{◌≡◌, refl, sym, ap, subst, ◌∙◌, ℕ, zero, suc, ◌<◌, ◌≤◌, Bool, true, false, cond, List, [], ◌∷◌, ◌++◌, map, take, length, get_or, Option, Some, Bor, append_assoc, arith, inl, inr}
 use Rattle.std.proofs.lemmas.Bool.{and_parts, and_from}
-use Rattle.std.proofs.lemmas.List.{append-nil}
+use Rattle.std.proofs.lemmas.List.{append-nil, take_all}
 use Rattle.std.specs.FinMap.{is_sorted}
 use Rattle.std.specs.FinMap.Entries.{below_all}
 use Rattle.std.specs.List.{AllByRecursion, filter}
+use Rattle.std.specs.List.Sorted.{IsStrictlySortedBy}
 use Rattle.std.specs.Ordering.{is_lt}
+use Rattle.std.specs.declared.cmp.Ordering.TheVariants.{Less}
 use Rattle.value.specs.declared.value.Value.{Value}
 use Rattle.value.specs.Order.{value_cmp}
+use Rattle.value.proofs.Basics.{Less-from_lt}
 use Rattle.value.proofs.IsolationLemmas.{In}
 use Rattle.schema.specs.Definition.{Catalog}
 use Rattle.schema.specs.declared.row.Row.{Row}
 use Rattle.schema.specs.declared.changes.Change.{Change}
 use Rattle.schema.specs.declared.tables.Tables.{Tables}
+use Rattle.schema.specs.Changing.{AreOfTable}
 use Rattle.schema.specs.Plain.{columns_of, row_at, rows_of}
 use Rattle.schema.proofs.SoundLemmas.{found_row}
 use Rattle.statement.specs.declared.condition.Condition.{Condition}
@@ -85,3 +89,31 @@ module _ {A : Type 0} where
     sorted = sorted_filter (satisfies cs) (rows_of X t) (held_table c X t held).0;
     each = found_each (satisfies cs) X t (rows_of X t) (λ r i. found_row (rows_of X t) r (held_table c X t held).0 i);
   }
+
+  -- ---- changes by rising keys
+
+  keys_above : (t : ℕ) (g : Row A → Option (List (Value A))) (k : Value A) (rows : List (Row A)) → below_all value_cmp k rows ≡ true → AllByRecursion (λ l. value_cmp k l ≡ Less) (map (λ x. x.key) (map (change_by t g) rows))
+  keys_above t g k [] below = tt
+  keys_above t g k (row ∷ rows) below = let p = and_parts (is_lt (value_cmp k row.0)) (below_all value_cmp k rows) below in (Less-from_lt (value_cmp k row.0) p.0, keys_above t g k rows p.1)
+
+  keys_rise : (t : ℕ) (g : Row A → Option (List (Value A))) (rows : List (Row A)) → is_sorted value_cmp rows ≡ true → IsStrictlySortedBy value_cmp (map (λ x. x.key) (map (change_by t g) rows))
+  unfolding IsStrictlySortedBy
+  keys_rise t g [] sorted = tt
+  keys_rise t g (row ∷ rows) sorted = let p = and_parts (below_all value_cmp row.0 rows) (is_sorted value_cmp rows) sorted in (keys_above t g row.0 rows p.0, keys_rise t g rows p.1)
+
+  of_one_table : (t : ℕ) (g : Row A → Option (List (Value A))) (rows : List (Row A)) → AllByRecursion (λ x. x.table ≡ t) (map (change_by t g) rows)
+  of_one_table t g [] = tt
+  of_one_table t g (row ∷ rows) = (refl, of_one_table t g rows)
+
+  -- rows in key order are written by rising keys
+  pub writes_rise : (t : ℕ) (g : Row A → Option (List (Value A))) (rows : List (Row A)) (changes : List (Change A)) → is_sorted value_cmp rows ≡ true → changes ≡ map (change_by t g) rows → AreOfTable t changes
+  writes_rise t g rows changes sorted is = subst (AreOfTable t) (sym is) (of_one_table t g rows, keys_rise t g rows sorted)
+
+  -- so are all of them, where so many are written
+  pub all_writes_rise : (t : ℕ) (g : Row A → Option (List (Value A))) (rows : List (Bor (Row A))) (i : ℕ) (changes : List (Change A)) → length rows ≤ i → is_sorted value_cmp (map (λ r. r.now) rows) ≡ true → changes ≡ map (change_by t g) (map (λ r. r.now) (take i rows))
+      → AreOfTable t changes
+  all_writes_rise t g rows i changes all sorted is = writes_rise t g (map (λ r. r.now) rows) changes sorted (is ∙ ap (λ rs. map (change_by t g) (map (λ r. r.now) rs)) (take_all i rows all))
+
+  -- and so is one row
+  pub write_rises : (t : ℕ) (g : Row A → Option (List (Value A))) (row : Row A) (changes : List (Change A)) → changes ≡ change_by t g row ∷ [] → AreOfTable t changes
+  write_rises t g row changes is = writes_rise t g (row ∷ []) changes refl is

@@ -15,10 +15,11 @@ use crate::evaluate::delete::delete;
 use crate::evaluate::insert::insert;
 use crate::evaluate::select::select;
 use crate::evaluate::update::update;
-use crate::outcome::{Marks, Outcome, Writes};
+use crate::outcome::{Marks, Outcome};
 use crate::reply::Reply;
 use crate::statement::{Projection, Statement};
 use schema::catalog::{Catalog, TableNo};
+use schema::changes::Changes;
 use schema::reader::SnapshotReader;
 use std::alloc::Allocator;
 use value::refusal::Refusal;
@@ -47,7 +48,7 @@ where
 {
     Outcome {
         reply,
-        changes: Writes::of(Vec::new(alloc)),
+        changes: Changes::new(alloc),
         marks: Marks::of(Vec::new(alloc)),
     }
 }

@@ -4,7 +4,7 @@ ghost use Rattle.std.specs.Prelude.{◌≡◌};
 
 use crate::reply::Reply;
 use schema::catalog::TableNo;
-use schema::changes::Change;
+use schema::changes::Changes;
 use std::alloc::{Allocator, Global};
 use std::marker::Model;
 use value::key::Key;
@@ -74,49 +74,11 @@ impl<A: Allocator> Marks<A> {
     }
 }
 
-/// The changes of a statement, in the order of their keys.
-#[derive_where(Debug)]
-pub struct Writes<A: Allocator = Global> {
-    changes: Vec<Change<A>, A>,
-}
-
-impl<A: Allocator> Drop for Writes<A> {
-    fn drop(self) {
-        let Writes { changes: _ } = self;
-    }
-}
-
-impl<A: Allocator> Model for Writes<A> {
-    ghost use Rattle.std.specs.Prelude.{List};
-    ghost use Rattle.schema.specs.declared.changes.Change.{Change};
-
-    ghost Value = { List (Change A) };
-
-    ghost view = { λ w. w.changes.items };
-}
-
-impl<A: Allocator> Writes<A> {
-    /// These changes.
-    pub fn of(changes: Vec<Change<A>, A>) -> Writes<A>
-        ensures { result ≡ changes.items }
-    {
-        Writes { changes }
-    }
-
-    /// The changes, taken out.
-    pub fn into_list(self) -> Vec<Change<A>, A>
-        ensures { result.items ≡ self }
-    {
-        let Writes { changes } = self;
-        changes
-    }
-}
-
 /// What comes of a statement: its reply, the rows that it writes, and the references that they had
 /// and have.
 #[derive(Drop)]
 pub struct Outcome<A: Allocator = Global> {
     pub reply: Reply<A>,
-    pub changes: Writes<A>,
+    pub changes: Changes<A>,
     pub marks: Marks<A>,
 }

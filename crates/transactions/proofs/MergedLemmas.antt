@@ -32,9 +32,9 @@ tied_parts Less b e = cc
 tied_parts Equal b e = (refl, e)
 tied_parts Greater b e = cc
 
-pub copied-some : {X : Type 0} (r : Option (Bor X)) → is_some r ≡ is_some (option_copied r)
+pub copied-some : {X : Type 0} (r : Option (Option (Bor X))) → is_some r ≡ is_some (option_map (λ o. option_copied o) r)
 copied-some None = refl
-copied-some (Some b) = refl
+copied-some (Some o) = refl
 
 either_more : (a b c : Bool) → (a || (b || c)) ≡ (b || (a || c))
 either_more true true c = refl

@@ -17,7 +17,6 @@ use std::marker::Model;
 use std::ops;
 use value::key::Key;
 use value::refusal::Refusal;
-use value::value::Value;
 
 /// The changes of one table by key.
 #[derive(Drop)]
@@ -48,19 +47,22 @@ impl<A: Allocator> ChangedTable<A> {
     }
 
     /// What is said of a key.
-    pub fn get(&self, key: &Key<A>) -> Option<&Option<Row<A>>>
-        ensures { option_copied result ≡ keyed_change self.now key.now }
+    pub fn get(&self, key: &Key<A>) -> Option<Option<&Row<A>>>
+        ensures { option_map (λ row. option_copied row) result ≡ keyed_change self.now key.now }
     {
-        self.rows.get(key)
+        match self.rows.get(key) {
+            Some(row) => Some(row.as_ref()),
+            None => None,
+        }
     }
 
     /// The change of the least key within a bound.
-    pub fn next(&self, after: Bound<&Key<A>>) -> Option<(&Key<A>, &Option<Row<A>>)>
-        ensures { option_map (λ p. (p.0.now, p.1.now)) result ≡ next_keyed self.now after.entry }
+    pub fn next(&self, after: Bound<&Key<A>>) -> Option<(&Key<A>, Option<&Row<A>>)>
+        ensures { option_map (λ p. (p.0.now, option_copied p.1)) result ≡ next_keyed self.now after.entry }
     {
         let range = (after.start_key(), ops::Bound::Unbounded);
         match self.rows.range(range).next() {
-            Some((key, row)) => Some((key, row)),
+            Some((key, row)) => Some((key, row.as_ref())),
             None => None,
         }
     }
@@ -93,22 +95,21 @@ impl<A: Allocator> ChangedTable<A> {
     {
         let ChangedTable { rows } = self;
         for (key, row) in rows {
-            let fields = fields_of(row);
-            list.push(Change { table, key, fields })?;
+            list.push(change_of(table, key, row))?;
         }
         Ok(())
     }
 }
 
-// The fields of a row, where there is one.
-fn fields_of<A: Allocator>(row: Option<Row<A>>) -> Option<Vec<Value<A>, A>>
-    ensures { option_map (λ v. v.items) result ≡ option_map (λ r. r.1) row }
+// The change of a key of a table, which gets the fields of a row, or has none any more.
+fn change_of<A: Allocator>(table: TableNo, key: Key<A>, row: Option<Row<A>>) -> Change<A>
+    ensures { result ≡ record { table = table; key = key; fields = option_map (λ r. r.1) row } }
 {
     match row {
         Some(row) => {
             let (_, fields) = row.into_parts();
-            Some(fields)
+            Change::of_row(table, Row::new(key, fields))
         }
-        None => None,
+        None => Change::of_absence(table, key),
     }
 }

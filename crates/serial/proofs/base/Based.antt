@@ -1,4 +1,4 @@
--- What lies above the base of a history: its events, its transactions and who exported its identifiers.
+-- What lies above the base of a history: its events, its transactions and the exporters of its identifiers.
 use Rattle.std.proofs.Common.{◌≡◌, sym, subst, ◌+◌, ◌<◌, ◌≤◌, Bool, true, false, cond, ◌⊎◌, inl, inr, List, [], ◌∷◌, length, eqb, arith, length-append}
 use Rattle.value.proofs.IsolationLemmas.{In}
 use Rattle.value.proofs.SerialLemmas.{In-append}

@@ -1,4 +1,4 @@
--- One event after another on the base of a quiet history: the replies, and what the events come to, are those after that history's own events.
+-- One event after another on the base of a quiet history: the replies, and the world after the events, are those after that history's own events.
 use Rattle.std.proofs.Common.{◌≡◌, refl, sym, ap, subst, ◌∙◌, ℕ, ◌+◌, ◌≤◌, Bool, true, false, cond, not, ◌&&◌, List, [], ◌∷◌, ◌++◌, length, map, Option, Some, None, is_some, append_assoc, arith}
 use Rattle.value.specs.declared.refusal.Code.TheVariants as code
 use Rattle.value.proofs.IsolationLemmas.{In}
@@ -173,7 +173,7 @@ module _ {A : Type 0} (w : World A) (gw : IsGood w) (quiet : is_quiet w ≡ true
       let k = kept_opening v e (current v e.session) in
       record { good = n.0; based = n.1; opening = k.0 ∙ on.opening; base = k.1 ∙ on.base }
 
-  -- What is answered on the base is answered after w, and comes to the same.
+  -- What is answered on the base is answered after w, and leads to the same world.
   pub runs_on : (v : World A) (es : List (Record A)) → On v → IsAnswered v es → IsAnswered (join v) es × (run (join v) es ≡ join (run v es)) × On (run v es)
   runs_on v [] on l = (tt, refl, on)
   runs_on v (e ∷ es) on l =

@@ -86,7 +86,7 @@ with_all-append [] ys X = refl
 with_all-append (x ∷ xs) ys X = with_all-append xs ys _
 
 module _ {A : Type 0} (w : World A) (gw : IsGood w) (quiet : is_quiet w ≡ true) where
-  -- what a history on w's base has come to, with w before it
+  -- the world after a history on w's base, with w before it
   abbrev pub joined : World A → World A
   joined v = record { catalog = v.catalog; opening = w.opening; base = w.base; log = w.log ++ v.log; txns = w.txns ++ v.txns; exports = w.exports ++ v.exports; place = v.place }
 

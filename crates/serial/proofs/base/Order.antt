@@ -199,6 +199,6 @@ module _ {A : Type 0} where
       same : world_of o (es ++ more) ≡ joined w gw quiet v
       same = run-append (start o) es more ∙ ap (λ u. run u more) (sym begins) ∙ runs.1
 
-  -- What a legal history has come to is an opening to go on from.
+  -- The world after a legal history is an opening to go on from.
   pub opens : (o : Opening A) (es : List (Record A)) → Legal o es → Legal (opening_after (world_of o es)) []
   opens o es l = Legal-start (opening_after (world_of o es)) (always_sound o es l (commits (world_of o es)) (omega arith))

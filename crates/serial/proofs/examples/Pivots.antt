@@ -48,7 +48,7 @@ told_by_import = refl
 goes_quietly : replies skewed ((2, Begin ReadWrite) ∷ (2, Prune) ∷ (2, Rollback) ∷ (2, Commit) ∷ []) ≡ refused code.ActiveSqlTransaction ∷ Pruned ∷ RolledBack ∷ refused code.NoActiveSqlTransaction ∷ []
 goes_quietly = refl
 
--- its writes are dropped: another may write the row before it is told
+-- its writes are dropped: another may write the row before its session learns of the doom
 row_is_free : replies skewed ((3, Begin ReadWrite) ∷ (3, Run (set_v 0 2 5)) ∷ (3, Commit) ∷ (2, Commit) ∷ []) ≡ Begun ∷ Updated 1 ∷ Committed ∷ caused 2 3 2 ∷ []
 row_is_free = refl
 
@@ -76,7 +76,7 @@ family = table (bigint None ∷ []) ∷ table (bigint None ∷ bigint (Some 0) �
 abbrev parent : ℕ → Statement Anywhere
 parent k = Insert 0 (n k ∷ [])
 
--- a delete by key conflicts with those alone who name that key
+-- a delete by key conflicts only with transactions that name that key
 abbrev other_parent : List (ℕ × Action Anywhere)
 other_parent = (1, Begin ReadWrite) ∷ (2, Begin ReadWrite) ∷ (1, Run (one 0 1)) ∷ (1, Run (put 1 5 2)) ∷ (2, Run (gone 0 1)) ∷ (1, Commit) ∷ (2, Commit) ∷ []
 
@@ -86,7 +86,7 @@ other_parent_replies = refl
 other_parent_keys : keys (world_after (opened family (parent 1 ∷ parent 2 ∷ [])) other_parent) ≡ (1, (1, 1, 1)) ∷ (2, (2, 1, 2)) ∷ (3, (3, 1, 3)) ∷ []
 other_parent_keys = refl
 
--- the reference of the row before a write counts: who took the child away is met by who deletes the parent
+-- the reference of the row before a write counts: a transaction that took the child away conflicts with one that deletes the parent
 abbrev child_to_none : Statement Anywhere
 child_to_none = Update 1 (record { column = 1; source = Literal Null } ∷ []) (id_is 5)
 

@@ -1,4 +1,4 @@
--- Whose begin counts for a dump, computed on worked examples.
+-- Which transaction's begin counts for a dump, computed on worked examples.
 use Rattle.std.proofs.Common.{◌≡◌, refl, ℕ, nat_lt, List, [], ◌∷◌, map, Option, Some, None}
 use Rattle.std.specs.List.{filter}
 use Rattle.value.specs.declared.refusal.Mode.TheVariants.{ReadWrite, ReadOnly, Deferrable}
@@ -52,7 +52,7 @@ those_before = (refl, refl)
 the_reader_is_in_the_prefix : in_prefix (world_after (opened u []) reads_between) 1 ≡ 1 ∷ 3 ∷ []
 the_reader_is_in_the_prefix = refl
 
--- ---- A chain of two imports: the snapshot is that of transaction 2, whoever has it; and a commit above it that an importer began after isn't in the prefix.
+-- ---- A chain of two imports: the snapshot is that of transaction 2, whichever transaction has it; and a commit above it that an importer began after isn't in the prefix.
 
 abbrev imports : List (ℕ × Action Anywhere)
 imports = (1, Begin Deferrable) ∷ (1, Poll) ∷ (1, Export) ∷ (2, Begin ReadOnly) ∷ (2, Import 1) ∷ (2, Export)

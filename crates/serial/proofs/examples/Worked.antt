@@ -64,7 +64,7 @@ receipts_replies : replies batch_open ((2, Begin ReadWrite) ∷ (2, Run column_n
     ∷ Begun ∷ Rows (pair 1 2 ∷ []) ∷ Rows [] ∷ Committed ∷ Inserted ∷ caused 4 2 3 ∷ []
 receipts_replies = refl
 
--- the same, but the read-only one begins before the batch is closed
+-- the events in which the read-only one begins before the batch is closed
 abbrev reader_before : List (ℕ × Action Anywhere)
 reader_before = (2, Begin ReadWrite) ∷ (2, Run column_n) ∷ (1, Begin ReadOnly) ∷ (3, Begin ReadWrite) ∷ (3, Run more_n) ∷ (3, Commit)
     ∷ (1, Run (all 0)) ∷ (1, Run from_1) ∷ (1, Commit) ∷ (2, Run (put 1 1 1)) ∷ (2, Commit) ∷ []

@@ -1,4 +1,4 @@
--- Legal histories one event at a time, for those who know legality and answers by name alone.
+-- Legal histories one event at a time, for callers that know legality and answers by name alone.
 use Rattle.std.proofs.Common.{◌≡◌, refl, sym, ap, subst, ◌∙◌, ℕ, Bool, true, false, cond, List, [], ◌∷◌, ◌++◌, Option, Some, None, if◌then◌else◌, ◌==◌, eqb}
 use Rattle.schema.specs.Plain.{is_sound}
 use Rattle.statement.specs.declared.reply.Reply.{Reply}

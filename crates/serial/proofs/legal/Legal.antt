@@ -141,7 +141,7 @@ module _ {A : Type 0} where
 
   -- ---- one legal event
 
-  -- What an event does: what its session's transaction comes to, and then which others are doomed.
+  -- What an event does: what becomes of its session's transaction, and then which others are doomed.
   pub data Step (w : World A) : World A → Type 0 where
     Nothing : Step w (record w { place = w.place + 1 })
     Begins : (s : ℕ) (m : Mode) → Step w (record w { txns = w.txns ++ begun w s m ∷ []; place = w.place + 1 })
@@ -196,7 +196,7 @@ module _ {A : Type 0} where
   abbrev pub before : World A → Action A → Reply A → Txn A → Txn A → World A
   before w a r t x = record w { log = log_after w a r t; txns = replaced x w.txns; exports = exports_after w a r t; place = w.place + 1 }
 
-  -- what its session's transaction comes to
+  -- what becomes of its session's transaction
   pub first_step : (w : World A) (s : ℕ) (a : Action A) (t : Txn A) → Allowed w.catalog a → current w s ≡ Some t → (st : Standing) → t.standing ≡ st
       → Step w (before w a (reply_from st w t a) t (turned_from st w a (reply_from st w t a) t))
   first_step w s a t fits e Open p = Moves s t _ _ _ e (ap is_open p) (open_move w t a fits)

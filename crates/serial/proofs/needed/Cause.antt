@@ -105,7 +105,7 @@ module _ {A : Type 0} where
         go (inl k) = omega (arith, upto w.base.commits w.log u g.numbered.in_order k)
         go (inr k) = omega (arith, k.0)
 
-    -- nobody reads past a commit that isn't one
+    -- an edge leads only to a commit that has a number
     pub meets_number : (a b : Txn A) → edge a b ≡ true → 0 < b.commit
     meets_number a b e = omega (arith, (edge_parts a b e).1)
 

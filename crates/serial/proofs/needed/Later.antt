@@ -1,4 +1,4 @@
--- What doesn't matter any more never does again; and what matters can be told from what is kept alone.
+-- What doesn't matter any more never does again; and what is kept alone shows what matters.
 use Rattle.std.proofs.Common.{◌≡◌, refl, sym, ap, ◌∙◌, ℕ, ◌+◌, ◌<◌, ◌≤◌, Bool, true, false, true≢false, ◌&&◌, ◌||◌, ◌⊎◌, inl, inr, List, [], ◌∷◌, ◌++◌, length, map, Option, Some, None, eqb, nat_lt, arith}
 use Rattle.std.proofs.lemmas.Bool.{lt-ltb, and_parts, and_from, or_cases, or_left, or_right}
 use Rattle.std.specs.List.{filter, list_any, AllByRecursion}

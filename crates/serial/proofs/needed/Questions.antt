@@ -88,7 +88,7 @@ module _ {A : Type 0} where
       (λ u j e. by_all (λ v. is_needed n w.txns v ≡ true → keep v.number ≡ true) w.txns u h.needed j (or_left _ _ (or_left _ _ (or_left _ _ (open_owed u.standing (and_parts (was_active t u) (is_open u.standing) e).1)))))
 
   module _ (w : World A) (g : IsGood w) (ends : EndsSeen w) (t : Txn A) (i : In t w.txns) (o : is_open t.standing ≡ true) (n : ℕ) (keep : ℕ → Bool) (h : Keeps w n keep) (from : n ≤ t.snapshot) where
-    -- who was active at the snapshot and has committed has a number above it
+    -- a transaction that was active at the snapshot and has committed has a number above it
     recent_active : (u : Txn A) → In u w.txns → was_active t u ≡ true → is_done u.standing ≡ true → (is_read_write u.mode ≡ true) × (n < u.commit)
     recent_active u j e d = let p = active_above w g t i ends u j e d in (p.1, omega (arith, p.2, from))
 

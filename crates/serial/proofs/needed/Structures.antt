@@ -7,7 +7,7 @@ use Rattle.value.proofs.IsolationLemmas.{In}
 use Rattle.conflict.proofs.Structures.{Danger, parts, cause-kept}
 
 module _ {T : Type 0} (node : T → Node) (edge : T → T → Bool) where
-  -- x commits among ts; k tells which are kept, and n is a number at most x's snapshot.
+  -- x commits among ts; k says which are kept, and n is a number at most x's snapshot.
   pub record Suits (ts : List T) (x : T) (n : ℕ) (k : T → Bool) : Type 0 where
     pub seen : (a b : T) → In a ts → In b ts → edge a b ≡ true → (node a).snapshot < (node b).commit
     pub writes : (a b : T) → In a ts → In b ts → edge a b ≡ true → (node b).read_write ≡ true

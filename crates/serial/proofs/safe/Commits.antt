@@ -1,4 +1,4 @@
--- A reader of a safe snapshot commits, and one that begins while nobody is open who may write reads from a safe one.
+-- A reader of a safe snapshot commits, and one that begins while no transaction is open that may write reads from a safe one.
 use Rattle.std.proofs.Common.{◌≡◌, refl, sym, ap, ◌∙◌, ℕ, ◌+◌, true, false, not, ◌&&◌, ◌||◌, ◌⊎◌, inl, inr, List, [], ◌∷◌, ◌++◌, None, nat_lt, arith}
 use Rattle.std.proofs.lemmas.Bool.{ltb-true, and_parts, and_from, or_cases, false_from_ne_true}
 use Rattle.value.specs.declared.refusal.Mode.{Mode}
@@ -30,7 +30,7 @@ module _ {A : Type 0} where
       ts : List (Txn A)
       ts = committing w t
 
-  -- nobody is open who may write
+  -- no transaction is open that may write
   abbrev pub Unwritten : World A → Type 0
   Unwritten w = (u : Txn A) → In u w.txns → is_read_write u.mode ≡ true → is_open u.standing ≡ true → ⊥
 
@@ -43,7 +43,7 @@ module _ {A : Type 0} where
       ts : List (Txn A)
       ts = w.txns ++ begun w s m ∷ []
 
-      -- nobody who may write was active
+      -- no transaction that may write was active
       inactive : (u : Txn A) → In u w.txns ⊎ ((u ≡ t) ⊎ ⊥) → was_active t u ≡ true → ⊥
       inactive u i e = go i (and_parts (is_read_write u.mode && nat_lt u.begin t.taken) (is_open u.standing || nat_lt t.taken u.end) e)
         where

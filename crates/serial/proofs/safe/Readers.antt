@@ -1,4 +1,4 @@
--- Readers of safe snapshots: what is told of such a snapshot stands for good, whether it was asked for or not.
+-- Readers of safe snapshots: what is known of such a snapshot stands for good, whether it was asked for or not.
 use Rattle.std.proofs.Common.{◌≡◌, refl, ap, subst, ℕ, ◌<◌, ◌≤◌, Bool, true, false, not, ◌&&◌, ◌||◌, ◌⊎◌, inl, inr, List, nat_lt, nat_le, arith}
 use Rattle.std.proofs.lemmas.Bool.{not-true, leb-true, ltb-true, and_parts, and_from, or_cases, or_right, false_from_ne_true}
 use Rattle.std.specs.List.{list_any}
@@ -17,7 +17,7 @@ above_none : (a b : ℕ) → a < b → b ≡ 0 → ⊥
 above_none a b l e = grind arith
 
 module _ {A : Type 0} where
-  -- who may write is no safe reader
+  -- a transaction that may write is no safe reader
   pub writer_unsafe : (ts : List (Txn A)) (t : Txn A) → is_read_write t.mode ≡ true → is_safe_reader ts t ≡ false
   writer_unsafe ts t e = ap (λ b. not b && (t.known || is_settled ts t)) e
 
@@ -39,7 +39,7 @@ module _ {A : Type 0} where
         go (inr s) = settled_stands s
 
     module _ (ends : EndsSeen w) where
-      -- who was active at the snapshot and has committed has a number above it
+      -- a transaction that was active at the snapshot and has committed has a number above it
       pub active_above : (u : Txn A) → In u w.txns → was_active t u ≡ true → is_done u.standing ≡ true → In u w.log × (is_read_write u.mode ≡ true) × (t.snapshot < u.commit)
       active_above u j e d = go (g.numbered.kind u j)
         where

@@ -47,8 +47,8 @@ module _ {A : Type 0} where
   abbrev pub stamp : Txn A → Stamp
   stamp t = record { snapshot = t.snapshot; taken = t.taken; known = t.known }
 
-  -- What a stamp says is so. Who began after it shows at least as much, and what it doesn't show ended after it.
-  -- Where it is known, nobody who may write is open from before it, and no commit above it has an edge to one that it shows.
+  -- What a stamp says is so. A transaction that may write and began after it shows at least as much, and what it doesn't show ended after it.
+  -- Where it is known, no transaction that may write is open from before it, and no commit above it has an edge to one that it shows.
   pub record Stands (w : World A) (p : Stamp) : Type 0 where
     pub taken_by : p.taken ≤ w.place
     pub shown : p.snapshot ≤ commits w
@@ -175,7 +175,7 @@ module _ {A : Type 0} where
   abbrev now : World A → Bool → Stamp
   now w k = record { snapshot = commits w; taken = w.place + 1; known = k }
 
-  -- It stands, where nobody who may write is open, if it is to be known.
+  -- It stands, where no transaction is open that may write, if it is to be known.
   stands_now : (w : World A) (t x : Txn A) (exports : List Exported_snapshot) (k : Bool) → IsNumbered w → IsInTime w → In t w.txns → Carries w t x w.log
       → (k ≡ true → (u : Txn A) → In u w.txns → is_read_write u.mode ≡ true → is_open u.standing ≡ true → ⊥) → Stands (Moved w x w.log exports) (now w k)
   stands_now w t x exports k num time i c alone = record {
@@ -198,11 +198,11 @@ module _ {A : Type 0} where
       ended_all e u (inl q) r o = alone e t i (sym (ap is_read_write (ap (λ (y : Txn A). y.mode) q ∙ c.mode)) ∙ r) (c.was_open (sym (ap (λ (y : Txn A). is_open y.standing) q) ∙ o))
       ended_all e u (inr j) r o = alone e u j.0 r o
 
-  -- who may write, is open and began before a stamp was active at it
+  -- a transaction that may write, is open and began before a stamp was active at it
   active : (t u : Txn A) → is_read_write u.mode ≡ true → is_open u.standing ≡ true → u.begin < t.taken → (was_active t u && is_open u.standing) ≡ true
   active t u r o l = and_from _ _ (and_from _ _ (and_from _ _ r (lt-ltb u.begin t.taken l)) (or_left _ _ o)) o
 
-  -- The snapshot isn't spoilt, and nobody is awaited: it is safe.
+  -- The snapshot isn't spoilt, and no transaction is awaited: it is safe.
   pub stands_settled : (w : World A) (t : Txn A) → IsNumbered w → AllStand w → In t w.txns
       → is_spoilt w.txns t ≡ false → list_any (λ u. was_active t u && is_open u.standing) w.txns ≡ false
       → Stands w (stamp (record t { known = true }))

@@ -20,7 +20,7 @@ impl<A: Allocator> Core<A> {
     pub fn is_legal(&self)
         ensures { IsLegal self.now }
     {
-        // Naming a field tells what the type keeps true.
+        // Naming a field shows the prover what the type keeps true.
         let _history = &self.history;
     }
 

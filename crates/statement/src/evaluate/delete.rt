@@ -207,7 +207,7 @@ pub(super) fn delete<A: Allocator + Copy, R: SnapshotReader<A>>(
         Some(place) => Ok(answers(alloc, Reply::Refused(referenced(place)))),
         None => {
             let written = delete_rows(alloc, catalog, table, rows.as_slice())?;
-            Ok(written.outcome(Reply::Deleted(rows.len() as u64)))
+            Ok(written.outcome(table, Reply::Deleted(rows.len() as u64)))
         }
     }
 }

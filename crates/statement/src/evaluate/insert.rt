@@ -161,7 +161,7 @@ impl<'n, A: Allocator + Copy, R: SnapshotReader<A>> Inserting<'n, A, R> {
             Some(fault) => Ok(answers(alloc, Reply::Refused(fault))),
             None => {
                 let written = self.write(alloc, row)?;
-                Ok(written.outcome(Reply::Inserted))
+                Ok(written.outcome(self.table, Reply::Inserted))
             }
         }
     }

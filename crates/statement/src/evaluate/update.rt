@@ -263,7 +263,7 @@ impl<'u, A: Allocator + Copy, R: SnapshotReader<A>> Updating<'u, A, R> {
             let after = updated_row(alloc, self.assignments, row)?;
             written.update(alloc, table, columns, row, after)?;
         }
-        Ok(written.outcome(Reply::Updated(rows.len() as u64)))
+        Ok(written.outcome(table, Reply::Updated(rows.len() as u64)))
     }
 }
 

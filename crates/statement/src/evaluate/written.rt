@@ -2,15 +2,16 @@
 
 ghost use Rattle.std.specs.Prelude.{◌≡◌, ◌+◌, ◌≤◌, ◌++◌, ◌∷◌, [], Some, length, OnOk, IfErr};
 ghost use Rattle.value.specs.Refusals.{out_of_memory};
+ghost use Rattle.schema.specs.Changing.{AreOfTable};
 ghost use Rattle.schema.specs.Plain.{cells};
 ghost use Rattle.statement.specs.Evaluation.{puts, removes};
 ghost use Rattle.statement.specs.Marks.{references_among, references_of};
 
 use crate::interval::key_of;
-use crate::outcome::{Mark, Marks, Outcome, Writes};
+use crate::outcome::{Mark, Marks, Outcome};
 use crate::reply::Reply;
 use schema::catalog::{Column, TableNo};
-use schema::changes::Change;
+use schema::changes::{Change, Changes};
 use schema::row::Row;
 use std::alloc::Allocator;
 use value::refusal::Refusal;
@@ -168,13 +169,14 @@ impl<A: Allocator + Copy> Written<A> {
         Ok(())
     }
 
-    /// The outcome of the statement, with its reply.
-    pub(super) fn outcome(self, reply: Reply<A>) -> Outcome<A>
+    /// The outcome of the statement, which writes to a table by rising keys, with its reply.
+    pub(super) fn outcome(self, table: TableNo, reply: Reply<A>) -> Outcome<A>
+        requires { AreOfTable table self.changes.items }
         ensures { result ≡ record { reply = reply; changes = self.changes.items; marks = self.marks.items } }
     {
         Outcome {
             reply,
-            changes: Writes::of(self.changes),
+            changes: Changes::of_list(table, self.changes),
             marks: Marks::of(self.marks),
         }
     }

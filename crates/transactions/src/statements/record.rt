@@ -21,7 +21,8 @@ use crate::transaction::Transaction;
 use crate::world::World;
 use history::event::Action;
 use history::session_id::SessionId;
-use statement::outcome::{Marks, Outcome, Writes};
+use schema::changes::Changes;
+use statement::outcome::{Marks, Outcome};
 use statement::reply::Reply;
 use statement::statement::Statement;
 use std::alloc::Allocator;
@@ -33,7 +34,7 @@ fn outcome_of<A: Allocator + Copy>(alloc: A, reply: Reply<A>) -> Outcome<A>
 {
     Outcome {
         reply,
-        changes: Writes::of(Vec::new(alloc)),
+        changes: Changes::new(alloc),
         marks: Marks::of(Vec::new(alloc)),
     }
 }

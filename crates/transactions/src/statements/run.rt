@@ -184,7 +184,7 @@ impl<A: Allocator> World<A> {
             changes,
             marks,
         } = outcome;
-        let list = changes.into_list();
+        let list = changes.into_list(alloc)?;
         let all = self.transactions.as_slice();
         if meets_another(all, self.past.as_slice(), transaction, list.as_slice()) {
             return Ok(Ran::Refused(Refusal {

@@ -12,8 +12,7 @@ pub returns-in-Some : goal.returns-in-Some
 returns-in-Some g c =
     let X = g.R.SnapshotReader.tables c.args.self.now.reader.now in
     let within : c.args.table < length X = omega (arith, c.requires, length-put_all c.args.self.now.changes.now X) in
-    c.as_ref.ensures.value
-    ∙ sym (row_of-overlaid c.args.self.now.changes.now X c.args.table c.args.key.now within c.in_key_order.ensures ∙ ap (λ o. unwrap_or o (row_of (rows_of X c.args.table) c.args.key.now)) (sym c.in-Some.ensures))
+    sym (row_of-overlaid c.args.self.now.changes.now X c.args.table c.args.key.now within c.in_key_order.ensures ∙ ap (λ o. unwrap_or o (row_of (rows_of X c.args.table) c.args.key.now)) (sym c.in-Some.ensures))
 
 pub returns-in-None : goal.returns-in-None
 returns-in-None g c =

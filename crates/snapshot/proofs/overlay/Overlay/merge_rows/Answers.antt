@@ -1,7 +1,7 @@
 use Rattle.std.proofs.Common.{◌≡◌, ◌<◌, ◌++◌, [], ◌∷◌, Some, None, ap, sym, ◌∙◌, arith, length, take}
 use Rattle.std.proofs.lemmas.List.{length-map, take_all}
 use Rattle.std.specs.List.{slice_get}
-use Rattle.std.specs.Option.{option_map}
+use Rattle.std.specs.Option.{option_copied, option_map}
 use Rattle.schema.specs.Walking.{lent}
 use Rattle.schema.proofs.PlainLemmas.{length-put_all}
 use Rattle.snapshot.specs.Merging.{unless_before}
@@ -29,20 +29,20 @@ returns-clause-ordered g c = put_all-in_order c.args.self.now.changes.now (g.R.S
 
 pub both-smaller-in-Some : goal.both-smaller-in-Some
 both-smaller-in-Some g c =
-    let change = option_map (λ p. (p.0.now, p.1.now)) c.both.change in
-    let is : unless_before (slice_get c.both.ahead 0) change ≡ Some (c.in-Some.key.now, c.in-Some.own.now) = ap (λ o. unless_before o change) (sym c.first.ensures) ∙ sym c.in-Some.ensures in
-    own_smaller c.args.self.now.changes.now c.args.table c.both.ahead change c.in-Some.key c.in-Some.own.now c.take_own.new.ahead (option_map (λ p. (p.0.now, p.1.now)) c.next-change-in-Some.result) c.in_key_order.ensures is c.in_ok-take_own-in-Some.ensures.ahead c.next-change-in-Some.ensures
+    let change = option_map (λ p. (p.0.now, option_copied p.1)) c.both.change in
+    let is : unless_before (slice_get c.both.ahead 0) change ≡ Some (c.in-Some.key.now, option_copied c.in-Some.own) = ap (λ o. unless_before o change) (sym c.first.ensures) ∙ sym c.in-Some.ensures in
+    own_smaller c.args.self.now.changes.now c.args.table c.both.ahead change c.in-Some.key (option_copied c.in-Some.own) c.take_own.new.ahead (option_map (λ p. (p.0.now, option_copied p.1)) c.next-change-in-Some.result) c.in_key_order.ensures is c.in_ok-take_own-in-Some.ensures.ahead c.next-change-in-Some.ensures
 
 pub both-preserved-in-Some : goal.both-preserved-in-Some
 both-preserved-in-Some g c =
     let xs = c.args.self.now.changes.now in
     let X = g.R.SnapshotReader.tables c.args.self.now.reader.now in
     let within : c.args.table < length X = omega (arith, c.requires, length-put_all xs X) in
-    let change = option_map (λ p. (p.0.now, p.1.now)) c.both.change in
-    let is : unless_before (slice_get c.both.ahead 0) change ≡ Some (c.in-Some.key.now, c.in-Some.own.now) = ap (λ o. unless_before o change) (sym c.first.ensures) ∙ sym c.in-Some.ensures in
+    let change = option_map (λ p. (p.0.now, option_copied p.1)) c.both.change in
+    let is : unless_before (slice_get c.both.ahead 0) change ≡ Some (c.in-Some.key.now, option_copied c.in-Some.own) = ap (λ o. unless_before o change) (sym c.first.ensures) ∙ sym c.in-Some.ensures in
     let few : length (lent c.both.rows.items) < c.args.most = omega (arith, c.both-test.true, c.len.ensures, c.both.rows.ok.0, length-map c.both.rows.items (λ row. row.now)) in (
-      own_stands xs X c.args.table c.args.after within c.in_key_order.ensures c.within.ensures.ordered (lent c.both.rows.items) c.both.ahead change c.in-Some.key c.in-Some.own.now (lent c.take_own.new.rows.items) c.take_own.new.ahead (option_map (λ p. (p.0.now, p.1.now)) c.next-change-in-Some.result) c.both.invariant.0 is c.in_ok-take_own-in-Some.ensures.rows c.in_ok-take_own-in-Some.ensures.ahead c.next-change-in-Some.ensures,
-      few_more (lent c.both.rows.items) (lent c.take_own.new.rows.items) c.in-Some.own.now c.args.most c.in_ok-take_own-in-Some.ensures.rows few,
+      own_stands xs X c.args.table c.args.after within c.in_key_order.ensures c.within.ensures.ordered (lent c.both.rows.items) c.both.ahead change c.in-Some.key (option_copied c.in-Some.own) (lent c.take_own.new.rows.items) c.take_own.new.ahead (option_map (λ p. (p.0.now, option_copied p.1)) c.next-change-in-Some.result) c.both.invariant.0 is c.in_ok-take_own-in-Some.ensures.rows c.in_ok-take_own-in-Some.ensures.ahead c.next-change-in-Some.ensures,
+      few_more (lent c.both.rows.items) (lent c.take_own.new.rows.items) (option_copied c.in-Some.own) c.args.most c.in_ok-take_own-in-Some.ensures.rows few,
     )
 
 pub returns-in_default-clause-rows : goal.returns-in_default-clause-rows
@@ -50,7 +50,7 @@ returns-in_default-clause-rows g c =
     let xs = c.args.self.now.changes.now in
     let X = g.R.SnapshotReader.tables c.args.self.now.reader.now in
     let within : c.args.table < length X = omega (arith, c.requires, length-put_all xs X) in
-    let change = option_map (λ p. (p.0.now, p.1.now)) c.both.change in
+    let change = option_map (λ p. (p.0.now, option_copied p.1)) c.both.change in
     let is : unless_before (slice_get c.both.ahead 0) change ≡ None = ap (λ o. unless_before o change) (sym c.first.ensures) ∙ sym c.in-None.ensures in
     let e = ends xs X c.args.table c.args.after within c.in_key_order.ensures c.within.ensures.ordered (lent c.both.rows.items) c.both.ahead change c.both.invariant.0 is (sym c.in_default.ensures) in
     sym (take_all c.args.most (lent c.both.rows.items) c.both.invariant.1) ∙ ap (take c.args.most) e
@@ -60,7 +60,7 @@ both-preserved g c =
     let xs = c.args.self.now.changes.now in
     let X = g.R.SnapshotReader.tables c.args.self.now.reader.now in
     let within : c.args.table < length X = omega (arith, c.requires, length-put_all xs X) in
-    let change = option_map (λ p. (p.0.now, p.1.now)) c.both.change in
+    let change = option_map (λ p. (p.0.now, option_copied p.1)) c.both.change in
     let is : unless_before (slice_get c.both.ahead 0) change ≡ None = ap (λ o. unless_before o change) (sym c.first.ensures) ∙ sym c.in-None.ensures in
     let few : length (lent c.both.rows.items) < c.args.most = omega (arith, c.both-test.true, c.len.ensures, c.both.rows.ok.0, length-map c.both.rows.items (λ row. row.now)) in
     let more = c.in_ok-take_lent-in-None.ensures.rows in (

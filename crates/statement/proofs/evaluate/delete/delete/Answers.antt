@@ -1,4 +1,4 @@
-use Rattle.std.proofs.Common.{◌≡◌, Ok, inl, true, map, ap, sym, subst, ◌∙◌}
+use Rattle.std.proofs.Common.{◌≡◌, None, Ok, inl, true, map, ap, sym, subst, ◌∙◌}
 use Rattle.std.proofs.lemmas.List.{length-map}
 use Rattle.std.specs.FinMap.{is_sorted}
 use Rattle.value.specs.Order.{value_cmp}
@@ -8,7 +8,7 @@ use Rattle.statement.proofs.DeleteLemmas.{delete_has, delete_readable, deleted_n
 use Rattle.statement.specs.Evaluation.{deleted, removes}
 use Rattle.statement.specs.Writing.{AreRowsOf, references_of_rows}
 use Rattle.value.specs.Refusals.{AnswersOrNoMemory}
-use Rattle.statement.proofs.WritingLemmas.{chosen_rows}
+use Rattle.statement.proofs.WritingLemmas.{chosen_rows, writes_rise}
 use Rattle.statement.proofs.evaluate.delete.delete.Goals as goal
 
 pub chosen-requires-clause-has : goal.chosen-requires-clause-has
@@ -37,3 +37,10 @@ returns g c =
     (c.in_ok-written-in-None.ensures.changes ∙ ap (λ rs. map (removes c.args.table) (map (λ row. row.now) rs)) shown)
     (c.in_ok-written-in-None.ensures.marks ∙ ap (λ rs. references_of_rows c.args.table (columns_of C c.args.table) (map (λ row. row.now) rs)) shown) in
     subst (λ zs. AnswersOrNoMemory (Ok c.outcome.result) (Ok (deleted C c.args.table zs X))) is (inl (ap Ok e))
+
+pub outcome-requires : goal.outcome-requires
+outcome-requires g c =
+    let X = g.R.SnapshotReader.tables c.args.reader.now in
+    let is = ap (map (λ row. row.now)) c.as_slice-in-None.ensures.value ∙ c.in_ok-rows.ensures.ok ∙ ap (chosen X c.args.table) c.as_slice.ensures in
+    let sorted = subst (λ rows. is_sorted value_cmp rows ≡ true) (sym is) (chosen_rows c.args.catalog.now X c.args.table c.args.conditions.now c.requires.held).sorted in
+    writes_rise c.args.table (λ row. None) (map (λ row. row.now) c.as_slice-in-None.result.now) c.in_ok-written-in-None.written.changes.items sorted c.in_ok-written-in-None.ensures.changes

@@ -1,4 +1,4 @@
-use Rattle.std.proofs.Common.{ap, refl, sym, subst, Some, ◌∙◌, ◌≡◌, true, false, get_or}
+use Rattle.std.proofs.Common.{ap, refl, sym, subst, Some, ◌∙◌, ◌≡◌, true, false, true≢false, get_or}
 use Rattle.history.specs.Transactions.{Txn, is_open}
 use Rattle.history.specs.declared.event.Action.TheVariants.{Run}
 use Rattle.transactions.specs.Ledger.{Ledger, ready, txn_at}
@@ -44,3 +44,16 @@ record_open-requires-clause-found g c =
     let found : txn_at now.txns c.args.at ≡ c.index.result.now = txn_at-is now.txns c.args.at c.index.result.now c.requires.within (c.index.ensures ∙ ap (λ (l : Ledger _). get_or l.txns c.args.at c.index.result.now) c.self.view_is) in
     let open' : is_open (txn_at now.txns c.args.at).standing ≡ true = ap (λ (t : Txn _). is_open t.standing) found ∙ sym c.is_active.ensures ∙ c.if-is_active.true in
     subst (λ a. IsFoundFor c.args.versions.now.catalog.now (Some (ready (versions_at c.args.versions.now.rows.now) a (txn_at now.txns c.args.at))) a c.args.reply) c.in-Run.is c.requires.found open'
+
+pub record_open-requires-clause-open : goal.record_open-requires-clause-open
+record_open-requires-clause-open g c =
+    let now : Ledger _ = c.args.self.now in
+    let found : txn_at now.txns c.args.at ≡ c.index.result.now = txn_at-is now.txns c.args.at c.index.result.now c.requires.within (c.index.ensures ∙ ap (λ (l : Ledger _). get_or l.txns c.args.at c.index.result.now) c.self.view_is) in
+    ap (λ (t : Txn _). is_open t.standing) found ∙ sym c.is_active.ensures ∙ c.if-is_active.true
+
+pub settle-requires-else-is_active-clause-simple : goal.settle-requires-else-is_active-clause-simple
+settle-requires-else-is_active-clause-simple g c =
+    let now : Ledger _ = c.args.self.now in
+    let found : txn_at now.txns c.args.at ≡ c.index.result.now = txn_at-is now.txns c.args.at c.index.result.now c.requires.within (c.index.ensures ∙ ap (λ (l : Ledger _). get_or l.txns c.args.at c.index.result.now) c.self.view_is) in
+    let over : is_open (txn_at now.txns c.args.at).standing ≡ false = ap (λ (t : Txn _). is_open t.standing) found ∙ sym c.is_active.ensures ∙ c.if-is_active.false in
+    λ o. absurd (true≢false (sym o ∙ over))

@@ -1,4 +1,4 @@
-use Rattle.std.proofs.Common.{ap, refl, sym, ◌∙◌, ◌≡◌, true, false, get_or}
+use Rattle.std.proofs.Common.{ap, refl, sym, ◌∙◌, ◌≡◌, true, false, true≢false, get_or}
 use Rattle.history.specs.Transactions.{Txn, is_open}
 use Rattle.history.specs.declared.event.Action.TheVariants.{Run, Export, Commit}
 use Rattle.transactions.specs.Ledger.{Ledger, txn_at}
@@ -69,3 +69,28 @@ commit-requires-clause-committer g c = λ c' X.
     let found : txn_at now.txns c.args.at ≡ c.index.result.now = txn_at-is now.txns c.args.at c.index.result.now c.requires.within (c.index.ensures ∙ ap (λ (l : Ledger _). get_or l.txns c.args.at c.index.result.now) c.self.view_is) in
     let open' : is_open (txn_at now.txns c.args.at).standing ≡ true = ap (λ (t : Txn _). is_open t.standing) found ∙ sym c.is_active.ensures ∙ c.if-is_active.true in
     c.requires.committer open'
+
+pub run-requires-clause-open : goal.run-requires-clause-open
+run-requires-clause-open g c =
+    let now : Ledger _ = c.args.self.now in
+    let found : txn_at now.txns c.args.at ≡ c.index.result.now = txn_at-is now.txns c.args.at c.index.result.now c.requires.within (c.index.ensures ∙ ap (λ (l : Ledger _). get_or l.txns c.args.at c.index.result.now) c.self.view_is) in
+    ap (λ (t : Txn _). is_open t.standing) found ∙ sym c.is_active.ensures ∙ c.if-is_active.true
+
+pub export-requires-clause-open : goal.export-requires-clause-open
+export-requires-clause-open g c =
+    let now : Ledger _ = c.args.self.now in
+    let found : txn_at now.txns c.args.at ≡ c.index.result.now = txn_at-is now.txns c.args.at c.index.result.now c.requires.within (c.index.ensures ∙ ap (λ (l : Ledger _). get_or l.txns c.args.at c.index.result.now) c.self.view_is) in
+    ap (λ (t : Txn _). is_open t.standing) found ∙ sym c.is_active.ensures ∙ c.if-is_active.true
+
+pub commit-requires-clause-open : goal.commit-requires-clause-open
+commit-requires-clause-open g c =
+    let now : Ledger _ = c.args.self.now in
+    let found : txn_at now.txns c.args.at ≡ c.index.result.now = txn_at-is now.txns c.args.at c.index.result.now c.requires.within (c.index.ensures ∙ ap (λ (l : Ledger _). get_or l.txns c.args.at c.index.result.now) c.self.view_is) in
+    ap (λ (t : Txn _). is_open t.standing) found ∙ sym c.is_active.ensures ∙ c.if-is_active.true
+
+pub settle-requires-else-is_active-clause-simple : goal.settle-requires-else-is_active-clause-simple
+settle-requires-else-is_active-clause-simple g c =
+    let now : Ledger _ = c.args.self.now in
+    let found : txn_at now.txns c.args.at ≡ c.index.result.now = txn_at-is now.txns c.args.at c.index.result.now c.requires.within (c.index.ensures ∙ ap (λ (l : Ledger _). get_or l.txns c.args.at c.index.result.now) c.self.view_is) in
+    let over : is_open (txn_at now.txns c.args.at).standing ≡ false = ap (λ (t : Txn _). is_open t.standing) found ∙ sym c.is_active.ensures ∙ c.if-is_active.false in
+    λ o. absurd (true≢false (sym o ∙ over))

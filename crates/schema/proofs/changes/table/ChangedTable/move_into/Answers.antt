@@ -9,7 +9,7 @@ loop-key-init g c = ap (λ cs. c.args.list.now.items ++ changes_in c.args.table 
 pub loop-key-preserved : goal.loop-key-preserved
 loop-key-preserved g c =
     let left = changes_in c.args.table (shown_changes c.next.new.self) in
-    let pushed = c.in_ok-push.ensures.items ∙ (λ i. c.loop-key.list.items ++ record { table = c.args.table; key = c.in-Some.key; fields = c.fields_of-fields.ensures i } ∷ []) in
+    let pushed = c.in_ok-push.ensures.items ∙ ap (λ x. c.loop-key.list.items ++ x ∷ []) c.change_of.ensures in
     ap (λ xs. xs ++ left) pushed
     ∙ append_assoc c.loop-key.list.items (_ ∷ []) left
     ∙ ap (λ es. c.loop-key.list.items ++ changes_in c.args.table (shown_changes es)) (sym c.in-Some.ensures.steps)

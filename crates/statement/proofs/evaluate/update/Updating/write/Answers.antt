@@ -3,7 +3,7 @@ use Rattle.schema.specs.Plain.{columns_of}
 use Rattle.statement.specs.Evaluation.{puts, updated_row}
 use Rattle.statement.specs.Marks.{references_of}
 use Rattle.statement.proofs.UpdatingLemmas.{all_written, row_assignable}
-use Rattle.statement.proofs.WritingLemmas.{changes_more, marks_more}
+use Rattle.statement.proofs.WritingLemmas.{all_writes_rise, changes_more, marks_more}
 use Rattle.statement.proofs.evaluate.update.Updating.write.Goals as goal
 
 pub updated_row-requires : goal.updated_row-requires
@@ -36,3 +36,7 @@ pub returns-clause-ok : goal.returns-clause-ok
 returns-clause-ok g c =
     all_written c.args.self.now.catalog.now (g.R.SnapshotReader.tables c.args.self.now.reader.now) c.args.table c.args.self.now.assignments.now c.args.rows.now c.loop-row.row-index c.outcome.result c.loop-row.written.changes.items c.loop-row.written.marks.items
     (omega arith) c.outcome.ensures c.loop-row.invariant.changes c.loop-row.invariant.marks
+
+pub outcome-requires : goal.outcome-requires
+outcome-requires g c =
+    all_writes_rise c.args.table (λ row. Some (updated_row c.args.self.now.assignments.now row).1) c.args.rows.now c.loop-row.row-index c.loop-row.written.changes.items (omega arith) c.requires.rows.sorted c.loop-row.invariant.changes

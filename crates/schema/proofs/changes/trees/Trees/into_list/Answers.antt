@@ -1,7 +1,7 @@
 use Rattle.std.proofs.Common.{◌+◌, ◌++◌, ap, sym, ◌∙◌, arith, length, add-one, append_assoc, append-nil}
 use Rattle.std.proofs.lemmas.List.{nil_from_length}
 use Rattle.schema.specs.Changing.{changes_in, changes_from}
-use Rattle.schema.proofs.changes.Changes.into_list.Goals as goal
+use Rattle.schema.proofs.changes.trees.Trees.into_list.Goals as goal
 
 pub loop-changes-preserved : goal.loop-changes-preserved
 loop-changes-preserved g c =

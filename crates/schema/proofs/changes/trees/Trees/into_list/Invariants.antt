@@ -1,6 +1,6 @@
 use Rattle.std.proofs.Common.{◌≡◌, ◌≤◌, ◌^◌, ◌+◌, ◌++◌, length}
 use Rattle.schema.specs.Changing.{changes_from}
-use Rattle.schema.proofs.changes.Changes.into_list.Given as goal
+use Rattle.schema.proofs.changes.trees.Trees.into_list.Given as goal
 
 -- the changes moved so far, and those left; each place left is the number of a table
 abbrev pub invariant-loop-changes : goal.invariant-loop-changes

@@ -1,6 +1,6 @@
 use Rattle.std.proofs.Common.{◌≡◌, ◌≤◌, ◌<◌, ◌^◌, ◌+◌, ◌-◌, vec_len}
 use Rattle.schema.specs.Changing.{changes_from}
-use Rattle.schema.proofs.changes.make_room.Given as goal
+use Rattle.schema.proofs.changes.trees.make_room.Given as goal
 
 -- nothing more is said, and no room past the place is made
 abbrev pub invariant-room : goal.invariant-room

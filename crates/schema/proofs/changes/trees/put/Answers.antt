@@ -1,6 +1,6 @@
 use Rattle.std.proofs.Common.{arith}
 use Rattle.schema.proofs.ChangingLemmas.{put_done}
-use Rattle.schema.proofs.changes.put.Goals as goal
+use Rattle.schema.proofs.changes.trees.put.Goals as goal
 
 pub returns-clause-ok : goal.returns-clause-ok
 returns-clause-ok g c =

@@ -1,7 +1,7 @@
 use Rattle.std.proofs.Common.{[], sym, ap, ◌∙◌, slice_index_or}
 use Rattle.schema.specs.Changing.{change_of, keyed_change}
 use Rattle.schema.proofs.ChangingLemmas.{change_of-table}
-use Rattle.schema.proofs.changes.Changes.get.Goals as goal
+use Rattle.schema.proofs.changes.trees.Trees.get.Goals as goal
 
 pub returns : goal.returns
 returns g c =

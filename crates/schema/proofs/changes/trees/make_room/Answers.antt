@@ -1,7 +1,7 @@
 use Rattle.std.proofs.Common.{[], ◌∷◌, ◌++◌, ap, ◌∙◌, arith}
 use Rattle.schema.specs.Changing.{changes_from}
 use Rattle.schema.proofs.ChangingLemmas.{changes-more}
-use Rattle.schema.proofs.changes.make_room.Goals as goal
+use Rattle.schema.proofs.changes.trees.make_room.Goals as goal
 
 pub room-preserved : goal.room-preserved
 room-preserved g c =

@@ -1,7 +1,7 @@
 use Rattle.std.proofs.Common.{[], sym, ap, ◌∙◌, slice_index_or}
 use Rattle.schema.specs.Changing.{next_change, next_keyed}
 use Rattle.schema.proofs.ChangingLemmas.{next_change-table}
-use Rattle.schema.proofs.changes.Changes.next.Goals as goal
+use Rattle.schema.proofs.changes.trees.Trees.next.Goals as goal
 
 pub returns : goal.returns
 returns g c =
