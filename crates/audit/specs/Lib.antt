@@ -2,3 +2,4 @@ pub mod Course
 pub mod Replay
 pub mod Same
 pub mod Sorting
+pub mod Orders

@@ -6,3 +6,4 @@ mod answer;
 mod course;
 pub mod keys;
 pub mod order;
+pub mod ordering;

@@ -39,7 +39,7 @@ fn answers_so<A: Allocator + Copy>(
     ensures memory { IfErr result (λ e. e ≡ out_of_memory) }
 {
     let outcome = evaluate(alloc, catalog, &answered.statement, &*tables)?;
-    let changes = outcome.changes.into_list();
+    let changes = outcome.changes.into_list(alloc)?;
     tables.apply_all(alloc, changes.as_slice())?;
     Ok(is_same_answer(&outcome.reply, &answered.reply))
 }

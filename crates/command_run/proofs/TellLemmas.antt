@@ -1,4 +1,4 @@
--- What steps have told that are done one after the other.
+-- What is printed of steps that are done one after the other.
 use Rattle.std.proofs.Common.{◌≡◌, ◌⊎◌, ℕ, ◌+◌, ◌<◌, ◌≤◌, arith, List, [], ◌∷◌, ◌++◌, length, get_or, take, codes, Option, Some, None, Result, Ok, Err, IfErr, OnOk, inl, inr, refl, sym, ap, subst, ◌∙◌}
 use Rattle.std.proofs.lemmas.List.{take_more, take_all}
 use Rattle.std.proofs.lemmas.Option.{slice_get_read}
@@ -41,7 +41,7 @@ module _ {A : Type 0} where
 
 -- where dumps are written so
 module _ {A : Type 0} (writes : Writing) where
-  -- the first n steps were done and told
+  -- the first n steps were done and printed
   abbrev pub SoFar : Manner → List (List ℕ) → ℕ → Recorded A → List (Line A) → ℕ → Recorded A → Option (List ℕ) → Option (List ℕ) → Type 0
   SoFar m ls most h steps n k a b = (text : List ℕ) × AreTold writes m ls most h (take n steps) k text × Appends a b text
 
@@ -75,7 +75,7 @@ module _ {A : Type 0} (writes : Writing) where
   stopped_behind first m ls most h steps (Ok x) a b c p t = tt
   stopped_behind first m ls most h steps (Err f) a b c p t = behind first m ls most h steps f a b c p t
 
-  -- the script was begun, and its steps were told
+  -- the script was begun, and its steps were printed
   pub begun_told : (held : List ℕ → Option (List ℕ)) (m : Manner) (most : ℕ) (script : List ℕ) (created : Catalog) (opens : Option (List ℕ)) (steps : List (Line A)) (c : Catalog) (X : Tables A) (h : Recorded A) (first : List ℕ) (ls : List (List ℕ)) (d : Result (Unit {0}) Fault) (a b : Option (List ℕ))
       → BeginsWith held opens created c X → h ≡ begun c X most → first ≡ told_first m script → ls ≡ told_lines m script
       → OnOk d (HasTold writes first m ls most h steps a b) → OnOk d (ScriptHasTold writes held m most script (record { catalog = created; opens = opens; lines = steps }) a b)
@@ -111,7 +111,7 @@ module _ {A : Type 0} (writes : Writing) where
   kept_stopped held m most script s f a b c (inl e) keeps = inl (e.0, appends_kept a b c [] e.1 keeps)
   kept_stopped held m most script s f a b c (inr e) keeps = inr (e.0, e.1, e.2, kept_stop (told_first m script) m (told_lines m script) most (begun e.0 e.1 most) s.lines f a b c e.3 keeps)
 
-  -- A script was told, of which these are the parts.
+  -- A script was printed, of which these are the parts.
   pub script_told : (held : List ℕ → Option (List ℕ)) (m : Manner) (most : ℕ) (script : List ℕ) (s : Said A) (catalog : Catalog) (opens : Option (List ℕ)) (steps : List (Line A)) (a b : Option (List ℕ))
       → catalog ≡ s.catalog → opens ≡ s.opens → steps ≡ s.lines
       → ScriptHasTold writes held m most script (record { catalog = catalog; opens = opens; lines = steps }) a b → ScriptHasTold writes held m most script s a b
@@ -134,7 +134,7 @@ module _ {A : Type 0} (writes : Writing) where
     subst (λ ls. HasStopped writes (told_first m script) m (told_lines m script) most (begun e.0 e.1 most) ls f a b) lined e.3,
   )
 
-  -- what is told of steps that ended, is told of their script
+  -- a script ends as its steps have ended
   pub script_ends : (held : List ℕ → Option (List ℕ)) (m : Manner) (most : ℕ) (script : List ℕ) (s : Said A) (n : ℕ) (d : Result (Unit {0}) Fault) (a b c : Option (List ℕ)) → IsToldBy n d b c → IfErr d (λ f. ScriptHasStopped writes held m most script s f a b) → ScriptEnds writes held m most script s n a c
   script_ends held m most script s n d a b c t stop = (t.0, t.1, go t.2)
     where
@@ -142,7 +142,7 @@ module _ {A : Type 0} (writes : Writing) where
       go (inl e) = inl e
       go (inr e) = inr (kept_stopped held m most script s t.0 a b c (subst (λ r. IfErr r (λ f. ScriptHasStopped writes held m most script s f a b)) e.0 stop) e.1)
 
-  -- a script that was told by its parts, of which then nothing more was printed
+  -- a script was printed by its parts, and then nothing more
   pub parts_told : (held : List ℕ → Option (List ℕ)) (m : Manner) (most : ℕ) (script : List ℕ) (s : Said A) (catalog : Catalog) (opens : Option (List ℕ)) (steps : List (Line A)) (d : Result (Unit {0}) Fault) (a b c : Option (List ℕ))
       → catalog ≡ s.catalog → opens ≡ s.opens → steps ≡ s.lines
       → OnOk d (ScriptHasTold writes held m most script (record { catalog = catalog; opens = opens; lines = steps }) a b) → (d ≡ Ok tt) × Keeps b c → ScriptHasTold writes held m most script s a c
@@ -155,7 +155,7 @@ module _ {A : Type 0} (writes : Writing) where
   parts_end held m most script s catalog opens steps n d a b c created opened lined t e =
       script_ends held m most script s n d a b c e (of_error d (λ f stop. script_stopped held m most script s catalog opens steps f a b created opened lined stop) t)
 
-  -- the same of the path that has it
+  -- a path's run ends as the script that the path has
   pub path_ends : (held : List ℕ → Option (List ℕ)) (input : Option (List ℕ)) (m : Manner) (most : ℕ) (path bytes : List ℕ) (s : Said A) (n : ℕ) (a b : Option (List ℕ)) → IsAllOf (read_of held input path) bytes → said InOrder bytes ≡ Ok s → ScriptEnds writes held m most bytes s n a b → EndsWith A writes held input m most path n a b
   path_ends held input m most path bytes s n a b all says t = (t.0, t.1, go t.2)
     where
@@ -168,7 +168,7 @@ pub memory_unbegun : (A : Type 0) (held : List ℕ → Option (List ℕ)) (opens
 memory_unbegun A held None f e = e
 memory_unbegun A held (Some path) f e = inl e
 
--- what is told where the words have a fault, and no help is printed
+-- how the command ends where its words have a fault, and it prints no help
 pub without_task : (m : Manner) (words : List Text) (e : Error) (n : ℕ) (before after : Option (List ℕ)) → HasKind (fault_of (run m) words) e → (n ≡ 2 → IsMistake (kind_of e)) → (kind_of e ≡ OutOfMemory → n ≡ 1) → ((n ≡ 0) ⊎ (n ≡ 3) → (kind_of e ≡ DisplayHelp) ⊎ (kind_of e ≡ DisplayVersion)) → (n ≡ 1 → after ≡ before) → (n ≡ 0) ⊎ (n ≡ 1) ⊎ (n ≡ 2) ⊎ (n ≡ 3) → (n ≡ 0 → ⊥) → IsWithoutTask m words n before after
 without_task m words e n before after has mistake memory help silent (inl zero) other = absurd (other zero)
 without_task m words e n before after has mistake memory help silent (inr (inl one)) other = inr (inl (one, silent one))

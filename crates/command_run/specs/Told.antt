@@ -1,4 +1,4 @@
--- What is told of a script's run: its lines, done one after the other, each with why it refuses its transaction, or each behind `> ` with its reply behind it (this project's own choice).
+-- What is printed of a script's run, whose lines are done one after the other. Each reply stands with why it refuses its transaction; or, in a transcript, each line stands after `> `, followed by its reply.
 use Rattle.std.specs.Prelude.{◌≡◌, ◌⊎◌, ℕ, List, [], ◌++◌, Option, Ok, codes, take}
 use Rattle.std.specs.Io.KnownBytes.{Appends}
 use Rattle.value.specs.declared.refusal.Refusal.{Refusal}
@@ -15,7 +15,7 @@ use Rattle.script.specs.declared.script.Line.{Line}
 use Rattle.script.specs.declared.schedule.Schedule.TheVariants.{InOrder}
 use Rattle.script.specs.Scripts.{Said, said}
 use Rattle.asking.specs.Asking.{Tells}
-use Rattle.retold.specs.Retold.{Retells}
+use Rattle.command_run.specs.Retold.{Retells}
 use Rattle.transcript.specs.Writing.{answered, asked, line_at, lines, tables_asked}
 use Rattle.program.specs.Beginnings.{BeginsWith}
 use Rattle.program.specs.Files.{IsAllOf, Writing, read_of}
@@ -28,23 +28,23 @@ use Rattle.script_files.specs.declared.fault.Fault.{Fault}
 use Rattle.command_run.specs.declared.manner.Manner.{Manner}
 use Rattle.command_run.specs.declared.manner.Manner.TheVariants.{Why, Transcript}
 
--- what stands before what is told of the steps: of a transcript the script's lines that set tables
+-- what is printed before the steps: in a transcript the script's lines that set tables
 abbrev pub told_first : Manner → List ℕ → List ℕ
 told_first Why script = []
 told_first Transcript script = tables_asked script
 
--- the lines of a script that are told
+-- the lines of a script that are printed
 abbrev pub told_lines : Manner → List ℕ → List (List ℕ)
 told_lines Why script = []
 told_lines Transcript script = lines script
 
--- What is told of the line n of some lines, whose reply is this: of a transcript that line behind `> `, and the lines of the reply behind two spaces.
+-- What is printed of the line n of some lines, whose reply is this: in a transcript that line after `> `, and the lines of the reply, each after two spaces.
 abbrev pub told_line : Manner → List (List ℕ) → ℕ → List ℕ → List ℕ
 told_line Why ls n reply = reply
 told_line Transcript ls n reply = asked (line_at ls n) ++ answered reply
 
 module _ {A : Type 0} where
-  -- What session s asked for was answered, by which the history h has become k, and this is the reply: as `run` prints it, where refusals are explained with remarks behind it.
+  -- What session s asked for was answered, which took the history h to k, and this is the reply as `run` prints it. Where refusals are explained, remarks follow it.
   abbrev pub TellsRequest : Manner → Recorded A → Recorded A → ℕ → Request A → List ℕ → Type 0
   TellsRequest Why h k s q text = Retells h k s q text
   TellsRequest Transcript h k s q text = Tells h k s q text
@@ -66,7 +66,7 @@ module _ {A : Type 0} (writes : Writing) where
   IsDone m most h (Session s c) k reply = TellsCommand m h k s c reply
   IsDone m most h Checkpoint k reply = IsPassed most h k reply
 
-  -- A line of a script, of whose lines these are told, was done, and the text is what is told of it.
+  -- A line of a script, of which these lines are printed, was done, and the text is what is printed of it.
   abbrev pub IsTold : Manner → List (List ℕ) → ℕ → Recorded A → Line A → Recorded A → List ℕ → Type 0
   IsTold m ls most h line k text = (reply : List ℕ) × IsDone m most h line.step k reply × (text ≡ told_line m ls line.number reply)
 
@@ -74,21 +74,21 @@ module _ {A : Type 0} (writes : Writing) where
   abbrev pub AreTold : Manner → List (List ℕ) → ℕ → Recorded A → List (Line A) → Recorded A → List ℕ → Type 0
   AreTold m ls most = AreDone (IsTold m ls most)
 
-  -- All steps were done, and standard output, which had this before, has behind it what stands first, and what is told of them.
+  -- All steps were done. Standard output had `before`, and then got what stands first, and what is printed of the steps.
   abbrev pub HasTold : List ℕ → Manner → List (List ℕ) → ℕ → Recorded A → List (Line A) → Option (List ℕ) → Option (List ℕ) → Type 0
   HasTold first m ls most h steps before after = (k : Recorded A) × (text : List ℕ) × AreTold m ls most h steps k text × Appends before after (first ++ text)
 
   -- ---- why it ends before its time
 
-  -- The first steps were done and told, and nothing else, and the next one ends the script.
+  -- The first steps were done and printed, and nothing else, and the next one ends the script.
   abbrev pub IsCutOff : List ℕ → Manner → List (List ℕ) → ℕ → Recorded A → List (Line A) → Fault → Option (List ℕ) → Option (List ℕ) → Type 0
   IsCutOff first m ls most h steps f before after = (n : ℕ) × (k : Recorded A) × (text : List ℕ) × AreTold m ls most h (take n steps) k text × Appends before after (first ++ text) × EndsAt k steps n f
 
-  -- The same; or standard output has failed.
+  -- The steps have stopped: one of them ends the script, or standard output has failed.
   abbrev pub HasStopped : List ℕ → Manner → List (List ℕ) → ℕ → Recorded A → List (Line A) → Fault → Option (List ℕ) → Option (List ℕ) → Type 0
   HasStopped first m ls most h steps f before after = IsFileFault (codes "-") f ⊎ IsCutOff first m ls most h steps f before after
 
-  -- A script of this text was told: what stands first, and then what is told of each step, done from these tables.
+  -- A script of this text was printed: what stands first, and then what is printed of each step, done from these tables.
   abbrev pub ScriptHasTold : (List ℕ → Option (List ℕ)) → Manner → ℕ → List ℕ → Said A → Option (List ℕ) → Option (List ℕ) → Type 0
   ScriptHasTold held m most script s before after = (c : Catalog) × (X : Tables A) × BeginsWith held s.opens s.catalog c X × HasTold (told_first m script) m (told_lines m script) most (begun c X most) s.lines before after
 
@@ -96,11 +96,11 @@ module _ {A : Type 0} (writes : Writing) where
   abbrev pub ScriptHasStopped : (List ℕ → Option (List ℕ)) → Manner → ℕ → List ℕ → Said A → Fault → Option (List ℕ) → Option (List ℕ) → Type 0
   ScriptHasStopped held m most script s f before after = (IsUnbegun A held s.opens f × Appends before after []) ⊎ ((c : Catalog) × (X : Tables A) × BeginsWith held s.opens s.catalog c X × HasStopped (told_first m script) m (told_lines m script) most (begun c X most) s.lines f before after)
 
-  -- It has stopped for a fault that has this exit status; or standard output has failed.
+  -- The script has stopped for a fault that has this exit status; or standard output has failed.
   abbrev pub ScriptEnds : (List ℕ → Option (List ℕ)) → Manner → ℕ → List ℕ → Said A → ℕ → Option (List ℕ) → Option (List ℕ) → Type 0
   ScriptEnds held m most script s n before after = (f : Fault) × (n ≡ status f) × (IsFileFault (codes "-") f ⊎ ScriptHasStopped held m most script s f before after)
 
--- What a path has says a script, and that was done and told.
+-- What a path has says a script, and that was done and printed.
 abbrev pub PathHasTold : (A : Type 0) → Writing → (List ℕ → Option (List ℕ)) → Option (List ℕ) → Manner → ℕ → List ℕ → Option (List ℕ) → Option (List ℕ) → Type 0
 PathHasTold A writes held input m most path before after = (script : List ℕ) × (s : Said A) × IsAllOf (read_of held input path) script × (said InOrder script ≡ Ok s) × ScriptHasTold writes held m most script s before after
 

@@ -1,4 +1,4 @@
--- What the words behind `run` ask for where `--why` or `--transcript` is among them: `SCRIPT --why [--events N]`, and so with the other (this project's own choice).
+-- What the words after `run` ask for where `--why` or `--transcript` is among them: `SCRIPT --why [--events N]`, and so with the other.
 use Rattle.std.specs.Prelude.{◌≡◌, ◌⊎◌, ℕ, true, List, Option, Some, codes}
 use Rattle.clap.specs.Words.{App, Row, Rule, Text, fault_of, matches_of, new_app, new_rule, with_rule}
 use Rattle.clap.specs.declared.builder.ArgAction.TheVariants.{SetTrue}

@@ -1,9 +1,10 @@
-//! `pgserial run SCRIPT` with `--why` or `--transcript`: a script's lines, one after the other, each told with why it
-//! refuses its transaction, or as a transcript.
+//! `pgserial run SCRIPT` with `--why` or `--transcript`: does a script's lines, one after the other, and prints each
+//! reply with why it refuses its transaction, or prints a transcript.
 
 #![tactic(auto)]
 
 mod lines;
 pub mod manner;
+pub mod retold;
 mod task;
 pub mod words;

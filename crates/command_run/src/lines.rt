@@ -1,4 +1,4 @@
-//! The lines of a script, done one after the other, and what is told of each.
+//! The lines of a script, done one after the other, and what is printed of each.
 
 ghost use Rattle.std.specs.Prelude.{◌≡◌, ◌++◌, [], IfOk, IfErr, OnOk, map};
 ghost use Rattle.program.specs.Files.{IsWritten};
@@ -8,11 +8,11 @@ ghost use Rattle.transcript.specs.Writing as writing;
 ghost use Rattle.command_run.specs.Told.{HasStopped, HasTold, IsDone, IsPassed, IsTold, TellsCommand, TellsRequest, told_line};
 
 use crate::manner::Manner;
+use crate::retold::course::Course;
 use history::session_id::SessionId;
 use program::files::Files;
 use program::machine::Machine;
 use request::request::Request;
-use retold::course::Course;
 use script::command::Command;
 use script::script::{Line, Step};
 use script_files::checkpoint::told_of_checkpoint;
@@ -24,7 +24,7 @@ use std::io::Write;
 use transcript::writing::{append_answered, append_asked, line_at};
 use value::refusal::Refusal;
 
-/// How a script's run is told, of which lines where they are told too, and for how many events its history has room.
+/// How a script's run is printed, its lines where they are printed too, and for how many events its history has room.
 #[derive(Clone, Copy)]
 pub(crate) struct Telling<'t> {
     pub(crate) manner: Manner,
@@ -32,8 +32,8 @@ pub(crate) struct Telling<'t> {
     pub(crate) most_events: u32,
 }
 
-// Lets the history go on from the tables that it has come to, with room for so many events more: the course, and the
-// refusal where it doesn't.
+// Lets the history go on from its present tables, with room for `most_events` events more. Returns the course, and the
+// refusal where it can't.
 fn checkpoint<A: Allocator + Copy>(
     alloc: A,
     course: Course<A>,
@@ -47,7 +47,7 @@ fn checkpoint<A: Allocator + Copy>(
     }
 }
 
-// Does a checkpoint, and gives its reply.
+// Does a checkpoint, and returns its reply.
 fn pass_checkpoint<'p, A: Allocator + Copy>(
     alloc: A,
     course: Course<A>,
@@ -63,7 +63,7 @@ fn pass_checkpoint<'p, A: Allocator + Copy>(
     }
 }
 
-// A line that was asked, and its reply behind it.
+// A line that was asked, followed by its reply.
 fn asked_and_answered<A: Allocator>(
     alloc: A,
     line: &[u8],
@@ -78,7 +78,7 @@ fn asked_and_answered<A: Allocator>(
 }
 
 impl<'t> Telling<'t> {
-    // Does what a session asks for in a line, and gives its reply, where refusals are explained with remarks behind it.
+    // Does what a session asks for in a line, and returns its reply. Where refusals are explained, remarks follow it.
     fn reply<A: Allocator + Copy>(
         &self,
         alloc: A,
@@ -95,7 +95,7 @@ impl<'t> Telling<'t> {
         }
     }
 
-    // The same, of which a want of memory is the script's fault.
+    // Does what a session asks for in a line, and returns its reply. Out of memory is the script's fault.
     fn tell_request<'s, A: Allocator + Copy>(
         &self,
         alloc: A,
@@ -114,7 +114,7 @@ impl<'t> Telling<'t> {
         }
     }
 
-    // Does a session's command in a line, and gives its reply.
+    // Does a session's command in a line, and returns its reply.
     fn do_command<'s, A, F, T>(
         &self,
         machine: &Machine<'_, F, T, A>,
@@ -142,7 +142,7 @@ impl<'t> Telling<'t> {
         }
     }
 
-    // The same, and gives the course too.
+    // Does a session's command in a line, and returns the course and its reply.
     fn pass_command<'p, A, F, T>(
         &self,
         machine: &Machine<'_, F, T, A>,
@@ -163,7 +163,7 @@ impl<'t> Telling<'t> {
         Ok((course, text))
     }
 
-    // Does a step, in a line of this number, and gives its reply.
+    // Does a step, in a line of this number, and returns its reply.
     fn do_step<'p, A, F, T>(
         &self,
         machine: &Machine<'_, F, T, A>,
@@ -187,7 +187,7 @@ impl<'t> Telling<'t> {
         }
     }
 
-    // What is told of a line of this number that has this reply.
+    // What is printed of a line of this number that has this reply.
     fn told<A: Allocator>(
         &self,
         alloc: A,
@@ -205,7 +205,7 @@ impl<'t> Telling<'t> {
         }
     }
 
-    // Does a step of a script, and gives what is told of it.
+    // Does a step of a script, and returns what is printed of it.
     fn tell_step<'p, A, F, T>(
         &self,
         machine: &Machine<'_, F, T, A>,
@@ -226,7 +226,7 @@ impl<'t> Telling<'t> {
         }
     }
 
-    /// Does the steps of a script, one after the other, and prints what is told of each.
+    /// Does the steps of a script, one after the other, and prints the text of each.
     pub(crate) fn tell_steps<'p, A, F, T, W>(
         &self,
         machine: &Machine<'_, F, T, A>,

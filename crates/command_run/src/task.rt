@@ -9,7 +9,7 @@ use clap::{Arg, ArgAction, ArgMatches, Command, Error};
 use program::arguments::{events, most_events_of, path_of, script};
 use std::alloc::{AllocError, Global};
 
-/// A script whose run is told, in which manner, and for how many events its history has room.
+/// A script to run, how its run is printed, and for how many events its history has room.
 #[derive(Clone, Copy)]
 pub(crate) struct Task<'w> {
     pub(crate) script: &'w str,
@@ -17,7 +17,7 @@ pub(crate) struct Task<'w> {
     pub(crate) most_events: u32,
 }
 
-// That refusals are explained.
+// The flag by which refusals are explained.
 fn why<'w>(alloc: Global) -> Arg<'w>
     ensures rule { rule_of result ≡ spec.why }
     ensures local { result.global ≡ false }
@@ -28,7 +28,7 @@ fn why<'w>(alloc: Global) -> Arg<'w>
         .help("Tell behind each serialization failure which rows met; not with --free")
 }
 
-// That a transcript is told.
+// The flag by which a transcript is printed.
 fn transcript<'w>(alloc: Global) -> Arg<'w>
     ensures rule { rule_of result ≡ spec.transcript }
     ensures local { result.global ≡ false }
@@ -41,7 +41,7 @@ fn transcript<'w>(alloc: Global) -> Arg<'w>
         )
 }
 
-// The word that asks for a manner.
+// The flag that asks for a manner.
 fn flag<'w>(alloc: Global, manner: Manner) -> Arg<'w>
     ensures rule { rule_of result ≡ spec.flag manner }
     ensures local { result.global ≡ false }
@@ -52,7 +52,7 @@ fn flag<'w>(alloc: Global, manner: Manner) -> Arg<'w>
     }
 }
 
-// What the help tells of a manner.
+// What the help says of a manner.
 fn about(manner: Manner) -> &'static str {
     match manner {
         Manner::Why => {
@@ -104,7 +104,7 @@ fn task_of<'w>(matches: &ArgMatches<'w>, manner: Manner) -> Task<'w>
     }
 }
 
-/// What the words behind `run` ask for, of which one asks for a manner. The error is a mistake in the words, `--help`,
+/// What the words after `run` ask for, of which one asks for a manner. The error is a mistake in the words, `--help`,
 /// or out of memory.
 pub(crate) fn read_words<'w>(
     alloc: Global,

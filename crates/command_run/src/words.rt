@@ -11,10 +11,10 @@ ghost use Rattle.command_run.specs.Words.{EndsWith, HasDone, HasEnded};
 
 use crate::lines::Telling;
 use crate::manner::Manner;
+use crate::retold::course::Course;
 use crate::task::{Task, read_words};
 use program::files::Files;
 use program::machine::Machine;
-use retold::course::Course;
 use schema::catalog::Catalog;
 use script::schedule::Schedule;
 use script::script::{Line, Script, read_script};
@@ -22,12 +22,13 @@ use script_files::ending::{end, show};
 use script_files::fault::{Fault, tell, tell_line};
 use script_files::mistake::tell_words;
 use script_files::opening::{open_core, read_path};
+use script_files::room::Room;
 use std::alloc::{AllocError, Allocator};
 use std::io::Write;
 use transcript::writing::{append_tables, lines_of};
 use value::text::Text;
 
-// What is told of a script before its steps.
+// What is printed of a script before its steps.
 fn first_text<A: Allocator>(
     alloc: A,
     manner: Manner,
@@ -45,7 +46,7 @@ fn first_text<A: Allocator>(
     }
 }
 
-// The lines of a script that are told.
+// The lines of a script that are printed.
 fn lines_told<'t, A: Allocator + Copy>(
     alloc: A,
     manner: Manner,
@@ -59,7 +60,7 @@ fn lines_told<'t, A: Allocator + Copy>(
     }
 }
 
-// What is told of a script before its steps, and its lines that are told.
+// What is printed of a script before its steps, and its lines that are printed.
 fn asked_in<'t, 'p, A: Allocator + Copy>(
     alloc: A,
     manner: Manner,
@@ -78,7 +79,7 @@ fn asked_in<'t, 'p, A: Allocator + Copy>(
     }
 }
 
-// Prints what is told first of a script, and then does its steps, and prints what is told of each.
+// Prints what stands first of a script, then does its steps, and prints the text of each.
 fn tell_run<'p, A, F, T, W>(
     machine: &Machine<'_, F, T, A>,
     course: Course<A>,
@@ -140,7 +141,7 @@ where
     tell_run(machine, course, telling, first.as_slice(), parts.2, out)
 }
 
-// Does a script of this text that was read, and tells why it isn't done where it isn't.
+// Does a script of this text that was read; reports why where it can't be finished.
 fn do_read<A, F, T, W, E>(
     machine: &Machine<'_, F, T, A>,
     text: &[u8],
@@ -165,11 +166,15 @@ where
     let path = opens.as_ref();
     let lines = steps.as_slice();
     let done = do_script(machine, text, (catalog, path, lines), task, out);
-    end(done, machine.files.reason(), out, err)
+    let room = Room {
+        alloc: machine.alloc,
+        most_events: task.most_events,
+    };
+    end(room, done, machine.files.reason(), out, err)
 }
 
-// Does the script of a path, or of standard input, prints what is told of it, and tells on `err` why it isn't done
-// where it isn't.
+// Does the script of a path, or of standard input, and prints its run. Where it can't be finished, reports why on
+// `err`.
 fn tell_file<A, F, T, W, E>(
     machine: &Machine<'_, F, T, A>,
     task: Task<'_>,
@@ -201,7 +206,7 @@ where
     }
 }
 
-/// Does what the words behind `pgserial run` ask for, the one that asks for a manner among them, and gives the exit
+/// Does what the words after `pgserial run` ask for, the one that asks for a manner among them, and returns the exit
 /// status, as `run` does: 0 where it was done, refused statements included; 1 where the script or its dump is refused,
 /// or it was out of memory; 2 for mistaken words; 3 where a file or standard output failed.
 pub fn told_words<A, F, W, E, T>(

@@ -1,1 +1,4 @@
 pub mod WordsLemmas
+mod DrawnLemmas
+mod RefusedLemmas
+mod PromptWordsLemmas

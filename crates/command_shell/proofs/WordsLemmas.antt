@@ -17,7 +17,7 @@ help_of : (ks : Kinds) (e : Error) → HasKind ks e → (kind_of e ≡ OutOfMemo
 help_of ks e has other (inl is) = inl (subst (λ k. IsAmong k ks) is (among ks e has other))
 help_of ks e has other (inr is) = inr (subst (λ k. IsAmong k ks) is (among ks e has other))
 
--- what was told where the words have a fault
+-- how the command ends where its words have a fault
 pub without : (ks : Kinds) (e : Error) (n : ℕ) → HasKind ks e → (n ≡ 2 → IsMistake (kind_of e)) → (kind_of e ≡ OutOfMemory → n ≡ 1) → ((n ≡ 0) ⊎ (n ≡ 3) → (kind_of e ≡ DisplayHelp) ⊎ (kind_of e ≡ DisplayVersion)) → (n ≡ 0) ⊎ (n ≡ 1) ⊎ (n ≡ 2) ⊎ (n ≡ 3) → IsWithoutTask ks n
 without ks e n has mistake memory help (inl zero) = inr (inr (help_of ks e has (λ m. let one : n ≡ 1 = memory m in absurd (omega (arith, one, zero))) (help (inl zero)), inl zero))
 without ks e n has mistake memory help (inr (inl one)) = inr (inl one)

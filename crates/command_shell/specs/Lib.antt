@@ -1,2 +1,4 @@
 pub mod Serves
 pub mod Words
+pub mod Asides
+pub mod Typed

@@ -1,5 +1,5 @@
--- What is answered to each line of a shell that opens and makes dumps (this project's own choice).
-use Rattle.std.specs.Prelude.{◌≡◌, ◌⊎◌, ℕ, Option, Some, None, Err, List, [], ◌++◌, codes, if◌then◌else◌, true}
+-- What is answered to each line of a shell that opens and makes dumps.
+use Rattle.std.specs.Prelude.{◌≡◌, ◌⊎◌, ℕ, Bool, Option, Some, None, Err, List, [], ◌++◌, codes, if◌then◌else◌, true, false}
 use Rattle.std.specs.Fmt.{decimal}
 use Rattle.std.specs.Str.{bytes_eq}
 use Rattle.value.specs.Codes.{sqlstate}
@@ -11,7 +11,7 @@ use Rattle.history.specs.Events.{world}
 use Rattle.history.specs.Opening.{Recorded}
 use Rattle.backup.specs.declared.fault.BackupFault.TheVariants.{Dump}
 use Rattle.dumpworker.specs.declared.fault.DumpFault.TheVariants.{Device}
-use Rattle.script.specs.Scripts.{said}
+use Rattle.script.specs.Scripts.{is_passed_over, said}
 use Rattle.script.specs.declared.schedule.Schedule.TheVariants.{InOrder}
 use Rattle.program.specs.Beginnings.{BeginsWith}
 use Rattle.program.specs.Dumps.{IsDumped, TellsDumpAt}
@@ -20,7 +20,7 @@ use Rattle.program.specs.Runs.{begun}
 use Rattle.script_files.specs.Faults.{IsUnbegun}
 use Rattle.script_files.specs.declared.fault.Fault.{Fault}
 use Rattle.script_files.specs.declared.fault.Fault.TheVariants as fault
-use Rattle.ordering.specs.Orders.{check_line, order_lines}
+use Rattle.audit.specs.Orders.{check_line, order_lines}
 use Rattle.shell.specs.Asked.{catalog_of, dump_of, opens_by, tables_text}
 use Rattle.shell.specs.Shells.{Answers, Held, ended, running}
 use Rattle.shell.specs.declared.told.SessionDump.{SessionDump}
@@ -39,11 +39,11 @@ dump_fault_text line c = codes "ERROR " ++ sqlstate c ++ codes " line " ++ decim
 abbrev pub device_text : List ℕ → List ℕ
 device_text path = codes "ERROR 58030 " ++ path ++ codes "\n"
 
--- the same of a dump that session s asks for
+-- the answer to a dump that session s asks for, whose file has failed
 abbrev pub dump_device_text : ℕ → List ℕ → List ℕ
 dump_device_text s path = decimal s ++ codes " " ++ device_text path
 
--- what is told of a dump that isn't opened
+-- the answer where a dump isn't opened
 abbrev pub fault_text : Fault → List ℕ
 fault_text (fault.Script line) = dump_fault_text 0 OutOfMemory
 fault_text (fault.Dump line c) = dump_fault_text line c
@@ -74,11 +74,11 @@ module _ {A : Type 0} where
 
 -- where dumps are written so
 module _ {A : Type 0} (writes : Writing) where
-  -- What is told of a dump to its path that a session asks for after the history h: what came of it, or that its file has failed.
+  -- The answer to a dump to its path that a session asks for after the history h: its result, or that its file has failed.
   abbrev pub TellsSessionDump : Recorded A → SessionDump A → List ℕ → Type 0
   TellsSessionDump h d text = TellsDumpAt writes h d.session d.request.path text ⊎ ((text ≡ dump_device_text d.session d.request.path) × IsDumped h d.session (Err (Dump Device)))
 
-  -- What is told of a line to which a shell has answered a text: where it asks for a dump and the server runs, what came of that; else the text.
+  -- The answer to a line for which a shell alone has returned a text: where the line asks for a dump and the server runs, the result of the dump; else that text.
   abbrev pub IsTold : Option (SessionDump A) → Option (Recorded A) → List ℕ → List ℕ → Type 0
   IsTold None h told text = text ≡ told
   IsTold (Some d) None told text = text ≡ told
@@ -100,9 +100,13 @@ module _ {A : Type 0} (writes : Writing) where
   ServesWord (Some w) held p line q text = (q ≡ p) × (text ≡ word_text p w)
   ServesWord None held p line q text = ServesLine held p line q text
 
-  -- A shell that held p was told a line, holds q now, and this text is its answer, where these are the files.
+  abbrev pub ServesUnless : Bool → (List ℕ → Option (List ℕ)) → Held A → List ℕ → Held A → List ℕ → Type 0
+  ServesUnless true held p line q text = (q ≡ p) × (text ≡ [])
+  ServesUnless false held p line q text = ServesWord (word_of line) held p line q text
+
+  -- A shell that held p answers a line with this text, and holds q then, where these are the files. The answer to an empty line or a comment is empty.
   abbrev pub Serves : (List ℕ → Option (List ℕ)) → Held A → List ℕ → Held A → List ℕ → Type 0
-  Serves held p line q text = ServesWord (word_of line) held p line q text
+  Serves held p line q text = ServesUnless (is_passed_over line) held p line q text
 
 -- a shell, and the files over which it opens and makes dumps
 pub record Over (F A : Type 0) : Type 0 where
@@ -110,6 +114,6 @@ pub record Over (F A : Type 0) : Type 0 where
   pub shell : Held A
 
 module _ {F A : Type 0} where
-  -- A shell over files was told a line, has become q, and this text is its answer; the files have this, and are written so.
+  -- A shell over files answers a line with this text, and has become q; the files have this, and are written so.
   abbrev pub ServesOver : Writing → (F → List ℕ → Option (List ℕ)) → Over F A → List ℕ → Over F A → List ℕ → Type 0
   ServesOver writes held p line q text = (q.files ≡ p.files) × Serves writes (held p.files) p.shell line q.shell text

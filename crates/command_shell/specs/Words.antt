@@ -1,4 +1,4 @@
--- What the words behind `shell` ask for, `[DUMP] [--events N]`, and what comes of it (this project's own choice).
+-- What the words after `shell` ask for, `[DUMP] [--events N]`, and the result.
 use Rattle.std.specs.Prelude.{◌≡◌, ◌⊎◌, ℕ, true, List, [], Option, Some, None, codes}
 use Rattle.clap.specs.Words.{App, Kinds, Row, Rule, Text, fault_of, first_of, matches_of, new_app, new_rule, with_rule}
 use Rattle.clap.specs.declared.builder.ArgAction.TheVariants.{Set}
@@ -13,9 +13,9 @@ use Rattle.program.specs.Runs.{begun}
 use Rattle.script_files.specs.Faults as faults
 use Rattle.script_files.specs.Faults.{out_of_memory, status}
 use Rattle.script_files.specs.declared.fault.Fault.{Fault}
-use Rattle.conversation.specs.Turns.{Converses, Turn}
-use Rattle.conversation.specs.declared.conversing.End.{End}
-use Rattle.conversation.specs.declared.conversing.End.TheVariants.{Input, Quit, Reader, Writer, Memory}
+use Rattle.shell.specs.Turns.{Converses, Turn}
+use Rattle.shell.specs.declared.conversation.conversing.End.{End}
+use Rattle.shell.specs.declared.conversation.conversing.End.TheVariants.{Input, Quit, Reader, Writer, Memory}
 use Rattle.shell.specs.Shells.{Held, opening, running}
 use Rattle.command_shell.specs.Serves.{Over, ServesOver}
 
@@ -50,13 +50,13 @@ abbrev pub IsUnbegun : (A : Type 0) → (List ℕ → Option (List ℕ)) → Opt
 IsUnbegun = faults.IsUnbegun
 
 module _ {A : Type 0} where
-  -- What a shell holds at first: nothing, with room for so many events; or the tables that the dump of a path reads as.
+  -- What a shell holds at first: nothing, with room for `most` events; or the tables that the dump of a path reads as.
   abbrev pub Begins : (List ℕ → Option (List ℕ)) → ℕ → Option (List ℕ) → Held A → Type 0
   Begins held most None p = p ≡ opening [] most
   Begins held most (Some path) p = (c : Catalog) × (X : Tables A) × BeginsWith held (Some path) [] c X × (p ≡ running (begun c X most) most)
 
 module _ {F A : Type 0} where
-  -- From p on all that was told are the answers to all lines that were heard, each before the next, until the conversation has ended, which this exit status tells.
+  -- From p on, all that was printed is the answers to all lines that were read, each before the next, until the conversation has ended in the way that this exit status says.
   abbrev pub HasServedOn : Writing → (F → List ℕ → Option (List ℕ)) → Over F A → ℕ → List Turn → List Turn → Type 0
   HasServedOn writes held p n before after = (e : End) × Converses (ServesOver writes held) p before e after × (n ≡ end_status e)
 

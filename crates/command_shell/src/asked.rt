@@ -1,4 +1,4 @@
-//! What a line asks for beside what a shell alone does, and its answer.
+//! What a line asks for that a shell alone doesn't do, and its answer.
 
 ghost use Rattle.std.specs.Prelude.{◌≡◌, [], IfOk, IfErr};
 ghost use Rattle.std.specs.Option.{option_copied};
@@ -8,9 +8,9 @@ ghost use Rattle.shell.specs.Asked.{catalog_of, tables_text as text_of_tables};
 ghost use Rattle.command_shell.specs.Serves as spec;
 ghost use Rattle.command_shell.specs.Serves.{AnswersLine, IsTold, OpensPath, TellsSessionDump};
 
+use audit::ordering::order_text;
 use history::session_id::SessionId;
 use itoa::Buffer;
-use ordering::order_text;
 use program::files::Files;
 use program::machine::Machine;
 use schema::catalog::Catalog;
@@ -47,7 +47,7 @@ pub(crate) fn word_of(line: &[u8]) -> Option<Word>
     }
 }
 
-// The tables, as they are told.
+// The tables, as they are printed.
 fn tables_of<A: Allocator + Copy>(alloc: A, shell: &Shell<A>) -> Result<Vec<u8, A>, Refusal>
     ensures text { IfOk result (λ text. text.items ≡ text_of_tables (catalog_of shell.now)) }
     ensures memory { IfErr result (λ e. e ≡ out_of_memory) }
@@ -56,7 +56,7 @@ fn tables_of<A: Allocator + Copy>(alloc: A, shell: &Shell<A>) -> Result<Vec<u8, 
     tables_text(alloc, &catalog)
 }
 
-// The serial order, as it is told: there is none before the server runs.
+// The serial order, as it is printed: there is none before the server runs.
 fn order_of<A: Allocator + Copy>(alloc: A, shell: &Shell<A>) -> Result<Vec<u8, A>, Refusal>
     ensures text { IfOk result (λ text. text.items ≡ spec.order_in shell.now.core) }
     ensures memory { IfErr result (λ e. e ≡ out_of_memory) }
@@ -88,7 +88,7 @@ pub(crate) fn tell_word<A: Allocator + Copy>(
     }
 }
 
-// What is told of a dump that is faulty in a line.
+// The answer where a dump is faulty in a line.
 fn dump_fault_text<A: Allocator>(alloc: A, line: u64, code: Code) -> Result<Vec<u8, A>, Refusal>
     ensures text { IfOk result (λ text. text.items ≡ spec.dump_fault_text line code) }
     ensures memory { IfErr result (λ e. e ≡ out_of_memory) }
@@ -102,7 +102,7 @@ fn dump_fault_text<A: Allocator>(alloc: A, line: u64, code: Code) -> Result<Vec<
     Ok(text)
 }
 
-// What is told of a file that has failed.
+// The answer where a file has failed.
 fn device_text<A: Allocator>(alloc: A, path: &str) -> Result<Vec<u8, A>, Refusal>
     ensures text { IfOk result (λ text. text.items ≡ spec.device_text path.now) }
     ensures memory { IfErr result (λ e. e ≡ out_of_memory) }
@@ -113,7 +113,7 @@ fn device_text<A: Allocator>(alloc: A, path: &str) -> Result<Vec<u8, A>, Refusal
     Ok(text)
 }
 
-// What is told of a dump that isn't opened.
+// The answer where a dump isn't opened.
 fn fault_text<A: Allocator>(alloc: A, fault: &Fault<'_>) -> Result<Vec<u8, A>, Refusal>
     ensures text { IfOk result (λ text. text.items ≡ spec.fault_text fault.now) }
     ensures memory { IfErr result (λ e. e ≡ out_of_memory) }
@@ -125,7 +125,7 @@ fn fault_text<A: Allocator>(alloc: A, fault: &Fault<'_>) -> Result<Vec<u8, A>, R
     }
 }
 
-/// Lets the server run on the dump of a path, or tells why it can't.
+/// Lets the server run on the dump of a path, or answers why it can't.
 pub(crate) fn open_path<A: Allocator + Copy, F: Files<A>>(
     alloc: A,
     files: &F,
@@ -148,7 +148,7 @@ pub(crate) fn open_path<A: Allocator + Copy, F: Files<A>>(
     }
 }
 
-// What is told of a session's dump whose file has failed.
+// The answer to a session's dump whose file has failed.
 fn dump_device_text<A: Allocator + Copy>(
     alloc: A,
     session: SessionId,
@@ -165,7 +165,7 @@ fn dump_device_text<A: Allocator + Copy>(
     Ok(text)
 }
 
-// Makes a dump that a session asks for, and tells what came of it.
+// Makes a dump that a session asks for, and returns the answer to it.
 fn make_dump<A, F, T>(
     machine: &Machine<'_, F, T, A>,
     core: &Core<A>,
@@ -185,8 +185,8 @@ where
     }
 }
 
-// What is told of a line that a shell has answered with a text: where it asks for a dump, and the server runs, what
-// came of that.
+// The answer to a line for which a shell alone has returned a text: where the line asks for a dump, and the server
+// runs, the result of the dump; else that text.
 fn told_of<A, F, T>(
     machine: &Machine<'_, F, T, A>,
     core: Option<&Core<A>>,

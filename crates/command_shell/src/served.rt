@@ -1,11 +1,12 @@
-//! A shell over files, as who answers in a conversation.
+//! A shell over files, which answers in a conversation.
 
 ghost use Rattle.std.specs.Prelude.{◌≡◌};
 
 use crate::serving::serve;
-use conversation::handler::Handler;
 use program::files::Files;
 use program::machine::Machine;
+use script_files::room::Room;
+use shell::conversation::handler::Handler;
 use shell::shell::Shell;
 use std::alloc::Allocator;
 use std::marker::Model;
@@ -32,6 +33,18 @@ impl<'s, 'm, F, T, A: Allocator> Served<'s, 'm, F, T, A> {
         ensures { result.now ≡ self.now.shell }
     {
         &self.shell
+    }
+
+    /// For how many events its history has room, and in what memory.
+    pub fn room(&self) -> Room<A>
+    where
+        A: Copy,
+        ensures { result.most_events ≡ self.now.shell.most }
+    {
+        Room {
+            alloc: self.machine.alloc,
+            most_events: self.shell.most_events(),
+        }
     }
 }
 

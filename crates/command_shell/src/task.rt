@@ -95,7 +95,7 @@ fn task_of<'w>(matches: &ArgMatches<'w>) -> Task<'w>
     }
 }
 
-/// What the words behind `shell` ask for. The error is a mistake in the words, `--help`, or out of memory.
+/// What the words after `shell` ask for. The error is a mistake in the words, `--help`, or out of memory.
 pub(crate) fn read_words<'w>(alloc: Global, words: &'w [&'w str]) -> Result<Task<'w>, Error>
     ensures asked { IfOk result (λ t. spec.AsksFor (map (λ w. w.now) words.entry.now)
         (option_map (λ s. s.now) t.dump) t.most_events) }

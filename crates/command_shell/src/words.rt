@@ -12,17 +12,19 @@ use crate::beginning::{begin, path_text};
 use crate::served::Served;
 use crate::task::{Task, read_words};
 use crate::unopened::tell_unopened;
-use conversation::conversing::{End, converse};
-use conversation::heard::Conversation;
 use program::files::Files;
 use program::machine::Machine;
 use script_files::fault::{Fault, tell};
 use script_files::mistake::tell_words;
+use script_files::room::{Room, tell_in};
+use shell::conversation::conversing::{End, converse};
+use shell::conversation::heard::Conversation;
 use std::alloc::Allocator;
 use std::io::Write;
 
-/// Tells why a conversation has ended, where something failed; and gives the exit status.
-pub fn end<E: Write>(end: End, err: &mut E) -> u8
+/// Reports why a conversation has ended, where something failed, and returns the exit status. `room` says how many
+/// events the history was to have room for.
+pub fn end<A: Allocator + Copy, E: Write>(room: Room<A>, end: End, err: &mut E) -> u8
     ensures status { result ≡ spec.end_status end }
     ensures within { result ≤ 3 }
     ensures no_usage { result ≢ 2 }
@@ -30,11 +32,12 @@ pub fn end<E: Write>(end: End, err: &mut E) -> u8
     match end {
         End::Input | End::Quit => 0,
         End::Reader | End::Writer => tell(&Fault::Device("-"), None, err),
-        End::Memory => tell(&Fault::Script(0), None, err),
+        End::Memory => tell_in(room, &Fault::Script(0), None, err),
     }
 }
 
-// The shell that begins on the dump that is asked for, where one is; or it is told why that isn't opened.
+// The shell that begins on the dump that is asked for, where one is. Where the dump isn't opened, reports why, and
+// returns the exit status.
 fn begin_task<'s, 'm, A, F, T, E>(
     machine: &'s Machine<'m, F, T, A>,
     task: Task<'_>,
@@ -60,13 +63,19 @@ where
         task.most_events,
     ) {
         Ok(shell) => Ok(Served { machine, shell }),
-        Err(fault) => Err(tell_unopened(&fault, machine.files.reason(), err)),
+        Err(fault) => {
+            let room = Room {
+                alloc: machine.alloc,
+                most_events: task.most_events,
+            };
+            Err(tell_unopened(room, &fault, machine.files.reason(), err))
+        }
     }
 }
 
-/// The shell that the words behind `pgserial shell` ask for, over the machine's files; or the exit status, where it is
-/// told why there is none: 1 where the dump that is asked for is refused, or out of memory; 2 for mistaken words; 3 where
-/// a file failed. A call for help is told, and ends with 0.
+/// The shell that the words after `pgserial shell` ask for, over the machine's files. Where there is none, reports why,
+/// and returns the exit status: 1 where the dump that is asked for is refused, or out of memory; 2 for mistaken words;
+/// 3 where a file failed. Help that is asked for is printed, and the status is 0.
 pub fn begin_words<'s, 'm, A, F, T, W, E>(
     machine: &'s Machine<'m, F, T, A>,
     words: &[&str],
@@ -92,7 +101,7 @@ where
     }
 }
 
-/// Does what the words behind `pgserial shell` ask for: answers the lines of a conversation, each before it hears the
+/// Does what the words after `pgserial shell` ask for: answers the lines of a conversation, each before it reads the
 /// next. The exit status is that of `begin_words` where no shell begins; else 0 at the end of the input, 1 where an
 /// answer is out of memory, 3 where the input or the output failed.
 pub fn shell_words<A, F, T, C, W, E>(
@@ -116,7 +125,10 @@ where
         (map (λ w. w.now) words.entry.now) result (C.turns conversation.old) (C.turns conversation.new) }
 {
     match begin_words(machine, words, out, err) {
-        Ok(served) => end(converse(machine.alloc, served, conversation), err),
+        Ok(served) => {
+            let room = served.room();
+            end(room, converse(machine.alloc, served, conversation), err)
+        }
         Err(status) => status,
     }
 }

@@ -1,4 +1,4 @@
--- A run's beginning, and the text of what it comes to.
+-- A run's beginning, and the text of its outcome.
 use Rattle.std.proofs.Common.{◌≡◌, sym, ap, ◌∙◌, subst, ℕ, ◌+◌, ◌≤◌, List, [], length, sum, Result, Ok, Err, arith}
 use Rattle.value.specs.declared.refusal.Refusal.{Refusal}
 use Rattle.value.specs.Refusals.{AnswersOrNoMemory}
@@ -27,6 +27,10 @@ module _ {A : Type 0} where
       (sym (ap (λ (x : Recorded A). x.records) i), sym (ap (λ (x : Recorded A). x.most) i))
   from_nothing n (Err x) h e = cc
 
+  -- there are no events yet
+  pub is_unbegun : (e : Explored A) (h : Recorded A) → beginning e ≡ Ok h → h.records ≡ []
+  is_unbegun e h b = (from_nothing (turns_of e) (checkpoint_answer e.setup.opening e.setup.records (turns_of e)) h b).0
+
   -- there is room for as many turns as an interleaving has
   pub has_room : (e : Explored A) (h : Recorded A) (order : List ℕ) → beginning e ≡ Ok h → length order ≤ turns_of e → length h.records + length order ≤ h.most
   has_room e h order b few =
@@ -34,7 +38,7 @@ module _ {A : Type 0} where
       let none : length h.records ≡ 0 = ap length s.0 in
       omega (arith, none, s.1, few)
 
-  -- the outcome of a schedule is the text of the history that it comes to
+  -- the outcome of a schedule is the text of the history that it leads to
   pub outcome_is : (e : Explored A) (h : Recorded A) (order : List ℕ) → beginning e ≡ Ok h → outcome e order ≡ outcome_text (after_turns e.lines h order)
   unfolding outcome
   outcome_is e h order b = ap (outcome_from e.lines order) b

@@ -1,4 +1,4 @@
--- What is explored: the lines of sessions, in every interleaving, each from the state that one setup has come to.
+-- What is explored: the lines of sessions, in every interleaving, each from the state that one setup leaves.
 -- Source: PostgreSQL's isolation tester (src/test/isolation/README), whose permutations are of its sessions' steps; the setup is done before each.
 use Rattle.std.specs.Prelude.{◌≡◌, ℕ, zero, suc, ◌-◌, ◌==◌, if◌then◌else◌, Option, Some, None, Result, Ok, Err, List, [], ◌∷◌, ◌++◌, length, sum}
 use Rattle.std.specs.List.{filter}
@@ -10,11 +10,11 @@ use Rattle.history.specs.Answer.{IsLegal, answer, checkpoint_answer}
 use Rattle.serial.specs.Serializable.{IsSerializable}
 use Rattle.session.specs.Core.{from_opening, recorded}
 use Rattle.request.specs.Requests.{asked}
-use Rattle.interleave.specs.Interleavings.{interleavings}
+use Rattle.tally.specs.Interleavings.{interleavings}
 use Rattle.explore.specs.declared.plan.Line.{Line}
 use Rattle.explore.specs.Texts.{outcome_text}
 
--- The history that the setup has come to, and the lines that are explored, each with its session.
+-- The history that the setup leaves, and the lines that are explored, each with its session.
 pub record Explored (A : Type 0) : Type 0 where
   pub setup : Recorded A
   pub lines : List (Line A)
@@ -44,7 +44,7 @@ module _ {A : Type 0} where
   this_or_later zero l later = Some l
   this_or_later (suc k) l later = later
 
-  -- the line of the session at a place, behind k others of its own
+  -- the line of the session at a place, after k others of its own
   abbrev pub own_line : ℕ → ℕ → List (Line A) → Option (Line A)
   own_line p k [] = None
   own_line p k (l ∷ lines) = if place_of l.session == p then this_or_later k l (own_line p (k - 1) lines) else own_line p k lines
@@ -64,7 +64,7 @@ module _ {A : Type 0} where
   done h None = h
   done h (Some l) = answered h l.session (asked h.opening.catalog l.request)
 
-  -- After a turn of the session at a place: its next line is done, the one behind as many as it has done.
+  -- After a turn of the session at a place: its next line is done, which follows as many of its own as it has done.
   abbrev pub after_turn : List (Line A) → Recorded A → ℕ → Recorded A
   after_turn lines h p = done h (own_line p (events_of p h.records) lines)
 
@@ -79,7 +79,7 @@ module _ {A : Type 0} where
   abbrev pub turns_of : Explored A → ℕ
   turns_of e = sum (line_counts e.lines sessions)
 
-  -- the history that each run begins with: it goes on from the tables and the numbers that the setup has come to, as after a checkpoint
+  -- the history that each run begins with: it goes on from the tables and the numbers that the setup leaves, as after a checkpoint
   abbrev pub beginning : Explored A → Result (Recorded A) Refusal
   beginning e = from_opening (turns_of e) (checkpoint_answer e.setup.opening e.setup.records (turns_of e))
 
@@ -92,15 +92,15 @@ module _ {A : Type 0} where
   outcome_from lines order (Ok h) = outcome_text (after_turns lines h order)
   outcome_from lines order (Err r) = []
 
-  -- The outcome of a schedule: the text of the history that it comes to.
+  -- The outcome of a schedule: the text of the history that it leads to.
   unfoldable pub outcome : Explored A → List ℕ → List ℕ
   outcome e order = outcome_from e.lines order (beginning e)
 
-  -- the setup has come to a state with which runs can begin
+  -- the setup leaves a state with which runs can begin
   abbrev pub CanBegin : Explored A → Type 0
   CanBegin e = (h : Recorded A) × (beginning e ≡ Ok h)
 
-  -- the history that a schedule comes to
+  -- the history that a schedule leads to
   abbrev pub RunsTo : Explored A → List ℕ → Recorded A → Type 0
   RunsTo e order k = (h : Recorded A) × (beginning e ≡ Ok h) × (k ≡ after_turns e.lines h order)
 

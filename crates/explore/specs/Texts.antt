@@ -1,4 +1,4 @@
--- The text of an outcome (this project's own form; replies and rows are told as a script's are).
+-- The text of an outcome (a form of ours; replies and rows are printed as a script's are).
 use Rattle.std.specs.Prelude.{ℕ, zero, suc, ◌-◌, ◌==◌, if◌then◌else◌, List, [], ◌∷◌, ◌++◌, codes, length, slice_get, Option, Some, None}
 use Rattle.std.specs.Fmt.{decimal}
 use Rattle.std.specs.List.{flat_map}
@@ -31,7 +31,7 @@ name_of None = []
 module _ {A : Type 0} where
   -- ---- replies
 
-  -- A refusal for the sake of a structure is told without the numbers of its transactions.
+  -- A refusal because of a structure is printed without the numbers of its transactions.
   abbrev pub told_refusal : ℕ → Reply A → Code → Place → List ℕ
   told_refusal s reply code (Cause x) = word_line s (codes "ERROR " ++ sqlstate code ++ codes " cause")
   told_refusal s reply code _ = reply_text s reply
@@ -51,7 +51,7 @@ module _ {A : Type 0} where
   abbrev pub replies_at : ℕ → List (Record A) → List ℕ
   replies_at p es = flat_map (told_at p) es
 
-  -- those of the first n sessions, one session after the other
+  -- the replies to the first n sessions, one session after the other
   unfoldable pub replies_of : ℕ → List (Record A) → List ℕ
   replies_of zero es = []
   replies_of (suc p) es = replies_of p es ++ replies_at p es
@@ -66,7 +66,7 @@ module _ {A : Type 0} where
   abbrev pub table_text : Catalog → Tables A → ℕ → List ℕ
   table_text c X t = flat_map (named_row (name_of (slice_get c t))) (rows_of X t)
 
-  -- those of the first n tables
+  -- the rows of the first n tables
   abbrev pub tables_text : Catalog → Tables A → ℕ → List ℕ
   tables_text c X zero = []
   tables_text c X (suc t) = tables_text c X t ++ table_text c X t
@@ -77,6 +77,6 @@ module _ {A : Type 0} where
   abbrev pub state_text : Recorded A → List ℕ
   state_text h = tables_text h.opening.catalog (tables_at (world h) (commits (world h))) (length h.opening.catalog)
 
-  -- What a history comes to: the replies to each session, session by session, and the committed tables at its end.
+  -- The outcome of a history: the replies to each session, session by session, and the committed tables at its end.
   unfoldable pub outcome_text : Recorded A → List ℕ
   outcome_text h = replies_of 64 h.records ++ state_text h

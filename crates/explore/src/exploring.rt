@@ -2,8 +2,8 @@
 
 ghost use Rattle.std.specs.Prelude.{◌≡◌, ◌≤◌, ◌++◌, map, length, All, IfOk, OnOk};
 ghost use Rattle.history.specs.Answer.{IsLegal};
-ghost use Rattle.interleave.specs.Interleavings.{interleavings};
-ghost use Rattle.sample.specs.Sampling.{draws};
+ghost use Rattle.tally.specs.Interleavings.{interleavings};
+ghost use Rattle.tally.specs.Sampling.{draws};
 ghost use Rattle.tally.specs.Outcomes.{AreOf, outcomes};
 ghost use Rattle.explore.specs.Explored.{IsExplained, RunsTo, line_counts, outcome, schedules, sessions, turns_of};
 ghost use Rattle.explore.specs.Texts.{outcome_text, state_text};
@@ -14,16 +14,16 @@ use crate::replies::append_replies;
 use crate::running::do_turns;
 use crate::states::append_tables;
 use dumpplan::Gate;
-use interleave::interleavings::Interleavings;
-use interleave::laws::as_many_turns;
-use sample::laws::draws_have_all_turns;
-use sample::sampling::Sample;
 use serial::laws::legal_histories_are_serializable;
 use session::sessions::Core;
 use std::alloc::{AllocError, Allocator};
 use std::thread::Threads;
+use tally::interleave::interleavings::Interleavings;
+use tally::interleave::laws::as_many_turns;
 use tally::laws::outcomes_are_counted;
 use tally::outcomes::Outcome;
+use tally::sample::laws::draws_have_all_turns;
+use tally::sample::sampling::Sample;
 use tally::workers::count_outcomes;
 use value::refusal::Refusal;
 
@@ -36,7 +36,7 @@ fn append_state<A: Allocator + Copy>(core: &Core<A>, text: &mut Vec<u8, A>) -> R
     Ok(())
 }
 
-// The text of what a core's history comes to.
+// The text of the outcome of a core's history.
 fn outcome_text<A: Allocator + Copy>(alloc: A, core: &Core<A>) -> Result<Vec<u8, A>, Refusal>
     ensures { IfOk result (λ text. text.items ≡ outcome_text core.now) }
 {
@@ -47,7 +47,7 @@ fn outcome_text<A: Allocator + Copy>(alloc: A, core: &Core<A>) -> Result<Vec<u8,
 }
 
 impl<A: Allocator + Copy> Plan<A> {
-    /// The core that a schedule comes to.
+    /// The core that a schedule leads to.
     pub fn run_order(&self, alloc: A, order: &[usize]) -> Result<Core<A>, Refusal>
         requires { length order.now ≤ turns_of self.now }
         ensures ran { IfOk result (λ core. RunsTo self.now order.now core) }
@@ -59,7 +59,7 @@ impl<A: Allocator + Copy> Plan<A> {
         Ok(core)
     }
 
-    /// The outcome of a schedule. Want of memory is the only refusal.
+    /// The outcome of a schedule. Out of memory is the only refusal.
     pub fn outcome_of(&self, alloc: A, order: &[usize]) -> Result<Vec<u8, A>, Refusal>
         requires { length order.now ≤ turns_of self.now }
         ensures outcome { IfOk result (λ text. text.items ≡ outcome self.now order.now) }
@@ -72,9 +72,9 @@ impl<A: Allocator + Copy> Plan<A> {
     }
 }
 
-/// Runs every schedule of a plan's lines by so many threads, each from the setup's state: all outcomes, each with the
-/// number of schedules that come to it and the first of them, in the order of these. They are the same for any number of
-/// threads. The gate is asked round each schedule. Want of memory is the only refusal.
+/// Runs every schedule of a plan's lines by `jobs` threads, each from the setup's state. Returns all outcomes, each
+/// with the number of schedules that lead to it and the first of them, in the order of these. They are the same for any
+/// number of threads. The gate is asked round each schedule. Out of memory is the only refusal.
 pub fn explore<T, A, G>(
     rt: &T,
     alloc: A,

@@ -1,4 +1,4 @@
-//! A plan whose runs a gate is asked round.
+//! A plan, with a gate that is asked before and after each of its runs.
 
 ghost use Rattle.explore.specs.Explored.{IsExplained, outcome, turns_of};
 
@@ -7,7 +7,7 @@ use dumpplan::Gate;
 use std::alloc::{AllocError, Allocator};
 use tally::runs::Runs;
 
-/// A plan, and the gate that is asked round each of its runs, by the run's number counted from 1.
+/// A plan, and the gate that is asked before and after each of its runs, by the run's number counted from 1.
 #[derive(Drop)]
 pub(crate) struct GatedPlan<'p, A: Allocator, G> {
     pub(crate) plan: &'p Plan<A>,

@@ -1,4 +1,4 @@
-//! Every interleaving of a script's sessions, run from one setup, and what they come to, counted.
+//! Every interleaving of a script's sessions, run from one setup, and their outcomes, counted.
 
 #![tactic(auto)]
 

@@ -2,16 +2,16 @@
 
 ghost use Rattle.std.specs.Prelude.{◌≡◌, ◌<◌, ◌^◌, ◌+◌, ◌++◌, ◌∷◌, List, [], Ok, length, sum, ◌≤◌, IfOk, IfSome, IfNone};
 ghost use Rattle.value.specs.Refusals.{of_code, out_of_memory};
-ghost use Rattle.interleave.specs.Interleavings.{interleavings};
+ghost use Rattle.tally.specs.Interleavings.{interleavings};
 ghost use Rattle.explore.specs.Explored.{CanBegin, beginning, line_counts, lines_of, schedules, sessions};
 
 use history::session_id::SessionId;
-use interleave::interleavings::Interleavings;
 use request::request::Request;
-use sample::sampling::Sample;
 use session::sessions::Core;
 use std::alloc::{AllocError, Allocator, Global};
 use std::marker::Model;
+use tally::interleave::interleavings::Interleavings;
+use tally::sample::sampling::Sample;
 use value::refusal::{Code, Refusal};
 
 /// A session's line: what it asks for.
@@ -22,7 +22,7 @@ pub struct Line<A: Allocator = Global> {
 }
 
 /// The lines of sessions that are explored, in the order in which each session has its own, and the core that their
-/// setup has come to.
+/// setup leaves.
 pub struct Plan<A: Allocator = Global> {
     setup: Core<A>,
     lines: Vec<Line<A>, A>,
@@ -80,7 +80,7 @@ fn line_counts<A: Allocator>(alloc: A, lines: &[Line<A>]) -> Result<Vec<u32, A>,
     Ok(counts)
 }
 
-// The same counts.
+// A copy of the counts.
 fn copied<A: Allocator>(alloc: A, counts: &[u32]) -> Result<Vec<u32, A>, AllocError>
     ensures { IfOk result (λ copy. copy.items ≡ counts.now) }
 {
@@ -89,7 +89,7 @@ fn copied<A: Allocator>(alloc: A, counts: &[u32]) -> Result<Vec<u32, A>, AllocEr
     Ok(copy)
 }
 
-// Their sum, where 32 bits hold it.
+// The sum of the counts, where 32 bits hold it.
 fn sum_of(counts: &[u32]) -> Option<u32>
     ensures { IfSome result (λ n. n ≡ sum counts.now) }
 {
@@ -130,8 +130,8 @@ impl<A: Allocator> Plan<A> {
         })
     }
 
-    /// A core for a run, on the tables and the numbers that the setup has come to. Refused with 55000 while a session of
-    /// the setup has a transaction, with 54000 where there is no line, or more than can be counted, or with 53200.
+    /// A core for a run, on the tables and the numbers that the setup leaves. Refused with 55000 while a session of the
+    /// setup has a transaction, with 54000 where there is no line, or more than can be counted, or with 53200.
     pub(crate) fn begin(&self, alloc: A) -> Result<Core<A>, Refusal>
     where
         A: Copy,
@@ -144,7 +144,7 @@ impl<A: Allocator> Plan<A> {
         }
     }
 
-    /// The exploration of these lines from the state that the setup has come to. Refused as `begin` is.
+    /// The exploration of these lines from the state that the setup leaves. Refused as `begin` is.
     pub fn of(alloc: A, setup: Core<A>, lines: Vec<Line<A>, A>) -> Result<Plan<A>, Refusal>
     where
         A: Copy,
@@ -175,7 +175,7 @@ impl<A: Allocator> Plan<A> {
         Ok(Interleavings::of(counts))
     }
 
-    /// So many schedules of its lines, drawn at random.
+    /// `count` schedules of its lines, drawn at random.
     pub fn sample(&self, alloc: A, seed: u64, count: u64) -> Result<Sample<A>, AllocError>
         ensures { IfOk result (λ s. s ≡ record { lines = line_counts self.now.lines sessions; seed = seed; count = count }) }
     {

@@ -1,4 +1,4 @@
-//! The replies of a history, told session by session.
+//! The replies of a history, session by session.
 
 ghost use Rattle.std.specs.Prelude.{◌≡◌, ◌++◌, codes, OnOk};
 ghost use Rattle.std.specs.Fmt.{decimal};
@@ -38,7 +38,7 @@ fn append_word<A: Allocator>(
     Ok(())
 }
 
-// Appends a refusal for the sake of a structure, without its transactions.
+// Appends a refusal because of a structure, without its transactions.
 fn append_cause<A: Allocator>(
     session: SessionId,
     refusal: Refusal,

@@ -1,21 +1,23 @@
 //! The run of one schedule.
 
-ghost use Rattle.std.specs.Prelude.{◌≡◌, ◌≢◌, ◌==◌, if◌then◌else◌, ◌≤◌, ◌+◌, Some, None, Ok, length, false, IfOk, OnOk, MatchOption};
+ghost use Rattle.std.specs.Prelude.{◌≡◌, ◌≢◌, ◌==◌, if◌then◌else◌, ◌≤◌, ◌+◌, ◌<◌, Some, None, Ok, [], ℕ, drop, length, false, replicate, slice_index_or, true, IfNone, IfOk, IfSome, OnOk, MatchOption};
 ghost use Rattle.std.specs.Option.{option_copied};
 ghost use Rattle.value.specs.Refusals.{out_of_memory};
 ghost use Rattle.statement.specs.declared.reply.Reply.{Reply as AnyReply};
 ghost use Rattle.history.specs.Answer.{IsLegal};
 ghost use Rattle.session.specs.Core.{HasRoom};
 ghost use Rattle.request.specs.Requests.{asked};
+ghost use Rattle.explore.specs.Cursors.{AreCursors, IsCursor};
 ghost use Rattle.explore.specs.Explored as spec;
-ghost use Rattle.explore.specs.Explored.{after_turn, after_turns, answered, events_of, place_of};
+ghost use Rattle.explore.specs.Explored.{after_turn, after_turns, answered, events_of, place_of, sessions};
+ghost use Rattle.explore.specs.declared.plan.Line.{Line as AnyLine};
 
 use crate::plan::Line;
 use history::event::{Event, Record};
 use history::session_id::SessionId;
 use session::sessions::Core;
 use statement::reply::Reply;
-use std::alloc::Allocator;
+use std::alloc::{AllocError, Allocator};
 use value::refusal::{Code, Refusal};
 
 // One for a session at a place, and nothing for another.
@@ -41,7 +43,7 @@ fn events_of<A: Allocator>(entries: &[Record<A>], place: usize) -> usize
     count
 }
 
-// The line of the session at a place, behind so many others of its own.
+// The line of the session at a place, after `others` lines of its own.
 fn own_line<A: Allocator>(lines: &[Line<A>], place: usize, others: usize) -> Option<&Line<A>>
     ensures { option_copied result ≡ spec.own_line place others lines.now }
 {
@@ -59,7 +61,7 @@ fn own_line<A: Allocator>(lines: &[Line<A>], place: usize, others: usize) -> Opt
     None
 }
 
-// Why there was no memory for a step, where it was.
+// The refusal of a reply that is out of memory; none for any other reply.
 fn want_of_memory<A: Allocator>(reply: &Reply<A>) -> Result<(), Refusal>
     ensures { OnOk result (reply.now ≢ AnyReply.Refused out_of_memory) }
 {
@@ -84,8 +86,8 @@ fn do_line<A: Allocator + Copy>(alloc: A, core: &mut Core<A>, line: &Line<A>) ->
     want_of_memory(&reply)
 }
 
-// Does the next line of the session at a place, where it has one.
-fn do_turn<A: Allocator + Copy>(
+// Does the next line of the session at a place, where it has one. It is found by counting.
+fn do_counted<A: Allocator + Copy>(
     alloc: A,
     core: &mut Core<A>,
     lines: &[Line<A>],
@@ -103,20 +105,153 @@ fn do_turn<A: Allocator + Copy>(
     }
 }
 
-/// Does the turns of an order, one after the other.
+// Does the next line of the session at a place that has no cursor among these.
+fn do_beyond<A: Allocator + Copy>(
+    alloc: A,
+    core: &mut Core<A>,
+    lines: &[Line<A>],
+    cursors: &[usize],
+    place: usize,
+) -> Result<(), Refusal>
+    requires room { HasRoom core.old }
+    requires before { AreCursors lines.now core.old.records cursors.now }
+    requires beyond { length cursors.now ≤ place }
+    ensures done { OnOk result (core.new ≡ after_turn lines.now core.old place) }
+    ensures after { OnOk result (AreCursors lines.now core.new.records cursors.now) }
+    ensures few { OnOk result (length core.new.records ≤ length core.old.records + 1) }
+    ensures most { OnOk result (core.new.most ≡ core.old.most) }
+{
+    do_counted(alloc, core, lines, place)?;
+    Ok(())
+}
+
+// Whether a line is of the session at a place.
+fn is_at<A: Allocator>(line: &Line<A>, place: usize) -> bool
+    ensures { result ≡ (place_of line.now.session == place) }
+{
+    line.session.number() as usize - 1 == place
+}
+
+// Where the next line of the session at a place stands from a line on, counted from 0.
+fn next_line<A: Allocator>(lines: &[Line<A>], place: usize, from: usize) -> Option<usize>
+    requires { from ≤ length lines.now }
+    ensures some { IfSome result (λ at. (at < length lines.now) ×
+        ((k : ℕ) → spec.own_line place k (drop at lines.now) ≡ spec.own_line place k (drop from lines.now))) }
+    ensures own { IfSome result (λ at. (d : AnyLine A) → (place_of (slice_index_or lines.now at d).session == place) ≡ true) }
+    ensures none { IfNone result ((k : ℕ) → spec.own_line place k (drop from lines.now) ≡ None) }
+{
+    for at in from..lines.len() {
+        if is_at(&lines[at], place) {
+            return Some(at);
+        }
+    }
+    None
+}
+
+// Does the next line of the session at a place from its cursor on, and returns the cursor after it.
+fn do_next<A: Allocator + Copy>(
+    alloc: A,
+    core: &mut Core<A>,
+    lines: &[Line<A>],
+    place: usize,
+    cursor: usize,
+) -> Result<usize, Refusal>
+    requires room { HasRoom core.old }
+    requires before { IsCursor lines.now place (events_of place core.old.records) cursor }
+    ensures done { OnOk result (core.new ≡ after_turn lines.now core.old place) }
+    ensures after { IfOk result (λ c. IsCursor lines.now place (events_of place core.new.records) c) }
+    ensures few { OnOk result (length core.new.records ≤ length core.old.records + 1) }
+    ensures most { OnOk result (core.new.most ≡ core.old.most) }
+{
+    let Some(at) = next_line(lines, place, cursor) else {
+        return Ok(cursor);
+    };
+    do_line(alloc, core, &lines[at])?;
+    Ok(at + 1)
+}
+
+// Does the next line of the session at a place that has its cursor among these.
+fn do_within<A: Allocator + Copy>(
+    alloc: A,
+    core: &mut Core<A>,
+    lines: &[Line<A>],
+    cursors: &mut [usize],
+    place: usize,
+) -> Result<(), Refusal>
+    requires room { HasRoom core.old }
+    requires before { AreCursors lines.now core.old.records cursors.old }
+    requires within { place < length cursors.old }
+    ensures done { OnOk result (core.new ≡ after_turn lines.now core.old place) }
+    ensures after { OnOk result (AreCursors lines.now core.new.records cursors.new) }
+    ensures few { OnOk result (length core.new.records ≤ length core.old.records + 1) }
+    ensures most { OnOk result (core.new.most ≡ core.old.most) }
+{
+    let after = do_next(alloc, core, lines, place, cursors[place])?;
+    cursors[place] = after;
+    Ok(())
+}
+
+// Does the next line of the session at a place, where it has one.
+fn do_turn<A: Allocator + Copy>(
+    alloc: A,
+    core: &mut Core<A>,
+    lines: &[Line<A>],
+    cursors: &mut [usize],
+    place: usize,
+) -> Result<(), Refusal>
+    requires room { HasRoom core.old }
+    requires before { AreCursors lines.now core.old.records cursors.old }
+    ensures done { OnOk result (core.new ≡ after_turn lines.now core.old place) }
+    ensures after { OnOk result (AreCursors lines.now core.new.records cursors.new) }
+    ensures few { OnOk result (length core.new.records ≤ length core.old.records + 1) }
+    ensures most { OnOk result (core.new.most ≡ core.old.most) }
+{
+    if place < cursors.len() {
+        do_within(alloc, core, lines, cursors, place)
+    } else {
+        do_beyond(alloc, core, lines, cursors, place)
+    }
+}
+
+// Does the turns of an order, one after the other.
+fn do_each<A: Allocator + Copy>(
+    alloc: A,
+    core: &mut Core<A>,
+    lines: &[Line<A>],
+    cursors: &mut [usize],
+    order: &[usize],
+) -> Result<(), Refusal>
+    requires room { length core.old.records + length order.now ≤ core.old.most }
+    requires before { AreCursors lines.now core.old.records cursors.old }
+    ensures { OnOk result (core.new ≡ after_turns lines.now core.old order.now) }
+{
+    let mut left = order;
+    while let [place, more @ ..] = left {
+        do_turn(alloc, core, lines, cursors, *place)?;
+        left = more;
+    }
+    Ok(())
+}
+
+// A cursor for each session, before any event.
+fn first_cursors<A: Allocator>(alloc: A) -> Result<Vec<usize, A>, AllocError>
+    ensures { IfOk result (λ cs. cs.items ≡ replicate sessions 0) }
+{
+    let cursors = vec![in alloc; 0usize; 64]?;
+    Ok(cursors)
+}
+
+/// Does the turns of an order from a history's opening on, one after the other.
 pub(crate) fn do_turns<A: Allocator + Copy>(
     alloc: A,
     core: &mut Core<A>,
     lines: &[Line<A>],
     order: &[usize],
 ) -> Result<(), Refusal>
-    requires { length core.old.records + length order.now ≤ core.old.most }
+    requires unbegun { core.old.records ≡ [] }
+    requires room { length core.old.records + length order.now ≤ core.old.most }
     ensures { OnOk result (core.new ≡ after_turns lines.now core.old order.now) }
 {
-    let mut left = order;
-    while let [place, more @ ..] = left {
-        do_turn(alloc, core, lines, *place)?;
-        left = more;
-    }
-    Ok(())
+    let mut cursors = first_cursors(alloc)?;
+    do_each(alloc, core, lines, cursors.as_mut_slice(), order)
 }

@@ -1,4 +1,4 @@
-//! The committed tables, told row by row.
+//! The committed tables, row by row.
 
 ghost use Rattle.std.specs.Prelude.{◌≡◌, ◌<◌, ◌≤◌, ◌∷◌, ◌++◌, codes, length, slice_get, Some, OnOk};
 ghost use Rattle.std.specs.List.{flat_map};
@@ -13,7 +13,7 @@ use schema::row::Row;
 use std::alloc::Allocator;
 use value::refusal::Refusal;
 
-// Appends a row behind its table's name.
+// Appends a row after its table's name.
 fn append_named_row<A: Allocator>(
     name: &str,
     row: &Row<A>,
@@ -26,7 +26,7 @@ fn append_named_row<A: Allocator>(
     write_row(row, text)
 }
 
-// Appends the rows of a table behind its name.
+// Appends the rows of a table, each after the table's name.
 fn append_rows<A: Allocator, R: SnapshotReader<A>>(
     reader: &R,
     table: TableNo,

@@ -1,5 +1,5 @@
 -- The lines of a text, byte by byte; and sessions, one by one.
-use Rattle.std.proofs.Common.{◌≡◌, refl, sym, ap, ◌∙◌, ℕ, zero, suc, ◌+◌, ◌-◌, ◌<◌, ◌≤◌, Bool, true, false, ◌||◌, cond, eqb, bytes_eq, List, [], ◌∷◌, ◌++◌, map, length, get_or, take, drop, slice_range, append_assoc, arith}
+use Rattle.std.proofs.Common.{◌≡◌, refl, sym, ap, ◌∙◌, ℕ, zero, suc, ◌+◌, ◌-◌, ◌<◌, ◌≤◌, Bool, true, false, ◌||◌, cond, bytes_eq, List, [], ◌∷◌, ◌++◌, map, length, get_or, take, drop, slice_range, append_assoc, arith}
 use Rattle.std.specs.List.{filter, list_any, range_with_len}
 use Rattle.std.proofs.lemmas.Bool.{eq-eqb, ne_eqb}
 use Rattle.std.proofs.lemmas.List.{append-nil, drop_more, get_or-drop, length-drop, map_push, take_more}
@@ -8,7 +8,7 @@ use Rattle.std.proofs.lemmas.List.Folds.{list_any-append, list_any_at}
 use Rattle.std.proofs.lemmas.List.FromFn.{get_or-range_with_len, length-range_with_len}
 use denote.Ref.{Bor}
 use Rattle.std.specs.Fmt.{decimal}
-use Rattle.listing.specs.Refusals.{Refusals, cause_reply, is_told, lines, lines_from, refusals, refuses, row_reply, sessions}
+use Rattle.listing.specs.Refusals.{cause_reply, is_told, lines, lines_from, refusals, refuses, row_reply, sessions}
 
 -- ---- lines
 
@@ -121,7 +121,7 @@ line_kept text start next i xs ys s h d n y inv = (
       ∙ inv,
 )
 
--- what is found of a text's lines is what the text tells
+-- what is found in a text's lines is what the text says
 pub refusals_are : (text : List ℕ) (ls : List (List ℕ)) (ss : List ℕ) (r c : Bool) → ls ≡ lines text → ss ≡ filter (refuses ls) sessions → r ≡ list_any (is_told row_reply ls) sessions → c ≡ list_any (is_told cause_reply ls) sessions →
     record { sessions = ss; by_row = r; by_cause = c } ≡ refusals text
 refusals_are text ls ss r c e a b d =

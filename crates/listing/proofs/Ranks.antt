@@ -1,6 +1,6 @@
 -- Outcomes in the order of their ranks.
-use Rattle.std.proofs.Common.{◌≡◌, refl, sym, ap, ◌∙◌, subst, ℕ, ◌+◌, ◌<◌, ◌≤◌, Bool, true, false, cond, eqb, ltb, nat_lt, List, [], length, get_or, take, arith}
-use Rattle.std.specs.List.{All, sum_by}
+use Rattle.std.proofs.Common.{◌≡◌, refl, sym, ◌∙◌, ℕ, ◌+◌, ◌<◌, ◌≤◌, Bool, true, false, cond, eqb, ltb, nat_lt, List, length, get_or, take, arith}
+use Rattle.std.specs.List.{sum_by}
 use Rattle.std.specs.List.Sorted.{IsPermutation}
 use Rattle.std.specs.Cmp.{IsStrictWeakOrder}
 use Rattle.std.specs.Ordering.{is_lt, nat_cmp}
@@ -10,8 +10,7 @@ use Rattle.std.proofs.lemmas.List.Recursion.{is_sum_by}
 use Rattle.std.proofs.lemmas.List.Sorted.{IsStrictWeakOrder-by_number, IsStrictWeakOrder-flip, sum_by-IsPermutation}
 use Rattle.std.proofs.lemmas.List.Sums.{sum_by-le-sum_by, sum_by_more_le}
 use Rattle.tally.specs.Outcomes.{Counted, all_runs}
-use Rattle.listing.specs.Listing.{has, has_more, reasons_text, runs_with, some_reasons_text}
-use Rattle.listing.specs.declared.counting.Which.TheVariants.{Any}
+use Rattle.listing.specs.Listing.{has, has_more, runs_with}
 use Rattle.listing.specs.declared.counting.Which.{Which}
 
 pub is_less : (x y : ℕ) → is_lt (nat_cmp x y) ≡ nat_lt x y
@@ -52,6 +51,3 @@ is_positive a b e h = let p : 0 < b = omega (arith, e, h) in grind (arith, nat_t
 
 pub is_none : (a b : ℕ) → a ≡ b → a ≤ 0 → nat_lt 0 b ≡ false
 is_none a b e h = let p : b ≤ 0 = omega (arith, e, h) in grind (arith, nat_tests)
-
-pub some_reasons : (os : List Counted) (n : ℕ) → n ≡ runs_with Any os → (n ≡ 0 → ⊥) → some_reasons_text os ≡ reasons_text os
-some_reasons os n e d = let p : 0 < n = omega (arith, d) in ap (λ b. cond b (reasons_text os) []) (is_positive n (runs_with Any os) e p)

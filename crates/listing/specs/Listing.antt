@@ -1,5 +1,5 @@
--- What is printed of the outcomes of schedules (this project's own form).
-use Rattle.std.specs.Prelude.{◌≡◌, ℕ, ◌+◌, ◌==◌, nat_lt, if◌then◌else◌, Bool, true, false, not, Option, Some, None, List, [], ◌∷◌, ◌++◌, codes, slice_index_or, IsPermutation}
+-- What is printed of the outcomes of schedules.
+use Rattle.std.specs.Prelude.{◌≡◌, ℕ, ◌+◌, ◌==◌, nat_lt, if◌then◌else◌, Bool, true, false, Option, Some, None, List, [], ◌∷◌, ◌++◌, codes, slice_index_or, IsPermutation}
 use Rattle.std.specs.Fmt.{decimal}
 use Rattle.std.specs.List.{filter, flat_map, list_any, sum_by}
 use Rattle.std.specs.List.Sorted.{IsSortedBy, IsStableBy}
@@ -28,7 +28,7 @@ runs_told (Sample n all) = n
 
 -- ---- an outcome
 
--- what is told of sessions, one behind the other: the first behind one word, the others behind another
+-- the texts of sessions, one after the other: the first follows one word, the others another
 abbrev pub series : List ℕ → List ℕ → (ℕ → List ℕ) → List ℕ → List ℕ
 series first later item [] = []
 series first later item (s ∷ ss) = first ++ item s ++ series later later item ss
@@ -41,7 +41,7 @@ order_text order = codes "first:" ++ flat_map (λ p. codes " " ++ decimal (p + 1
 abbrev pub shown_order : Bool → List (List ℕ) → Counted → List ℕ
 shown_order shows orders o = if shows then order_text (slice_index_or orders o.first []) else []
 
--- the head of an outcome of this rank: how many schedules come to it, and whom it refuses
+-- the head of an outcome of this rank: how many schedules lead to it, and which sessions it refuses
 abbrev pub head_text : ℕ → Counted → List ℕ
 head_text rank o =
     codes "outcome " ++ decimal rank ++ codes ": " ++ decimal o.runs ++ codes " schedules"
@@ -69,7 +69,7 @@ has ByRow o = (refusals o.text).by_row
 has ByCause o = (refusals o.text).by_cause
 has (Session s) o = list_any (λ x. x == s) (refusals o.text).sessions
 
--- how many schedules come to an outcome that has one
+-- how many schedules lead to an outcome that has one
 abbrev pub runs_with : Which → List Counted → ℕ
 runs_with w os = sum_by (λ o. if has w o then o.runs else 0) os
 
@@ -81,24 +81,20 @@ share_text os s = decimal s ++ codes " in " ++ decimal (runs_with (Session s) os
 abbrev pub shares_text : List Counted → List ℕ
 shares_text os = series (codes "; session ") (codes ", session ") (share_text os) (filter (λ s. nat_lt 0 (runs_with (Session s) os)) sessions)
 
--- whom schedules refuse, and for whose sake
+-- which sessions schedules refuse, and how many refuse by a row, and how many by a cause
 abbrev pub reasons_text : List Counted → List ℕ
 reasons_text os = shares_text os ++ codes "; by a row " ++ decimal (runs_with ByRow os) ++ codes ", by a cause " ++ decimal (runs_with ByCause os)
 
--- the same, where one is refused
-abbrev pub some_reasons_text : List Counted → List ℕ
-some_reasons_text os = if nat_lt 0 (runs_with Any os) then reasons_text os else []
-
 abbrev pub totals_text : ℕ → List Counted → List ℕ
-totals_text runs os = codes "refused: " ++ decimal (runs_with Any os) ++ codes " of " ++ decimal runs ++ codes " schedules" ++ some_reasons_text os ++ codes "\n"
+totals_text runs os = codes "refused: " ++ decimal (runs_with Any os) ++ codes " of " ++ decimal runs ++ codes " schedules" ++ reasons_text os ++ codes "\n"
 
 -- ---- all outcomes
 
--- more schedules come to the one than to the other
+-- more schedules lead to the one than to the other
 abbrev pub has_more : Counted → Counted → Bool
 has_more o p = nat_lt p.runs o.runs
 
--- The same outcomes by falling number of schedules, those of equally many in the order in which they were.
+-- The outcomes by falling number of schedules, those of equally many in the order in which they were.
 pub record IsRanked (os ranked : List Counted) : Type 0 where
   pub same : IsPermutation os ranked
   pub falling : IsSortedBy has_more ranked

@@ -1,4 +1,4 @@
--- What the text of an outcome tells of refusals that are to be tried again (40001).
+-- What the text of an outcome says of refusals that are to be tried again (40001).
 -- Source: PostgreSQL's manual, "Serialization Failure Handling".
 use Rattle.std.specs.Prelude.{ℕ, ◌==◌, if◌then◌else◌, Bool, ◌||◌, List, [], ◌∷◌, ◌++◌, codes, bytes_eq}
 use Rattle.std.specs.Fmt.{decimal}
@@ -12,7 +12,7 @@ lines_from line (b ∷ bs) = if b == 10 then line ∷ lines_from [] bs else line
 abbrev pub lines : List ℕ → List (List ℕ)
 lines text = lines_from [] text
 
--- a reply of a refusal, behind the session's number: for the sake of a row that another has written, and of a dangerous structure
+-- a reply of a refusal, after the session's number: because of a row that another has written, and because of a dangerous structure
 abbrev pub row_reply : List ℕ
 row_reply = codes " ERROR 40001 row"
 
@@ -31,13 +31,13 @@ refuses ls s = is_told row_reply ls s || is_told cause_reply ls s
 unfoldable pub sessions : List ℕ
 sessions = range_with_len 1 64
 
--- The sessions that are refused, and whether one is for the sake of a row, and of a dangerous structure.
+-- The sessions that are refused, and whether one is because of a row, and whether one is because of a dangerous structure.
 pub record Refusals : Type 0 where
   pub sessions : List ℕ
   pub by_row : Bool
   pub by_cause : Bool
 
--- those that a text tells
+-- the refusals that a text has
 abbrev pub refusals : List ℕ → Refusals
 refusals text = record {
   sessions = filter (refuses (lines text)) sessions;

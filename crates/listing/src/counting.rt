@@ -1,17 +1,18 @@
-//! How many schedules have refusals, and of whom.
+//! How many schedules have refusals, and of which sessions.
 
 ghost use Rattle.std.specs.Prelude.{◌≡◌, ◌++◌, ◌<◌, ◌^◌, codes, nat_lt, IfOk, OnOk, if◌then◌else◌};
 ghost use Rattle.std.specs.Fmt.{decimal};
 ghost use Rattle.std.specs.List.{filter};
 ghost use Rattle.tally.specs.Outcomes.{all_runs};
-ghost use Rattle.listing.specs.Listing.{has, reasons_text, runs_with, series, share_text, some_reasons_text, totals_text};
+ghost use Rattle.listing.specs.Listing.{has, reasons_text, runs_with, series, share_text, totals_text};
 ghost use Rattle.listing.specs.Refusals as spec;
 
 use crate::numbers::append_numbered;
 use crate::ranking::Ranked;
 use std::alloc::{AllocError, Allocator};
 
-/// Which refusals are counted: any, those for the sake of a row, of a dangerous structure, and those of a session.
+/// Which refusals are counted: any, those because of a row, those because of a dangerous structure, and those of a
+/// session.
 #[derive(Clone, Copy)]
 pub(crate) enum Which {
     Any,
@@ -21,7 +22,7 @@ pub(crate) enum Which {
 }
 
 impl Which {
-    // Whether an outcome has one.
+    // Whether an outcome has such a refusal.
     fn is_in<A: Allocator>(self, ranked: &Ranked<A>) -> bool
         ensures { result ≡ has self ranked.now }
     {
@@ -34,7 +35,7 @@ impl Which {
         }
     }
 
-    // How many schedules come to an outcome, if it has one.
+    // How many schedules lead to an outcome, if it has such a refusal; else 0.
     fn runs_of<A: Allocator>(self, ranked: &Ranked<A>) -> u64
         ensures { result ≡ (if has self ranked.now then ranked.now.runs else 0) }
     {
@@ -45,7 +46,7 @@ impl Which {
         }
     }
 
-    // How many schedules come to outcomes that have one.
+    // How many schedules lead to outcomes that have such a refusal.
     fn runs_in<A: Allocator>(self, all: &[Ranked<A>]) -> u64
         requires { all_runs all.now < 2 ^ 64 }
         ensures { result ≡ runs_with self all.now }
@@ -73,7 +74,7 @@ fn refused_sessions<A: Allocator>(alloc: A, all: &[Ranked<A>]) -> Result<Vec<u32
     Ok(refused)
 }
 
-// Appends a session behind a word, with how many schedules refuse it.
+// Appends a word and a session, with how many schedules refuse it.
 fn append_share<A: Allocator>(
     word: &[u8],
     session: u32,
@@ -107,7 +108,7 @@ fn append_shares<A: Allocator>(
     Ok(())
 }
 
-// Appends whom schedules refuse, and for whose sake.
+// Appends which sessions schedules refuse, and how many refuse by a row, and how many by a cause.
 fn append_reasons<A: Allocator + Copy>(
     alloc: A,
     all: &[Ranked<A>],
@@ -122,22 +123,7 @@ fn append_reasons<A: Allocator + Copy>(
     append_numbered(b", by a cause ", Which::ByCause.runs_in(all), text)
 }
 
-// Appends the same, where one is refused.
-fn append_some_reasons<A: Allocator + Copy>(
-    alloc: A,
-    all: &[Ranked<A>],
-    text: &mut Vec<u8, A>,
-) -> Result<(), AllocError>
-    requires { all_runs all.now < 2 ^ 64 }
-    ensures { OnOk result (text.new.items ≡ text.old.items ++ some_reasons_text all.now) }
-{
-    if Which::Any.runs_in(all) == 0 {
-        return Ok(());
-    }
-    append_reasons(alloc, all, text)
-}
-
-/// Appends how many of so many schedules have refusals.
+/// Appends how many of `runs` schedules have refusals.
 pub(crate) fn append_totals<A: Allocator + Copy>(
     alloc: A,
     runs: u64,
@@ -150,7 +136,7 @@ pub(crate) fn append_totals<A: Allocator + Copy>(
     append_numbered(b"refused: ", Which::Any.runs_in(all), text)?;
     append_numbered(b" of ", runs, text)?;
     text.extend_from_slice(b" schedules")?;
-    append_some_reasons(alloc, all, text)?;
+    append_reasons(alloc, all, text)?;
     text.push(b'\n')?;
     Ok(())
 }

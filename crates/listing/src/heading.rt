@@ -9,9 +9,9 @@ use std::alloc::{AllocError, Allocator};
 /// Which schedules were run.
 #[derive(Clone, Copy, Debug, PartialEq, Eq)]
 pub enum Heading {
-    /// All, so many.
+    /// All schedules, with their number.
     Every(u64),
-    /// So many drawn at random, of how many there are; none where these are past the greatest u64.
+    /// Schedules drawn at random: how many, and of how many. None: these are past the greatest u64.
     Sample(u64, Option<u64>),
 }
 

@@ -62,7 +62,7 @@ fn append_first<A: Allocator + Copy, S: Schedules<A>>(
     append_order(order.as_slice(), text)
 }
 
-// Appends an outcome's head: its rank, how many schedules come to it, and whom it refuses.
+// Appends an outcome's head: its rank, how many schedules lead to it, and which sessions it refuses.
 fn append_head<A: Allocator>(
     rank: u64,
     ranked: &Ranked<A>,

@@ -18,7 +18,7 @@ pub(crate) fn append_number<A: Allocator>(
     text.extend_from_slice(buffer.format(number).as_bytes())
 }
 
-/// Appends a word, and a number behind it.
+/// Appends a word, followed by a number.
 pub(crate) fn append_numbered<A: Allocator>(
     word: &[u8],
     number: u64,
@@ -30,7 +30,7 @@ pub(crate) fn append_numbered<A: Allocator>(
     append_number(number, text)
 }
 
-/// Appends sessions, the first behind one word, the others behind another.
+/// Appends sessions, the first after one word, the others after another.
 pub(crate) fn append_sessions<A: Allocator>(
     first: &[u8],
     later: &[u8],

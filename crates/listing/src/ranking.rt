@@ -1,4 +1,4 @@
-//! Outcomes, those first to which the most schedules come, with what their texts tell of refusals.
+//! Outcomes, those first to which the most schedules lead, with what their texts say of refusals.
 
 ghost use Rattle.std.specs.Prelude.{◌≡◌, IfOk, OnOk};
 ghost use Rattle.std.specs.Ordering.{is_lt};
@@ -11,7 +11,7 @@ use std::cmp::Ordering;
 use std::marker::Model;
 use tally::outcomes::Outcome;
 
-/// An outcome, and what its text tells of refusals.
+/// An outcome, and what its text says of refusals.
 #[derive(Drop)]
 pub(crate) struct Ranked<A: Allocator> {
     outcome: Outcome<A>,
@@ -31,7 +31,7 @@ impl<A: Allocator> Model for Ranked<A> {
 }
 
 impl<A: Allocator> Ranked<A> {
-    // An outcome, with what its text tells.
+    // An outcome, with what its text says.
     fn of(alloc: A, outcome: Outcome<A>) -> Result<Ranked<A>, AllocError>
     where
         A: Copy,
@@ -48,7 +48,7 @@ impl<A: Allocator> Ranked<A> {
         &self.outcome
     }
 
-    /// What its text tells of refusals.
+    /// What its text says of refusals.
     pub(crate) fn refusals(&self) -> &Refusals<A>
         ensures { result.now ≡ refusals self.now.text }
     {
@@ -56,7 +56,7 @@ impl<A: Allocator> Ranked<A> {
     }
 }
 
-// How two outcomes compare: the one comes first to which more schedules come.
+// How two outcomes compare: the one to which more schedules lead comes first.
 fn compare<A: Allocator>(left: &Outcome<A>, right: &Outcome<A>) -> Ordering
     ensures { is_lt result ≡ has_more left.now right.now }
 {
@@ -71,7 +71,7 @@ fn sort<A: Allocator>(found: &mut Vec<Outcome<A>, A>) -> Result<(), AllocError>
     Ok(())
 }
 
-// Outcomes, with what their texts tell.
+// Outcomes, with what their texts say.
 fn with_refusals<A: Allocator + Copy>(
     alloc: A,
     found: Vec<Outcome<A>, A>,

@@ -1,4 +1,4 @@
-//! What the text of an outcome tells of refusals that are to be tried again.
+//! What the text of an outcome says of refusals that are to be tried again.
 
 ghost use Rattle.std.specs.Prelude.{◌≡◌, ◌==◌, ◌++◌, map, bytes_eq, IfOk};
 ghost use Rattle.std.specs.Fmt.{decimal};
@@ -9,7 +9,7 @@ use itoa::Buffer;
 use std::alloc::{AllocError, Allocator};
 use std::marker::Model;
 
-/// What a text tells of refusals.
+/// What a text says of refusals.
 #[derive(Drop)]
 pub(crate) struct Refusals<A: Allocator> {
     pub(crate) sessions: Vec<u32, A>,
@@ -50,14 +50,14 @@ fn reply_to<A: Allocator>(alloc: A, session: u32, reply: &[u8]) -> Result<Vec<u8
     Ok(line)
 }
 
-// Whether a line is this one.
+// Whether two lines are equal.
 fn is_line(other: &[u8], line: &[u8]) -> bool
     ensures { result ≡ bytes_eq other.now line.now }
 {
     other == line
 }
 
-// Whether one of the lines is this one.
+// Whether one of the lines is equal to this one.
 fn has_line(found: &[&[u8]], line: &[u8]) -> bool
     ensures { result ≡ list_any (λ l. bytes_eq l.now line.now) found.now }
 {
@@ -132,7 +132,7 @@ impl<A: Allocator> Refusals<A> {
 }
 
 impl<A: Allocator + Copy> Refusals<A> {
-    /// What a text tells of refusals.
+    /// What a text says of refusals.
     pub(crate) fn in_text(alloc: A, text: &[u8]) -> Result<Refusals<A>, AllocError>
         ensures { IfOk result (λ r. r ≡ refusals text.now) }
     {

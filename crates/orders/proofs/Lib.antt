@@ -1,8 +1,10 @@
 pub mod AloneLemmas
 pub mod AgreeLemmas
 pub mod OrderLemmas
+pub mod DoneLemmas
 pub mod PlaceLemmas
 pub mod PopLemmas
+pub mod RecordedLemmas
 pub mod SeenLemmas
 pub mod TimeLemmas
 pub mod UndoLemmas

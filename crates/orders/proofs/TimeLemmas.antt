@@ -1,10 +1,10 @@
 -- Who may come next by time, found by the least end of those that aren't done.
-use Rattle.std.proofs.Common.{◌≡◌, ◌⊎◌, refl, sym, ap, ◌∙◌, subst, ℕ, zero, suc, ◌+◌, ◌-◌, ◌^◌, ◌<◌, ◌≤◌, Bool, true, false, true≢false, ◌&&◌, ◌||◌, not, zip, inl, inr, List, [], ◌∷◌, length, slice_get, Option, Some, None, is_some, nat_lt, arith}
+use Rattle.std.proofs.Common.{◌≡◌, ◌⊎◌, refl, sym, ap, ◌∙◌, subst, ℕ, zero, suc, ◌+◌, ◌-◌, ◌^◌, ◌<◌, ◌≤◌, Bool, true, false, true≢false, ◌&&◌, ◌||◌, not, if◌then◌else◌, zip, inl, inr, List, [], ◌∷◌, length, slice_get, Option, Some, None, is_some, nat_lt, arith}
 use Rattle.std.proofs.lemmas.Bool.{le-ltb, lt-ltb, cases_eq, cases_lt}
 use Rattle.std.specs.List.{list_all}
 use Rattle.std.proofs.lemmas.Option.{same_Some}
 use Rattle.orders.specs.Explains.{Trace, precedes, ended_before}
-use Rattle.orders.specs.Turns.{IsLeastEnd, are_done, comes, comes_so, end_at, end_or_last, lesser_end, settled}
+use Rattle.orders.specs.Turns.{AreLate, AreSet, IsEarliest, IsLeastEnd, IsLeastFrom, are_done, begin_at, behind_few, comes, comes_so, end_at, end_or_last, lesser_end, settled}
 use Rattle.orders.proofs.WalkLemmas.{free-at, free-from}
 
 and-both : (a b : Bool) → a ≡ true → b ≡ true → (a && b) ≡ true
@@ -122,6 +122,18 @@ module _ {A : Type 0} (ts : List (Trace A)) where
   pub least-all : (done : List Bool) (n e : ℕ) → length done ≤ n → IsLeastOf done n e → IsLeastEnd ts done e
   least-all done n e l h = (λ j f. let k = within-get done j false f in h.0 j (omega (arith, k, l)) f, h.1)
 
+  -- before a place all are done
+  pub least-first : (done : List Bool) (first : ℕ) → AreSet done first → IsLeastOf done first (2 ^ 64 - 1)
+  least-first done first s = (λ j l f. absurd (true≢false (same_Some true false (sym (s j l) ∙ f))), inl refl)
+
+  -- none ends sooner from a place on
+  pub least-rest : (done : List Bool) (n e m : ℕ) → IsLeastOf done n e → IsLeastFrom ts n m → e ≤ m → IsLeastEnd ts done e
+  least-rest done n e m h r l = (λ j f. go j f (cases_lt j n), h.1)
+    where
+      go : (j : ℕ) → slice_get done j ≡ Some false → (j < n) ⊎ (n ≤ j) → e ≤ end_at (slice_get ts j)
+      go j f (inl k) = h.0 j k f
+      go j f (inr k) = let q = r j k in omega (arith, l, q)
+
   -- ---- whether one comes
 
   comes-is : (done : List Bool) (e i : ℕ) (t : Trace A) (d : Bool) → slice_get ts i ≡ Some t → slice_get done i ≡ Some d → t.begin < 2 ^ 64 → IsLeastEnd ts done e → (not d && (t.imported || not (nat_lt e t.begin))) ≡ comes ts done i
@@ -139,7 +151,7 @@ module _ {A : Type 0} (ts : List (Trace A)) where
   pub comes-done : (done : List Bool) (i : ℕ) (t : Trace A) (d : Bool) → slice_get ts i ≡ Some t → slice_get done i ≡ Some d → d ≡ true → false ≡ comes ts done i
   comes-done done i t d g l n = sym (ap (λ b. not b && waits done t) n) ∙ sym (ap (λ o. comes_so ts done o (slice_get done i)) g ∙ ap (λ o. comes_so ts done (Some t) o) l)
 
-  get-past : {T : Type 0} (xs : List T) (i : ℕ) → length xs ≤ i → slice_get xs i ≡ None
+  pub get-past : {T : Type 0} (xs : List T) (i : ℕ) → length xs ≤ i → slice_get xs i ≡ None
   get-past [] i l = refl
   get-past (x ∷ xs) zero l = absurd (omega (arith, l))
   get-past (x ∷ xs) (suc i) l = get-past xs i (omega (arith, l))
@@ -169,7 +181,79 @@ module _ {A : Type 0} (ts : List (Trace A)) where
       go (inl e) = ap (comes ts done) e ∙ n
       go (inr e) = h j f (omega (arith, e, l))
 
+  -- ---- those that begin too late
+
+  ends-first : (a t : Trace A) → end_or_last a.end < 2 ^ 64 - 1 → t.imported ≡ false → end_or_last a.end < t.begin → precedes a t ≡ true
+  ends-first a t fits i l = go a.end refl fits l
+    where
+      go : (o : Option ℕ) → a.end ≡ o → end_or_last o < 2 ^ 64 - 1 → end_or_last o < t.begin → precedes a t ≡ true
+      go None e fits l = absurd (omega (arith, fits))
+      go (Some n) e fits l = ap (λ o. ended_before o t.begin && not t.imported) e ∙ ap (λ b. b && not t.imported) (lt-ltb n t.begin l) ∙ ap (λ b. not b) i
+
+  late-waits : (done : List Bool) (e : ℕ) (t : Trace A) → t.imported ≡ false → IsLeastEnd ts done e → e < 2 ^ 64 - 1 → e < t.begin → waits done t ≡ true → ⊥
+  late-waits done e t i least fits l w = go least.1
+    where
+      go : (e ≡ 2 ^ 64 - 1) ⊎ ((j : ℕ) × (slice_get done j ≡ Some false) × (e ≡ end_at (slice_get ts j))) → ⊥
+      go (inl m) = omega (arith, fits, m)
+      go (inr s) = at (slice_get ts s.0) refl s.2
+        where
+          at : (o : Option (Trace A)) → slice_get ts s.0 ≡ o → e ≡ end_at o → ⊥
+          at None g m = omega (arith, fits, m)
+          at (Some a) g m = true≢false (sym (ends-first a t (subst (λ n. n < 2 ^ 64 - 1) m fits) i (subst (λ n. n < t.begin) m l)) ∙ free-at ts t ts done w s.0 a g s.1)
+
+  late-false : (done : List Bool) (e j : ℕ) → IsLeastEnd ts done e → e < 2 ^ 64 - 1 → e < begin_at (slice_get ts j) → comes ts done j ≡ false
+  late-false done e j least fits l = go (slice_get ts j) (slice_get done j) l
+    where
+      waits-not : (t : Trace A) → t.imported ≡ false → e < t.begin → waits done t ≡ false
+      waits-not t i l = is-false (waits done t) (late-waits done e t i least fits l)
+
+      begun : (t : Trace A) (b : Bool) → t.imported ≡ b → e < begin_at (Some t) → waits done t ≡ false
+      begun t true i l = let k : e < 0 = subst (λ b. e < (if b then 0 else t.begin)) i l in absurd (omega (arith, k))
+      begun t false i l = waits-not t i (subst (λ b. e < (if b then 0 else t.begin)) i l)
+
+      go : (o : Option (Trace A)) (d : Option Bool) → e < begin_at o → comes_so ts done o d ≡ false
+      go None d l = refl
+      go (Some t) None l = refl
+      go (Some t) (Some b) l = and-not (not b) (waits done t) (begun t t.imported refl l)
+
+  pub late-none : (done : List Bool) (e from until : ℕ) → IsLeastEnd ts done e → AreLate ts e from until → (j : ℕ) → from ≤ j → j < until → comes ts done j ≡ false
+  late-none done e from until least late j f l = let h = late j f l in late-false done e j least h.0 h.1
+
+  pub late-begin : (e from : ℕ) → AreLate ts e from from
+  late-begin e from j f l = absurd (omega (arith, f, l))
+
+  -- the next few begin too late as well
+  pub late-more : (e from place next b : ℕ) → AreLate ts e from place → IsEarliest ts place b → b < 2 ^ 64 → e < b → next ≡ behind_few place → AreLate ts e from next
+  late-more e from place next b h m fits l q j f k = go (cases_lt j place)
+    where
+      go : (j < place) ⊎ (place ≤ j) → (e < 2 ^ 64 - 1) × (e < begin_at (slice_get ts j))
+      go (inl p) = h j f p
+      go (inr p) = let r = m j p (subst (λ n. j < n) q k) in (omega (arith, fits, l), omega (arith, l, r))
+
+  -- none up to a place, that one neither, and those behind it begin too late
+  pub none-late : (done : List Bool) (e from place next : ℕ) → IsLeastEnd ts done e → comes ts done place ≡ false → AreLate ts e (place + 1) next → ((j : ℕ) → from ≤ j → j < place → comes ts done j ≡ false) → (j : ℕ) → from ≤ j → j < next → comes ts done j ≡ false
+  none-late done e from place next least n late h j f l = go (cases_lt j (place + 1))
+    where
+      go : (j < place + 1) ⊎ (place + 1 ≤ j) → comes ts done j ≡ false
+      go (inl k) = none-next done from place n h j f k
+      go (inr k) = late-none done e (place + 1) next least late j k l
+
+  -- those that are done don't come
+  pub comes-set : (done : List Bool) (first j : ℕ) → AreSet done first → j < first → comes ts done j ≡ false
+  comes-set done first j s l = ap (comes_so ts done (slice_get ts j)) (s j l) ∙ go (slice_get ts j)
+    where
+      go : (o : Option (Trace A)) → comes_so ts done o (Some true) ≡ false
+      go None = refl
+      go (Some t) = refl
+
   -- ---- whether all are done
+
+  pub settled-set : (done : List Bool) (first j : ℕ) → AreSet done first → j < first → settled (slice_get ts j) (slice_get done j) ≡ true
+  settled-set done first j s l = ap (settled (slice_get ts j)) (s j l) ∙ go (slice_get ts j)
+    where
+      go : (o : Option (Trace A)) → settled o (Some true) ≡ true
+      go None = refl
+      go (Some t) = refl
 
   pub settled-past : (done : List Bool) (i : ℕ) → length ts ≤ i → true ≡ settled (slice_get ts i) (slice_get done i)
   settled-past done i l = sym (ap (λ o. settled o (slice_get done i)) (get-past ts i l))

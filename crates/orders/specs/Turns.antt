@@ -1,5 +1,5 @@
 -- What the parts of the search say.
-use Rattle.std.specs.Prelude.{◌≡◌, ◌⊎◌, ℕ, ◌-◌, ◌^◌, ◌≤◌, min, Bool, true, false, not, ◌&&◌, ◌||◌, Option, Some, None, is_some, List, zip, slice_get}
+use Rattle.std.specs.Prelude.{◌≡◌, ◌⊎◌, ℕ, ◌+◌, ◌-◌, ◌^◌, ◌<◌, ◌≤◌, min, if◌then◌else◌, length, Bool, true, false, not, ◌&&◌, ◌||◌, Option, Some, None, is_some, List, zip, slice_get}
 use Rattle.std.specs.List.{list_all}
 use Rattle.orders.specs.Explains.{Trace, precedes}
 
@@ -13,6 +13,14 @@ abbrev pub lesser_end : Option Bool → ℕ → ℕ → ℕ
 lesser_end (Some false) end least = min least end
 lesser_end (Some true) end least = least
 lesser_end None end least = least
+
+-- all flags before this place are set
+abbrev pub AreSet : List Bool → ℕ → Type 0
+AreSet flags place = (j : ℕ) → j < place → slice_get flags j ≡ Some true
+
+-- the place behind the next few, as far as a number of 64 bits goes
+abbrev pub behind_few : ℕ → ℕ
+behind_few place = min (place + 64) (2 ^ 64 - 1)
 
 module _ {A : Type 0} where
   -- The transaction at a place may come next where these are done: it isn't, and of those that aren't none precedes it.
@@ -38,6 +46,31 @@ module _ {A : Type 0} where
   IsLeastEnd ts done e =
       ((j : ℕ) → slice_get done j ≡ Some false → e ≤ end_at (slice_get ts j))
       × ((e ≡ 2 ^ 64 - 1) ⊎ ((j : ℕ) × (slice_get done j ≡ Some false) × (e ≡ end_at (slice_get ts j))))
+
+  -- none from a place on ends before this one
+  abbrev pub IsLeastFrom : List (Trace A) → ℕ → ℕ → Type 0
+  IsLeastFrom ts place e = (j : ℕ) → place ≤ j → e ≤ end_at (slice_get ts j)
+
+  -- such an end for each place
+  abbrev pub AreLeast : List (Trace A) → List ℕ → Type 0
+  AreLeast ts ends = (length ends ≡ length ts) × ((k e : ℕ) → slice_get ends k ≡ Some e → IsLeastFrom ts k e)
+
+  -- where it begins, or the first place where time doesn't keep it from coming next
+  abbrev pub begin_at : Option (Trace A) → ℕ
+  begin_at None = 2 ^ 64 - 1
+  begin_at (Some t) = if t.imported then 0 else t.begin
+
+  -- none of the few from a place on begins before this one
+  abbrev pub IsEarliest : List (Trace A) → ℕ → ℕ → Type 0
+  IsEarliest ts place b = (j : ℕ) → place ≤ j → j < behind_few place → b ≤ begin_at (slice_get ts j)
+
+  -- such a begin for each place
+  abbrev pub AreEarliest : List (Trace A) → List ℕ → Type 0
+  AreEarliest ts begins = (length begins ≡ length ts) × ((k b : ℕ) → slice_get begins k ≡ Some b → IsEarliest ts k b)
+
+  -- the transactions from one place up to another begin behind an end, which isn't the last place that there is
+  abbrev pub AreLate : List (Trace A) → ℕ → ℕ → ℕ → Type 0
+  AreLate ts e from until = (j : ℕ) → from ≤ j → j < until → (e < 2 ^ 64 - 1) × (e < begin_at (slice_get ts j))
 
   -- it is done, or not known to have committed, or there is none
   abbrev pub settled : Option (Trace A) → Option Bool → Bool

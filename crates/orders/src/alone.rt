@@ -10,6 +10,7 @@ ghost use Rattle.orders.specs.Explains.{agrees, are_fit};
 ghost use Rattle.orders.specs.Undone.{HasRun};
 
 use crate::agree::agree;
+use crate::cost::walked;
 use crate::transaction::Answered;
 use crate::undo::{put_changes, take_back};
 use schema::catalog::Catalog;
@@ -38,7 +39,8 @@ fn answer<A: Allocator + Copy>(
     if !agree(&outcome.reply, &answered.reply) {
         return Ok(None);
     }
-    Ok(Some(outcome.changes.into_list()))
+    let changes = outcome.changes.into_list(alloc)?;
+    Ok(Some(changes))
 }
 
 /// Runs a transaction's statements alone, one after the other: what takes back what they change, where their answers
@@ -48,6 +50,7 @@ pub fn run_alone<A: Allocator + Copy>(
     catalog: &Catalog<A>,
     tables: &mut Tables<A>,
     statements: &[Answered<A>],
+    work: &mut u64,
 ) -> Result<Option<Vec<Change<A>, A>>, Refusal>
     requires fits { are_fit catalog.now (map (λ a. (a.statement, a.reply)) statements.now) ≡ true }
     requires sound { is_sound catalog.now tables.old ≡ true }
@@ -58,6 +61,7 @@ pub fn run_alone<A: Allocator + Copy>(
     let mut back = Vec::new(alloc);
     let mut left = statements;
     while let [answered, rest @ ..] = left {
+        *work = work.saturating_add(walked(catalog, tables, &answered.statement));
         let Some(changes) = answer(alloc, catalog, tables, answered)? else {
             take_back(alloc, tables, back.as_slice())?;
             return Ok(None);

@@ -5,8 +5,12 @@
 
 mod agree;
 mod alone;
+mod cost;
+mod done;
+pub mod hint;
 mod memory;
 mod near;
+mod recorded;
 mod same;
 pub mod search;
 pub mod stop;

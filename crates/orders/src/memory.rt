@@ -7,9 +7,10 @@ ghost use Rattle.orders.specs.Explains.{Trace as AnyTrace};
 ghost use Rattle.orders.specs.Seen.{AreDead};
 ghost use Rattle.orders.specs.Walks.{IsDead};
 
+use crate::cost::rows_of_all;
+use crate::done::Done;
 use crate::same::{are_same_flags, are_same_tables};
 use crate::walk::Walk;
-use schema::catalog::TableNo;
 use schema::tables::Tables;
 use std::alloc::Allocator;
 use std::marker::Model;
@@ -19,7 +20,13 @@ use value::refusal::Refusal;
 const LISTS: usize = 16384;
 
 /// How many rows are kept at most.
-const MOST_ROWS: usize = 4_000_000;
+const MOST_ROWS: u64 = 4_000_000;
+
+/// How many flags take as much room as a row.
+const FLAGS: usize = 64;
+
+/// How many rows are compared in a step.
+const COMPARED: u64 = 64;
 
 /// Where no order goes on: which transactions are done, and the tables that they came to.
 #[derive(Drop)]
@@ -42,7 +49,7 @@ impl<A: Allocator> Model for Dead<A> {
 pub(crate) struct Memory<A: Allocator> {
     dead: Vec<Dead<A>, A>,
     lists: Vec<Vec<usize, A>, A>,
-    room: usize,
+    room: u64,
     longest: Vec<usize, A>,
 }
 
@@ -53,6 +60,13 @@ impl<A: Allocator> Model for Memory<A> {
     ghost Value = { List (Stand A) };
 
     ghost view = { λ m. m.dead.items };
+}
+
+/// Whether it is known that no order goes on, and how much was compared for that, in steps.
+#[derive(Clone, Copy)]
+pub(crate) struct Known {
+    pub(crate) known: bool,
+    pub(crate) compared: u64,
 }
 
 // So many lists without places.
@@ -67,25 +81,16 @@ fn empty_lists<A: Allocator + Copy>(alloc: A) -> Result<Vec<Vec<usize, A>, A>, R
 }
 
 // The list in which a place stands, by what is done there.
-fn list_of(done: &[bool]) -> usize {
-    let mut mixed: u64 = 14695981039346656037;
-    for is_done in done {
-        mixed = mixed
-            .wrapping_add(u64::from(*is_done))
-            .wrapping_mul(1099511628211);
-    }
-    (mixed % LISTS as u64) as usize
+fn list_of<A: Allocator>(done: &Done<A>) -> usize {
+    (done.mixed() % LISTS as u64) as usize
 }
 
-// How many rows are kept of tables, one at least.
-fn row_count<A: Allocator>(tables: &Tables<A>) -> usize {
-    let mut rows: usize = 1;
-    for place in 0..tables.count() {
-        if let Ok(number) = u32::try_from(place) {
-            rows = rows.saturating_add(tables.len(TableNo::at(number)));
-        }
-    }
-    rows
+// How much room is taken where a walk stands, counted in rows.
+fn room_of<A: Allocator>(walk: &Walk<A>) -> u64 {
+    let flags = (walk.done().as_slice().len() / FLAGS) as u64;
+    rows_of_all(walk.tables())
+        .saturating_add(flags)
+        .saturating_add(1)
 }
 
 // Equal flags.
@@ -104,7 +109,7 @@ impl<A: Allocator> Dead<A> {
         ensures ok { IfOk result (λ d. d ≡ record { done = walk.now.done; tables = walk.now.tables }) }
         ensures memory { IfErr result (λ e. e ≡ out_of_memory) }
     {
-        let done = copy_flags(alloc, walk.done())?;
+        let done = copy_flags(alloc, walk.done().as_slice())?;
         let tables = walk.tables().copy(alloc)?;
         Ok(Dead { done, tables })
     }
@@ -130,7 +135,7 @@ impl<A: Allocator> Dead<A> {
         ensures ok { IfOk result (λ b. b ≡ true → self.now ≡ record { done = walk.now.done; tables = walk.now.tables }) }
         ensures memory { IfErr result (λ e. e ≡ out_of_memory) }
     {
-        if !are_same_flags(self.known_done(), walk.done()) {
+        if !are_same_flags(self.known_done(), walk.done().as_slice()) {
             return Ok(false);
         }
         are_same_tables(alloc, self.known_tables(), walk.tables())
@@ -168,23 +173,41 @@ impl<A: Allocator> Memory<A> {
         }
     }
 
+    // Whether the same are done where what is remembered at a place is, and where a walk stands.
+    fn is_alike(&self, place: usize, walk: &Walk<A>) -> bool {
+        match self.dead.get(place) {
+            Some(dead) => are_same_flags(dead.known_done(), walk.done().as_slice()),
+            None => false,
+        }
+    }
+
     /// Whether it is remembered that no order goes on from where a walk stands.
-    pub(crate) fn knows(&self, alloc: A, walk: &Walk<A>) -> Result<bool, Refusal>
+    pub(crate) fn knows(&self, alloc: A, walk: &Walk<A>) -> Result<Known, Refusal>
     where
         A: Copy,
-        ensures dead { IfOk result (λ b. b ≡ true → (c : AnyCatalog) → (ts : List (AnyTrace A)) →
+        ensures dead { IfOk result (λ b. b.known ≡ true → (c : AnyCatalog) → (ts : List (AnyTrace A)) →
             AreDead c ts self.now → IsDead c ts walk.now.done walk.now.tables) }
         ensures memory { IfErr result (λ e. e ≡ out_of_memory) }
     {
-        let Some(places) = self.lists.get(list_of(walk.done())) else {
-            return Ok(false);
-        };
-        for place in places {
-            if self.is_at(alloc, *place, walk)? {
-                return Ok(true);
+        let mut compared: u64 = 0;
+        let each = rows_of_all(walk.tables()) / COMPARED;
+        if let Some(places) = self.lists.get(list_of(walk.done())) {
+            for place in places {
+                if self.is_alike(*place, walk) {
+                    compared = compared.saturating_add(each);
+                    if self.is_at(alloc, *place, walk)? {
+                        return Ok(Known {
+                            known: true,
+                            compared,
+                        });
+                    }
+                }
             }
         }
-        Ok(false)
+        Ok(Known {
+            known: false,
+            compared,
+        })
     }
 
     // Notes the place of what is remembered next.
@@ -213,7 +236,7 @@ impl<A: Allocator> Memory<A> {
     }
 
     // Takes room for so many rows: whether there was so much.
-    fn take_room(&mut self, rows: usize) -> bool
+    fn take_room(&mut self, rows: u64) -> bool
         ensures { self.new ≡ self.old }
     {
         if rows > self.room {
@@ -244,7 +267,7 @@ impl<A: Allocator> Memory<A> {
         ensures memory { IfErr result (λ e. e ≡ out_of_memory) }
     {
         self.keep_longest(alloc, walk)?;
-        if !self.take_room(row_count(walk.tables())) {
+        if !self.take_room(room_of(walk)) {
             return Ok(());
         }
         self.note(list_of(walk.done()))?;

@@ -8,6 +8,7 @@ ghost use Rattle.schema.specs.declared.tables.Tables.{Tables as AnyTables};
 ghost use Rattle.orders.specs.Explains.{Explains, all_fit};
 ghost use Rattle.orders.specs.Walks.{IsPath, IsReached};
 
+use crate::recorded::Recorded;
 use crate::time::{is_complete, may_come, precedes};
 use crate::transaction::Transaction;
 use crate::walk::Walk;
@@ -81,20 +82,20 @@ fn last_first<A: Allocator>(
 pub(crate) fn go_next<A: Allocator + Copy>(
     alloc: A,
     catalog: &Catalog<A>,
-    transactions: &[Transaction<A>],
+    recorded: &Recorded<'_, A>,
     walk: &mut Walk<A>,
     place: usize,
 ) -> Result<bool, Refusal>
-    requires fit { all_fit catalog.now transactions.now ≡ true }
+    requires fit { all_fit catalog.now recorded.now ≡ true }
     requires sound { is_sound catalog.now walk.old.tables ≡ true }
-    ensures path { IfOk result (λ b. (X : AnyTables A) → IsPath catalog.now X transactions.now walk.old →
-        IsPath catalog.now X transactions.now walk.new) }
+    ensures path { IfOk result (λ b. (X : AnyTables A) → IsPath catalog.now X recorded.now walk.old →
+        IsPath catalog.now X recorded.now walk.new) }
     ensures memory { IfErr result (λ e. e ≡ out_of_memory) }
 {
-    if !may_come(transactions, walk.done(), place) {
+    if !may_come(recorded, walk.done(), place) {
         return Ok(false);
     }
-    match transactions.get(place) {
+    match recorded.transactions().get(place) {
         Some(transaction) => walk.go(alloc, catalog, transaction, place),
         None => Ok(false),
     }
@@ -111,13 +112,13 @@ fn comes_before<A: Allocator>(transactions: &[Transaction<A>], place: usize, oth
 // Takes the last transaction back, and lets the one at a place come before it, where time allows: whether it does.
 fn let_before<A: Allocator + Copy>(
     alloc: A,
-    transactions: &[Transaction<A>],
+    recorded: &Recorded<'_, A>,
     walk: &mut Walk<A>,
     queue: &mut Vec<usize, A>,
     place: usize,
 ) -> Result<bool, Refusal>
-    ensures path { IfOk result (λ b. (c : AnyCatalog) → (X : AnyTables A) → IsPath c X transactions.now walk.old →
-        IsPath c X transactions.now walk.new) }
+    ensures path { IfOk result (λ b. (c : AnyCatalog) → (X : AnyTables A) → IsPath c X recorded.now walk.old →
+        IsPath c X recorded.now walk.new) }
     ensures memory { IfErr result (λ e. e ≡ out_of_memory) }
 {
     let taken = walk.take_back(alloc)?;
@@ -126,20 +127,20 @@ fn let_before<A: Allocator + Copy>(
     };
     queue.push(last)?;
     queue.push(place)?;
-    Ok(!comes_before(transactions, last, place))
+    Ok(!comes_before(recorded.transactions(), last, place))
 }
 
-// The order of a walk, where all are done that are known to have committed.
-fn whole_order<A: Allocator + Copy>(
+/// The order of a walk, where all are done that are known to have committed.
+pub(crate) fn whole_order<A: Allocator + Copy>(
     alloc: A,
-    transactions: &[Transaction<A>],
+    recorded: &Recorded<'_, A>,
     walk: &Walk<A>,
 ) -> Result<Option<Vec<usize, A>>, Refusal>
-    ensures explains { IfOk result (λ o. (c : AnyCatalog) → (X : AnyTables A) → IsPath c X transactions.now walk.now →
-        IfSome o (λ order. Explains c X transactions.now order.items)) }
+    ensures explains { IfOk result (λ o. (c : AnyCatalog) → (X : AnyTables A) → IsPath c X recorded.now walk.now →
+        IfSome o (λ order. Explains c X recorded.now order.items)) }
     ensures memory { IfErr result (λ e. e ≡ out_of_memory) }
 {
-    if !is_complete(transactions, walk.done()) {
+    if !is_complete(recorded, walk.done()) {
         return Ok(None);
     }
     let order = walk.places(alloc)?;
@@ -151,45 +152,45 @@ fn whole_order<A: Allocator + Copy>(
 fn go_on<A: Allocator + Copy>(
     alloc: A,
     catalog: &Catalog<A>,
-    transactions: &[Transaction<A>],
+    recorded: &Recorded<'_, A>,
     walk: &mut Walk<A>,
     queue: &mut Vec<usize, A>,
 ) -> Result<bool, Refusal>
-    requires fit { all_fit catalog.now transactions.now ≡ true }
+    requires fit { all_fit catalog.now recorded.now ≡ true }
     requires sound { is_sound catalog.now walk.old.tables ≡ true }
-    ensures path { IfOk result (λ b. (X : AnyTables A) → IsPath catalog.now X transactions.now walk.old →
-        IsPath catalog.now X transactions.now walk.new) }
+    ensures path { IfOk result (λ b. (X : AnyTables A) → IsPath catalog.now X recorded.now walk.old →
+        IsPath catalog.now X recorded.now walk.new) }
     ensures memory { IfErr result (λ e. e ≡ out_of_memory) }
 {
     let Some(place) = queue.pop() else {
         return Ok(false);
     };
-    if go_next(alloc, catalog, transactions, walk, place)? {
+    if go_next(alloc, catalog, recorded, walk, place)? {
         return Ok(true);
     }
-    let_before(alloc, transactions, walk, queue, place)
+    let_before(alloc, recorded, walk, queue, place)
 }
 
-// Follows a queue, whose last is its first, in so many steps at most: how many it took. A transaction whose answers
-// differ comes before those that came last, as far as time allows, until they agree.
-fn follow<A: Allocator + Copy>(
+/// Follows a queue, whose last is its first, in so many steps at most: how many it took. A transaction whose answers
+/// differ comes before those that came last, as far as time allows, until they agree.
+pub(crate) fn follow<A: Allocator + Copy>(
     alloc: A,
     catalog: &Catalog<A>,
-    transactions: &[Transaction<A>],
+    recorded: &Recorded<'_, A>,
     walk: &mut Walk<A>,
     queue: &mut Vec<usize, A>,
     most: u64,
 ) -> Result<u64, Refusal>
-    requires fit { all_fit catalog.now transactions.now ≡ true }
-    requires from { IsReached catalog.now transactions.now walk.old }
-    ensures path { IfOk result (λ steps. (X : AnyTables A) → IsPath catalog.now X transactions.now walk.old →
-        IsPath catalog.now X transactions.now walk.new) }
+    requires fit { all_fit catalog.now recorded.now ≡ true }
+    requires from { IsReached catalog.now recorded.now walk.old }
+    ensures path { IfOk result (λ steps. (X : AnyTables A) → IsPath catalog.now X recorded.now walk.old →
+        IsPath catalog.now X recorded.now walk.new) }
     ensures memory { IfErr result (λ e. e ≡ out_of_memory) }
 {
     let mut steps = 0;
     while steps < most && !queue.is_empty() {
         steps += 1;
-        if !go_on(alloc, catalog, transactions, walk, queue)? {
+        if !go_on(alloc, catalog, recorded, walk, queue)? {
             return Ok(steps);
         }
     }
@@ -200,39 +201,39 @@ fn follow<A: Allocator + Copy>(
 fn follow_queue<A: Allocator + Copy>(
     alloc: A,
     catalog: &Catalog<A>,
-    transactions: &[Transaction<A>],
+    recorded: &Recorded<'_, A>,
     walk: &mut Walk<A>,
     near: Near,
     steps: u64,
 ) -> Result<u64, Refusal>
-    requires fit { all_fit catalog.now transactions.now ≡ true }
-    requires from { IsReached catalog.now transactions.now walk.old }
-    ensures path { IfOk result (λ steps. (X : AnyTables A) → IsPath catalog.now X transactions.now walk.old →
-        IsPath catalog.now X transactions.now walk.new) }
+    requires fit { all_fit catalog.now recorded.now ≡ true }
+    requires from { IsReached catalog.now recorded.now walk.old }
+    ensures path { IfOk result (λ steps. (X : AnyTables A) → IsPath catalog.now X recorded.now walk.old →
+        IsPath catalog.now X recorded.now walk.new) }
     ensures memory { IfErr result (λ e. e ≡ out_of_memory) }
 {
-    let mut queue = queue_of(alloc, transactions, near)?;
+    let mut queue = queue_of(alloc, recorded.transactions(), near)?;
     let most = RUNS.saturating_mul(queue.len() as u64).min(steps);
-    follow(alloc, catalog, transactions, walk, &mut queue, most)
+    follow(alloc, catalog, recorded, walk, &mut queue, most)
 }
 
 // Follows the order by end or by begin from where a walk starts, in so many steps at most: what came of it.
 fn follow_from<A: Allocator + Copy>(
     alloc: A,
     catalog: &Catalog<A>,
-    transactions: &[Transaction<A>],
+    recorded: &Recorded<'_, A>,
     walk: &mut Walk<A>,
     near: Near,
     steps: u64,
 ) -> Result<Followed<A>, Refusal>
-    requires fit { all_fit catalog.now transactions.now ≡ true }
-    requires from { IsReached catalog.now transactions.now walk.old }
-    ensures explains { IfOk result (λ f. (X : AnyTables A) → IsPath catalog.now X transactions.now walk.old →
-        IfSome f.order (λ order. Explains catalog.now X transactions.now order.items)) }
+    requires fit { all_fit catalog.now recorded.now ≡ true }
+    requires from { IsReached catalog.now recorded.now walk.old }
+    ensures explains { IfOk result (λ f. (X : AnyTables A) → IsPath catalog.now X recorded.now walk.old →
+        IfSome f.order (λ order. Explains catalog.now X recorded.now order.items)) }
     ensures memory { IfErr result (λ e. e ≡ out_of_memory) }
 {
-    let steps = follow_queue(alloc, catalog, transactions, walk, near, steps)?;
-    let order = whole_order(alloc, transactions, walk)?;
+    let steps = follow_queue(alloc, catalog, recorded, walk, near, steps)?;
+    let order = whole_order(alloc, recorded, walk)?;
     Ok(Followed { order, steps })
 }
 
@@ -241,16 +242,16 @@ pub(crate) fn follow_near<A: Allocator + Copy>(
     alloc: A,
     catalog: &Catalog<A>,
     tables: &Tables<A>,
-    transactions: &[Transaction<A>],
+    recorded: &Recorded<'_, A>,
     near: Near,
     steps: u64,
 ) -> Result<Followed<A>, Refusal>
-    requires fit { all_fit catalog.now transactions.now ≡ true }
+    requires fit { all_fit catalog.now recorded.now ≡ true }
     requires sound { is_sound catalog.now tables.now ≡ true }
     ensures explains { IfOk result (λ f. IfSome f.order (λ order.
-        Explains catalog.now tables.now transactions.now order.items)) }
+        Explains catalog.now tables.now recorded.now order.items)) }
     ensures memory { IfErr result (λ e. e ≡ out_of_memory) }
 {
-    let mut walk = Walk::start(alloc, tables, transactions.len())?;
-    follow_from(alloc, catalog, transactions, &mut walk, near, steps)
+    let mut walk = Walk::start(alloc, tables, recorded.len())?;
+    follow_from(alloc, catalog, recorded, &mut walk, near, steps)
 }

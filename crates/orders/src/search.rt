@@ -12,6 +12,7 @@ ghost use Rattle.orders.specs.Walks.{CanCome, HasStarted, HasTurned, IsSearched,
 
 use crate::memory::Memory;
 use crate::near::{Followed, Near, follow_near};
+use crate::recorded::Recorded;
 use crate::time::{find_next, is_complete};
 use crate::transaction::Transaction;
 use crate::walk::Walk;
@@ -53,17 +54,17 @@ pub(crate) enum Progress {
 fn go<A: Allocator + Copy>(
     alloc: A,
     catalog: &Catalog<A>,
-    transactions: &[Transaction<A>],
+    recorded: &Recorded<'_, A>,
     walk: &mut Walk<A>,
     place: usize,
 ) -> Result<bool, Refusal>
-    requires fit { all_fit catalog.now transactions.now ≡ true }
+    requires fit { all_fit catalog.now recorded.now ≡ true }
     requires sound { is_sound catalog.now walk.old.tables ≡ true }
-    ensures ok { IfOk result (λ b. (t : AnyTrace A) → slice_get transactions.now place ≡ Some t →
+    ensures ok { IfOk result (λ b. (t : AnyTrace A) → slice_get recorded.now place ≡ Some t →
         HasTurned catalog.now t walk.old place b walk.new) }
     ensures memory { IfErr result (λ e. e ≡ out_of_memory) }
 {
-    match transactions.get(place) {
+    match recorded.transactions().get(place) {
         Some(transaction) => walk.go(alloc, catalog, transaction, place),
         None => Ok(false),
     }
@@ -79,12 +80,14 @@ fn leave_known<A: Allocator + Copy>(
         IsWalk c X ts walk.old → AreDead c ts memory.now → IsWalk c X ts walk.new) }
     ensures memory { IfErr result (λ e. e ≡ out_of_memory) }
 {
-    let known = memory.knows(alloc, walk)?;
-    if !known {
+    let found = memory.knows(alloc, walk)?;
+    if !found.known {
+        walk.count(found.compared);
         return Ok(());
     }
     let taken = walk.take_back(alloc)?;
     let _ = taken;
+    walk.count(found.compared);
     Ok(())
 }
 
@@ -92,24 +95,24 @@ fn leave_known<A: Allocator + Copy>(
 fn try_next<A: Allocator + Copy>(
     alloc: A,
     catalog: &Catalog<A>,
-    transactions: &[Transaction<A>],
+    recorded: &Recorded<'_, A>,
     walk: &mut Walk<A>,
     memory: &Memory<A>,
     place: usize,
 ) -> Result<Progress, Refusal>
-    requires fit { all_fit catalog.now transactions.now ≡ true }
+    requires fit { all_fit catalog.now recorded.now ≡ true }
     requires sound { is_sound catalog.now walk.old.tables ≡ true }
-    ensures ok { IfOk result (λ progress. (X : AnyTables A) → IsWalk catalog.now X transactions.now walk.old →
-        CanCome transactions.now walk.old place → AreDead catalog.now transactions.now memory.now →
-        HasGone catalog.now X transactions.now progress walk.new) }
+    ensures ok { IfOk result (λ progress. (X : AnyTables A) → IsWalk catalog.now X recorded.now walk.old →
+        CanCome recorded.now walk.old place → AreDead catalog.now recorded.now memory.now →
+        HasGone catalog.now X recorded.now progress walk.new) }
     ensures memory { IfErr result (λ e. e ≡ out_of_memory) }
 {
-    let agrees = go(alloc, catalog, transactions, walk, place)?;
+    let agrees = go(alloc, catalog, recorded, walk, place)?;
     if !agrees {
         walk.pass_over(place);
         return Ok(Progress::More);
     }
-    if is_complete(transactions, walk.done()) {
+    if is_complete(recorded, walk.done()) {
         return Ok(Progress::Found);
     }
     leave_known(alloc, walk, memory)?;
@@ -147,20 +150,20 @@ fn step_back<A: Allocator + Copy>(
 fn advance<A: Allocator + Copy>(
     alloc: A,
     catalog: &Catalog<A>,
-    transactions: &[Transaction<A>],
+    recorded: &Recorded<'_, A>,
     walk: &mut Walk<A>,
     memory: &mut Memory<A>,
 ) -> Result<Progress, Refusal>
-    requires fit { all_fit catalog.now transactions.now ≡ true }
+    requires fit { all_fit catalog.now recorded.now ≡ true }
     requires sound { is_sound catalog.now walk.old.tables ≡ true }
-    ensures ok { IfOk result (λ progress. (X : AnyTables A) → IsWalk catalog.now X transactions.now walk.old →
-        AreDead catalog.now transactions.now memory.old → HasGone catalog.now X transactions.now progress walk.new) }
-    ensures remembers { IfOk result (λ progress. (X : AnyTables A) → IsWalk catalog.now X transactions.now walk.old →
-        AreDead catalog.now transactions.now memory.old → AreDead catalog.now transactions.now memory.new) }
+    ensures ok { IfOk result (λ progress. (X : AnyTables A) → IsWalk catalog.now X recorded.now walk.old →
+        AreDead catalog.now recorded.now memory.old → HasGone catalog.now X recorded.now progress walk.new) }
+    ensures remembers { IfOk result (λ progress. (X : AnyTables A) → IsWalk catalog.now X recorded.now walk.old →
+        AreDead catalog.now recorded.now memory.old → AreDead catalog.now recorded.now memory.new) }
     ensures memory { IfErr result (λ e. e ≡ out_of_memory) }
 {
-    match find_next(transactions, walk.done(), walk.from()) {
-        Some(place) => try_next(alloc, catalog, transactions, walk, memory, place),
+    match find_next(recorded, walk.done(), walk.from()) {
+        Some(place) => try_next(alloc, catalog, recorded, walk, memory, place),
         None => step_back(alloc, walk, memory),
     }
 }
@@ -169,20 +172,23 @@ fn advance<A: Allocator + Copy>(
 fn advance_all<A: Allocator + Copy>(
     alloc: A,
     catalog: &Catalog<A>,
-    transactions: &[Transaction<A>],
+    recorded: &Recorded<'_, A>,
     walk: &mut Walk<A>,
     memory: &mut Memory<A>,
     steps: u64,
 ) -> Result<Progress, Refusal>
-    requires fit { all_fit catalog.now transactions.now ≡ true }
-    requires from { IsSearched catalog.now transactions.now walk.old }
-    requires dead { AreDead catalog.now transactions.now memory.old }
-    ensures ok { IfOk result (λ progress. (X : AnyTables A) → IsWalk catalog.now X transactions.now walk.old →
-        HasGone catalog.now X transactions.now progress walk.new) }
+    requires fit { all_fit catalog.now recorded.now ≡ true }
+    requires from { IsSearched catalog.now recorded.now walk.old }
+    requires dead { AreDead catalog.now recorded.now memory.old }
+    ensures ok { IfOk result (λ progress. (X : AnyTables A) → IsWalk catalog.now X recorded.now walk.old →
+        HasGone catalog.now X recorded.now progress walk.new) }
     ensures memory { IfErr result (λ e. e ≡ out_of_memory) }
 {
     for _ in 0..steps {
-        match advance(alloc, catalog, transactions, walk, memory)? {
+        if walk.work() >= steps {
+            return Ok(Progress::More);
+        }
+        match advance(alloc, catalog, recorded, walk, memory)? {
             Progress::More => {}
             Progress::Found => return Ok(Progress::Found),
             Progress::Exhausted => return Ok(Progress::Exhausted),
@@ -239,21 +245,21 @@ fn found_so<A: Allocator + Copy>(
 fn explore_from<A: Allocator + Copy>(
     alloc: A,
     catalog: &Catalog<A>,
-    transactions: &[Transaction<A>],
+    recorded: &Recorded<'_, A>,
     walk: &mut Walk<A>,
     steps: u64,
 ) -> Result<Found<A>, Refusal>
-    requires fit { all_fit catalog.now transactions.now ≡ true }
-    requires from { HasStarted catalog.now transactions.now walk.old }
-    ensures ok { IfOk result (λ found. (X : AnyTables A) → IsStep catalog.now X transactions.now walk.old →
-        Tells catalog.now X transactions.now found.answer) }
+    requires fit { all_fit catalog.now recorded.now ≡ true }
+    requires from { HasStarted catalog.now recorded.now walk.old }
+    ensures ok { IfOk result (λ found. (X : AnyTables A) → IsStep catalog.now X recorded.now walk.old →
+        Tells catalog.now X recorded.now found.answer) }
     ensures memory { IfErr result (λ e. e ≡ out_of_memory) }
 {
-    if is_complete(transactions, walk.done()) {
+    if is_complete(recorded, walk.done()) {
         return found_walk(alloc, walk);
     }
     let mut memory = Memory::new(alloc)?;
-    let progress = advance_all(alloc, catalog, transactions, walk, &mut memory, steps)?;
+    let progress = advance_all(alloc, catalog, recorded, walk, &mut memory, steps)?;
     found_so(alloc, walk, progress, memory.into_longest())
 }
 
@@ -262,16 +268,16 @@ fn explore<A: Allocator + Copy>(
     alloc: A,
     catalog: &Catalog<A>,
     tables: &Tables<A>,
-    transactions: &[Transaction<A>],
+    recorded: &Recorded<'_, A>,
     steps: u64,
 ) -> Result<Found<A>, Refusal>
-    requires fit { all_fit catalog.now transactions.now ≡ true }
+    requires fit { all_fit catalog.now recorded.now ≡ true }
     requires sound { is_sound catalog.now tables.now ≡ true }
-    ensures ok { IfOk result (λ found. Tells catalog.now tables.now transactions.now found.answer) }
+    ensures ok { IfOk result (λ found. Tells catalog.now tables.now recorded.now found.answer) }
     ensures memory { IfErr result (λ e. e ≡ out_of_memory) }
 {
-    let mut walk = Walk::start(alloc, tables, transactions.len())?;
-    explore_from(alloc, catalog, transactions, &mut walk, steps)
+    let mut walk = Walk::start(alloc, tables, recorded.len())?;
+    explore_from(alloc, catalog, recorded, &mut walk, steps)
 }
 
 // Follows the order by begin, and then tries all.
@@ -279,20 +285,42 @@ fn search_on<A: Allocator + Copy>(
     alloc: A,
     catalog: &Catalog<A>,
     tables: &Tables<A>,
-    transactions: &[Transaction<A>],
+    recorded: &Recorded<'_, A>,
     steps: u64,
 ) -> Result<Found<A>, Refusal>
-    requires fit { all_fit catalog.now transactions.now ≡ true }
+    requires fit { all_fit catalog.now recorded.now ≡ true }
     requires sound { is_sound catalog.now tables.now ≡ true }
-    ensures ok { IfOk result (λ found. Tells catalog.now tables.now transactions.now found.answer) }
+    ensures ok { IfOk result (λ found. Tells catalog.now tables.now recorded.now found.answer) }
     ensures memory { IfErr result (λ e. e ≡ out_of_memory) }
 {
-    let near = follow_near(alloc, catalog, tables, transactions, Near::Begin, steps)?;
+    let near = follow_near(alloc, catalog, tables, recorded, Near::Begin, steps)?;
     let Followed { order, steps: used } = near;
     let left = steps.saturating_sub(used);
     match order {
         Some(order) => Ok(found_order(alloc, order)),
-        None => explore(alloc, catalog, tables, transactions, left),
+        None => explore(alloc, catalog, tables, recorded, left),
+    }
+}
+
+// Follows the order by end, then that by begin, and then tries all.
+fn search_recorded<A: Allocator + Copy>(
+    alloc: A,
+    catalog: &Catalog<A>,
+    tables: &Tables<A>,
+    recorded: &Recorded<'_, A>,
+    steps: u64,
+) -> Result<Found<A>, Refusal>
+    requires fit { all_fit catalog.now recorded.now ≡ true }
+    requires sound { is_sound catalog.now tables.now ≡ true }
+    ensures ok { IfOk result (λ found. Tells catalog.now tables.now recorded.now found.answer) }
+    ensures memory { IfErr result (λ e. e ≡ out_of_memory) }
+{
+    let near = follow_near(alloc, catalog, tables, recorded, Near::End, steps)?;
+    let Followed { order, steps: used } = near;
+    let left = steps.saturating_sub(used);
+    match order {
+        Some(order) => Ok(found_order(alloc, order)),
+        None => search_on(alloc, catalog, tables, recorded, left),
     }
 }
 
@@ -312,11 +340,6 @@ pub fn search<A: Allocator + Copy>(
     ensures ok { IfOk result (λ found. Tells catalog.now tables.now transactions.now found.answer) }
     ensures memory { IfErr result (λ e. e ≡ out_of_memory) }
 {
-    let near = follow_near(alloc, catalog, tables, transactions, Near::End, steps)?;
-    let Followed { order, steps: used } = near;
-    let left = steps.saturating_sub(used);
-    match order {
-        Some(order) => Ok(found_order(alloc, order)),
-        None => search_on(alloc, catalog, tables, transactions, left),
-    }
+    let recorded = Recorded::of(alloc, transactions)?;
+    search_recorded(alloc, catalog, tables, &recorded, steps)
 }

@@ -7,7 +7,9 @@ ghost use Rattle.orders.specs.Explains.{all_fit, are_fit};
 ghost use Rattle.orders.specs.Walks.{IsReached};
 
 use crate::alone::first_difference;
+use crate::done::Done;
 use crate::near::go_next;
+use crate::recorded::Recorded;
 use crate::time::precedes;
 use crate::transaction::Transaction;
 use crate::walk::Walk;
@@ -54,17 +56,17 @@ impl<A: Allocator> Drop for Stop<A> {
 fn walk_along<A: Allocator + Copy>(
     alloc: A,
     catalog: &Catalog<A>,
-    transactions: &[Transaction<A>],
+    recorded: &Recorded<'_, A>,
     walk: &mut Walk<A>,
     order: &[usize],
 ) -> Result<(), Refusal>
-    requires fit { all_fit catalog.now transactions.now ≡ true }
-    requires from { IsReached catalog.now transactions.now walk.old }
+    requires fit { all_fit catalog.now recorded.now ≡ true }
+    requires from { IsReached catalog.now recorded.now walk.old }
     ensures sound { OnOk result (is_sound catalog.now walk.new.tables ≡ true) }
     ensures memory { IfErr result (λ e. e ≡ out_of_memory) }
 {
     for place in order {
-        if !go_next(alloc, catalog, transactions, walk, *place)? {
+        if !go_next(alloc, catalog, recorded, walk, *place)? {
             return Ok(());
         }
     }
@@ -86,12 +88,15 @@ fn is_before<A: Allocator>(
 
 // The first transaction that isn't done, and had ended before this one began.
 fn first_before<A: Allocator>(
-    transactions: &[Transaction<A>],
-    done: &[bool],
+    recorded: &Recorded<'_, A>,
+    done: &Done<A>,
     transaction: &Transaction<A>,
 ) -> Option<usize> {
-    for place in 0..transactions.len() {
-        if is_before(transactions, done, place, transaction) {
+    for place in done.first()..recorded.len() {
+        if recorded.least_from(place) >= transaction.begin {
+            return None;
+        }
+        if is_before(recorded.transactions(), done.as_slice(), place, transaction) {
             return Some(place);
         }
     }
@@ -123,17 +128,17 @@ fn hindrance_of<A: Allocator + Copy>(
 fn hindered_at<A: Allocator + Copy>(
     alloc: A,
     catalog: &Catalog<A>,
-    transactions: &[Transaction<A>],
+    recorded: &Recorded<'_, A>,
     walk: &Walk<A>,
     place: usize,
 ) -> Result<Hindrance<A>, Refusal>
-    requires fit { all_fit catalog.now transactions.now ≡ true }
+    requires fit { all_fit catalog.now recorded.now ≡ true }
     requires sound { is_sound catalog.now walk.now.tables ≡ true }
     ensures memory { IfErr result (λ e. e ≡ out_of_memory) }
 {
-    match transactions.get(place) {
+    match recorded.transactions().get(place) {
         Some(transaction) => {
-            let before = first_before(transactions, walk.done(), transaction);
+            let before = first_before(recorded, walk.done(), transaction);
             hindrance_of(alloc, catalog, walk.tables(), before, transaction)
         }
         None => Ok(Hindrance::Nothing),
@@ -144,17 +149,17 @@ fn hindered_at<A: Allocator + Copy>(
 fn all_hindered<A: Allocator + Copy>(
     alloc: A,
     catalog: &Catalog<A>,
-    transactions: &[Transaction<A>],
+    recorded: &Recorded<'_, A>,
     walk: &Walk<A>,
 ) -> Result<Vec<Hindered<A>, A>, Refusal>
-    requires fit { all_fit catalog.now transactions.now ≡ true }
+    requires fit { all_fit catalog.now recorded.now ≡ true }
     requires sound { is_sound catalog.now walk.now.tables ≡ true }
     ensures memory { IfErr result (λ e. e ≡ out_of_memory) }
 {
     let mut hindered = Vec::new(alloc);
-    for (place, is_done) in walk.done().iter().enumerate() {
+    for (place, is_done) in walk.done().as_slice().iter().enumerate() {
         if !*is_done {
-            let hindrance = hindered_at(alloc, catalog, transactions, walk, place)?;
+            let hindrance = hindered_at(alloc, catalog, recorded, walk, place)?;
             hindered.push(Hindered { place, hindrance })?;
         }
     }
@@ -165,16 +170,16 @@ fn all_hindered<A: Allocator + Copy>(
 fn stop_along<A: Allocator + Copy>(
     alloc: A,
     catalog: &Catalog<A>,
-    transactions: &[Transaction<A>],
+    recorded: &Recorded<'_, A>,
     walk: &mut Walk<A>,
     order: &[usize],
 ) -> Result<Stop<A>, Refusal>
-    requires fit { all_fit catalog.now transactions.now ≡ true }
-    requires from { IsReached catalog.now transactions.now walk.old }
+    requires fit { all_fit catalog.now recorded.now ≡ true }
+    requires from { IsReached catalog.now recorded.now walk.old }
     ensures memory { IfErr result (λ e. e ≡ out_of_memory) }
 {
-    walk_along(alloc, catalog, transactions, walk, order)?;
-    let hindered = all_hindered(alloc, catalog, transactions, walk)?;
+    walk_along(alloc, catalog, recorded, walk, order)?;
+    let hindered = all_hindered(alloc, catalog, recorded, walk)?;
     Ok(Stop {
         order: walk.places(alloc)?,
         hindered,
@@ -193,6 +198,7 @@ pub fn find_stop<A: Allocator + Copy>(
     requires sound { is_sound catalog.now tables.now ≡ true }
     ensures memory { IfErr result (λ e. e ≡ out_of_memory) }
 {
+    let recorded = Recorded::of(alloc, transactions)?;
     let mut walk = Walk::start(alloc, tables, transactions.len())?;
-    stop_along(alloc, catalog, transactions, &mut walk, longest)
+    stop_along(alloc, catalog, &recorded, &mut walk, longest)
 }

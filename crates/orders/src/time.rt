@@ -2,8 +2,10 @@
 
 ghost use Rattle.std.specs.Prelude.{◌≡◌, ℕ, ◌<◌, ◌≤◌, ◌^◌, ◌||◌, not, nat_lt, true, false, is_some, slice_get, IfSome, IfNone};
 ghost use Rattle.orders.specs.Explains.{ended_before, precedes};
-ghost use Rattle.orders.specs.Turns.{IsLeastEnd, are_done, comes, end_at, end_or_last, lesser_end, settled};
+ghost use Rattle.orders.specs.Turns.{AreLate, IsLeastEnd, are_done, comes, lesser_end, settled};
 
+use crate::done::Done;
+use crate::recorded::{Recorded, behind_few, end_at};
 use crate::transaction::Transaction;
 use std::alloc::Allocator;
 
@@ -24,23 +26,6 @@ pub(crate) fn precedes<A: Allocator>(earlier: &Transaction<A>, later: &Transacti
     ended_before(earlier.end, later.begin) && !later.imported
 }
 
-// An end, or the last place that there is.
-fn end_or_last(end: Option<u64>) -> u64
-    ensures { result ≡ end_or_last end }
-{
-    end.unwrap_or(u64::MAX)
-}
-
-// The end of the transaction at a place, or the last place that there is.
-fn end_at<A: Allocator>(transactions: &[Transaction<A>], place: usize) -> u64
-    ensures { result ≡ end_at (slice_get transactions.now place) }
-{
-    match transactions.get(place) {
-        Some(transaction) => end_or_last(transaction.end),
-        None => u64::MAX,
-    }
-}
-
 // The lesser of two ends, where the transaction of the second isn't done; else the first.
 fn lesser_end(done: &[bool], place: usize, end: u64, least: u64) -> u64
     ensures { result ≡ lesser_end (slice_get done.now place) end least }
@@ -52,12 +37,20 @@ fn lesser_end(done: &[bool], place: usize, end: u64, least: u64) -> u64
 }
 
 /// The least end of the transactions that aren't done, or the last place that there is.
-pub(crate) fn least_end<A: Allocator>(transactions: &[Transaction<A>], done: &[bool]) -> u64
-    ensures { IsLeastEnd transactions.now done.now result }
+fn least_end<A: Allocator>(recorded: &Recorded<'_, A>, done: &Done<A>) -> u64
+    ensures { IsLeastEnd recorded.now done.now result }
 {
+    let transactions = recorded.transactions();
+    let flags = done.as_slice();
     let mut least = u64::MAX;
-    for place in 0..done.len() {
-        least = lesser_end(done, place, end_at(transactions, place), least);
+    let mut place = done.first();
+    while place < flags.len() {
+        if least <= recorded.least_from(place) {
+            return least;
+        }
+        let end = end_at(transactions, place);
+        least = lesser_end(flags, place, end, least);
+        place += 1;
     }
     least
 }
@@ -92,35 +85,75 @@ fn comes<A: Allocator>(
 
 /// Whether the transaction at a place may come next.
 pub(crate) fn may_come<A: Allocator>(
-    transactions: &[Transaction<A>],
-    done: &[bool],
+    recorded: &Recorded<'_, A>,
+    done: &Done<A>,
     place: usize,
 ) -> bool
-    ensures { result ≡ comes transactions.now done.now place }
+    ensures { result ≡ comes recorded.now done.now place }
 {
-    let least = least_end(transactions, done);
-    comes(transactions, done, least, place)
+    let least = least_end(recorded, done);
+    comes(recorded.transactions(), done.as_slice(), least, place)
+}
+
+// Whether a beginning comes behind an end.
+fn begins_behind(begin: u64, end: u64) -> bool
+    ensures tells { result ≡ nat_lt end begin }
+    ensures within { begin < 2 ^ 64 }
+{
+    end < begin
+}
+
+// The first place from this one on where one of the next few begins by an end.
+fn skip_late<A: Allocator>(recorded: &Recorded<'_, A>, end: u64, from: usize) -> usize
+    ensures late { AreLate recorded.now end from result }
+    ensures behind { from ≤ result }
+{
+    let mut place = from;
+    while place < recorded.len() {
+        if !begins_behind(recorded.earliest_from(place), end) {
+            return place;
+        }
+        place = behind_few(place);
+    }
+    place
+}
+
+// The first transaction from a place on that may come next, where this is the least end of those that aren't done.
+fn find_from<A: Allocator>(
+    recorded: &Recorded<'_, A>,
+    done: &Done<A>,
+    least: u64,
+    from: usize,
+) -> Option<usize>
+    requires { IsLeastEnd recorded.now done.now least }
+    ensures some { IfSome result (λ i. comes recorded.now done.now i ≡ true) }
+    ensures skipped { IfSome result (λ i. (j : ℕ) → from ≤ j → j < i → comes recorded.now done.now j ≡ false) }
+    ensures none { IfNone result ((j : ℕ) → from ≤ j → comes recorded.now done.now j ≡ false) }
+{
+    let transactions = recorded.transactions();
+    let flags = done.as_slice();
+    let mut place = skip_late(recorded, least, from);
+    while place < transactions.len() {
+        if comes(transactions, flags, least, place) {
+            return Some(place);
+        }
+        place = skip_late(recorded, least, place + 1);
+    }
+    None
 }
 
 /// The first transaction from a place on that may come next.
 pub(crate) fn find_next<A: Allocator>(
-    transactions: &[Transaction<A>],
-    done: &[bool],
+    recorded: &Recorded<'_, A>,
+    done: &Done<A>,
     from: usize,
 ) -> Option<usize>
-    ensures some { IfSome result (λ i. comes transactions.now done.now i ≡ true) }
-    ensures skipped { IfSome result (λ i. (j : ℕ) → from ≤ j → j < i → comes transactions.now done.now j ≡ false) }
-    ensures none { IfNone result ((j : ℕ) → from ≤ j → comes transactions.now done.now j ≡ false) }
+    ensures some { IfSome result (λ i. comes recorded.now done.now i ≡ true) }
+    ensures skipped { IfSome result (λ i. (j : ℕ) → from ≤ j → j < i → comes recorded.now done.now j ≡ false) }
+    ensures none { IfNone result ((j : ℕ) → from ≤ j → comes recorded.now done.now j ≡ false) }
 {
-    let least = least_end(transactions, done);
-    let mut place = from;
-    while place < transactions.len() {
-        if comes(transactions, done, least, place) {
-            return Some(place);
-        }
-        place += 1;
-    }
-    None
+    let least = least_end(recorded, done);
+    find_from(recorded, done, least, from.max(done.first()))
 }
 
 // Whether a transaction is done, or not known to have committed.
@@ -144,13 +177,17 @@ fn settled_at<A: Allocator>(transactions: &[Transaction<A>], done: &[bool], plac
 }
 
 /// Whether all transactions are done that are known to have committed.
-pub(crate) fn is_complete<A: Allocator>(transactions: &[Transaction<A>], done: &[bool]) -> bool
-    ensures { result ≡ are_done transactions.now done.now }
+pub(crate) fn is_complete<A: Allocator>(recorded: &Recorded<'_, A>, done: &Done<A>) -> bool
+    ensures { result ≡ are_done recorded.now done.now }
 {
-    for place in 0..transactions.len() {
-        if !settled_at(transactions, done, place) {
+    let transactions = recorded.transactions();
+    let flags = done.as_slice();
+    let mut place = done.first();
+    while place < transactions.len() {
+        if !settled_at(transactions, flags, place) {
             return false;
         }
+        place += 1;
     }
     true
 }

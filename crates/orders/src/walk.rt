@@ -9,6 +9,7 @@ ghost use Rattle.orders.specs.Undone.{HasRun, put_back};
 ghost use Rattle.orders.specs.Walks.{HasPopped, HasTakenBack, HasTurned, behind, taken_back};
 
 use crate::alone::run_alone;
+use crate::done::Done;
 use crate::transaction::Transaction;
 use crate::undo::take_back;
 use schema::catalog::Catalog;
@@ -37,9 +38,11 @@ impl<A: Allocator> Model for Passed<A> {
 #[derive(Drop)]
 pub struct Walk<A: Allocator> {
     path: Vec<Passed<A>, A>,
-    done: Vec<bool, A>,
+    done: Done<A>,
     tables: Tables<A>,
     from: usize,
+    // How many transactions were run or taken back, and rows walked and put back.
+    work: u64,
 }
 
 impl<A: Allocator> Model for Walk<A> {
@@ -47,15 +50,7 @@ impl<A: Allocator> Model for Walk<A> {
 
     ghost Value = { Standing A };
 
-    ghost view = { λ w. record { path = w.path.items; done = w.done.items; tables = w.tables; from = w.from } };
-}
-
-// So many flags that aren't set.
-fn flags<A: Allocator>(alloc: A, count: usize) -> Result<Vec<bool, A>, Refusal>
-    ensures ok { IfOk result (λ flags. flags.items ≡ replicate count false) }
-    ensures memory { IfErr result (λ e. e ≡ out_of_memory) }
-{
-    Ok(vec![in alloc; false; count]?)
+    ghost view = { λ w. record { path = w.path.items; done = w.done; tables = w.tables; from = w.from } };
 }
 
 impl<A: Allocator> Walk<A> {
@@ -67,20 +62,21 @@ impl<A: Allocator> Walk<A> {
             record { path = []; done = replicate count false; tables = tables.now; from = 0 }) }
         ensures memory { IfErr result (λ e. e ≡ out_of_memory) }
     {
-        let done = flags(alloc, count)?;
+        let done = Done::new(alloc, count)?;
         Ok(Walk {
             path: Vec::new(alloc),
             done,
             tables: tables.copy(alloc)?,
             from: 0,
+            work: 0,
         })
     }
 
     /// Which transactions are done.
-    pub fn done(&self) -> &[bool]
+    pub fn done(&self) -> &Done<A>
         ensures { result.now ≡ self.now.done }
     {
-        self.done.as_slice()
+        &self.done
     }
 
     /// The tables that they came to.
@@ -104,6 +100,18 @@ impl<A: Allocator> Walk<A> {
         self.path.len()
     }
 
+    /// How many transactions were run or taken back, and rows walked, put back and compared.
+    pub fn work(&self) -> u64 {
+        self.work
+    }
+
+    /// Counts so much as work.
+    pub fn count(&mut self, work: u64)
+        ensures { self.new ≡ self.old }
+    {
+        self.work = self.work.saturating_add(work);
+    }
+
     /// Passes over a transaction.
     pub fn pass_over(&mut self, place: usize)
         ensures { self.new ≡ record self.old { from = behind place } }
@@ -122,7 +130,7 @@ impl<A: Allocator> Walk<A> {
         ensures memory { IfErr result (λ e. e ≡ out_of_memory) }
     {
         self.path.push(Passed { place, back })?;
-        set(&mut self.done, place, true);
+        self.done.add(place);
         self.from = 0;
         Ok(())
     }
@@ -143,7 +151,14 @@ impl<A: Allocator> Walk<A> {
         ensures others { OnOk result (self.new ≡ record self.old { tables = self.new.tables }) }
         ensures memory { IfErr result (λ e. e ≡ out_of_memory) }
     {
-        run_alone(alloc, catalog, &mut self.tables, transaction.answered())
+        self.work = self.work.saturating_add(1);
+        run_alone(
+            alloc,
+            catalog,
+            &mut self.tables,
+            transaction.answered(),
+            &mut self.work,
+        )
     }
 
     /// Runs the transaction of a place alone, and goes on with it where its answers agree: whether they do.
@@ -178,7 +193,7 @@ impl<A: Allocator> Walk<A> {
           from = behind place;
         } }
     {
-        set(&mut self.done, place, false);
+        self.done.remove(place);
         self.from = place.saturating_add(1);
     }
 
@@ -199,6 +214,10 @@ impl<A: Allocator> Walk<A> {
         ensures ok { OnOk result (self.new ≡ record self.old { tables = put_back back.now self.old.tables }) }
         ensures memory { IfErr result (λ e. e ≡ out_of_memory) }
     {
+        self.work = self
+            .work
+            .saturating_add(1)
+            .saturating_add(back.len() as u64);
         take_back(alloc, &mut self.tables, back)
     }
 
@@ -243,14 +262,5 @@ impl<A: Allocator> Walk<A> {
             places.push(passed.place)?;
         }
         Ok(places)
-    }
-}
-
-// Sets a flag, where there is one.
-fn set<A: Allocator>(flags: &mut Vec<bool, A>, place: usize, value: bool)
-    ensures { flags.new.items ≡ slice_set flags.old.items place value }
-{
-    if let Some(flag) = flags.get_mut(place) {
-        *flag = value;
     }
 }

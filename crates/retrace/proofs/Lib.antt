@@ -1,1 +1,4 @@
+mod DoomLemmas
+pub mod FindLemmas
 mod PastLemmas
+mod WalkLemmas

@@ -2,6 +2,7 @@
 use Rattle.std.specs.Prelude.{ℕ, ◌+◌, ◌-◌, ◌==◌, Bool, true, false, ◌&&◌, if◌then◌else◌, Option, Some, None, List, [], ◌∷◌, ◌++◌, length}
 use Rattle.std.specs.Option.{option_map}
 use Rattle.value.specs.declared.refusal.Mode.{Mode}
+use Rattle.value.specs.declared.refusal.Code.{Code}
 use Rattle.schema.specs.declared.changes.Change.{Change}
 use Rattle.schema.specs.Definition.{Catalog}
 use Rattle.schema.specs.declared.tables.Tables.{Tables}
@@ -9,16 +10,16 @@ use Rattle.schema.specs.Plain.{is_sound, put_all}
 use Rattle.statement.specs.declared.statement.Statement.{Statement}
 use Rattle.statement.specs.declared.reading.Reading.{Reading}
 use Rattle.statement.specs.declared.reply.Reply.{Reply}
-use Rattle.statement.specs.declared.reply.Reply.TheVariants.{Committed, Imported, Safe}
+use Rattle.statement.specs.declared.reply.Reply.TheVariants.{Committed, Imported, Safe, Refused}
 use Rattle.statement.specs.declared.outcome.Mark.{Mark}
 use Rattle.statement.specs.Evaluation.{outcome, writes}
 use Rattle.statement.specs.Fits.{fits}
 use Rattle.statement.specs.Footprint.{footprint}
 use Rattle.history.specs.declared.event.Action.{Action}
-use Rattle.history.specs.declared.event.Action.TheVariants.{Run, Poll, Import, Commit, Rollback}
+use Rattle.history.specs.declared.event.Action.TheVariants.{Run, Broken, Poll, Import, Commit, Rollback}
 use Rattle.history.specs.Transactions.{is_read_write}
-use Rattle.history.specs.Answer.{is_refused}
-use Rattle.witness.specs.Trails.{Trail}
+use Rattle.history.specs.Events.{goes_on}
+use Rattle.retrace.specs.Trails.{Trail}
 use Rattle.retrace.specs.declared.run.When.{When}
 
 -- A transaction on its way.
@@ -27,6 +28,7 @@ pub record Going (A : Type 0) : Type 0 where
   pub refused : List (Change A)  -- what its last refused statement would have written
   pub own : Option (Tables A)  -- what it sees, while it may write
   pub owed : Bool  -- its session has still to end it
+  pub active : Bool  -- it may still commit: no statement of it has failed, and no commit has doomed it
 
 -- the number of a commit, where the transaction may write
 abbrev pub number_of : When → Bool → ℕ
@@ -76,9 +78,22 @@ module _ {A : Type 0} where
     own = option_map (put_all (changes_of c q g.own)) g.own;
   }
 
+  -- it is over, and its session has still to end it
+  abbrev pub over : Going A → Going A
+  over g = record g { active = false }
+
+  -- a refusal of this code, after which it goes on or not
+  abbrev pub failed : Code → Going A → Going A
+  failed c g = if goes_on c then g else over g
+
+  -- its statement was refused with this code
+  abbrev pub refused : Catalog → Statement A → Code → Going A → Going A
+  refused c q code g = failed code (record g { refused = changes_of c q g.own })
+
   -- its statement was answered, or refused
   abbrev pub ran : Catalog → ℕ → Statement A → Reply A → Going A → Going A
-  ran c place q reply g = if is_refused reply then record g { refused = changes_of c q g.own } else answered c place q g
+  ran c place q (Refused r) g = refused c q r.code g
+  ran c place q _ g = answered c place q g
 
   abbrev pub sees : ℕ → Going A → Going A
   sees n g = record g { trace = record g.trace { snapshot = n } }
@@ -95,7 +110,7 @@ module _ {A : Type 0} where
 
   -- it is over
   abbrev pub ended : ℕ → Going A → Going A
-  ended n g = record g { trace = record g.trace { commit = n }; own = None; owed = false }
+  ended n g = record g { trace = record g.trace { commit = n }; own = None; owed = false; active = false }
 
   -- it was committed, or refused at its COMMIT
   abbrev pub committed : When → Reply A → Going A → Going A
@@ -109,6 +124,7 @@ module _ {A : Type 0} where
   turned c w (Import i) reply g = imported w reply g
   turned c w Commit reply g = committed w reply g
   turned c w Rollback reply g = ended 0 g
+  turned c w (Broken r) reply g = over g
   turned c w _ reply g = g
 
   -- ---- its BEGIN
@@ -134,6 +150,7 @@ module _ {A : Type 0} where
     refused = [];
     own = if is_read_write m then Some X else None;
     owed = true;
+    active = true;
   }
 
   -- it is the session's, which has still to end it

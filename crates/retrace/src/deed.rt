@@ -92,7 +92,7 @@ fn evaluated<A: Allocator + Copy>(
     ensures memory { IfErr result (λ e. e ≡ out_of_memory) }
 {
     let outcome = evaluate(alloc, catalog, statement, tables)?;
-    let changes = outcome.changes.into_list();
+    let changes = outcome.changes.into_list(alloc)?;
     let marks = outcome.marks.into_list();
     Ok(Written { changes, marks })
 }

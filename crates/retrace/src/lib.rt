@@ -3,5 +3,7 @@
 #![tactic(auto)]
 
 mod deed;
+mod doom;
 pub mod past;
 pub mod run;
+pub mod witness;

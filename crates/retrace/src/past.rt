@@ -1,11 +1,12 @@
 //! All transactions of a history, as its records tell of them.
 
-ghost use Rattle.std.specs.Prelude.{◌≡◌, ◌==◌, ◌+◌, ◌<◌, ◌≤◌, ◌^◌, [], find, length, position, OnOk, IfOk, IfErr};
+ghost use Rattle.std.specs.Prelude.{◌≡◌, ◌==◌, ◌+◌, ◌<◌, ◌≤◌, ◌^◌, [], drop, find, length, position, take, OnOk, IfOk, IfErr};
 ghost use Rattle.std.specs.Option.{option_copied};
 ghost use Rattle.value.specs.Refusals.{out_of_memory};
-ghost use Rattle.retrace.specs.Past.{after_all, asked_for, at_place, commits_after, followed, installs, joined, lent_after, owned, retraced, snapshot_of, tables_after, turned_at, when};
+ghost use Rattle.retrace.specs.Past.{after_all, all_turned, asked_for, at_place, commits_after, followed, followed_to, joined, lent_after, owned, retraced, snapshot_of, tables_after, turned_at, unbegun, when};
 ghost use Rattle.retrace.specs.Runs.{is_its, turned};
 
+use crate::doom::{causes_of, doom_all, installs};
 use crate::run::{Run, When};
 use history::event::{Action, Record};
 use history::list::History;
@@ -15,7 +16,7 @@ use schema::tables::Tables;
 use statement::reply::Reply;
 use std::alloc::{Allocator, Global};
 use std::marker::Model;
-use value::refusal::Refusal;
+use value::refusal::{Mode, Refusal};
 
 /// An identifier of a snapshot, and the snapshot.
 #[derive(Clone, Copy, Debug, PartialEq, Eq)]
@@ -24,21 +25,44 @@ pub struct Lent {
     pub snapshot: u64,
 }
 
-/// What has come of the records so far.
-#[derive(Drop)]
-struct Past<A: Allocator = Global> {
-    tables: Tables<A>,
+/// What has come of the first records of a history. Each transaction that may write and hasn't ended has a copy of the
+/// tables.
+pub struct Past<A: Allocator = Global> {
+    // How many records were followed, and how many of them committed a transaction that may write.
+    place: u64,
     commits: u64,
+    tables: Tables<A>,
     lent: Vec<Lent, A>,
     runs: Vec<Run<A>, A>,
 }
 
+impl<A: Allocator> Drop for Past<A> {
+    fn drop(self) {
+        let Past {
+            place: _,
+            commits: _,
+            tables: _,
+            lent: _,
+            runs: _,
+        } = self;
+    }
+}
+
 impl<A: Allocator> Model for Past<A> {
+    ghost use Rattle.std.specs.Prelude.{◌≤◌};
     ghost use Rattle.retrace.specs.Past.{Bygone};
 
     ghost Value = { Bygone A };
 
-    ghost view = { λ p. record { tables = p.tables; commits = p.commits; lent = p.lent.items; runs = p.runs.items } };
+    ghost view = { λ p. record {
+      place = p.place;
+      tables = p.tables;
+      commits = p.commits;
+      lent = p.lent.items;
+      runs = p.runs.items;
+    } };
+
+    ghost invariant = { λ p. p.commits ≤ p.place };
 }
 
 // The first of an identifier.
@@ -73,19 +97,6 @@ fn find_its<A: Allocator>(runs: &[Run<A>], session: SessionId) -> Option<usize>
     ensures { result ≡ position (is_its session) runs.now }
 {
     runs.iter().position(|run| run.is_its(session))
-}
-
-// Whether a record commits a transaction that may write.
-fn installs<A: Allocator>(entry: &Record<A>, run: &Run<A>) -> bool
-    ensures { result ≡ installs entry.now.action entry.now.reply run.now }
-{
-    match &entry.action {
-        Action::Commit => match &entry.reply {
-            Reply::Committed => run.trace.read_write,
-            _ => false,
-        },
-        _ => false,
-    }
 }
 
 // Puts into the tables what a record commits.
@@ -164,17 +175,93 @@ fn turn_at<A: Allocator + Copy>(
     runs[at].turn(alloc, catalog, when, entry)
 }
 
+// What is known at a record at a place, above a base of so many commits, behind so many commits and these snapshots.
+fn when_of<A: Allocator>(
+    base: u64,
+    place: u64,
+    action: &Action<A>,
+    commits: u64,
+    lent: &[Lent],
+) -> When
+    ensures { result ≡ when base place action.now commits lent.now }
+{
+    When {
+        place,
+        base,
+        commits,
+        lent: asked_for(action, lent),
+    }
+}
+// Turns the transaction at a place, and ends those that its commit dooms.
+fn turn_all<A: Allocator + Copy>(
+    alloc: A,
+    catalog: &Catalog<A>,
+    when: When,
+    runs: &mut Vec<Run<A>, A>,
+    at: usize,
+    entry: &Record<A>,
+) -> Result<(), Refusal>
+    requires within { at < length runs.old.items }
+    requires room { when.commits + 1 < 2 ^ 64 }
+    ensures ok { OnOk result (runs.new.items ≡
+        all_turned catalog.now when entry.now at runs.old.items) }
+    ensures memory { IfErr result (λ e. e ≡ out_of_memory) }
+{
+    let causes = causes_of(alloc, entry, runs.as_slice(), run_at(runs.as_slice(), at))?;
+    turn_at(alloc, catalog, when, runs, at, entry)?;
+    doom_all(runs, causes.as_slice());
+    Ok(())
+}
+
 impl<A: Allocator> Past<A> {
-    // What is known at a record at a place, above a base of so many commits.
-    fn when(&self, base: u64, place: u64, action: &Action<A>) -> When
-        ensures { result ≡ when base place action.now self.now }
+    /// Nothing has happened since a history's opening.
+    pub fn of(alloc: A, history: &History<A>) -> Result<Past<A>, Refusal>
+    where
+        A: Copy,
+        ensures ok { IfOk result (λ past. past ≡ unbegun history.now.opening) }
+        ensures memory { IfErr result (λ e. e ≡ out_of_memory) }
     {
-        When {
-            place,
-            base,
-            commits: self.commits,
-            lent: asked_for(action, self.lent.as_slice()),
-        }
+        Ok(Past {
+            place: 0,
+            commits: 0,
+            tables: history.copy_tables(alloc)?,
+            lent: Vec::new(alloc),
+            runs: Vec::new(alloc),
+        })
+    }
+
+    /// The transactions, by their numbers.
+    pub fn runs(&self) -> &[Run<A>]
+        ensures { result.now ≡ self.now.runs }
+    {
+        self.runs.as_slice()
+    }
+
+    // The same, of what is given up.
+    fn into_runs(self) -> Vec<Run<A>, A>
+        ensures { result.items ≡ self.runs }
+    {
+        let Past {
+            place: _,
+            commits: _,
+            tables: _,
+            lent: _,
+            runs,
+        } = self;
+        runs
+    }
+
+    // A session begins a transaction.
+    fn begin(&mut self, alloc: A, when: When, session: SessionId, mode: Mode) -> Result<(), Refusal>
+    where
+        A: Copy,
+        ensures ok { OnOk result (self.new ≡ joined session (Action.Begin mode) when self.old) }
+        ensures memory { IfErr result (λ e. e ≡ out_of_memory) }
+    {
+        let number = self.runs.len() as u64 + 1;
+        let run = Run::begun(alloc, session, mode, number, when, &self.tables)?;
+        self.runs.push(run)?;
+        Ok(())
     }
 
     // A record of a session that has no transaction.
@@ -184,12 +271,17 @@ impl<A: Allocator> Past<A> {
         ensures ok { OnOk result (self.new ≡ joined entry.now.session entry.now.action when self.old) }
         ensures memory { IfErr result (λ e. e ≡ out_of_memory) }
     {
-        if let Action::Begin(mode) = &entry.action {
-            let number = self.runs.len() as u64 + 1;
-            let run = Run::begun(alloc, entry.session, *mode, number, when, &self.tables)?;
-            self.runs.push(run)?;
+        match &entry.action {
+            Action::Begin(mode) => self.begin(alloc, when, entry.session, *mode),
+            Action::Run(_)
+            | Action::Broken(_)
+            | Action::Poll
+            | Action::Export
+            | Action::Import(_)
+            | Action::Commit
+            | Action::Rollback
+            | Action::Prune => Ok(()),
         }
-        Ok(())
     }
 
     // A record of the session whose transaction is at a place.
@@ -206,79 +298,86 @@ impl<A: Allocator> Past<A> {
         requires within { at < length self.old.runs }
         requires room { when.commits + 1 < 2 ^ 64 }
         requires commits { self.old.commits + 1 < 2 ^ 64 }
+        requires few { self.old.commits + 1 ≤ self.old.place }
         ensures ok { OnOk result (self.new ≡ owned catalog.now when entry.now (at_place at self.old.runs) at self.old) }
-        ensures few { OnOk result (self.new.commits ≤ self.old.commits + 1) }
         ensures memory { IfErr result (λ e. e ≡ out_of_memory) }
     {
         let run = run_at(self.runs.as_slice(), at);
         install(alloc, &mut self.tables, entry, run)?;
-        self.commits = commits_after(self.commits, entry, run);
         lend(&mut self.lent, entry, run)?;
-        turn_at(alloc, catalog, when, &mut self.runs, at, entry)
+        self.commits = commits_after(self.commits, entry, run);
+        turn_all(alloc, catalog, when, &mut self.runs, at, entry)
     }
 
-    // One more record, at a place.
-    fn follow(
+    // One more record.
+    fn follow_one(
         &mut self,
         alloc: A,
         catalog: &Catalog<A>,
         base: u64,
-        place: u64,
         entry: &Record<A>,
     ) -> Result<(), Refusal>
     where
         A: Copy,
-        requires { self.old.commits + 1 < 2 ^ 64 }
-        ensures ok { OnOk result (self.new ≡ followed catalog.now base place entry.now self.old) }
-        ensures few { OnOk result (self.new.commits ≤ self.old.commits + 1) }
+        requires { self.old.place + 1 < 2 ^ 64 }
+        ensures ok { OnOk result (self.new ≡ followed catalog.now base entry.now self.old) }
         ensures memory { IfErr result (λ e. e ≡ out_of_memory) }
     {
-        let when = self.when(base, place, &entry.action);
+        self.place += 1;
+        let lent = self.lent.as_slice();
+        let when = when_of(base, self.place, &entry.action, self.commits, lent);
         match find_its(self.runs.as_slice(), entry.session) {
             Some(at) => self.own(alloc, catalog, when, at, entry),
             None => self.join(alloc, when, entry),
         }
     }
-}
 
-// What comes of records, from where nothing has happened on.
-fn follow_all<A: Allocator + Copy>(
-    alloc: A,
-    catalog: &Catalog<A>,
-    base: u64,
-    records: &[Record<A>],
-    unbegun: Past<A>,
-) -> Result<Past<A>, Refusal>
-    requires { unbegun.commits ≡ 0 }
-    ensures ok { IfOk result (λ past. past ≡ after_all catalog.now base 0 records.now unbegun) }
-    ensures memory { IfErr result (λ e. e ≡ out_of_memory) }
-{
-    let mut past = unbegun;
-    let mut place = 0u64;
-    for entry in records {
-        place += 1;
-        past.follow(alloc, catalog, base, place, entry)?;
+    // So many records more.
+    fn follow_all(
+        &mut self,
+        alloc: A,
+        catalog: &Catalog<A>,
+        base: u64,
+        records: &[Record<A>],
+    ) -> Result<(), Refusal>
+    where
+        A: Copy,
+        requires { self.old.place + length records.now < 2 ^ 64 }
+        ensures ok { OnOk result (self.new ≡ after_all catalog.now base records.now self.old) }
+        ensures memory { IfErr result (λ e. e ≡ out_of_memory) }
+    {
+        for entry in records {
+            self.follow_one(alloc, catalog, base, entry)?;
+        }
+        Ok(())
     }
-    Ok(past)
-}
 
-// Nothing has happened since an opening.
-fn unbegun<A: Allocator + Copy>(alloc: A, tables: Tables<A>) -> Past<A>
-    ensures { result ≡ record { tables = tables; commits = 0; lent = []; runs = [] } }
-{
-    Past {
-        tables,
-        commits: 0,
-        lent: Vec::new(alloc),
-        runs: Vec::new(alloc),
+    /// Follows those of a history's first so many records that it hasn't followed yet. Out of memory is the only
+    /// refusal, after which nothing more can be known.
+    pub fn follow(&mut self, alloc: A, history: &History<A>, count: usize) -> Result<(), Refusal>
+    where
+        A: Copy,
+        ensures ok { OnOk result (self.new ≡ followed_to history.now.opening (take count history.now.records) self.old) }
+        ensures memory { IfErr result (λ e. e ≡ out_of_memory) }
+    {
+        let base = history.base().commits;
+        let first = first_records(history.records(), count);
+        self.follow_all(alloc, history.catalog(), base, behind(first, self.place))
     }
 }
 
-// The transactions that have come of records.
-fn runs_of<A: Allocator>(past: Past<A>) -> Vec<Run<A>, A>
-    ensures { result.items ≡ past.runs }
+// The first so many of some records, or all.
+fn first_records<A: Allocator>(records: &[Record<A>], count: usize) -> &[Record<A>]
+    ensures { result.now ≡ take count records.now }
 {
-    past.runs
+    &records[..count.min(records.len())]
+}
+
+// The records behind the first so many.
+fn behind<A: Allocator>(records: &[Record<A>], count: u64) -> &[Record<A>]
+    ensures { result.now ≡ drop count records.now }
+{
+    &records[(count as usize).min(records.len())..]
 }
 
 /// What the records of a history tell of its transactions, by their numbers. It is refused only when
@@ -290,8 +389,7 @@ pub fn retrace<A: Allocator + Copy>(
     ensures ok { IfOk result (λ runs. runs.items ≡ retraced history.now.opening history.now.records) }
     ensures memory { IfErr result (λ e. e ≡ out_of_memory) }
 {
-    let start = unbegun(alloc, history.copy_tables(alloc)?);
-    let base = history.base().commits;
-    let past = follow_all(alloc, history.catalog(), base, history.records(), start)?;
-    Ok(runs_of(past))
+    let mut past = Past::of(alloc, history)?;
+    past.follow(alloc, history, history.records().len())?;
+    Ok(past.into_runs())
 }

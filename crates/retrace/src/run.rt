@@ -1,14 +1,15 @@
 //! A transaction, as the records of a history tell of it.
 
-ghost use Rattle.std.specs.Prelude.{◌≡◌, ◌+◌, ◌<◌, ◌^◌, OnOk, IfOk, IfErr};
+ghost use Rattle.std.specs.Prelude.{◌≡◌, ◌+◌, ◌<◌, ◌^◌, if◌then◌else◌, Some, None, OnOk, IfOk, IfErr};
 ghost use Rattle.std.specs.Option.{option_map};
 ghost use Rattle.value.specs.Refusals.{out_of_memory};
 ghost use Rattle.schema.specs.Plain.{put_all};
-ghost use Rattle.history.specs.Answer.{is_refused};
+ghost use Rattle.history.specs.Events.{goes_on};
 ghost use Rattle.history.specs.Transactions as spec;
-ghost use Rattle.retrace.specs.Runs.{answered, begun, changes_of, committed, ended, grown, imported, is_its, number_of, polled, ran, sees, trail_begun, turned};
+ghost use Rattle.retrace.specs.Runs.{answered, begun, committed, ended, failed, grown, imported, is_its, number_of, over, polled, ran, refused, sees, trail_begun, turned};
 
 use crate::deed::{Written, append, reads_of, written_by};
+use crate::witness::trace::{Moment, Trace};
 use history::event::{Action, Record};
 use history::session_id::SessionId;
 use schema::catalog::Catalog;
@@ -19,8 +20,7 @@ use statement::reply::Reply;
 use statement::statement::Statement;
 use std::alloc::{Allocator, Global};
 use std::marker::Model;
-use value::refusal::{Mode, Refusal};
-use witness::trace::{Moment, Trace};
+use value::refusal::{Code, Mode, Refusal};
 
 /// What is known at an event: its place, how many commits there were before the base and how many
 /// since, and the snapshot that it asks for, if it is an IMPORT.
@@ -41,6 +41,8 @@ pub struct Run<A: Allocator = Global> {
     own: Option<Tables<A>>,
     /// Its session has still to end it.
     pub owed: bool,
+    /// It may still commit: no statement of it has failed, and no commit has doomed it.
+    pub active: bool,
 }
 
 impl<A: Allocator> Drop for Run<A> {
@@ -50,6 +52,7 @@ impl<A: Allocator> Drop for Run<A> {
             refused: _,
             own: _,
             owed: _,
+            active: _,
         } = self;
     }
 }
@@ -59,7 +62,7 @@ impl<A: Allocator> Model for Run<A> {
 
     ghost Value = { Going A };
 
-    ghost view = { λ r. record { trace = r.trace; refused = r.refused.items; own = r.own; owed = r.owed } };
+    ghost view = { λ r. record { trace = r.trace; refused = r.refused.items; own = r.own; owed = r.owed; active = r.active } };
 }
 
 // Whether a transaction of the mode may write.
@@ -131,11 +134,11 @@ fn put_own<A: Allocator + Copy>(
     }
 }
 
-// Whether a reply is a refusal.
-fn is_refused<A: Allocator>(reply: &Reply<A>) -> bool
-    ensures { result ≡ is_refused reply.now }
+// Whether an open transaction goes on after a refusal of this code.
+fn goes_on(code: Code) -> bool
+    ensures { result ≡ goes_on code }
 {
-    matches!(reply, Reply::Refused(_))
+    matches!(code, Code::ObjectNotInPrerequisiteState)
 }
 
 // The number of a commit, where the transaction may write.
@@ -144,6 +147,22 @@ fn number_of(when: When, read_write: bool) -> u64
     ensures { result ≡ number_of when read_write }
 {
     if read_write { when.commits + 1 } else { 0 }
+}
+
+// The tables that a transaction changes, where it may write.
+fn own_of<A: Allocator + Copy>(
+    alloc: A,
+    read_write: bool,
+    tables: &Tables<A>,
+) -> Result<Option<Tables<A>>, Refusal>
+    ensures ok { IfOk result (λ own. own ≡ (if read_write then Some tables.now else None)) }
+    ensures memory { IfErr result (λ e. e ≡ out_of_memory) }
+{
+    if read_write {
+        Ok(Some(tables.copy(alloc)?))
+    } else {
+        Ok(None)
+    }
 }
 
 impl<A: Allocator> Run<A> {
@@ -162,16 +181,13 @@ impl<A: Allocator> Run<A> {
         ensures memory { IfErr result (λ e. e ≡ out_of_memory) }
     {
         let read_write = is_read_write(mode);
-        let own = if read_write {
-            Some(tables.copy(alloc)?)
-        } else {
-            None
-        };
+        let own = own_of(alloc, read_write, tables)?;
         Ok(Run {
             trace: trace_begun(alloc, session, read_write, number, when),
             refused: Vec::new(alloc),
             own,
             owed: true,
+            active: true,
         })
     }
 
@@ -201,21 +217,38 @@ impl<A: Allocator> Run<A> {
         grow(&mut self.trace, place, reads, written)
     }
 
-    // A statement was refused.
+    /// It is over, and its session has still to end it.
+    pub(crate) fn give_up(&mut self)
+        ensures { self.new ≡ over self.old }
+    {
+        self.active = false;
+    }
+
+    // A refusal of this code, after which it goes on or not.
+    fn fail(&mut self, code: Code)
+        ensures { self.new ≡ failed code self.old }
+    {
+        if !goes_on(code) {
+            self.give_up();
+        }
+    }
+
+    // A statement was refused with this code.
     fn refuse(
         &mut self,
         alloc: A,
         catalog: &Catalog<A>,
         statement: &Statement<A>,
+        code: Code,
     ) -> Result<(), Refusal>
     where
         A: Copy,
-        ensures ok { OnOk result (self.new ≡
-            record self.old { refused = changes_of catalog.now statement.now self.old.own }) }
+        ensures ok { OnOk result (self.new ≡ refused catalog.now statement.now code self.old) }
         ensures memory { IfErr result (λ e. e ≡ out_of_memory) }
     {
         let written = written_by(alloc, catalog, statement, &self.own)?;
         self.refused = written.changes;
+        self.fail(code);
         Ok(())
     }
 
@@ -233,10 +266,9 @@ impl<A: Allocator> Run<A> {
         ensures ok { OnOk result (self.new ≡ ran catalog.now place statement.now reply.now self.old) }
         ensures memory { IfErr result (λ e. e ≡ out_of_memory) }
     {
-        if is_refused(reply) {
-            self.refuse(alloc, catalog, statement)
-        } else {
-            self.answer(alloc, catalog, place, statement)
+        match reply {
+            Reply::Refused(refusal) => self.refuse(alloc, catalog, statement, refusal.code),
+            _ => self.answer(alloc, catalog, place, statement),
         }
     }
 
@@ -272,6 +304,7 @@ impl<A: Allocator> Run<A> {
         self.trace.commit = commit;
         self.own = None;
         self.owed = false;
+        self.active = false;
     }
 
     // The reply to a COMMIT.
@@ -307,7 +340,8 @@ impl<A: Allocator> Run<A> {
             Action::Import(_) => self.import(when, &entry.reply),
             Action::Commit => self.commit(when, &entry.reply),
             Action::Rollback => self.end(0),
-            Action::Begin(_) | Action::Broken(_) | Action::Export | Action::Prune => {}
+            Action::Broken(_) => self.give_up(),
+            Action::Begin(_) | Action::Export | Action::Prune => {}
         }
         Ok(())
     }

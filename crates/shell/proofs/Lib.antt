@@ -1,2 +1,3 @@
 pub mod EmptyLemmas
 pub mod OpeningLemmas
+pub mod TurnLemmas

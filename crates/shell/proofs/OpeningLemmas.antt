@@ -11,8 +11,8 @@ both P Q (Ok x) p q = (p, q)
 both P Q (Err e) p q = p
 
 -- a script that opens no dump, by its parts
-pub opens-by : {A : Type 0} (created whole : List ℕ) (most : ℕ) (line : List ℕ) (s : Said A) (q : Held A) (text : List ℕ) (b : Bool) (c : Catalog) (steps : List (Line A)) → is_some s.opens ≡ false → c ≡ s.catalog → steps ≡ s.lines → b ≡ (length steps == 0) → Begins b whole most line c steps q text → Opens created whole most line (Ok s) q text
-opens-by created whole most line s q text b c steps none tables lines way told =
-    let by_length = subst (λ (k : Bool). Begins k whole most line c steps q text) way told in
-    let of_catalog = subst (λ (d : Catalog). Begins (length steps == 0) whole most line d steps q text) tables by_length in
-    rw none (subst (λ (ls : List (Line _)). Begins (length ls == 0) whole most line s.catalog ls q text) lines of_catalog)
+pub opens-by : {A : Type 0} (created whole : List ℕ) (most : ℕ) (s : Said A) (q : Held A) (text : List ℕ) (b : Bool) (c : Catalog) (steps : List (Line A)) → is_some s.opens ≡ false → c ≡ s.catalog → steps ≡ s.lines → b ≡ (length steps == 0) → Begins b whole most c steps q text → Opens created whole most (Ok s) q text
+opens-by created whole most s q text b c steps none tables lines way told =
+    let by_length = subst (λ (k : Bool). Begins k whole most c steps q text) way told in
+    let of_catalog = subst (λ (d : Catalog). Begins (length steps == 0) whole most d steps q text) tables by_length in
+    rw none (subst (λ (ls : List (Line _)). Begins (length ls == 0) whole most s.catalog ls q text) lines of_catalog)

@@ -1,4 +1,4 @@
--- What a line asks for that a shell alone doesn't do, and the tables that it tells.
+-- What a line asks for that a shell alone doesn't do, and how the tables are printed.
 use Rattle.std.specs.Prelude.{◌≡◌, ℕ, Option, Some, None, Result, Ok, Err, List, [], ◌∷◌, ◌++◌, length, codes, drop}
 use Rattle.std.specs.Fmt.{decimal}
 use Rattle.schema.specs.Definition.{Catalog}
@@ -13,7 +13,7 @@ use Rattle.script.specs.declared.schedule.Schedule.TheVariants.{InOrder}
 use Rattle.shell.specs.declared.told.SessionDump.{SessionDump}
 use Rattle.shell.specs.Shells.{Held, ended}
 
--- how the tables are told: their CREATE TABLE lines, which stand behind the first line of a dump, and how many they are
+-- how the tables are printed: their CREATE TABLE lines, which follow the first line of a dump, and how many they are
 abbrev pub tables_text : Catalog → List ℕ
 tables_text c = drop 10 (head_text c) ++ codes "TABLES " ++ decimal (length c) ++ codes "\n"
 
@@ -53,7 +53,7 @@ module _ {A : Type 0} where
   opens_in None whole = opened_by (said InOrder whole)
   opens_in (Some h) whole = None
 
-  -- the path of the dump that a line opens behind the lines so far, before the server runs
+  -- the path of the dump that a line opens after the lines so far, before the server runs
   abbrev pub opens_by : Held A → List ℕ → Option (List ℕ)
   opens_by p line = opens_in p.core (p.created ++ ended line)
 

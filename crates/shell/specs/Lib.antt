@@ -1,2 +1,3 @@
 pub mod Shells
 pub mod Asked
+pub mod Turns

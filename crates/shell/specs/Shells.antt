@@ -1,4 +1,4 @@
--- What a shell answers to each line, before it hears the next (this project's own choice).
+-- What a shell answers to each line, before it reads the next.
 use Rattle.std.specs.Prelude.{◌≡◌, ◌⊎◌, ℕ, ◌==◌, Bool, true, false, not, ◌||◌, Option, Some, None, is_some, Result, Ok, Err, List, [], ◌∷◌, ◌++◌, length, codes, if◌then◌else◌}
 use Rattle.std.specs.List.{list_all}
 use Rattle.value.specs.declared.refusal.Refusal.{Refusal}
@@ -32,9 +32,9 @@ IsRefusal text = (words : List ℕ) × (list_all is_printable words ≡ true) ×
 abbrev pub refused_checkpoint : Refusal → List ℕ
 refused_checkpoint e = codes "ERROR " ++ sqlstate e.code ++ codes "\n"
 
--- what is answered to a line that a table was made by, or that is passed over
-abbrev pub created_text : List ℕ → List ℕ
-created_text line = if is_passed_over line then [] else codes "CREATE TABLE\n"
+-- what is answered to a line that a table was made by
+abbrev pub created_text : List ℕ
+created_text = codes "CREATE TABLE\n"
 
 -- What a shell holds: the lines so far that create tables, until a session's line comes; the history from then on; and for how many events it has room.
 pub record Held (A : Type 0) : Type 0 where
@@ -47,11 +47,11 @@ module _ {A : Type 0} where
   abbrev pub Refuses : Recorded A → Recorded A → List ℕ → Type 0
   Refuses h k text = (k ≡ h) × IsRefusal text
 
-  -- The history h goes on, as k, from the tables that it has come to.
+  -- The history h goes on, as k, from the tables that it leaves.
   abbrev pub GoesOn : ℕ → Recorded A → Recorded A → List ℕ → Type 0
   GoesOn most h k text = IsCheckpoint h most (Ok k) × (text ≡ codes "CHECKPOINT\n")
 
-  -- It doesn't go on, for this refusal.
+  -- The history doesn't go on, for this refusal.
   abbrev pub Stays : ℕ → Recorded A → Recorded A → List ℕ → Type 0
   Stays most h k text = (e : Refusal) × IsCheckpoint h most (Err (k, e)) × (text ≡ refused_checkpoint e)
 
@@ -97,29 +97,33 @@ module _ {A : Type 0} where
   DoesLineInto most h lines None text = ⊥
   DoesLineInto most h lines (Some k) text = DoesLine most h lines k text
 
-  -- The same of what a line says as a script of its own.
+  -- What a line says as a script of its own was done: the history h has become the one that is held.
   abbrev pub RunsInto : ℕ → Recorded A → Result (Said A) ℕ → Option (Recorded A) → List ℕ → Type 0
   RunsInto most h said None text = ⊥
   RunsInto most h said (Some k) text = Runs most h said k text
 
-  -- Where there is nothing to be done, the line creates a table or is passed over, and all lines so far are kept; else it is the first of a session, and the server runs from then on.
-  abbrev pub Begins : Bool → List ℕ → ℕ → List ℕ → Catalog → List (Line A) → Held A → List ℕ → Type 0
-  Begins true whole most line c steps q text = (q ≡ opening whole most) × (text ≡ created_text line)
-  Begins false whole most line c steps q text = (q.most ≡ most) × DoesLineInto most (begun c most) steps q.core text
+  -- Where there is nothing to be done, the line creates a table, and all such lines so far are kept; else it is the first of a session, and the server runs from then on.
+  abbrev pub Begins : Bool → List ℕ → ℕ → Catalog → List (Line A) → Held A → List ℕ → Type 0
+  Begins true whole most c steps q text = (q ≡ opening whole most) × (text ≡ created_text)
+  Begins false whole most c steps q text = (q.most ≡ most) × DoesLineInto most (begun c most) steps q.core text
 
-  abbrev pub OpensUnless : Bool → List ℕ → List ℕ → ℕ → List ℕ → Said A → Held A → List ℕ → Type 0
-  OpensUnless true created whole most line s q text = (q ≡ opening created most) × IsRefusal text
-  OpensUnless false created whole most line s q text = Begins (length s.lines == 0) whole most line s.catalog s.lines q text
+  abbrev pub OpensUnless : Bool → List ℕ → List ℕ → ℕ → Said A → Held A → List ℕ → Type 0
+  OpensUnless true created whole most s q text = (q ≡ opening created most) × IsRefusal text
+  OpensUnless false created whole most s q text = Begins (length s.lines == 0) whole most s.catalog s.lines q text
 
   -- A line was answered before the server runs, where the lines so far and this one say so much as a script; or it was refused, and nothing has changed.
-  abbrev pub Opens : List ℕ → List ℕ → ℕ → List ℕ → Result (Said A) ℕ → Held A → List ℕ → Type 0
-  Opens created whole most line (Err n) q text = (q ≡ opening created most) × IsRefusal text
-  Opens created whole most line (Ok s) q text = OpensUnless (is_some s.opens) created whole most line s q text
+  abbrev pub Opens : List ℕ → List ℕ → ℕ → Result (Said A) ℕ → Held A → List ℕ → Type 0
+  Opens created whole most (Err n) q text = (q ≡ opening created most) × IsRefusal text
+  Opens created whole most (Ok s) q text = OpensUnless (is_some s.opens) created whole most s q text
 
   abbrev pub AnswersIn : Option (Recorded A) → List ℕ → ℕ → List ℕ → Held A → List ℕ → Type 0
-  AnswersIn None created most line q text = Opens created (created ++ ended line) most line (said InOrder (created ++ ended line)) q text
+  AnswersIn None created most line q text = Opens created (created ++ ended line) most (said InOrder (created ++ ended line)) q text
   AnswersIn (Some h) created most line q text = (q.most ≡ most) × RunsInto most h (said InOrder (ended line)) q.core text
 
-  -- A shell that held p was told a line, holds q now, and this text is its answer.
+  abbrev pub AnswersUnless : Bool → Held A → List ℕ → Held A → List ℕ → Type 0
+  AnswersUnless true p line q text = (q ≡ p) × (text ≡ [])
+  AnswersUnless false p line q text = AnswersIn p.core p.created p.most line q text
+
+  -- A shell that held p answers a line with this text, and holds q then. The answer to an empty line, or to a comment of any bytes, is empty.
   abbrev pub Answers : Held A → List ℕ → Held A → List ℕ → Type 0
-  Answers p line q text = AnswersIn p.core p.created p.most line q text
+  Answers p line q text = AnswersUnless (is_passed_over line) p line q text

@@ -1,7 +1,7 @@
-//! A shell as who answers in a conversation.
+//! A shell as the handler of a conversation.
 
+use crate::conversation::handler::Handler;
 use crate::shell::Shell;
-use conversation::handler::Handler;
 use std::alloc::Allocator;
 use value::refusal::Refusal;
 

@@ -1,7 +1,8 @@
-//! A session that answers at once: lines, each answered before the next is heard.
+//! A server that answers at once: lines, each answered before the next is read.
 
 #![tactic(auto)]
 
+pub mod conversation;
 mod handling;
 mod running;
 pub mod shell;

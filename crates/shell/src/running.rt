@@ -19,7 +19,7 @@ use session::sessions::Core;
 use std::alloc::Allocator;
 use value::refusal::{Code, Refusal};
 
-// Does what a session asks for, and gives what is answered.
+// Does what a session asks for, and returns the answer.
 fn do_request<A: Allocator + Copy>(
     alloc: A,
     core: &mut Core<A>,
@@ -33,7 +33,7 @@ fn do_request<A: Allocator + Copy>(
     reply_text(alloc, session, &reply)
 }
 
-// Lets the history go on from the tables that it has come to.
+// Lets the history go on from its present tables.
 fn do_checkpoint<A: Allocator + Copy>(
     alloc: A,
     core: &mut Core<A>,
@@ -72,7 +72,7 @@ fn refuse_opening<A: Allocator>(alloc: A) -> Result<Vec<u8, A>, Refusal>
     )
 }
 
-/// Does a step, and gives what is answered. Out of memory for the answer's text is the only failure.
+/// Does a step, and returns the answer. Out of memory for the answer's text is the only failure.
 pub(crate) fn do_step<A: Allocator + Copy>(
     alloc: A,
     core: &mut Core<A>,

@@ -19,9 +19,9 @@ use std::alloc::{Allocator, Global};
 use std::marker::Model;
 use value::refusal::{Code, Refusal};
 
-/// A server to which one speaks line by line: lines that create tables first, then those of sessions.
+/// A server that answers lines, one by one: first those that create tables, then those of sessions.
 pub struct Shell<A: Allocator = Global> {
-    // The lines so far that create tables or are passed over, until the server runs.
+    // The lines so far that create tables, until the server runs.
     created: Vec<u8, A>,
     core: Option<Core<A>>,
     most_events: u32,
@@ -63,23 +63,11 @@ fn open_core<A: Allocator + Copy>(
     }
 }
 
-// Whether a line is empty or a comment.
-fn is_passed_over(line: &[u8]) -> bool
+/// Whether a line is empty or a comment, whatever bytes that has: it is answered by nothing.
+pub fn is_passed_over(line: &[u8]) -> bool
     ensures { result ≡ script_spec.is_passed_over line.now }
 {
     line.is_empty() || line[..line.len().min(2)] == b"--"[..]
-}
-
-// What is answered to a line that is kept.
-fn created_text<A: Allocator>(alloc: A, line: &[u8]) -> Result<Vec<u8, A>, Refusal>
-    ensures text { IfOk result (λ text. text.items ≡ created_text line.now) }
-    ensures memory { IfErr result (λ e. e ≡ out_of_memory) }
-{
-    if is_passed_over(line) {
-        return Ok(Vec::new(alloc));
-    }
-    let text = Vec::from_slice(alloc, b"CREATE TABLE\n")?;
-    Ok(text)
 }
 
 // Refuses to open a dump.
@@ -95,13 +83,12 @@ fn keep<A: Allocator + Copy>(
     alloc: A,
     created: Vec<u8, A>,
     most_events: u32,
-    line: &[u8],
 ) -> Result<(Shell<A>, Vec<u8, A>), Refusal>
     ensures held { IfOk result (λ x. x.0 ≡ opening created.items most_events) }
-    ensures text { IfOk result (λ x. x.1.items ≡ created_text line.now) }
+    ensures text { IfOk result (λ x. x.1.items ≡ created_text) }
     ensures memory { IfErr result (λ e. e ≡ out_of_memory) }
 {
-    let text = created_text(alloc, line)?;
+    let text = Vec::from_slice(alloc, b"CREATE TABLE\n")?;
     Ok((
         Shell {
             created,
@@ -160,16 +147,15 @@ fn open_by<A: Allocator + Copy>(
     alloc: A,
     whole: Vec<u8, A>,
     way: (u32, bool),
-    line: &[u8],
     catalog: Catalog<A>,
     steps: &[Line<A>],
 ) -> Result<(Shell<A>, Vec<u8, A>), Refusal>
     ensures told { IfOk result (λ x.
-        Begins way.1 whole.items way.0 line.now catalog steps.now x.0 x.1.items) }
+        Begins way.1 whole.items way.0 catalog steps.now x.0 x.1.items) }
     ensures memory { IfErr result (λ e. e ≡ out_of_memory) }
 {
     if way.1 {
-        keep(alloc, whole, way.0, line)
+        keep(alloc, whole, way.0)
     } else {
         begin(alloc, catalog, way.0, steps)
     }
@@ -204,11 +190,10 @@ fn open_said<A: Allocator + Copy>(
     created: Vec<u8, A>,
     whole: Vec<u8, A>,
     most_events: u32,
-    line: &[u8],
     script: Script<A>,
 ) -> Result<(Shell<A>, Vec<u8, A>), Refusal>
     ensures told { IfOk result (λ x.
-        Opens created.items whole.items most_events line.now (Ok script) x.0 x.1.items) }
+        Opens created.items whole.items most_events (Ok script) x.0 x.1.items) }
     ensures memory { IfErr result (λ e. e ≡ out_of_memory) }
 {
     let (catalog, opens, steps) = script.into_parts();
@@ -218,7 +203,7 @@ fn open_said<A: Allocator + Copy>(
     }
     let steps = steps.as_slice();
     let way = (most_events, steps.is_empty());
-    open_by(alloc, whole, way, line, catalog, steps)
+    open_by(alloc, whole, way, catalog, steps)
 }
 
 // Answers a line, before the server runs.
@@ -228,13 +213,13 @@ fn open_line<A: Allocator + Copy>(
     most_events: u32,
     line: &[u8],
 ) -> Result<(Shell<A>, Vec<u8, A>), Refusal>
-    ensures told { IfOk result (λ x. Opens created.items (created.items ++ ended line.now) most_events line.now
+    ensures told { IfOk result (λ x. Opens created.items (created.items ++ ended line.now) most_events
         (said InOrder (created.items ++ ended line.now)) x.0 x.1.items) }
     ensures memory { IfErr result (λ e. e ≡ out_of_memory) }
 {
     let whole = with_line(alloc, created.as_slice(), line)?;
     match read_script(alloc, Schedule::InOrder, whole.as_slice()) {
-        Ok(script) => open_said(alloc, created, whole, most_events, line, script),
+        Ok(script) => open_said(alloc, created, whole, most_events, script),
         Err(fault) if fault.line == 0 => Err(Refusal::of_code(Code::OutOfMemory)),
         Err(fault) => {
             let text = refuse_line(alloc, whole.as_slice(), fault.line)?;
@@ -261,7 +246,7 @@ fn answer_held<A: Allocator + Copy>(
 }
 
 impl<A: Allocator + Copy> Shell<A> {
-    /// A shell that holds nothing yet, with room for so many events.
+    /// A shell that holds nothing yet, with room for `most_events` events.
     pub fn new(alloc: A, most_events: u32) -> Shell<A>
         ensures { result ≡ opening [] most_events }
     {
@@ -272,7 +257,7 @@ impl<A: Allocator + Copy> Shell<A> {
         }
     }
 
-    /// A shell whose server runs on a core, with room for so many events from its next checkpoint on.
+    /// A shell whose server runs on a core, with room for `most_events` events from its next checkpoint on.
     pub fn on(alloc: A, core: Core<A>, most_events: u32) -> Shell<A>
         ensures { result ≡ running core most_events }
     {
@@ -290,7 +275,7 @@ impl<A: Allocator + Copy> Shell<A> {
         self.core.as_ref()
     }
 
-    /// The lines so far that create tables or are passed over, until the server runs.
+    /// The lines so far that create tables, until the server runs.
     pub fn created(&self) -> &[u8]
         ensures { result.now ≡ self.now.created }
     {
@@ -304,10 +289,9 @@ impl<A: Allocator + Copy> Shell<A> {
         self.most_events
     }
 
-    /// The answer to a line, which stands here without its newline, and the shell that goes on. Out of memory is
-    /// the only failure, and ends the conversation.
-    pub fn answer(self, alloc: A, line: &[u8]) -> Result<(Shell<A>, Vec<u8, A>), Refusal>
-        ensures told { IfOk result (λ x. Answers self line.now x.0 x.1.items) }
+    // The answer to a line that isn't passed over.
+    fn answer_asked(self, alloc: A, line: &[u8]) -> Result<(Shell<A>, Vec<u8, A>), Refusal>
+        ensures told { IfOk result (λ x. AnswersIn self.core self.created self.most line.now x.0 x.1.items) }
         ensures memory { IfErr result (λ e. e ≡ out_of_memory) }
     {
         let Shell {
@@ -316,5 +300,17 @@ impl<A: Allocator + Copy> Shell<A> {
             most_events,
         } = self;
         answer_held(alloc, created, core, most_events, line)
+    }
+
+    /// The answer to a line, which stands here without its newline, and the shell that goes on. Out of memory is
+    /// the only failure, and ends the conversation.
+    pub fn answer(self, alloc: A, line: &[u8]) -> Result<(Shell<A>, Vec<u8, A>), Refusal>
+        ensures told { IfOk result (λ x. Answers self line.now x.0 x.1.items) }
+        ensures memory { IfErr result (λ e. e ≡ out_of_memory) }
+    {
+        if is_passed_over(line) {
+            return Ok((self, Vec::new(alloc)));
+        }
+        self.answer_asked(alloc, line)
     }
 }

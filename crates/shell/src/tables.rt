@@ -1,4 +1,4 @@
-//! The tables, as they are told.
+//! The tables, as they are printed.
 
 ghost use Rattle.std.specs.Prelude.{◌≡◌, ◌++◌, IfOk, IfErr, OnOk, OnErr};
 ghost use Rattle.std.specs.Fmt.{decimal};
@@ -14,7 +14,7 @@ use value::refusal::Refusal;
 // How many bytes the first line of a dump has.
 const FIRST_LINE: usize = 10;
 
-/// The CREATE TABLE lines of tables, and behind them how many they are.
+/// The CREATE TABLE lines of tables, followed by their number.
 pub fn tables_text<A: Allocator + Copy>(
     alloc: A,
     catalog: &Catalog<A>,

@@ -116,8 +116,8 @@ fn tables_of<A: Allocator + Copy>(alloc: A, text: &[u8]) -> Result<Catalog<A>, R
 }
 
 impl<A: Allocator + Copy> Shell<A> {
-    /// The path of the dump that a line opens behind the lines so far: nothing once the server runs, or once tables
-    /// were created.
+    /// The path of the dump that a line opens after the lines so far: none once the server runs, or once tables were
+    /// created.
     pub fn opened_by(&self, alloc: A, line: &[u8]) -> Result<Option<Text<A>>, Refusal>
         ensures path { IfOk result (λ p. p ≡ spec.opens_by self.now line.now) }
         ensures memory { IfErr result (λ e. e ≡ out_of_memory) }

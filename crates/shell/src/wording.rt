@@ -11,7 +11,7 @@ use script::telling::explain;
 use std::alloc::Allocator;
 use value::refusal::Refusal;
 
-/// A line behind those before it, with its newline.
+/// A line after those before it, with its newline.
 pub(crate) fn with_line<A: Allocator>(
     alloc: A,
     before: &[u8],

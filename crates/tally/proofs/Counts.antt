@@ -5,7 +5,7 @@ use Rattle.std.specs.List.{All, AllByRecursion}
 use Rattle.std.proofs.lemmas.Bool.{eqb-true, eq-eqb, false_from_ne_true, true≢false}
 use Rattle.std.proofs.lemmas.List.{append_assoc, length-append, get_or_append_left, get_or_at, take-append-le, take_at, append-nil}
 use Rattle.std.proofs.lemmas.List.Elements.{All-from_recursion}
-use Rattle.interleave.specs.Interleavings.{occurrences, same_order}
+use Rattle.tally.specs.Interleavings.{occurrences, same_order}
 use Rattle.tally.specs.Outcomes.{Counted, IsFirst, noted, noted_all, outcomes, outcomes_with, runs_to, single}
 use Rattle.tally.proofs.Noted.{more}
 use Rattle.tally.proofs.Joined.{same, equal}

@@ -118,7 +118,7 @@ noted_all-append os (t ∷ a) b n = noted_all-append (noted os t n) a b (n + 1) 
 pub noted_all-push : (os : List Counted) (texts : List (List ℕ)) (text : List ℕ) (n : ℕ) → noted_all os (texts ++ text ∷ []) n ≡ noted (noted_all os texts n) text (n + length texts)
 noted_all-push os texts text n = noted_all-append os texts (text ∷ []) n
 
--- stretches of runs, one behind the other
+-- stretches of runs, one after the other
 pub stretches : (n m : ℕ) (a b : List (List ℕ)) → m ≡ n + length a → joined (outcomes_from n a) (outcomes_from m b) ≡ outcomes_from n (a ++ b)
 stretches n m a b e =
     joined-all (noted_all [] a n) [] b m

@@ -3,3 +3,10 @@ pub mod Joined
 pub mod Stretches
 mod Counts
 pub mod Held
+pub mod Factorials
+pub mod Number
+pub mod Leading
+mod Once
+mod Shares
+pub mod Turns
+pub mod Drawn

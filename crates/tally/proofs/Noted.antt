@@ -1,4 +1,4 @@
--- The place of an outcome, and what it comes to with the runs of another.
+-- The place of an outcome, and its count with the runs of another.
 use Rattle.std.proofs.Common.{◌≡◌, refl, ap, ◌∙◌, ℕ, zero, suc, ◌+◌, ◌<◌, ◌≤◌, ◌^◌, Bool, true, false, cond, ltb, List, [], ◌∷◌, ◌++◌, length, get_or, set, Some, None, arith}
 use Rattle.std.specs.Prelude.{bytes_eq}
 use Rattle.std.specs.List.{position, position_or_len}
@@ -11,7 +11,7 @@ use Rattle.tally.specs.Outcomes.{Counted, all_runs, merged}
 abbrev pub has : List ℕ → Counted → Bool
 has text o = bytes_eq o.text text
 
--- with so many runs more
+-- with k runs more
 abbrev pub more : ℕ → Counted → Counted
 more k o = record o { runs = o.runs + k }
 

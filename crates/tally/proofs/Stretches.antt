@@ -1,4 +1,4 @@
--- Stretches of schedules: one more of them, and two one behind the other.
+-- Stretches of schedules: one more of them, and two one after the other.
 use Rattle.std.proofs.Common.{◌≡◌, sym, ap, ◌∙◌, ℕ, ◌+◌, ◌-◌, ◌<◌, ◌≤◌, min, List, [], ◌∷◌, ◌++◌, length, get_or, take, drop, map, slice_range, arith}
 use Rattle.std.proofs.Math.Seq.{take-add}
 use Rattle.std.proofs.lemmas.List.{take_more, map_push, map-append, length-map, length-take, length-drop, drop-drop, get_or-drop, take_all}
@@ -9,7 +9,7 @@ module _ (f : List ℕ → List ℕ) (orders : List (List ℕ)) where
   length-stretch : (n m : ℕ) → n ≤ m → m ≤ length orders → length (map f (slice_range orders n m)) ≡ m - n
   length-stretch n m a b = omega (arith, length-map (take (m - n) (drop n orders)) f, length-take (m - n) (drop n orders), length-drop n orders)
 
-  -- so many runs
+  -- a run for each order of the stretch
   pub runs_so_far : (n m : ℕ) → n ≤ m → m ≤ length orders → all_runs (noted_all [] (map f (take (m - n) (drop n orders))) n) ≡ m - n
   runs_so_far n m a b = omega (arith, all_runs-noted_all [] (map f (take (m - n) (drop n orders))) n, length-stretch n m a b)
 
@@ -28,7 +28,7 @@ module _ (f : List ℕ → List ℕ) (orders : List (List ℕ)) where
       ∙ ap (λ x. noted (noted_all [] (map f (take k (drop n orders))) n) (f x) (n + length (map f (take k (drop n orders))))) (get_or-drop n orders k [] ∙ ap (λ (j : ℕ). get_or orders j []) place)
       ∙ ap (λ (j : ℕ). noted (noted_all [] (map f (take k (drop n orders))) n) (f (get_or orders m [])) j) (omega (arith, so_far, place))
 
-  -- two stretches, one behind the other
+  -- two stretches, one after the other
   pub both : (n m l : ℕ) → n ≤ m → m ≤ l → l ≤ length orders →
       joined (outcomes_from n (map f (slice_range orders n m))) (outcomes_from m (map f (slice_range orders m l))) ≡ outcomes_from n (map f (slice_range orders n l))
   both n m l a b c =

@@ -1,1 +1,4 @@
 pub mod Outcomes
+pub mod Interleavings
+pub mod Numbers
+pub mod Sampling

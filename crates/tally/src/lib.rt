@@ -1,8 +1,10 @@
-//! What comes of every interleaving, counted.
+//! The outcomes of every interleaving, counted.
 
 #![tactic(auto)]
 
+pub mod interleave;
 pub mod laws;
 pub mod outcomes;
 pub mod runs;
+pub mod sample;
 pub mod workers;

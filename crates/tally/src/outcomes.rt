@@ -7,7 +7,7 @@ use crate::runs::{Runs, Schedules};
 use std::alloc::{AllocError, Allocator, Global};
 use std::marker::Model;
 
-/// An outcome: its text, how many runs come to it, and the number of the first of these, counted from 0.
+/// An outcome: its text, how many runs lead to it, and the number of the first of these, counted from 0.
 #[derive(Drop)]
 pub struct Outcome<A: Allocator = Global> {
     text: Vec<u8, A>,
@@ -24,21 +24,21 @@ impl<A: Allocator> Model for Outcome<A> {
 }
 
 impl<A: Allocator> Outcome<A> {
-    /// What it comes to.
+    /// Its text.
     pub fn text(&self) -> &[u8]
         ensures { result.now ≡ self.now.text }
     {
         self.text.as_slice()
     }
 
-    /// How many runs come to it.
+    /// How many runs lead to it.
     pub fn runs(&self) -> u64
         ensures { result ≡ self.now.runs }
     {
         self.runs
     }
 
-    /// The number of the first run that comes to it.
+    /// The number of the first run that leads to it.
     pub fn first(&self) -> u64
         ensures { result ≡ self.now.first }
     {
@@ -52,7 +52,7 @@ impl<A: Allocator> Outcome<A> {
         self.text.as_slice() == text
     }
 
-    // Counts so many runs more.
+    // Counts more runs.
     fn add(&mut self, runs: u64)
         requires { self.old.runs + runs < 2 ^ 64 }
         ensures { self.new ≡ record self.old { runs = self.old.runs + runs } }

@@ -2,10 +2,10 @@
 
 ghost use Rattle.std.specs.Prelude.{◌≡◌, ◌<◌, ◌≤◌, [], List, ℕ, length, slice_index_or, IfOk};
 
-use interleave::interleavings::Interleavings;
+use crate::interleave::interleavings::Interleavings;
 use std::alloc::{AllocError, Allocator};
 
-/// What can be run in any order of its sessions' turns: a text tells how that ends.
+/// What can be run in any order of its sessions' turns: a text says how that ends.
 pub trait Runs<A: Allocator> {
     /// The text of an order.
     ghost outcome: { Self → List ℕ → List ℕ };
@@ -16,7 +16,7 @@ pub trait Runs<A: Allocator> {
     /// How many turns there may be.
     ghost most: { Self → ℕ };
 
-    /// Runs an order, that of the schedule with a number. Want of memory is the only refusal.
+    /// Runs an order, that of the schedule with a number. Out of memory is the only refusal.
     fn run(&self, alloc: A, number: u64, order: &[usize]) -> Result<Vec<u8, A>, AllocError>
         requires { length order.now ≤ most self.now }
         ensures outcome { IfOk result (λ text. text.items ≡ outcome self.now order.now) }
@@ -32,14 +32,14 @@ pub trait Schedules<A: Allocator> {
     fn count(&self) -> u64
         ensures { result ≡ length (orders self.now) };
 
-    /// The order with a number. Want of memory is the only refusal.
+    /// The order with a number. Out of memory is the only refusal.
     fn order_at(&self, alloc: A, number: u64) -> Result<Vec<usize, A>, AllocError>
         requires { number < length (orders self.now) }
         ensures { IfOk result (λ order. order.items ≡ slice_index_or (orders self.now) number []) };
 }
 
 impl<A: Allocator + Copy> Schedules<A> for Interleavings<A> {
-    ghost use Rattle.interleave.specs.Interleavings.{interleavings};
+    ghost use Rattle.tally.specs.Interleavings.{interleavings};
 
     ghost orders = { λ lines. interleavings lines };
 

@@ -18,7 +18,7 @@ struct Stretch {
 }
 
 impl Stretch {
-    // The number at which a stretch for so many threads is cut, so that those of them that are told do the first part.
+    // The number at which a stretch for `jobs` threads is cut, so that the first `first` of them do the first part.
     fn cut(self, jobs: u32, first: u32) -> u64
         requires some { 0 < jobs }
         requires part { first ≤ jobs }
@@ -31,7 +31,7 @@ impl Stretch {
     }
 }
 
-// Runs the orders of a stretch by so many threads, and counts to which texts they come.
+// Runs the orders of a stretch by `jobs` threads, and counts to which texts they lead.
 fn count_by_threads<T, A, R, S>(
     rt: &T,
     alloc: A,
@@ -86,8 +86,8 @@ where
     Ok(all)
 }
 
-/// Runs every order by so many threads, and counts to which texts they come: the outcomes in the order of their first
-/// runs, whatever the threads. Want of memory is the only refusal.
+/// Runs every order by `jobs` threads, and counts to which texts they lead: the outcomes in the order of their first
+/// runs, whatever the threads. Out of memory is the only refusal.
 pub fn count_outcomes<T, A, R, S>(
     rt: &T,
     alloc: A,

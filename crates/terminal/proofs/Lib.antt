@@ -2,3 +2,4 @@ pub mod HeaderLemmas
 pub mod MarkLemmas
 pub mod PlayLemmas
 pub mod RowLemmas
+mod WidthLemmas

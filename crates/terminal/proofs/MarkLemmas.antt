@@ -1,4 +1,4 @@
--- How a session stands, by whether it may read.
+-- A session's transaction status, by whether it may read.
 use Rattle.std.proofs.Common.{◌≡◌, ◌≢◌, ◌∙◌, Result, Ok, Err, IfOk, ap, inl, inr, rules}
 use Rattle.value.specs.Refusals.{AnswersOrNoMemory, out_of_memory}
 use Rattle.value.specs.declared.refusal.Refusal.{Refusal}

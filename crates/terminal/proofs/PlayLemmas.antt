@@ -5,7 +5,7 @@ use Rattle.shell.specs.Shells.{Held}
 use Rattle.terminal.specs.Terminals.{At, Plays, PlaysUnless}
 use Rattle.terminal.specs.declared.attended.Aside.{Aside}
 
-module _ {A H : Type 0} (answers : H → List ℕ → H → List ℕ → Type 0) (held : H → Held A) (tells : H → Aside → List ℕ → List ℕ → Type 0) where
+module _ {A H : Type 0} (answers : H → List ℕ → H → List ℕ → Type 0) (held : H → Held A) (tells : H → Aside → List ℕ → H → List ℕ → Type 0) where
   -- one line more
   played-last : (p : At H) (xs : List (List ℕ)) (x : List ℕ) (q r : At H) (told more : List ℕ) → Plays answers held tells xs p q told → PlaysUnless answers held tells q.has_quit x q r more → Plays answers held tells (xs ++ x ∷ []) p r (told ++ more)
   played-last p [] x q r told more so line = (

@@ -1,4 +1,4 @@
--- The lines of an answer, but the first and the last.
+-- The lines of an answer, except the first and the last.
 use Rattle.std.proofs.Common.{◌≡◌, ◌∙◌, ◌-◌, List, [], ◌∷◌, map, drop, take, length, ap, refl, sym}
 use Rattle.std.proofs.lemmas.List.{drop-map, length-map, take-map}
 

@@ -1,12 +1,13 @@
--- What is told of a table at a terminal (this project's own choice).
-use Rattle.std.specs.Prelude.{ℕ, Bool, true, false, List, [], ◌∷◌, ◌++◌, Option, Some, None, codes, slice_get, option_and_then}
+-- What a terminal shows of a table.
+use Rattle.std.specs.Prelude.{ℕ, Bool, true, false, List, [], ◌∷◌, ◌++◌, Option, Some, None, codes, map, slice_get, option_and_then}
+use Rattle.std.specs.Char.{to_ascii_lowercase}
 use Rattle.std.specs.List.{flat_map}
 use Rattle.schema.specs.Definition.{Catalog, Column, TableSchema, table_named}
 use Rattle.dumpplan.specs.Lines.{kind_word, name_of_table}
-use Rattle.aligned.specs.Tables as aligned
+use Rattle.terminal.specs.Tables as aligned
 use Rattle.terminal.specs.Drawn.{rows_in}
 
--- what is told of a table that isn't there
+-- what is shown where there is no such table
 abbrev pub no_table_text : List ℕ
 no_table_text = codes "there is no such table: \\d tells which there are\n"
 
@@ -35,14 +36,14 @@ abbrev pub column_lines : Catalog → List Column → List ℕ
 column_lines c [] = []
 column_lines c (key ∷ others) = column_line c (codes "primary key") key ++ flat_map (other_line c) others
 
--- a table as an answer tells it: its name, and behind it a line for each column
+-- a table as an answer has it: its name, followed by a line for each column
 abbrev pub columns_text : Catalog → TableSchema → List ℕ
 columns_text c d = d.name ++ codes "\n" ++ column_lines c d.columns
 
 abbrev pub drawn_columns : Catalog → TableSchema → List ℕ
 drawn_columns c d = aligned.table_text (codes "column\tkind\tnull\treferences") (rows_in 0 (columns_text c d))
 
--- what is told of a table, where there is one
+-- what is shown of a table, where there is one
 abbrev pub described : Catalog → Option TableSchema → List ℕ
 described c None = no_table_text
 described c (Some d) = drawn_columns c d
@@ -51,6 +52,6 @@ abbrev pub table_at : Catalog → Option ℕ → Option TableSchema
 table_at c None = None
 table_at c (Some t) = slice_get c t
 
--- what is told of the table of a name
+-- what is shown of the table of a name, in letters of any case
 abbrev pub table_described : Catalog → List ℕ → List ℕ
-table_described c name = described c (table_at c (table_named c name))
+table_described c name = described c (table_at c (table_named c (map to_ascii_lowercase name)))

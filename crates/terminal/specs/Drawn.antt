@@ -1,9 +1,9 @@
--- How an answer is drawn at a terminal (this project's own choice).
-use Rattle.std.specs.Prelude.{ℕ, ◌+◌, ◌-◌, ◌/◌, ◌%◌, ◌==◌, ◌||◌, ◌&&◌, not, Bool, List, [], ◌∷◌, Option, Some, None, length, map, codes, take, drop, nat_lt, if◌then◌else◌}
+-- How an answer is drawn at a terminal.
+use Rattle.std.specs.Prelude.{ℕ, ◌+◌, ◌-◌, ◌/◌, ◌%◌, ◌==◌, ◌||◌, ◌&&◌, not, Bool, List, [], ◌∷◌, ◌++◌, Option, Some, None, length, map, codes, take, drop, nat_lt, if◌then◌else◌}
 use Rattle.std.specs.Fmt.{decimal}
-use Rattle.std.specs.List.{flat_map, slice_split}
-use Rattle.aligned.specs.Tables.{table_text}
-use Rattle.typing.specs.Typing.{begins}
+use Rattle.std.specs.List.{slice_split}
+use Rattle.terminal.specs.Tables.{table_text}
+use Rattle.terminal.specs.Typing.{begins}
 
 -- A byte is shown as it is: a newline, a tab, or what doesn't control a terminal.
 abbrev pub is_shown : ℕ → Bool
@@ -13,14 +13,25 @@ is_shown b = (nat_lt 31 b && not (b == 127)) || b == 9 || b == 10
 abbrev pub digit_text : ℕ → ℕ
 digit_text n = if nat_lt n 10 then 48 + n else 87 + n
 
--- a byte as it is shown: others by their numbers
+-- a byte by its number
+abbrev pub numbered : ℕ → List ℕ
+numbered b = 92 ∷ 120 ∷ digit_text (b / 16) ∷ digit_text (b % 16) ∷ []
+
+-- a byte as it is shown
 abbrev pub shown_byte : ℕ → List ℕ
-shown_byte b = if is_shown b then b ∷ [] else 92 ∷ 120 ∷ digit_text (b / 16) ∷ digit_text (b % 16) ∷ []
+shown_byte b = if is_shown b then b ∷ [] else numbered b
 
+-- The two bytes of a character from U+0080 to U+009F, which controls a terminal.
+abbrev pub is_control : ℕ → ℕ → Bool
+is_control b c = b == 194 && nat_lt 127 c && nat_lt c 160
+
+-- a text as it is shown: what controls a terminal by its number
 abbrev pub shown : List ℕ → List ℕ
-shown text = flat_map shown_byte text
+shown [] = []
+shown (b ∷ []) = shown_byte b
+shown (b ∷ c ∷ rest) = if is_control b c then numbered c ++ shown rest else shown_byte b ++ shown (c ∷ rest)
 
--- the rows of an answer, whose lines stand behind its first: each without the n bytes before its fields
+-- the rows of an answer, which are its lines after the first: each without the n bytes before its fields
 abbrev pub rows_in : ℕ → List ℕ → List (List ℕ)
 rows_in n text =
     let parts = slice_split (λ b. b == 10) text in

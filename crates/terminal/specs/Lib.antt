@@ -5,3 +5,5 @@ pub mod Marks
 pub mod Refused
 pub mod Taken
 pub mod Terminals
+pub mod Tables
+pub mod Typing

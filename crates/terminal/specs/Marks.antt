@@ -1,4 +1,4 @@
--- How a session stands, as its prompt shows it (PostgreSQL manual, psql, `%x` of the prompt; the number of the session is this project's own).
+-- A session's transaction status, as its prompt shows it (PostgreSQL manual, psql, `%x` of the prompt; the number of the session is ours).
 use Rattle.std.specs.Prelude.{ℕ, ◌-◌, ◌/◌, Bool, Option, Some, None, Result, Ok, Err, List, [], ◌++◌, length, codes, nat_le}
 use Rattle.std.specs.Fmt.{decimal}
 use Rattle.value.specs.declared.refusal.Code.{Code}

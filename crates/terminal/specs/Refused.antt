@@ -1,16 +1,16 @@
--- What a refusal of the syntax tells at a terminal (this project's own choice).
+-- What a terminal shows of a refusal of the syntax.
 use Rattle.std.specs.Prelude.{ℕ, ◌-◌, List, ◌++◌, length, codes, take, drop, if◌then◌else◌}
-use Rattle.typing.specs.Typing.{begins, behind_word}
+use Rattle.terminal.specs.Typing.{begins, behind_word}
 use Rattle.terminal.specs.Taken.{starts}
 
--- how the refusal of a line's syntax begins, and that of a statement's behind the session's number
+-- how the refusal of a line's syntax begins, and how that of a statement does after the session's number
 abbrev pub refused : List ℕ
 refused = codes "ERROR 42601 "
 
 abbrev pub refused_at : List ℕ
 refused_at = codes "ERROR 42601 byte "
 
--- what is told before the number of the byte from which on the statement of a session's line is refused: there may be two reasons
+-- what stands before the number of the byte from which on the statement of a session's line is refused: there may be two reasons
 abbrev pub statement_words : List ℕ → List ℕ
 statement_words line =
     if starts (codes "insert ") (behind_word line) then codes "ERROR 42601: this is no statement here, or has another number of values than the table has columns: byte "

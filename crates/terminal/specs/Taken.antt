@@ -1,16 +1,16 @@
--- What a typed line is taken for, and what is told where it is refused (PostgreSQL manual, psql: `help`, `exit`, `quit`, `\timing`; the others are this project's own choice).
+-- What a typed line is taken for, and what is shown where it is refused (PostgreSQL manual, psql: `help`, `exit`, `quit`, `\timing`; the others are ours).
 use Rattle.std.specs.Prelude.{ℕ, ◌==◌, ◌&&◌, not, Bool, true, false, List, ◌++◌, Option, Some, None, length, codes, take, nat_le, unwrap_or, if◌then◌else◌}
 use Rattle.std.specs.List.{list_any}
 use Rattle.std.specs.Str.{str_eq_ignore_ascii_case}
-use Rattle.typing.specs.Typing.{behind_word, typed_as}
-use Rattle.typing.specs.declared.Typed.{Typed}
-use Rattle.typing.specs.declared.Typed.TheVariants as typed
+use Rattle.terminal.specs.Typing.{behind_word, typed_as}
+use Rattle.terminal.specs.declared.typing.Typed.{Typed}
+use Rattle.terminal.specs.declared.typing.Typed.TheVariants as typed
 
 -- Whether a line may be cut off: of a longer one a terminal passes on 4095 bytes and the newline, and drops the others.
 abbrev pub is_cut : List ℕ → Bool
 is_cut line = nat_le 4095 (length line)
 
--- what is told of it
+-- what is shown of a line that may be cut off
 abbrev pub cut_text : List ℕ
 cut_text = codes "ERROR 54000: the line is longer than a terminal passes on; use \\i FILE\n"
 
@@ -33,11 +33,11 @@ takes_file typed.Drawing = true
 takes_file typed.File = true
 takes_file other = false
 
--- whether a file's name is due behind a word, and isn't there
+-- whether a file's name is due after a word, and isn't there
 abbrev pub lacks_file : Typed → List ℕ → Bool
 lacks_file t text = takes_file t && length (behind_word text) == 0
 
--- what is told of such a word
+-- what is shown where a word lacks its file's name
 abbrev pub nameless_text : List ℕ → List ℕ
 nameless_text word = word ++ codes " FILE: a file's name is due\n"
 
@@ -45,15 +45,15 @@ nameless_text word = word ++ codes " FILE: a file's name is due\n"
 abbrev pub starts : List ℕ → List ℕ → Bool
 starts word text = str_eq_ignore_ascii_case (take (length word) text) word
 
--- whether a text begins to create a table, and comes to the end of no list of columns
+-- whether a text begins to create a table, but ends no list of columns
 abbrev pub is_unended_table : List ℕ → Bool
 is_unended_table text = starts (codes "create ") text && starts (codes "table") (behind_word text) && not (list_any (λ b. b == 41) text)
 
--- what is told of it
+-- what is shown of a line that begins to create a table, and doesn't end it
 abbrev pub unended_table_text : List ℕ
 unended_table_text = codes "ERROR 42601: CREATE TABLE stands on one line: CREATE TABLE name (name kind PRIMARY KEY, name kind, ..)\n"
 
--- whether answers are timed from then on, by what stands behind `\timing`: `on`, `off`, or the other way where there is nothing
+-- whether answers are timed from then on, by what follows `\timing`: `on`, `off`, or the other way where there is nothing
 abbrev pub timing_after : Bool → List ℕ → Option Bool
 timing_after was text =
     if length text == 0 then Some (not was)
@@ -61,6 +61,6 @@ timing_after was text =
     else if str_eq_ignore_ascii_case text (codes "off") then Some false
     else None
 
--- what is told where something else stands there
+-- what is shown where something else follows `\timing`
 abbrev pub no_timing_text : List ℕ
 no_timing_text = codes "\\timing takes on, off, or nothing\n"

@@ -1,12 +1,12 @@
--- What is answered to each line that is typed at a terminal, by one who answers lines (this project's own choice).
+-- What is answered to each line that is typed at a terminal, by a handler of lines.
 use Rattle.std.specs.Prelude.{◌≡◌, ◌⊎◌, ℕ, ◌+◌, ◌-◌, ◌/◌, ◌%◌, ◌==◌, ◌&&◌, not, Bool, true, false, List, [], ◌∷◌, ◌++◌, Option, Some, None, length, codes, slice_index, take, unwrap_or, if◌then◌else◌, IfSome}
 use Rattle.std.specs.Fmt.{decimal}
 use Rattle.std.specs.List.{slice_split}
 use Rattle.shell.specs.Asked.{catalog_of}
 use Rattle.shell.specs.Shells.{Held}
-use Rattle.typing.specs.Typing.{behind_word, begins, line_of, session_in, text_in}
-use Rattle.typing.specs.declared.Typed.{Typed}
-use Rattle.typing.specs.declared.Typed.TheVariants as typed
+use Rattle.terminal.specs.Typing.{behind_word, begins, line_of, session_in, text_in}
+use Rattle.terminal.specs.declared.typing.Typed.{Typed}
+use Rattle.terminal.specs.declared.typing.Typed.TheVariants as typed
 use Rattle.terminal.specs.Described.{table_described}
 use Rattle.terminal.specs.Drawn.{drawn, shown}
 use Rattle.terminal.specs.Headers.{header_of}
@@ -21,23 +21,23 @@ use Rattle.terminal.specs.declared.marks.Mark.TheVariants as mark
 abbrev pub help_text : List ℕ
 help_text = codes "SELECT .., INSERT .., UPDATE .., DELETE ..   a statement of this session\nBEGIN [READ ONLY [DEFERRABLE]]               begins a transaction; COMMIT and ROLLBACK end it\nPOLL, EXPORT, IMPORT n, PRUNE, DUMP ..       other commands; CHECKPOINT makes room for events\nCREATE TABLE .., OPEN path                   on one line, before the first line of a session\n2                                            goes to session 2, of 64\n2 BEGIN                                      a line of session 2\n\\d [NAME]                                    the tables, or one of them\n\\serial                                      the committed transactions in their serial order\n\\why                                         why a transaction was refused last\n\\draw FILE                                   a picture of the transactions\n\\dump FILE                                   a dump of a safe snapshot\n\\i FILE                                      the lines of a file\n\\timing [on|off]                             tells how long answers take, or no longer\n\\?, help                                     this\n\\q, exit, quit                               ends the shell\n"
 
--- what is told of a word that is none
+-- what is shown where there is no such word
 abbrev pub unknown_text : List ℕ
 unknown_text = codes "there is no such word: \\? tells what may be typed\n"
 
--- what is told where no session may begin a dump
+-- what is shown where no session may begin a dump
 abbrev pub no_session_text : List ℕ
 no_session_text = codes "each session has a transaction: a dump needs one without\n"
 
--- what is told of a dump that is given up
+-- what is shown of a dump that is given up
 abbrev pub not_safe_text : List ℕ
 not_safe_text = codes "nothing was dumped: the snapshot isn't known to be safe while other transactions write\n"
 
--- what is told once a tenth of the room for events is left
+-- what is shown once a tenth of the room for events is left
 abbrev pub near_text : List ℕ
 near_text = codes "nearly all of --events are used: CHECKPOINT makes room, but not while a session has a transaction\n"
 
--- what is told where little room is left now, and more was before
+-- what is shown where little room is left now, and more was before
 abbrev pub warning : Bool → Bool → List ℕ
 warning was is = if not was && is then near_text else []
 
@@ -46,7 +46,7 @@ abbrev pub session_line : ℕ → List ℕ → List ℕ
 session_line s command = decimal s ++ codes " " ++ command
 
 module _ {H : Type 0} where
-  -- Who is p was asked a line and has become q, and its answer is shown as it is, a refusal in words.
+  -- The handler p was asked a line and has become q, and its answer is shown as it is, a refusal in words.
   abbrev pub AsksPlainly : (H → List ℕ → H → List ℕ → Type 0) → H → List ℕ → H → List ℕ → Type 0
   AsksPlainly answers p line q told = (text : List ℕ) × answers p line q text × (told ≡ shown (worded line text))
 
@@ -69,7 +69,7 @@ module _ {H : Type 0} where
       × GoesOnTo (begins (session_line s (codes "SAFE ")) polled) answers s path polled n q told
 
 module _ {A H : Type 0} where
-  -- Who is p, and holds what a shell holds, was asked a line and has become q, and its answer was drawn as this text.
+  -- The handler p, which holds what a shell holds, was asked a line and has become q, and its answer was drawn as this text.
   abbrev pub Asks : (H → List ℕ → H → List ℕ → Type 0) → (H → Held A) → H → List ℕ → H → List ℕ → Type 0
   Asks answers held p line q told = (text : List ℕ) × answers p line q text × (told ≡ drawn (header_of (held p) line) (worded line text))
 
@@ -77,18 +77,18 @@ module _ {A H : Type 0} where
   abbrev pub Dumps : (H → List ℕ → H → List ℕ → Type 0) → (H → Held A) → List ℕ → H → H → List ℕ → Type 0
   Dumps answers held path p q told = ((s : ℕ) × (mark_in (held p) s ≡ mark.Idle) × DumpsBy answers s path p q told) ⊎ ((q ≡ p) × (told ≡ no_session_text))
 
--- What a terminal knows: who answers, the session of the prompt, whether it tells how long answers take, and whether it was told to end.
+-- What a terminal knows: the handler, the session of the prompt, whether it shows how long answers take, and whether it was asked to end.
 pub record At (H : Type 0) : Type 0 where
   pub attended : H
   pub session : ℕ
   pub is_timed : Bool
   pub has_quit : Bool
 
--- the terminal p, where who answers has become h
+-- the terminal p, whose handler has become h
 abbrev pub with : {H : Type 0} → At H → H → At H
 with p h = record p { attended = h }
 
--- Where it is refused, p is as it was, and these words are told; else this was done.
+-- Where it is refused, p is as it was, and these words are shown; else this was done.
 abbrev pub OrRefused : {H : Type 0} → Bool → List ℕ → At H → At H → List ℕ → Type 0 → Type 0
 OrRefused true words p q told Done = (q ≡ p) × (told ≡ words)
 OrRefused false words p q told Done = Done
@@ -99,16 +99,16 @@ OrRefused false words p q told Done = Done
 abbrev pub three_digits : ℕ → List ℕ
 three_digits n = (48 + n / 100 % 10) ∷ (48 + n / 10 % 10) ∷ (48 + n % 10) ∷ []
 
--- so many microseconds, as psql tells them
+-- n microseconds, as psql prints them
 abbrev pub time_text : ℕ → List ℕ
 time_text n = codes "Time: " ++ decimal (n / 1000) ++ codes "." ++ three_digits n ++ codes " ms\n"
 
--- An answer, and behind it how long it took, where that is to be told.
+-- An answer, followed by how long it took where that is to be shown.
 abbrev pub IsTimed : Bool → List ℕ → List ℕ → Type 0
 IsTimed true answer told = (n : ℕ) × (told ≡ answer ++ time_text n)
 IsTimed false answer told = told ≡ answer
 
--- what is told once answers are timed, or no longer
+-- what is shown once answers are timed, or no longer
 abbrev pub timing_text : Bool → List ℕ
 timing_text true = codes "Timing is on.\n"
 timing_text false = codes "Timing is off.\n"
@@ -128,11 +128,11 @@ unended text = if not (length text == 0) && slice_index text (length text - 1) =
 abbrev pub lines_in : List ℕ → List (List ℕ)
 lines_in text = slice_split (λ b. b == 10) (unended text)
 
--- what is told of a file that can't be read
+-- what is shown of a file that can't be read
 abbrev pub unread_text : List ℕ → List ℕ
 unread_text path = shown path ++ codes ": there is no such file, or it can't be read\n"
 
--- what is told of a file's line that asks for a file's lines
+-- what is shown of a file's line that asks for a file's lines
 abbrev pub nested_text : List ℕ
 nested_text = codes "a file can't ask for the lines of another\n"
 
@@ -150,12 +150,12 @@ module _ {A H : Type 0} (held : H → Held A) where
   abbrev pub prompt_of : At H → List ℕ
   prompt_of p = prompt_text p.session (mark_in (held p.attended) p.session)
 
-  -- What stands behind what is told: a warning, and the next prompt, unless the conversation is to end.
+  -- What follows the text that is shown: a warning, and the next prompt, unless the conversation is to end.
   abbrev pub behind : Bool → At H → List ℕ
   behind was q = if q.has_quit then [] else warning was (is_near (held q.attended)) ++ prompt_of q
 
-module _ {A H : Type 0} (answers : H → List ℕ → H → List ℕ → Type 0) (held : H → Held A) (tells : H → Aside → List ℕ → List ℕ → Type 0) where
-  -- Who is p was asked a line, and its answer is told, with how long it took where that is to be told.
+module _ {A H : Type 0} (answers : H → List ℕ → H → List ℕ → Type 0) (held : H → Held A) (tells : H → Aside → List ℕ → H → List ℕ → Type 0) where
+  -- The handler p was asked a line, and its answer is shown, with how long it took where that is to be shown.
   abbrev pub AsksTimed : Bool → H → List ℕ → H → List ℕ → Type 0
   AsksTimed is_timed p line q told = (answer : List ℕ) × Asks answers held p line q answer × IsTimed is_timed answer told
 
@@ -163,7 +163,11 @@ module _ {A H : Type 0} (answers : H → List ℕ → H → List ℕ → Type 0)
   abbrev pub DoesCommand : At H → List ℕ → At H → List ℕ → Type 0
   DoesCommand p text q told = (h : H) × AsksTimed p.is_timed p.attended (line_of p.session text) h told × (q ≡ with p h)
 
-  -- What a text that was typed asks for was done, and this is told; but a file's lines weren't.
+  -- The handler has shown something besides the answers, as a text asks; the shell is the same.
+  abbrev pub TellsBeside : Aside → At H → List ℕ → At H → List ℕ → Type 0
+  TellsBeside a p text q told = (h : H) × tells p.attended a text h told × (held h ≡ held p.attended) × (q ≡ with p h)
+
+  -- What a text that was typed asks for was done, and this is shown; a file's lines are refused.
   abbrev pub DoesAlone : Typed → At H → List ℕ → At H → List ℕ → Type 0
   DoesAlone typed.Nothing p text q told = (q ≡ p) × (told ≡ [])
   DoesAlone typed.Session p text q told = (q ≡ record p { session = unwrap_or (session_in text) p.session }) × (told ≡ [])
@@ -171,23 +175,23 @@ module _ {A H : Type 0} (answers : H → List ℕ → H → List ℕ → Type 0)
   DoesAlone typed.Quit p text q told = (q ≡ record p { has_quit = true }) × (told ≡ [])
   DoesAlone typed.Timing p text q told = Times (timing_after p.is_timed (behind_word text)) p q told
   DoesAlone typed.Columns p text q told = (q ≡ p) × (told ≡ table_described (catalog_of (held p.attended)) (behind_word text))
-  DoesAlone typed.Why p text q told = (q ≡ p) × tells p.attended aside.Why (behind_word text) told
-  DoesAlone typed.Drawing p text q told = (q ≡ p) × tells p.attended aside.Drawing (behind_word text) told
+  DoesAlone typed.Why p text q told = TellsBeside aside.Why p (behind_word text) q told
+  DoesAlone typed.Drawing p text q told = TellsBeside aside.Drawing p (behind_word text) q told
   DoesAlone typed.Dump p text q told = (h : H) × Dumps answers held (behind_word text) p.attended h told × (q ≡ with p h)
   DoesAlone typed.Word p text q told = (h : H) × AsksPlainly answers p.attended text h told × (q ≡ with p h)
   DoesAlone typed.File p text q told = (q ≡ p) × (told ≡ nested_text)
   DoesAlone typed.Unknown p text q told = (q ≡ p) × (told ≡ unknown_text)
   DoesAlone typed.Command p text q told = OrRefused (is_unended_table text) unended_table_text p q told (DoesCommand p text q told)
 
-  -- The same of the text alone; but a file's name may be due.
+  -- What a text alone asks for was done, and this is shown; where a file's name is missing, it is refused.
   abbrev pub DoesTextAlone : At H → List ℕ → At H → List ℕ → Type 0
   DoesTextAlone p text q told = OrRefused (lacks_file (asks_for text) text) (nameless_text text) p q told (DoesAlone (asks_for text) p text q told)
 
-  -- A file's line was typed behind the prompt, which is shown with it, and what it asks for was done.
+  -- A file's line was typed after the prompt, which is shown with it, and what it asks for was done.
   abbrev pub PlaysLine : List ℕ → At H → At H → List ℕ → Type 0
   PlaysLine line p q told = (text : List ℕ) × DoesTextAlone p (text_in line) q text × (told ≡ prompt_of held p ++ shown line ++ codes "\n" ++ text)
 
-  -- The same; but nothing more once the conversation is to end.
+  -- A file's line was typed, unless the conversation is to end: then nothing more is.
   abbrev pub PlaysUnless : Bool → List ℕ → At H → At H → List ℕ → Type 0
   PlaysUnless true line p q told = (q ≡ p) × (told ≡ [])
   PlaysUnless false line p q told = PlaysLine line p q told
@@ -197,7 +201,7 @@ module _ {A H : Type 0} (answers : H → List ℕ → H → List ℕ → Type 0)
   Plays [] p q told = (q ≡ p) × (told ≡ [])
   Plays (line ∷ more) p q told = (m : At H) × (first : List ℕ) × (rest : List ℕ) × PlaysUnless p.has_quit line p m first × Plays more m q rest × (told ≡ first ++ rest)
 
-module _ {A H : Type 0} (answers : H → List ℕ → H → List ℕ → Type 0) (held : H → Held A) (tells : H → Aside → List ℕ → List ℕ → Type 0) (files : H → List ℕ → Option (List ℕ)) where
+module _ {A H : Type 0} (answers : H → List ℕ → H → List ℕ → Type 0) (held : H → Held A) (tells : H → Aside → List ℕ → H → List ℕ → Type 0) (files : H → List ℕ → Option (List ℕ)) where
   -- All lines of a path's file were typed; or it couldn't be read.
   abbrev pub PlaysFile : List ℕ → At H → At H → List ℕ → Type 0
   PlaysFile path p q told = ((text : List ℕ) × IsFile (files p.attended path) text × Plays answers held tells (lines_in text) p q told) ⊎ ((q ≡ p) × (told ≡ unread_text path))
@@ -206,11 +210,11 @@ module _ {A H : Type 0} (answers : H → List ℕ → H → List ℕ → Type 0)
   DoesAs true t p text q told = PlaysFile (behind_word text) p q told
   DoesAs false t p text q told = DoesAlone answers held tells t p text q told
 
-  -- What a text that was typed asks for was done, and this is told.
+  -- What a text that was typed asks for was done, and this is shown.
   abbrev pub Does : Typed → At H → List ℕ → At H → List ℕ → Type 0
   Does t p text q told = DoesAs (is_file t) t p text q told
 
-  -- The same of the text alone; but a file's name may be due.
+  -- What a text asks for was done, and this is shown; where a file's name is missing, it is refused.
   abbrev pub DoesText : At H → List ℕ → At H → List ℕ → Type 0
   DoesText p text q told = OrRefused (lacks_file (asks_for text) text) (nameless_text text) p q told (Does (asks_for text) p text q told)
 
@@ -218,6 +222,6 @@ module _ {A H : Type 0} (answers : H → List ℕ → H → List ℕ → Type 0)
   abbrev pub DoesLine : At H → List ℕ → At H → List ℕ → Type 0
   DoesLine p line q told = OrRefused (is_cut line) cut_text p q told (DoesText p (text_in line) q told)
 
-  -- A terminal p was typed a line, and has become q, and this text is shown: what is told of it, and the next prompt.
+  -- A line was typed at a terminal p, which has become q, and this text is shown: what the line asks for, and the next prompt.
   abbrev pub Types : At H → List ℕ → At H → List ℕ → Type 0
   Types p line q text = (told : List ℕ) × DoesLine p line q told × (text ≡ told ++ behind held (is_near (held p.attended)) q)

@@ -3,7 +3,7 @@
 ghost use Rattle.std.specs.Prelude.{◌≡◌, IfOk, IfErr};
 ghost use Rattle.std.specs.Option.{option_copied};
 ghost use Rattle.value.specs.Refusals.{out_of_memory};
-ghost use Rattle.typing.specs.Typing.{line_of as script_line};
+ghost use Rattle.terminal.specs.Typing.{line_of as script_line};
 ghost use Rattle.terminal.specs.Terminals.{Asks, AsksPlainly, AsksTimed};
 
 use crate::attended::Attended;
@@ -11,9 +11,9 @@ use crate::drawing::{draw_answer, shown};
 use crate::header::header_of;
 use crate::refused::worded;
 use crate::timing::timed;
+use crate::typing::line_of;
 use history::session_id::SessionId;
 use std::alloc::Allocator;
-use typing::line_of;
 use value::refusal::Refusal;
 
 // Asks a line, and draws its answer.
@@ -32,7 +32,7 @@ fn ask<A: Allocator + Copy, H: Attended<A>>(
     Ok((next, told))
 }
 
-// Asks a line, draws its answer, and tells how long that took, where that is to be told.
+// Asks a line, draws its answer, and adds how long that took, where that is to be shown.
 fn ask_timed<A: Allocator + Copy, H: Attended<A>>(
     alloc: A,
     attended: H,

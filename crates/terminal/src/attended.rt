@@ -1,15 +1,15 @@
-//! Who answers lines, and shows what the shell holds.
+//! The handlers that answer lines, and show what their shell holds.
 
 ghost use Rattle.std.specs.Prelude.{◌≡◌, IfOk, IfErr, IfSome};
 ghost use Rattle.value.specs.Refusals.{out_of_memory};
 ghost use Rattle.terminal.specs.Terminals.{IsFile};
 
-use conversation::handler::Handler;
+use shell::conversation::handler::Handler;
 use shell::shell::Shell;
 use std::alloc::Allocator;
 use value::refusal::Refusal;
 
-/// What is told beside the answers to lines.
+/// What is shown besides the answers to lines.
 #[derive(Clone, Copy, Debug, PartialEq, Eq)]
 pub enum Aside {
     /// Why a transaction was refused.
@@ -18,7 +18,7 @@ pub enum Aside {
     Drawing,
 }
 
-/// Who answers lines, and shows what the shell holds that answers them.
+/// A handler that answers lines by a shell, and shows what that holds.
 pub trait Attended<A: Allocator>: Handler<A> {
     ghost use Rattle.std.specs.Prelude.{ℕ, List, Option};
     ghost use Rattle.shell.specs.Shells.{Held};
@@ -26,8 +26,8 @@ pub trait Attended<A: Allocator>: Handler<A> {
 
     ghost held: { Self → Held A };
 
-    /// What may be told beside the answers, of a text.
-    ghost tells: { Self → Beside → List ℕ → List ℕ → Type 0 };
+    /// What a text may show besides the answers, and the handler from then on.
+    ghost tells: { Self → Beside → List ℕ → Self → List ℕ → Type 0 };
 
     /// What the file of a path has, where that is known.
     ghost files: { Self → List ℕ → Option (List ℕ) };
@@ -36,9 +36,10 @@ pub trait Attended<A: Allocator>: Handler<A> {
     fn shell(&self) -> &Shell<A>
         ensures { result.now ≡ held self.now };
 
-    /// What is told beside the answers, of a text.
-    fn tell(&self, alloc: A, aside: Aside, text: &[u8]) -> Result<Vec<u8, A>, Refusal>
-        ensures told { IfOk result (λ t. tells self.now aside text.now t.items) }
+    /// What a text shows besides the answers, and the handler from then on, with the same shell.
+    fn tell(self, alloc: A, aside: Aside, text: &[u8]) -> Result<(Self, Vec<u8, A>), Refusal>
+        ensures told { IfOk result (λ x. tells self aside text.now x.0 x.1.items) }
+        ensures held { IfOk result (λ x. held x.0 ≡ held self) }
         ensures memory { IfErr result (λ e. e ≡ out_of_memory) };
 
     /// What the file of a path has; nothing where it can't be read.

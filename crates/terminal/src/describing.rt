@@ -1,6 +1,7 @@
-//! What is told of a table.
+//! What is shown of a table.
 
-ghost use Rattle.std.specs.Prelude.{◌≡◌, ◌++◌, IfOk, IfErr, OnOk};
+ghost use Rattle.std.specs.Prelude.{◌≡◌, ◌++◌, map, IfOk, IfErr, OnOk};
+ghost use Rattle.std.specs.Char.{to_ascii_lowercase};
 ghost use Rattle.std.specs.List.{flat_map};
 ghost use Rattle.std.specs.Option.{option_copied};
 ghost use Rattle.value.specs.Refusals.{out_of_memory};
@@ -9,16 +10,16 @@ ghost use Rattle.dumpplan.specs.Lines.{kind_word as word_of_kind};
 ghost use Rattle.shell.specs.Asked.{catalog_of};
 ghost use Rattle.terminal.specs.Described as spec;
 
+use crate::aligned::draw;
 use crate::drawing::rows_in;
 use crate::wording::no_table_text;
-use aligned::draw;
 use schema::catalog::{Catalog, Column, TableNo, TableSchema};
 use shell::shell::Shell;
 use std::alloc::{AllocError, Allocator};
 use value::kind::Kind;
 use value::refusal::Refusal;
 
-// The names of what is told of a column.
+// The names of what is shown of a column.
 const HEADER: &[u8] = b"column\tkind\tnull\treferences";
 
 // A kind's name.
@@ -98,7 +99,7 @@ fn append_columns<A: Allocator>(
     append_others(catalog, others, text)
 }
 
-// What is told of a table's columns, before it is drawn.
+// What is shown of a table's columns, before it is drawn.
 fn columns_text<A: Allocator>(
     alloc: A,
     catalog: &Catalog<A>,
@@ -125,7 +126,7 @@ fn draw_columns<A: Allocator + Copy>(
     draw(alloc, HEADER, rows.as_slice())
 }
 
-// What is told of a table, where there is one.
+// What is shown of a table, where there is one.
 fn described<A: Allocator + Copy>(
     alloc: A,
     catalog: &Catalog<A>,
@@ -149,7 +150,18 @@ fn table_of<'c, A: Allocator>(catalog: &'c Catalog<A>, name: &[u8]) -> Option<&'
     }
 }
 
-/// What is told of a shell's table of a name.
+// A name as a statement's is read: in small letters.
+fn in_small_letters<A: Allocator>(alloc: A, name: &[u8]) -> Result<Vec<u8, A>, AllocError>
+    ensures { IfOk result (λ t. t.items ≡ map to_ascii_lowercase name.now) }
+{
+    let mut small = Vec::new(alloc);
+    for byte in name {
+        small.push(byte.to_ascii_lowercase())?;
+    }
+    Ok(small)
+}
+
+/// What is shown of a shell's table of a name, in letters of any case.
 pub(crate) fn describe<A: Allocator + Copy>(
     alloc: A,
     shell: &Shell<A>,
@@ -159,6 +171,7 @@ pub(crate) fn describe<A: Allocator + Copy>(
     ensures memory { IfErr result (λ e. e ≡ out_of_memory) }
 {
     let catalog = shell.catalog(alloc)?;
-    let text = described(alloc, &catalog, table_of(&catalog, name))?;
+    let name = in_small_letters(alloc, name)?;
+    let text = described(alloc, &catalog, table_of(&catalog, name.as_slice()))?;
     Ok(text)
 }

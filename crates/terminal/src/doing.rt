@@ -1,13 +1,13 @@
-//! What a typed text asks for, but for the lines of files.
+//! What a typed text asks for, except the lines of files.
 
 ghost use Rattle.std.specs.Prelude.{◌≡◌, [], true, unwrap_or, IfOk, IfErr};
 ghost use Rattle.value.specs.Refusals.{out_of_memory};
 ghost use Rattle.shell.specs.Asked.{catalog_of};
 ghost use Rattle.terminal.specs.Described.{table_described};
-ghost use Rattle.typing.specs.Typing.{session_in};
+ghost use Rattle.terminal.specs.Typing.{session_in};
 ghost use Rattle.terminal.specs.Taken as taken;
 ghost use Rattle.terminal.specs.Terminals as spec;
-ghost use Rattle.terminal.specs.Terminals.{AsksPlainly, DoesAlone, DoesCommand, DoesTextAlone, Dumps, OrRefused, Times};
+ghost use Rattle.terminal.specs.Terminals.{AsksPlainly, DoesAlone, DoesCommand, DoesTextAlone, Dumps, OrRefused, TellsBeside, Times};
 
 use crate::answering::{ask_command, ask_plainly};
 use crate::attended::{Aside, Attended};
@@ -15,14 +15,14 @@ use crate::describing::describe;
 use crate::dumping::dump;
 use crate::taking::{asks_for, is_unended_table, lacks_file, timing_after};
 use crate::terminal::{Prompt, Terminal};
+use crate::typing::{Typed, behind_word, session_in};
 use crate::wording::{
     help_text, nested_text, no_timing_text, timing_text, unended_table_text, unknown_text,
 };
 use std::alloc::Allocator;
-use typing::{Typed, behind_word, session_in};
 use value::refusal::Refusal;
 
-/// What is told by who is as before.
+/// A terminal that stays as it is, and shows a text.
 pub(crate) fn tell<A: Allocator, H: Drop>(
     alloc: A,
     terminal: Terminal<H>,
@@ -64,7 +64,7 @@ fn quit<A: Allocator, H: Drop>(alloc: A, terminal: Terminal<H>) -> (Terminal<H>,
     (Terminal { attended, prompt }, Vec::new(alloc))
 }
 
-// Tells how long answers take from now on, or no longer.
+// Shows from now on how long answers take, or no longer does.
 fn set_timing<A: Allocator, H: Drop>(
     alloc: A,
     terminal: Terminal<H>,
@@ -80,7 +80,7 @@ fn set_timing<A: Allocator, H: Drop>(
     Ok((Terminal { attended, prompt }, told))
 }
 
-// The same, as it stands behind the word.
+// Shows how long answers take, or no longer does, as the text after the word says.
 fn turn_timing<A: Allocator, H: Drop>(
     alloc: A,
     terminal: Terminal<H>,
@@ -140,7 +140,7 @@ fn ask_at<A: Allocator + Copy, H: Attended<A>>(
     Ok((Terminal { attended, prompt }, told))
 }
 
-// The same, unless it begins to create a table and doesn't end it.
+// Asks the line that a command stands for, unless it begins to create a table and doesn't end it.
 fn command_at<A: Allocator + Copy, H: Attended<A>>(
     alloc: A,
     terminal: Terminal<H>,
@@ -158,7 +158,7 @@ fn command_at<A: Allocator + Copy, H: Attended<A>>(
     }
 }
 
-// Tells of the table of a name.
+// Shows the table of a name.
 fn columns_at<A: Allocator + Copy, H: Attended<A>>(
     alloc: A,
     terminal: Terminal<H>,
@@ -172,22 +172,22 @@ fn columns_at<A: Allocator + Copy, H: Attended<A>>(
     Ok((terminal, told))
 }
 
-// Tells beside the answers, of a text.
+// Shows something besides the answers, as a text asks.
 fn aside_at<A: Allocator + Copy, H: Attended<A>>(
     alloc: A,
     terminal: Terminal<H>,
     aside: Aside,
     text: &[u8],
 ) -> Result<(Terminal<H>, Vec<u8, A>), Refusal>
-    ensures same { IfOk result (λ x. x.0 ≡ terminal) }
-    ensures told { IfOk result (λ x. H.tells terminal.attended aside text.now x.1.items) }
+    ensures done { IfOk result (λ x. TellsBeside H.answers H.held H.tells aside terminal text.now x.0 x.1.items) }
     ensures memory { IfErr result (λ e. e ≡ out_of_memory) }
 {
-    let told = terminal.attended.tell(alloc, aside, text)?;
-    Ok((terminal, told))
+    let Terminal { attended, prompt } = terminal;
+    let (attended, told) = attended.tell(alloc, aside, text)?;
+    Ok((Terminal { attended, prompt }, told))
 }
 
-/// Does what a text asks for; that a file's lines are typed, it refuses.
+/// Does what a text asks for. It refuses to type the lines of a file.
 pub(crate) fn do_alone<A: Allocator + Copy, H: Attended<A>>(
     alloc: A,
     terminal: Terminal<H>,
@@ -214,7 +214,7 @@ pub(crate) fn do_alone<A: Allocator + Copy, H: Attended<A>>(
     }
 }
 
-/// What is told of a word behind which a file's name is due.
+/// What is shown where a file's name is due after a word.
 pub(crate) fn tell_nameless<A: Allocator, H: Drop>(
     alloc: A,
     terminal: Terminal<H>,
@@ -229,7 +229,7 @@ pub(crate) fn tell_nameless<A: Allocator, H: Drop>(
     Ok((terminal, told))
 }
 
-/// Does what a text asks for, unless a file's name is due; that a file's lines are typed, it refuses.
+/// Does what a text asks for, unless a file's name is due. It refuses to type the lines of a file.
 pub(crate) fn do_text_alone<A: Allocator + Copy, H: Attended<A>>(
     alloc: A,
     terminal: Terminal<H>,

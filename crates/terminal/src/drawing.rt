@@ -1,19 +1,19 @@
 //! How an answer is drawn.
 
-ghost use Rattle.std.specs.Prelude.{◌≡◌, ◌+◌, ◌-◌, ◌++◌, ◌<◌, ◌≤◌, ◌==◌, drop, length, map, take, IfOk, IfErr, OnOk};
+ghost use Rattle.std.specs.Prelude.{◌≡◌, ◌+◌, ◌-◌, ◌∷◌, ◌++◌, ◌<◌, ◌≤◌, ◌==◌, drop, length, map, take, IfOk, IfErr, OnOk};
 ghost use Rattle.std.specs.Fmt.{decimal};
 ghost use Rattle.std.specs.List.{slice_split};
 ghost use Rattle.std.specs.Option.{option_copied};
-ghost use Rattle.aligned.specs.Tables.{table_text};
+ghost use Rattle.terminal.specs.Tables.{table_text};
 ghost use Rattle.value.specs.Refusals.{out_of_memory};
 ghost use Rattle.terminal.specs.Drawn as spec;
 
+use crate::aligned::draw;
 use crate::header::Header;
-use aligned::draw;
+use crate::typing::begins;
 use history::session_id::SessionId;
 use itoa::Buffer;
 use std::alloc::{AllocError, Allocator};
-use typing::begins;
 use value::refusal::Refusal;
 
 // A digit of sixteen.
@@ -35,6 +35,24 @@ fn is_shown(byte: u8) -> bool
     (31 < byte && byte != 127) || byte == b'\t' || byte == b'\n'
 }
 
+// Whether two bytes are a character from U+0080 to U+009F, which controls a terminal.
+fn is_control(first: u8, second: u8) -> bool
+    ensures { result ≡ spec.is_control first second }
+{
+    first == 194 && 127 < second && second < 160
+}
+
+// Appends a byte by its number.
+fn append_number<A: Allocator>(byte: u8, text: &mut Vec<u8, A>) -> Result<(), AllocError>
+    ensures { OnOk result (text.new.items ≡ text.old.items ++ spec.numbered byte) }
+{
+    text.push(b'\\')?;
+    text.push(b'x')?;
+    text.push(digit_text(byte / 16))?;
+    text.push(digit_text(byte % 16))?;
+    Ok(())
+}
+
 // Appends a byte as it is shown.
 fn append_shown<A: Allocator>(byte: u8, text: &mut Vec<u8, A>) -> Result<(), AllocError>
     ensures { OnOk result (text.new.items ≡ text.old.items ++ spec.shown_byte byte) }
@@ -43,33 +61,53 @@ fn append_shown<A: Allocator>(byte: u8, text: &mut Vec<u8, A>) -> Result<(), All
         text.push(byte)?;
         return Ok(());
     }
-    text.push(b'\\')?;
-    text.push(b'x')?;
-    text.push(digit_text(byte / 16))?;
-    text.push(digit_text(byte % 16))?;
-    Ok(())
+    append_number(byte, text)
 }
 
-/// A text as it is shown: bytes that control a terminal by their numbers.
-pub(crate) fn shown<A: Allocator>(alloc: A, text: &[u8]) -> Result<Vec<u8, A>, Refusal>
+// Appends the first byte of a text as it is shown, or the first two where they control a terminal, and returns the
+// rest.
+fn append_first<'t, A: Allocator>(
+    first: u8,
+    more: &'t [u8],
+    text: &mut Vec<u8, A>,
+) -> Result<&'t [u8], AllocError>
+    ensures shown { IfOk result (λ rest.
+        text.new.items ++ spec.shown rest.now ≡ text.old.items ++ spec.shown (first ∷ more.now)) }
+    ensures shorter { IfOk result (λ rest. length rest.now ≤ length more.now) }
+{
+    match more {
+        [second, rest @ ..] if is_control(first, *second) => {
+            append_number(*second, text)?;
+            Ok(rest)
+        }
+        _ => {
+            append_shown(first, text)?;
+            Ok(more)
+        }
+    }
+}
+
+/// A text as it is shown: characters that control a terminal by their numbers.
+pub fn shown<A: Allocator>(alloc: A, text: &[u8]) -> Result<Vec<u8, A>, Refusal>
     ensures text { IfOk result (λ t. t.items ≡ spec.shown text.now) }
     ensures memory { IfErr result (λ e. e ≡ out_of_memory) }
 {
     let mut shown = Vec::new(alloc);
-    for byte in text {
-        append_shown(*byte, &mut shown)?;
+    let mut rest = text;
+    while let [first, more @ ..] = rest {
+        rest = append_first(*first, more, &mut shown)?;
     }
     Ok(shown)
 }
 
-/// The lines of a text, and what stands behind the last newline.
+/// The lines of a text, and what follows the last newline.
 pub(crate) fn parts_of<A: Allocator>(alloc: A, text: &[u8]) -> Result<Vec<&[u8], A>, AllocError>
     ensures { IfOk result (λ parts. map (λ p. p.now) parts.items ≡ slice_split (λ b. b == 10) text.now) }
 {
     text.split(|byte| *byte == b'\n').collect(alloc)
 }
 
-// Lines, each without so many bytes at its start.
+// Lines, each without its first `count` bytes.
 fn without_start<'t, A: Allocator>(
     alloc: A,
     before: usize,
@@ -92,7 +130,7 @@ fn inner<'p, 't>(parts: &'p [&'t [u8]]) -> &'p [&'t [u8]]
     &parts[end.min(1)..end]
 }
 
-/// The rows of an answer, each without so many bytes before its fields.
+/// The rows of an answer, each without the bytes before its fields.
 pub(crate) fn rows_in<A: Allocator + Copy>(
     alloc: A,
     before: usize,

@@ -1,7 +1,7 @@
 //! A dump that is made by a session's transaction of its own.
 
 ghost use Rattle.std.specs.Prelude.{◌≡◌, ◌++◌, codes, IfOk, IfErr, IfSome};
-ghost use Rattle.typing.specs.Typing.{begins};
+ghost use Rattle.terminal.specs.Typing.{begins};
 ghost use Rattle.value.specs.Refusals.{out_of_memory};
 ghost use Rattle.terminal.specs.Marks as marks;
 ghost use Rattle.terminal.specs.Terminals as spec;
@@ -11,12 +11,12 @@ use crate::answering::ask_plainly;
 use crate::attended::Attended;
 use crate::drawing::shown;
 use crate::marks::{Mark, mark_in};
+use crate::typing::begins;
 use crate::wording::{no_session_text, not_safe_text};
 use history::session_id::SessionId;
 use itoa::Buffer;
 use shell::shell::Shell;
 use std::alloc::Allocator;
-use typing::begins;
 use value::refusal::Refusal;
 
 // A line of a session.

@@ -1,4 +1,4 @@
-//! A terminal, as who answers in a conversation.
+//! A terminal as the handler of a conversation.
 
 ghost use Rattle.std.specs.Prelude.{◌≡◌, true, IfOk, IfErr};
 ghost use Rattle.value.specs.Refusals.{out_of_memory};
@@ -11,10 +11,10 @@ use crate::marks::{is_near, prompt};
 use crate::playing::play_file;
 use crate::taking::{asks_for, is_cut, lacks_file};
 use crate::terminal::Terminal;
+use crate::typing::{Typed, behind_word, text_in};
 use crate::wording::{cut_text, near_text};
-use conversation::handler::Handler;
+use shell::conversation::handler::Handler;
 use std::alloc::Allocator;
-use typing::{Typed, behind_word, text_in};
 use value::refusal::Refusal;
 
 // Whether the lines of a file are asked for.
@@ -80,7 +80,7 @@ fn do_line<A: Allocator + Copy, H: Attended<A>>(
     }
 }
 
-// What is told where little room is left now, and more was before.
+// What is shown where little room is left now, and more was before.
 fn warning(was_near: bool, is_near: bool) -> &'static [u8]
     ensures { result.now ≡ spec.warning was_near is_near }
 {
@@ -91,7 +91,7 @@ fn warning(was_near: bool, is_near: bool) -> &'static [u8]
     }
 }
 
-// What stands behind what is told.
+// What follows the text that is shown.
 fn behind<A: Allocator + Copy, H: Attended<A>>(
     alloc: A,
     was_near: bool,

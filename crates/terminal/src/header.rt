@@ -57,7 +57,7 @@ fn columns_of<A: Allocator>(table: Option<&TableSchema<A>>) -> &[Column<A>]
     }
 }
 
-// Appends a name behind a tab.
+// Appends a tab and a name.
 fn append_name<A: Allocator>(name: &str, text: &mut Vec<u8, A>) -> Result<(), AllocError>
     ensures { OnOk result (text.new.items ≡ text.old.items ++ (9 ∷ name.now)) }
 {

@@ -1,12 +1,13 @@
-//! A shell at a terminal: what is typed stands for lines of a script, and what they are answered is drawn.
+//! A shell at a terminal: what is typed stands for lines of a script, and their answers are drawn.
 
 #![tactic(auto)]
 
+pub mod aligned;
 mod answering;
 pub mod attended;
 mod describing;
 mod doing;
-mod drawing;
+pub mod drawing;
 mod dumping;
 mod handling;
 mod header;
@@ -16,4 +17,5 @@ mod refused;
 mod taking;
 pub mod terminal;
 mod timing;
+pub mod typing;
 mod wording;

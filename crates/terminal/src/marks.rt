@@ -1,4 +1,4 @@
-//! How sessions stand, and their prompts.
+//! The transaction status of sessions, and their prompts.
 
 ghost use Rattle.std.specs.Prelude.{◌≡◌, ◌≢◌, IfOk, IfErr};
 ghost use Rattle.value.specs.Refusals.{out_of_memory};
@@ -12,18 +12,18 @@ use shell::shell::Shell;
 use std::alloc::Allocator;
 use value::refusal::{Code, Refusal};
 
-/// How a session stands.
+/// A session's transaction status: none, open, or failed.
 #[derive(Clone, Copy, Debug, PartialEq, Eq)]
 pub enum Mark {
-    /// It has no transaction.
+    /// The session has no transaction.
     Idle,
-    /// Its transaction is open.
+    /// The session's transaction is open.
     Open,
-    /// Its transaction has failed.
+    /// The session's transaction has failed.
     Failed,
 }
 
-// How a session stands that has no reader for this.
+// The status of a session that has no reader for this code.
 fn mark_of_code(code: Code) -> Mark
     ensures { result ≡ spec.mark_of_code code }
 {
@@ -34,7 +34,7 @@ fn mark_of_code(code: Code) -> Mark
     }
 }
 
-// How a session stands that may not read for this reason, or out of memory.
+// The status of a session that may not read for this reason, or out of memory.
 fn mark_of_refusal(refusal: Refusal) -> Result<Mark, Refusal>
     ensures mark { IfOk result (λ m. m ≡ spec.mark_of_code refusal.code) }
     ensures ample { IfOk result (λ m. refusal ≢ out_of_memory) }
@@ -46,7 +46,7 @@ fn mark_of_refusal(refusal: Refusal) -> Result<Mark, Refusal>
     Ok(mark_of_code(refusal.code))
 }
 
-// How a session of a core stands.
+// The status of a session of a core.
 fn mark_on<A: Allocator + Copy>(
     alloc: A,
     core: &Core<A>,
@@ -61,7 +61,7 @@ fn mark_on<A: Allocator + Copy>(
     }
 }
 
-/// How a session of a shell stands.
+/// The status of a session of a shell.
 pub(crate) fn mark_in<A: Allocator + Copy>(
     alloc: A,
     shell: &Shell<A>,
@@ -76,7 +76,7 @@ pub(crate) fn mark_in<A: Allocator + Copy>(
     }
 }
 
-// What the prompt shows of how a session stands.
+// What the prompt shows of a session's status.
 fn mark_text(mark: Mark) -> &'static [u8]
     ensures { result.now ≡ spec.mark_text mark }
 {

@@ -11,8 +11,8 @@ use crate::doing::do_text_alone;
 use crate::drawing::{parts_of, shown};
 use crate::marks::prompt;
 use crate::terminal::Terminal;
+use crate::typing::text_in;
 use std::alloc::Allocator;
-use typing::text_in;
 use value::refusal::Refusal;
 
 // A text without the newline at its end.
@@ -27,7 +27,7 @@ fn unended(text: &[u8]) -> &[u8]
     }
 }
 
-// A line as it is shown behind the prompt.
+// A line as it is shown after the prompt.
 fn typed_line<A: Allocator + Copy, H: Attended<A>>(
     alloc: A,
     terminal: &Terminal<H>,
@@ -59,7 +59,7 @@ fn play_line<A: Allocator + Copy, H: Attended<A>>(
     Ok((next, told))
 }
 
-// The same, unless the conversation is to end.
+// Types a line of a file, unless the conversation is to end.
 fn play_unless<A: Allocator + Copy, H: Attended<A>>(
     alloc: A,
     terminal: Terminal<H>,
@@ -110,7 +110,7 @@ fn play_text<A: Allocator + Copy, H: Attended<A>>(
     play(alloc, terminal, lines.as_slice())
 }
 
-// What is told of a file that can't be read.
+// What is shown of a file that can't be read.
 fn unread_text<A: Allocator>(alloc: A, path: &[u8]) -> Result<Vec<u8, A>, Refusal>
     ensures text { IfOk result (λ t. t.items ≡ spec.unread_text path.now) }
     ensures memory { IfErr result (λ e. e ≡ out_of_memory) }
@@ -120,7 +120,7 @@ fn unread_text<A: Allocator>(alloc: A, path: &[u8]) -> Result<Vec<u8, A>, Refusa
     Ok(text)
 }
 
-/// Types the lines of a path's file, or tells that it can't be read.
+/// Types the lines of a path's file, or shows that it can't be read.
 pub(crate) fn play_file<A: Allocator + Copy, H: Attended<A>>(
     alloc: A,
     terminal: Terminal<H>,

@@ -1,19 +1,19 @@
-//! What a refusal of the syntax tells.
+//! What is shown of a refusal of the syntax.
 
 ghost use Rattle.std.specs.Prelude.{◌≡◌, IfOk};
 ghost use Rattle.terminal.specs.Refused as spec;
 
 use crate::taking::starts;
+use crate::typing::{begins, behind_word};
 use std::alloc::{AllocError, Allocator};
-use typing::{begins, behind_word};
 
 // How many bytes stand before the words of a refused line.
 const BEFORE_WORDS: usize = 12;
 
-// How many bytes stand behind a session's number and before that of the byte.
+// How many bytes stand between a session's number and the number of the byte.
 const BEFORE_BYTE: usize = 17;
 
-// What is told before the number of the byte from which on the statement of a session's line is refused.
+// What stands before the number of the byte from which on the statement of a session's line is refused.
 fn statement_words(line: &[u8]) -> &'static [u8]
     ensures { result.now ≡ spec.statement_words line.now }
 {

@@ -4,7 +4,7 @@ ghost use Rattle.std.specs.Prelude.{◌≡◌, ◌==◌, take};
 ghost use Rattle.std.specs.List.{list_any};
 ghost use Rattle.terminal.specs.Taken as spec;
 
-use typing::{Typed, behind_word, typed_as};
+use crate::typing::{Typed, behind_word, typed_as};
 
 // The least number of bytes, without its newline, of a line that a terminal may have cut off.
 const LEAST_CUT: usize = 4095;
@@ -51,14 +51,14 @@ fn takes_file(typed: Typed) -> bool
     }
 }
 
-/// Whether a file's name is due behind a word, and isn't there.
+/// Whether a file's name is due after a word, and isn't there.
 pub(crate) fn lacks_file(typed: Typed, text: &[u8]) -> bool
     ensures { result ≡ spec.lacks_file typed text.now }
 {
     takes_file(typed) && behind_word(text).is_empty()
 }
 
-// The first bytes of a text, so many at most.
+// The first bytes of a text, `count` at most.
 fn first_bytes(count: usize, text: &[u8]) -> &[u8]
     ensures { result.now ≡ take count text.now }
 {
@@ -79,14 +79,14 @@ fn has_end(text: &[u8]) -> bool
     text.contains(&b')')
 }
 
-/// Whether a text begins to create a table, and comes to the end of no list of columns.
+/// Whether a text begins to create a table, but ends no list of columns.
 pub(crate) fn is_unended_table(text: &[u8]) -> bool
     ensures { result ≡ spec.is_unended_table text.now }
 {
     starts(b"create ", text) && starts(b"table", behind_word(text)) && !has_end(text)
 }
 
-/// Whether answers are timed from then on, where a text says it behind `\timing`.
+/// Whether answers are timed from then on, where a text says it after `\timing`.
 pub(crate) fn timing_after(was_timed: bool, text: &[u8]) -> Option<bool>
     ensures { result ≡ spec.timing_after was_timed text.now }
 {

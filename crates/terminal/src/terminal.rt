@@ -1,11 +1,11 @@
-//! A terminal: who answers, and what is known of the prompt.
+//! A terminal: its handler, and what is known of the prompt.
 
 ghost use Rattle.std.specs.Prelude.{◌≡◌, false};
 
 use history::session_id::SessionId;
 use std::marker::Model;
 
-/// A prompt: that of a session, whether it is told how long answers take, and whether the conversation is to end.
+/// A prompt: its session, whether it shows how long answers take, and whether the conversation is to end.
 #[derive(Clone, Copy)]
 pub(crate) struct Prompt {
     pub(crate) session: SessionId,
@@ -13,7 +13,7 @@ pub(crate) struct Prompt {
     pub(crate) has_quit: bool,
 }
 
-/// Who answers lines, as somebody speaks to it at a prompt.
+/// A handler of lines, with the prompt at which a person speaks to it.
 #[derive(Drop)]
 pub struct Terminal<H> {
     pub(crate) attended: H,
@@ -34,7 +34,7 @@ impl<H> Model for Terminal<H> {
 }
 
 impl<H: Drop> Terminal<H> {
-    /// At the prompt of a session.
+    /// A terminal at the prompt of a session.
     pub fn new(attended: H, session: SessionId) -> Terminal<H>
         ensures { result ≡ record { attended = attended; session = session; is_timed = false; has_quit = false } }
     {

@@ -16,7 +16,7 @@ fn last_digit(number: u64) -> u8
     48 + (number % 10) as u8
 }
 
-// Appends so many microseconds, as psql tells them.
+// Appends how long an answer took, as psql prints it.
 fn append_time<A: Allocator>(microseconds: u64, text: &mut Vec<u8, A>) -> Result<(), AllocError>
     ensures { OnOk result (text.new.items ≡ text.old.items ++ spec.time_text microseconds) }
 {
@@ -30,7 +30,7 @@ fn append_time<A: Allocator>(microseconds: u64, text: &mut Vec<u8, A>) -> Result
     text.extend_from_slice(b" ms\n")
 }
 
-/// An answer, and behind it how many microseconds it took, where that is to be told.
+/// An answer, followed by how many microseconds it took where that is to be shown.
 pub(crate) fn timed<A: Allocator>(
     is_timed: bool,
     microseconds: u64,

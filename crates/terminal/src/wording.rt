@@ -1,4 +1,4 @@
-//! What is told of what a terminal does by itself.
+//! The texts that a terminal shows by itself.
 
 ghost use Rattle.std.specs.Prelude.{◌≡◌};
 ghost use Rattle.terminal.specs.Described.{no_table_text as absent_text};
@@ -28,42 +28,42 @@ pub(crate) fn help_text() -> &'static [u8]
     "
 }
 
-/// What is told of a word that is none.
+/// What is shown where there is no such word.
 pub(crate) fn unknown_text() -> &'static [u8]
     ensures { result.now ≡ spec.unknown_text }
 {
     b"there is no such word: \\? tells what may be typed\n"
 }
 
-/// What is told of a table that isn't there.
+/// What is shown where there is no such table.
 pub(crate) fn no_table_text() -> &'static [u8]
     ensures { result.now ≡ absent_text }
 {
     b"there is no such table: \\d tells which there are\n"
 }
 
-/// What is told where no session may begin a dump.
+/// What is shown where no session may begin a dump.
 pub(crate) fn no_session_text() -> &'static [u8]
     ensures { result.now ≡ spec.no_session_text }
 {
     b"each session has a transaction: a dump needs one without\n"
 }
 
-/// What is told of a dump that is given up.
+/// What is shown of a dump that is given up.
 pub(crate) fn not_safe_text() -> &'static [u8]
     ensures { result.now ≡ spec.not_safe_text }
 {
     b"nothing was dumped: the snapshot isn't known to be safe while other transactions write\n"
 }
 
-/// What is told once a tenth of the room for events is left.
+/// What is shown once a tenth of the room for events is left.
 pub(crate) fn near_text() -> &'static [u8]
     ensures { result.now ≡ spec.near_text }
 {
     b"nearly all of --events are used: CHECKPOINT makes room, but not while a session has a transaction\n"
 }
 
-/// What is told once answers are timed, or no longer.
+/// What is shown once answers are timed, or no longer.
 pub(crate) fn timing_text(is_timed: bool) -> &'static [u8]
     ensures { result.now ≡ spec.timing_text is_timed }
 {
@@ -74,28 +74,28 @@ pub(crate) fn timing_text(is_timed: bool) -> &'static [u8]
     }
 }
 
-/// What is told of a file's line that asks for a file's lines.
+/// What is shown of a file's line that asks for a file's lines.
 pub(crate) fn nested_text() -> &'static [u8]
     ensures { result.now ≡ spec.nested_text }
 {
     b"a file can't ask for the lines of another\n"
 }
 
-/// What is told of a line that a terminal may have cut off.
+/// What is shown of a line that a terminal may have cut off.
 pub(crate) fn cut_text() -> &'static [u8]
     ensures { result.now ≡ taken.cut_text }
 {
     b"ERROR 54000: the line is longer than a terminal passes on; use \\i FILE\n"
 }
 
-/// What is told of a table that a line begins to create and doesn't end.
+/// What is shown of a table that a line begins to create and doesn't end.
 pub(crate) fn unended_table_text() -> &'static [u8]
     ensures { result.now ≡ taken.unended_table_text }
 {
     b"ERROR 42601: CREATE TABLE stands on one line: CREATE TABLE name (name kind PRIMARY KEY, name kind, ..)\n"
 }
 
-/// What is told where `\timing` is neither on nor off.
+/// What is shown where `\timing` is neither on nor off.
 pub(crate) fn no_timing_text() -> &'static [u8]
     ensures { result.now ≡ taken.no_timing_text }
 {

@@ -16,4 +16,4 @@ returns-clause-same g c =
 pub returns-clause-done : goal.returns-clause-done
 returns-clause-done g c =
     c.in_ok-apply_all.ensures.ok
-    ∙ ap (λ xs. put_all xs c.args.tables.now) (c.as_slice.ensures.value ∙ c.into_list-changes.ensures ∙ ap (λ o. o.changes) (answered-ok c.in_ok-outcome.outcome (outcome c.args.catalog.now c.args.answered.now.statement c.args.tables.now) c.in_ok-outcome.ensures))
+    ∙ ap (λ xs. put_all xs c.args.tables.now) (c.as_slice.ensures.value ∙ c.in_ok-changes.ensures.ok ∙ ap (λ o. o.changes) (answered-ok c.in_ok-outcome.outcome (outcome c.args.catalog.now c.args.answered.now.statement c.args.tables.now) c.in_ok-outcome.ensures))

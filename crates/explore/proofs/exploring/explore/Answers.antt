@@ -3,10 +3,10 @@ use Rattle.std.specs.List.{All}
 use Rattle.std.proofs.lemmas.List.{length-map}
 use Rattle.std.proofs.lemmas.List.Elements.{All-weaker}
 use Rattle.tally.specs.Outcomes.{AreOf, outcomes}
-use Rattle.interleave.specs.Interleavings.{interleavings}
+use Rattle.tally.specs.Interleavings.{interleavings}
 use Rattle.explore.specs.Explored.{line_counts, outcome, sessions, turns_of}
 use denote.Param.Send.{sendable}
-use Rattle.interleave.proofs.interleavings.Interleavings.TheSendSync as all
+use Rattle.tally.proofs.interleave.interleavings.Interleavings.TheSendSync as all
 use Rattle.explore.proofs.gated.GatedPlan.TheSendSync as gated
 use Rattle.explore.proofs.exploring.explore.Goals as goal
 

@@ -3,10 +3,10 @@ use Rattle.std.specs.List.{All}
 use Rattle.std.proofs.lemmas.List.{length-map}
 use Rattle.std.proofs.lemmas.List.Elements.{All-weaker}
 use Rattle.tally.specs.Outcomes.{AreOf, outcomes}
-use Rattle.sample.specs.Sampling.{draws}
+use Rattle.tally.specs.Sampling.{draws}
 use Rattle.explore.specs.Explored.{outcome, turns_of}
 use denote.Param.Send.{sendable}
-use Rattle.sample.proofs.sampling.Sample.TheSendSync as drawn
+use Rattle.tally.proofs.sample.sampling.Sample.TheSendSync as drawn
 use Rattle.explore.proofs.gated.GatedPlan.TheSendSync as gated
 use Rattle.explore.proofs.exploring.explore_sample.Goals as goal
 

@@ -1,5 +1,5 @@
 use Rattle.std.proofs.Common.{◌≡◌, ◌++◌, ◌∷◌, [], ap, sym, ◌∙◌, List, ℕ, arith}
-use Rattle.explore.specs.Explored.{line_counts, lines_of}
+use Rattle.explore.specs.Explored.{line_counts}
 use Rattle.explore.proofs.Counting.{none_counted, one_more_counted}
 use Rattle.explore.proofs.plan.line_counts.Goals as goal
 

@@ -1,4 +1,4 @@
-use Rattle.std.proofs.Common.{◌≡◌, ◌<◌, sym, subst, ap, ◌∙◌, length, arith}
+use Rattle.std.proofs.Common.{◌<◌, sym, subst, ap, length, arith}
 use Rattle.std.specs.List.{All}
 use Rattle.std.proofs.lemmas.List.Sorted.{All-permutation}
 use Rattle.tally.specs.Outcomes.{Counted, all_runs}

@@ -1,4 +1,4 @@
-use Rattle.std.proofs.Common.{◌≡◌, ◌<◌, sym, ◌∙◌, true, false, arith}
+use Rattle.std.proofs.Common.{◌≡◌, ◌<◌, sym, ◌∙◌, arith}
 use Rattle.listing.specs.Refusals.{is_told}
 use Rattle.listing.proofs.Lines.{none_of_all, some_of_all, still_none, texts}
 use Rattle.listing.proofs.refusals.is_told_to_some.Goals as goal

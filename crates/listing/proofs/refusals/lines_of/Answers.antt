@@ -1,4 +1,4 @@
-use Rattle.std.proofs.Common.{◌≡◌, refl, ap, ◌∙◌}
+use Rattle.std.proofs.Common.{refl, ap, ◌∙◌}
 use Rattle.listing.proofs.Lines.{line_kept, line_taken}
 use Rattle.listing.proofs.refusals.lines_of.Goals as goal
 use Rattle.listing.proofs.refusals.lines_of.Goals.{then-byte-eq10+in_ok-push, else-byte-eq10}

@@ -13,4 +13,4 @@ returns-clause-ok g c =
     let o = answered-ok c.in_ok-outcome.outcome (outcome c.args.catalog.now c.args.answered.now.statement c.args.tables.now) c.in_ok-outcome.ensures in
     let so : agrees (outcome c.args.catalog.now c.args.answered.now.statement c.args.tables.now).reply c.args.answered.now.reply ≡ true =
     ap (λ x. agrees x.reply c.args.answered.now.reply) (sym o) ∙ sym c.agree.ensures ∙ c.if-not-agree.false in
-    ap Some (c.into_list.ensures ∙ ap (λ x. x.changes) o) ∙ sym (ap (λ b. cond b (Some (outcome c.args.catalog.now c.args.answered.now.statement c.args.tables.now).changes) None) so)
+    ap Some (c.in_ok-changes.ensures.ok ∙ ap (λ x. x.changes) o) ∙ sym (ap (λ b. cond b (Some (outcome c.args.catalog.now c.args.answered.now.statement c.args.tables.now).changes) None) so)

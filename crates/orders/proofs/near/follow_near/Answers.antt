@@ -1,10 +1,11 @@
+use Rattle.std.proofs.Common.{◌∙◌, ap}
 use Rattle.value.proofs.Basics.{IfOk_then}
-use Rattle.orders.proofs.WalkLemmas.{begin-path}
+use Rattle.orders.proofs.WalkLemmas.{begin-path, start_of}
 use Rattle.orders.proofs.near.follow_near.Goals as goal
 
 pub follow_from-requires-clause-from : goal.follow_from-requires-clause-from
-follow_from-requires-clause-from g c = (c.args.tables.now, c.requires.sound, begin-path c.args.catalog.now c.args.tables.now c.args.transactions.now c.in_ok-walk.walk c.in_ok-walk.ensures.ok)
+follow_from-requires-clause-from g c = (c.args.tables.now, c.requires.sound, begin-path c.args.catalog.now c.args.tables.now c.args.recorded.now c.in_ok-walk.walk (c.in_ok-walk.ensures.ok ∙ ap (λ n. start_of n c.args.tables.now) c.len.ensures))
 
 pub returns-clause-explains : goal.returns-clause-explains
 returns-clause-explains g c =
-    IfOk_then c.follow_from.result c.follow_from.ensures.explains (λ f h. h c.args.tables.now (begin-path c.args.catalog.now c.args.tables.now c.args.transactions.now c.in_ok-walk.walk c.in_ok-walk.ensures.ok))
+    IfOk_then c.follow_from.result c.follow_from.ensures.explains (λ f h. h c.args.tables.now (begin-path c.args.catalog.now c.args.tables.now c.args.recorded.now c.in_ok-walk.walk (c.in_ok-walk.ensures.ok ∙ ap (λ n. start_of n c.args.tables.now) c.len.ensures)))

@@ -2,4 +2,4 @@ use Rattle.orders.proofs.WalkLemmas.{path-back}
 use Rattle.orders.proofs.near.let_before.Goals as goal
 
 pub returns-clause-path : goal.returns-clause-path
-returns-clause-path g c = λ k X p. path-back k X c.args.transactions.now c.args.walk.now c.take_back.new.self c.in_ok-taken.taken c.in_ok-taken.ensures.ok p
+returns-clause-path g c = λ k X p. path-back k X c.args.recorded.now c.args.walk.now c.take_back.new.self c.in_ok-taken.taken c.in_ok-taken.ensures.ok p

@@ -7,4 +7,4 @@ pub returns-clause-told : goal.returns-clause-told
 returns-clause-told g c =
     let none = ap (λ o. is_some o) (sym c.into_parts-catalog.ensures.opens) ∙ (sym c.is_some.ensures ∙ c.if-is_some.false) in
     let steps = c.as_slice-steps.ensures.value ∙ c.into_parts-catalog.ensures.lines in
-    IfOk_then c.open_by.result c.open_by.ensures.told (λ x told. opens-by c.args.created.items c.args.whole.items c.args.most_events c.args.line.now c.args.script x.0 x.1.items _ _ _ none c.into_parts-catalog.ensures.catalog steps c.is_empty.ensures told)
+    IfOk_then c.open_by.result c.open_by.ensures.told (λ x told. opens-by c.args.created.items c.args.whole.items c.args.most_events c.args.script x.0 x.1.items _ _ _ none c.into_parts-catalog.ensures.catalog steps c.is_empty.ensures told)

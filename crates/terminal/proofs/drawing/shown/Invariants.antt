@@ -1,8 +1,10 @@
-use Rattle.std.proofs.Common.{◌≡◌, take}
-use Rattle.std.specs.List.{flat_map}
-use Rattle.terminal.specs.Drawn.{shown_byte}
+use Rattle.std.proofs.Common.{◌≡◌, ◌++◌, length}
+use Rattle.terminal.specs.Drawn.{shown}
 use Rattle.terminal.proofs.drawing.shown.Given as goal
 
--- the bytes so far
-abbrev pub invariant-loop-byte : goal.invariant-loop-byte
-invariant-loop-byte g l = l.shown.items ≡ flat_map shown_byte (take l.byte-index l.text)
+-- what is left goes on from here
+abbrev pub invariant-loop-rest : goal.invariant-loop-rest
+invariant-loop-rest g l = l.shown.items ++ shown l.rest ≡ shown l.text
+
+abbrev pub decreases-loop-rest : goal.decreases-loop-rest
+decreases-loop-rest g l = length l.rest

@@ -1,10 +1,13 @@
 use Rattle.std.proofs.Common.{ap, ◌∙◌}
 use Rattle.explore.specs.Explored.{after_turns}
-use Rattle.explore.proofs.Beginnings.{has_room}
+use Rattle.explore.proofs.Beginnings.{has_room, is_unbegun}
 use Rattle.explore.proofs.plan.Plan.run_order.Goals as goal
 
 pub do_turns-requires : goal.do_turns-requires
-do_turns-requires g c = has_room c.args.self.now c.in_ok-core.core c.args.order.now c.in_ok-core.ensures c.requires
+do_turns-requires g c = record {
+  unbegun = is_unbegun c.args.self.now c.in_ok-core.core c.in_ok-core.ensures;
+  room = has_room c.args.self.now c.in_ok-core.core c.args.order.now c.in_ok-core.ensures c.requires;
+}
 
 pub returns-clause-ran : goal.returns-clause-ran
 returns-clause-ran g c = (c.in_ok-core.core, c.in_ok-core.ensures, c.in_ok-do_turns.ensures ∙ ap (λ ls. after_turns ls c.in_ok-core.core c.args.order.now) c.lines.ensures)

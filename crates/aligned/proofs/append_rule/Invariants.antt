@@ -1,7 +1,0 @@
-use Rattle.std.proofs.Common.{◌≡◌}
-use Rattle.aligned.specs.Tables.{rules}
-use Rattle.aligned.proofs.append_rule.Given as goal
-
--- the rule below the names so far
-abbrev pub invariant-loop-column : goal.invariant-loop-column
-invariant-loop-column g l = l.line.items ≡ rules l.widths l.column

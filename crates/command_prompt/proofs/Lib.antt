@@ -1,2 +1,0 @@
-mod DrawnLemmas
-mod WordsLemmas

@@ -1,0 +1,189 @@
+//! The command, over any files.
+
+ghost use Rattle.std.specs.Prelude.{◌≡◌, ◌≤◌};
+ghost use Rattle.commands.specs.Statuses as spec;
+
+use crate::check::certificates::{keep, read_file};
+use crate::check::fault::{Fault, tell};
+use crate::check::judge::{Judgement, judge, read_path};
+use crate::check::places::Places;
+use crate::check::task::{Task, read_words};
+use crate::check::telling::{judgement_text, write_all};
+use clap::Error;
+use clap::error::ErrorKind;
+use orders::search::Answer;
+use program::files::Files;
+use program::machine::Machine;
+use std::alloc::Allocator;
+use std::io::Write;
+use std::thread::Threads;
+use transcript::opening::{Opening, read_opening};
+
+// The exit status of an answer.
+fn status_of<A: Allocator>(answer: &Answer<A>) -> u8
+    ensures { result ≡ spec.status_of answer.now }
+{
+    match answer {
+        Answer::Yes(_) => 0,
+        Answer::No => 5,
+        Answer::Unknown => 4,
+    }
+}
+
+// Writes a judgement's certificate to a path, where it has one and a path is given; and returns the exit status.
+fn end<A, F, E>(
+    alloc: A,
+    files: &F,
+    path: Option<&str>,
+    judgement: &Judgement<A>,
+    err: &mut E,
+) -> u8
+where
+    A: Allocator + Copy,
+    F: Files<A>,
+    E: Write,
+    ensures { result ≤ 5 }
+{
+    match keep(alloc, files, path, judgement) {
+        Ok(()) => status_of(&judgement.answer),
+        Err(fault) => tell(fault, files.reason(), err),
+    }
+}
+
+// Prints a judgement, and writes its certificate where a path is given.
+fn tell_judgement<A, F, W, E>(
+    alloc: A,
+    files: &F,
+    path: Option<&str>,
+    judgement: &Judgement<A>,
+    out: &mut W,
+    err: &mut E,
+) -> u8
+where
+    A: Allocator + Copy,
+    F: Files<A>,
+    W: Write,
+    E: Write,
+    ensures { result ≤ 5 }
+{
+    let Ok(text) = judgement_text(alloc, judgement) else {
+        return tell(Fault::Memory, None, err);
+    };
+    match write_all(text.as_slice(), out) {
+        Ok(()) => end(alloc, files, path, judgement, err),
+        Err(fault) => tell(fault, None, err),
+    }
+}
+
+// The path to which a certificate is written: that of the words, unless one was read there.
+fn target_of<'w>(task: Task<'w>, certificate: Option<&[u8]>) -> Option<&'w str> {
+    match certificate {
+        Some(_) => None,
+        None => task.certificate,
+    }
+}
+
+// Judges the text of a transcript, by that of a certificate where there is one, and prints the judgement.
+fn check_text<A, F, W, E, T>(
+    machine: &Machine<'_, F, T, A>,
+    text: &[u8],
+    task: Task<'_>,
+    certificate: Option<&[u8]>,
+    out: &mut W,
+    err: &mut E,
+) -> u8
+where
+    A: Allocator + Copy + Send + Sync,
+    F: Files<A>,
+    W: Write,
+    E: Write,
+    T: Threads + Sync,
+    ensures { result ≤ 5 }
+{
+    let Opening { catalog, opens, .. } = match read_opening(machine.alloc, text) {
+        Ok(opening) => opening,
+        Err(fault) => return tell(Fault::Transcript(fault), None, err),
+    };
+    match judge(machine, catalog, opens.as_ref(), text, task, certificate) {
+        Ok(judgement) => {
+            let path = target_of(task, certificate);
+            tell_judgement(machine.alloc, machine.files, path, &judgement, out, err)
+        }
+        Err(fault) => tell(fault, machine.files.reason(), err),
+    }
+}
+
+// Checks the text of a transcript, with the certificate's file where it is there.
+fn check_both<A, F, W, E, T>(
+    machine: &Machine<'_, F, T, A>,
+    text: &[u8],
+    task: Task<'_>,
+    out: &mut W,
+    err: &mut E,
+) -> u8
+where
+    A: Allocator + Copy + Send + Sync,
+    F: Files<A> + Places,
+    W: Write,
+    E: Write,
+    T: Threads + Sync,
+    ensures { result ≤ 5 }
+{
+    match read_file(machine.alloc, machine.files, task.certificate) {
+        Ok(Some(lines)) => check_text(machine, text, task, Some(lines.as_slice()), out, err),
+        Ok(None) => check_text(machine, text, task, None, out, err),
+        Err(fault) => tell(fault, machine.files.reason(), err),
+    }
+}
+
+// Prints the help that the words ask for.
+fn show_help<W: Write, E: Write>(help: &Error, out: &mut W, err: &mut E) -> u8
+    ensures { result ≤ 5 }
+{
+    match write!(out, "{help}") {
+        Ok(()) => 0,
+        Err(_) => tell(Fault::Device("-"), None, err),
+    }
+}
+
+// Reports a mistake in the words, or that there was no memory for them; or shows the help that they ask for.
+fn tell_words<W: Write, E: Write>(error: &Error, out: &mut W, err: &mut E) -> u8
+    ensures { result ≤ 5 }
+{
+    match error.kind() {
+        ErrorKind::OutOfMemory => tell(Fault::Memory, None, err),
+        ErrorKind::DisplayHelp | ErrorKind::DisplayVersion => show_help(error, out, err),
+        _ => {
+            let _ = write!(err, "{error}");
+            2
+        }
+    }
+}
+
+/// Does what the words after `pgserial check` ask for, and returns the exit status: 0 where some order explains what
+/// the transcript records, 5 where none does, 4 where the steps ran out; 1 where the transcript, its dump or a
+/// certificate is refused, or it was out of memory; 2 for mistaken words; 3 where a file or standard output failed. The
+/// order or the reasons, and the answer, are written to `out`, a fault to `err`, and then the certificate to its file.
+pub fn check_words<A, F, W, E, T>(
+    machine: &Machine<'_, F, T, A>,
+    words: &[&str],
+    out: &mut W,
+    err: &mut E,
+) -> u8
+where
+    A: Allocator + Copy + Send + Sync,
+    F: Files<A> + Places,
+    W: Write,
+    E: Write,
+    T: Threads + Sync,
+    ensures within { result ≤ 5 }
+{
+    let task = match read_words(machine.words_memory, words) {
+        Ok(task) => task,
+        Err(error) => return tell_words(&error, out, err),
+    };
+    match read_path(machine.alloc, machine.files, task.transcript) {
+        Ok(text) => check_both(machine, text.as_slice(), task, out, err),
+        Err(fault) => tell(fault, machine.files.reason(), err),
+    }
+}

@@ -1,0 +1,102 @@
+//! Why a script isn't explored.
+
+ghost use Rattle.std.specs.Prelude.{◌≡◌, ◌≤◌};
+
+use script_files::fault;
+use script_files::room::{Room, tell_in};
+use std::alloc::Allocator;
+use std::io::Write;
+use value::refusal::Code;
+
+/// Why a script isn't explored.
+#[derive(Clone, Copy)]
+pub(crate) enum Fault<'p> {
+    /// The script, its dump, a file, or out of memory.
+    File(fault::Fault<'p>),
+    /// A line of the setup is refused.
+    Setup(u64, Code),
+    /// A line that no schedule has: a WAIT, a DUMP, or a second CHECKPOINT.
+    NoTurn(u64),
+    /// No session has a line after the setup.
+    NoLines,
+    /// How many schedules there are, and how many were allowed. None: there are more than the greatest u64.
+    TooMany(Option<u64>, u64),
+    /// The order that was given isn't one of the sessions' lines.
+    NoOrder,
+}
+
+impl<'p> Fault<'p> {
+    /// Out of memory.
+    pub(crate) fn memory() -> Fault<'p> {
+        Fault::File(fault::Fault::Script(0))
+    }
+}
+
+// Reports that a line of the setup is refused.
+fn tell_setup<E: Write>(line: u64, code: Code, err: &mut E) {
+    let name = code.condition_name();
+    let _ = writeln!(
+        err,
+        "script line {line}\nthe setup's reply is ERROR {code} ({name})"
+    );
+}
+
+// Reports that a line is none that schedules have.
+fn tell_no_turn<E: Write>(line: u64, err: &mut E) {
+    let _ = writeln!(
+        err,
+        "script line {line}\nwhat is explored has no WAIT and no DUMP, and one CHECKPOINT, which ends the setup"
+    );
+}
+
+// Reports that there are more schedules than may be run, and how to run them, or some of them.
+fn tell_too_many<E: Write>(all: Option<u64>, most: u64, err: &mut E) {
+    let told = match all {
+        Some(all) => writeln!(
+            err,
+            "explore: {all} schedules, more than {most}; --most {all} runs them, --sample N draws N of them"
+        ),
+        None => writeln!(
+            err,
+            "explore: more than 18446744073709551615 schedules, more than {most}; --sample N draws N of them"
+        ),
+    };
+    let _ = told;
+}
+
+/// Reports a fault, and returns the exit status. `room` says how many events a history was to have room for.
+pub(crate) fn tell<A: Allocator + Copy, E: Write>(
+    room: Room<A>,
+    fault: &Fault<'_>,
+    reason: Option<&str>,
+    err: &mut E,
+) -> u8
+    ensures { result ≤ 3 }
+{
+    match fault {
+        Fault::File(fault) => tell_in(room, fault, reason, err),
+        Fault::Setup(line, code) => {
+            tell_setup(*line, *code, err);
+            1
+        }
+        Fault::NoTurn(line) => {
+            tell_no_turn(*line, err);
+            1
+        }
+        Fault::NoLines => {
+            let _ = writeln!(err, "explore: no session has a line behind the setup");
+            1
+        }
+        Fault::TooMany(all, most) => {
+            tell_too_many(*all, *most, err);
+            1
+        }
+        Fault::NoOrder => {
+            let _ = writeln!(
+                err,
+                "error: --order has each session as often as it has lines behind the setup"
+            );
+            2
+        }
+    }
+}

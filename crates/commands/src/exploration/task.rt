@@ -1,0 +1,172 @@
+//! What the words of the command line ask for.
+
+use clap::builder::ValueParser;
+use clap::{Arg, ArgAction, Command, Error};
+use program::arguments::{events, most_events_of, path_of, script};
+use std::alloc::{AllocError, Global};
+
+// How many schedules are run at most, where nothing is said.
+const MOST: u64 = 1_000_000;
+
+// The seed where nothing is said.
+const SEED: u64 = 0;
+
+/// Schedules that are drawn at random.
+#[derive(Clone, Copy)]
+pub(crate) struct Draw {
+    pub(crate) count: u64,
+    pub(crate) seed: u64,
+}
+
+/// A script that is explored.
+#[derive(Clone, Copy)]
+pub(crate) struct Task<'w> {
+    pub(crate) script: &'w str,
+    /// How many events the setup's history has room for.
+    pub(crate) events: u32,
+    /// How many threads run schedules.
+    pub(crate) jobs: u32,
+    /// How many schedules are run at most.
+    pub(crate) most: u64,
+    /// The schedules that are drawn, where not all are run.
+    pub(crate) draw: Option<Draw>,
+    /// Whether each outcome's first order is shown.
+    pub(crate) has_orders: bool,
+    /// The one order whose script is printed.
+    pub(crate) order: Option<&'w str>,
+}
+
+// How many events there is room for.
+fn setup_events<'w>(alloc: Global) -> Arg<'w> {
+    events(alloc).help(
+        "How many events the setup's history has room for, 1 to 4294967295; 100000 where it isn't given",
+    )
+}
+
+// How many schedules are run.
+fn most<'w>(alloc: Global) -> Arg<'w> {
+    Arg::new(alloc, "most")
+        .long("most")
+        .value_name("N")
+        .action(ArgAction::Set)
+        .value_parser(ValueParser::signed(1, 9_223_372_036_854_775_807))
+        .help(
+            "How many schedules are run at most, 1 to 9223372036854775807; 1000000 where it isn't given",
+        )
+}
+
+// How many threads.
+fn jobs<'w>(alloc: Global) -> Arg<'w> {
+    Arg::new(alloc, "jobs")
+        .long("jobs")
+        .value_name("N")
+        .action(ArgAction::Set)
+        .value_parser(ValueParser::signed(1, 64))
+        .help("How many workers run schedules, 1 to 64; 1 where it isn't given")
+}
+
+// How many schedules are drawn.
+fn sample<'w>(alloc: Global) -> Result<Arg<'w>, AllocError> {
+    Arg::new(alloc, "sample")
+        .long("sample")
+        .value_name("N")
+        .action(ArgAction::Set)
+        .value_parser(ValueParser::signed(1, 9_223_372_036_854_775_807))
+        .help(
+            "Run N schedules drawn at random, with replacement, in place of all, 1 to 9223372036854775807",
+        )
+        .conflicts_with("most")
+}
+
+// The seed of what is drawn.
+fn seed<'w>(alloc: Global) -> Result<Arg<'w>, AllocError> {
+    Arg::new(alloc, "seed")
+        .long("seed")
+        .value_name("S")
+        .action(ArgAction::Set)
+        .value_parser(ValueParser::signed(0, 9_223_372_036_854_775_807))
+        .help(
+            "The seed of what is drawn, 0 to 9223372036854775807, which gives the same everywhere; 0 where it isn't given",
+        )
+        .requires_arg("sample")
+}
+
+// The flag by which orders are shown.
+fn orders<'w>(alloc: Global) -> Arg<'w> {
+    Arg::new(alloc, "orders")
+        .long("orders")
+        .action(ArgAction::SetTrue)
+        .help("Show the sessions' order of each outcome's first schedule")
+}
+
+// The order whose script is printed.
+fn order<'w>(alloc: Global) -> Result<Arg<'w>, AllocError> {
+    Arg::new(alloc, "order")
+        .long("order")
+        .value_name("ORDER")
+        .action(ArgAction::Set)
+        .help("Print the script of the one schedule in which the sessions go in this order")
+        .conflicts_with("most")?
+        .conflicts_with("sample")?
+        .conflicts_with("orders")?
+        .conflicts_with("jobs")
+}
+
+// The command, without what says which schedules are run.
+fn on_script<'w>(alloc: Global) -> Result<Command<'w>, AllocError> {
+    Command::new(alloc, "explore")
+        .about(
+            "Run every interleaving of the sessions' lines behind a script's setup, or some drawn at random, and count what they come to",
+        )
+        .bin_name("pgserial explore")?
+        .no_binary_name(true)
+        .arg(script(alloc))?
+        .arg(setup_events(alloc))?
+        .arg(jobs(alloc))
+}
+
+// The command.
+fn command<'w>(alloc: Global) -> Result<Command<'w>, AllocError> {
+    on_script(alloc)?
+        .arg(most(alloc))?
+        .arg(sample(alloc)?)?
+        .arg(seed(alloc)?)?
+        .arg(orders(alloc))?
+        .arg(order(alloc)?)
+}
+
+// A number of a word, or what stands for it where there is none.
+fn number_of(word: Option<i64>, other: u64) -> u64 {
+    match word {
+        Some(number) => u64::try_from(number).unwrap_or(other),
+        None => other,
+    }
+}
+
+// The schedules that are drawn, where some are.
+fn draw_of(count: Option<i64>, seed: Option<i64>) -> Option<Draw> {
+    let count = u64::try_from(count?).unwrap_or(0);
+    Some(Draw {
+        count,
+        seed: number_of(seed, SEED),
+    })
+}
+
+/// What the words after `explore` ask for. The error is a mistake in the words, `--help`, or out of memory.
+pub(crate) fn read_words<'w>(alloc: Global, words: &'w [&'w str]) -> Result<Task<'w>, Error> {
+    let command = command(alloc)?;
+    let matches = command.try_get_matches_from(words)?;
+    let (count, seed) = (
+        matches.get_one::<i64>("sample"),
+        matches.get_one::<i64>("seed"),
+    );
+    Ok(Task {
+        script: path_of(&matches, "SCRIPT"),
+        events: most_events_of(&matches),
+        jobs: matches.get_one::<u32>("jobs").unwrap_or(1),
+        most: number_of(matches.get_one::<i64>("most"), MOST),
+        draw: draw_of(count, seed),
+        has_orders: matches.get_flag("orders"),
+        order: matches.get_str("order"),
+    })
+}

@@ -1,2 +1,0 @@
-pub mod Interleavings
-pub mod Numbers

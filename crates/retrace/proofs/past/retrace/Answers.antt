@@ -1,0 +1,12 @@
+use Rattle.std.proofs.Common.{◌∙◌, ap, arith, length, take}
+use Rattle.std.proofs.lemmas.List.{take_all}
+use Rattle.retrace.specs.Past.{Bygone, followed_to}
+use Rattle.retrace.proofs.past.retrace.Goals as goal
+
+pub returns-clause-ok : goal.returns-clause-ok
+returns-clause-ok g c =
+    let es = c.args.history.now.records in
+    let o = c.args.history.now.opening in
+    let all = ap (λ l. take (length l) es) c.records.ensures ∙ take_all (length es) es (omega arith) in
+    c.into_runs.ensures
+    ∙ ap (λ (p : Bygone _). p.runs) (c.in_ok-follow.ensures.ok ∙ ap (λ l. followed_to o l c.in_ok-past.past) all ∙ ap (followed_to o es) c.in_ok-past.ensures.ok)

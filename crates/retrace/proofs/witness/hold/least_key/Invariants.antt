@@ -1,0 +1,9 @@
+use Rattle.std.proofs.Common.{◌≡◌, None, take}
+use Rattle.std.specs.List.{fold}
+use Rattle.std.specs.Option.{option_copied}
+use Rattle.retrace.specs.Holds.{lower_key}
+use Rattle.retrace.proofs.witness.hold.least_key.Given as goal
+
+-- the least so far
+abbrev pub invariant-loop-reading : goal.invariant-loop-reading
+invariant-loop-reading g l = option_copied l.least ≡ fold (lower_key l.table) None (take l.reading-index l.readings)

@@ -1,8 +1,0 @@
-//! Interleavings of several sessions' lines, drawn at random.
-
-#![tactic(auto)]
-
-pub mod laws;
-pub mod sampling;
-#[cfg(test)]
-mod tests;

@@ -1,0 +1,5 @@
+//! The interleavings of several sessions' lines, each by its number.
+
+pub mod interleavings;
+pub mod laws;
+mod steps;

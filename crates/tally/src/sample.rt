@@ -1,0 +1,6 @@
+//! Interleavings of several sessions' lines, drawn at random.
+
+pub mod laws;
+pub mod sampling;
+#[cfg(test)]
+mod tests;

@@ -1,0 +1,10 @@
+use Rattle.std.proofs.Common.{◌≡◌, ◌+◌, ◌-◌, ◌≤◌, not, length, drop}
+use Rattle.std.specs.List.{prefix_len}
+use Rattle.terminal.specs.Typing.{is_blank}
+use Rattle.terminal.proofs.typing.word_length.Given as goal
+
+abbrev pub invariant-loop-end : goal.invariant-loop-end
+invariant-loop-end l = (l.end + prefix_len (λ b. not (is_blank b)) (drop l.end l.text) ≡ prefix_len (λ b. not (is_blank b)) l.text) × (l.end ≤ length l.text)
+
+abbrev pub decreases-loop-end : goal.decreases-loop-end
+decreases-loop-end l = length l.text - l.end
