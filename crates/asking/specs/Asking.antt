@@ -1,4 +1,4 @@
--- What a session's line of a script does to a core's history, and what is printed of it (this project's own choice).
+-- What a session's line of a script does to a core's history, and what is printed of it.
 use Rattle.std.specs.Prelude.{◌≡◌, ◌⊎◌, ℕ, true, List}
 use Rattle.value.specs.Refusals.{out_of_memory}
 use Rattle.statement.specs.declared.reply.Reply.{Reply}

@@ -11,8 +11,8 @@ use session::sessions::Core;
 use statement::reply::Reply;
 use std::alloc::Allocator;
 
-/// The reply to what a session asks for, which is an event of the core. Where memory is wanting to parse a text, that
-/// is told to the session alone, and nothing has changed.
+/// The reply to what a session asks for, which is an event of the core. Where there is no memory to parse a text, only
+/// the session learns of that, and nothing has changed.
 pub fn reply_to<A: Allocator + Copy>(
     alloc: A,
     core: &mut Core<A>,

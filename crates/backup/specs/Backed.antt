@@ -23,7 +23,7 @@ module _ {A : Type 0} where
   abbrev pub viewed : Recorded A → ℕ → Result (Tables A) Refusal
   viewed h session = view_answer h.opening h.records session
 
-  -- Tables that a dump may be made of: they are a state of the serial order of the history, and of each legal one that goes on from it, as many as the catalog's, and their dump text reads as them.
+  -- Tables that a dump may be made of: they are a state of the serial order of the history, and of each legal one that goes on from it. They are as many as the catalog's, and their dump text reads as them.
   pub record IsDumpable (h : Recorded A) (session : ℕ) (X : Tables A) : Type 0 where
     pub backup : IsBackup h.opening h.records session X
     pub counted : length X ≡ length h.opening.catalog

@@ -20,7 +20,7 @@ IsNew c number = (0 < number) × (number ≤ length c.texts) × (is_given c (num
 abbrev pub Gives : Gathering → ℕ → Gathering → Type 0
 Gives c number d = (k : ℕ) → is_given d k ≡ (is_given c k || (k == number - 1))
 
--- The answer to an offered piece. One that isn't taken changes nothing, but for the device's failure: that is answered just where the device fails.
+-- The answer to an offered piece. One that isn't taken changes nothing, except where the device fails: that is answered exactly then.
 abbrev pub Offered : Gathering → ℕ → Result (Unit {0}) OfferFault → Gathering → Type 0
 Offered c number (Ok done) d = (c.failed ≡ false) × IsNew c number × (d.failed ≡ false) × (d.failures ≡ c.failures) × Gives c number d
 Offered c number (Err Closed) d = (c.failed ≡ true) × (d ≡ c)

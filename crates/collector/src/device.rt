@@ -1,4 +1,4 @@
-//! What takes the bytes of a dump.
+//! The device that takes the bytes of a dump.
 
 ghost use Rattle.std.specs.Prelude.{◌≡◌, ◌≢◌, ◌+◌, ◌<◌, ◌≤◌, ◌++◌, [], ℕ, List, length, take, IfOk, IfErr, OnOk, OnErr};
 ghost use Rattle.collector.specs.Written.{WroteAll, WroteSome};
@@ -7,13 +7,13 @@ ghost use Rattle.collector.specs.Written.{WroteAll, WroteSome};
 #[derive(Clone, Copy, Debug, PartialEq, Eq)]
 pub struct DeviceError;
 
-/// What takes bytes. Two things are told of it: the bytes that it has taken, and how often it has failed.
+/// A device takes bytes. It has two properties: the bytes that it has taken, and how often it has failed.
 pub trait Device {
     ghost taken: { Self → List ℕ };
 
     ghost failures: { Self → ℕ };
 
-    /// Takes the first bytes, at least one where there is one, and answers how many; or fails and takes none.
+    /// Takes the first bytes, at least one where there is one, and returns how many; or fails and takes none.
     fn write(&mut self, bytes: &[u8]) -> Result<usize, DeviceError>
         ensures some { IfOk result (λ n. (n ≤ length bytes.now) × (bytes.now ≢ [] → 0 < n)) }
         ensures taken { IfOk result (λ n. (taken self.new ≡ taken self.old ++ take n bytes.now) ×

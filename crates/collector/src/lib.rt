@@ -1,4 +1,4 @@
-//! What takes the bytes of a dump, and the pieces of a dump written in their order.
+//! The device that takes the bytes of a dump, and the pieces of a dump written in their order.
 
 #![tactic(auto)]
 

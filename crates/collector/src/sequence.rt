@@ -16,7 +16,7 @@ use std::marker::Model;
 use std::snapshot::Snapshot;
 use value::bytes::Bytes;
 
-/// Beside a `Collector`, the next piece may be here.
+/// The parts of a `Collector`, where the next piece may be here and not written yet.
 pub(crate) struct Sequence<'a, R: SnapshotReader<A>, W: Device, A: Allocator> {
     reader: &'a R,
     catalog: &'a Catalog<A>,
@@ -132,7 +132,7 @@ impl<'a, R: SnapshotReader<A>, W: Device, A: Allocator> Sequence<'a, R, W, A> {
         Ok(())
     }
 
-    // Writes the next piece if it is here, and answers whether it was.
+    // Writes the next piece if it is here, and returns whether it was.
     fn write_next(&mut self) -> Result<bool, DeviceError>
         requires open { self.old.failed ≡ false }
         requires more { self.old.next < length self.old.texts }
@@ -160,11 +160,11 @@ impl<'a, R: SnapshotReader<A>, W: Device, A: Allocator> Sequence<'a, R, W, A> {
     pub(crate) fn in_turn(&self)
         ensures { IsInTurn self.now }
     {
-        // Naming a field tells what the type keeps true.
+        // Naming a field shows the prover what the type keeps true.
         let _next = self.next;
     }
 
-    /// How it ends: all pieces are written, or one is missing, or the device has failed.
+    /// How the dump ends: all pieces are written, or one is missing, or the device has failed.
     pub(crate) fn finish(&self) -> Finish
         requires { LacksNext self.now }
         ensures { Finished self.now result }

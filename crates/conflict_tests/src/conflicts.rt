@@ -78,7 +78,7 @@ fn forget<A: Allocator>(conflicts: &mut Conflicts<A>) {
     conflicts.forget(oldest);
 }
 
-// Tells what a letter and a word say; the structure for which a commit is refused is kept.
+// Reports what a letter and a word say; the structure for which a commit is refused is kept.
 fn tell<A: Allocator + Copy>(
     alloc: A,
     conflicts: &mut Conflicts<A>,
@@ -96,7 +96,7 @@ fn tell<A: Allocator + Copy>(
     }
 }
 
-// Tells these, one after the other: the last structure for which a commit was refused. Where asked for,
+// Reports these, one after the other, and returns the last structure for which a commit was refused. Where asked for,
 // all that can be is forgotten after each.
 fn tell_all<A: Allocator + Copy>(
     alloc: A,
@@ -184,7 +184,8 @@ fn is_answer<A: Allocator>(
     }
 }
 
-// Whether a tracker that is told the steps of a case, after one transaction and one commit, has its answer.
+// Whether a tracker has the answer of a case, once the case's steps were reported to it after one transaction and one
+// commit.
 fn is_so(alloc: Global, case: &str, forgets: bool) -> Result<bool, Refusal> {
     let (told, want) = cut(case, ": ")?;
     let (steps, question) = told.rsplit_once(" ").ok_or(not_a_case())?;

@@ -12,7 +12,7 @@ fn first_out(word: &str) -> Result<Option<u64>, Refusal> {
     }
 }
 
-// Of each transaction that ends, its number and its first conflict out.
+// Reports each transaction that ends: its number and its first conflict out.
 fn end_each(waiting: &mut Waiting, ends: &str) -> Result<(), Refusal> {
     for end in ends.split(" ") {
         if end != "none" {
@@ -39,7 +39,7 @@ fn state(word: &str) -> Result<State, Refusal> {
     }
 }
 
-// The number of a snapshot, and the ends of transactions behind it: `4>3` has a conflict out to commit 3, and `4>no`
+// The number of a snapshot, followed by the ends of transactions: `4>3` has a conflict out to commit 3, and `4>no`
 // none.
 const STATES: &str = "\
 3 none: waits

@@ -8,7 +8,7 @@ pub fn not_a_case() -> Refusal {
     Refusal::of_code(Code::SyntaxError)
 }
 
-/// What stands before and behind the first of these words.
+/// What stands before and after the first of these words.
 pub fn cut<'t>(text: &'t str, word: &str) -> Result<(&'t str, &'t str), Refusal> {
     text.split_once(word).ok_or(not_a_case())
 }

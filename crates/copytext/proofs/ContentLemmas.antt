@@ -4,7 +4,7 @@ use Rattle.std.proofs.lemmas.List.{append-nil, take_all}
 use Rattle.std.specs.Option.{is_some, option_map}
 use Rattle.copytext.specs.Reading.{content}
 
--- the raw bytes behind the first
+-- the raw bytes after the first
 abbrev pub behind_first : List ℕ → List ℕ
 behind_first raw = take (length raw - 1) (drop 1 raw)
 

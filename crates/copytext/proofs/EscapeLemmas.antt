@@ -1,4 +1,4 @@
--- Digits behind a backslash.
+-- Digits after a backslash.
 use Rattle.std.proofs.Common.{◌≡◌, ℕ, ◌<◌, cond, ltb, Option, Some, None, refl, ap}
 use Rattle.std.specs.Option.{SomeIff}
 use Rattle.std.proofs.lemmas.Bool.{lt-ltb, le-ltb, cases_lt}

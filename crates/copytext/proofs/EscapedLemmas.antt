@@ -107,7 +107,7 @@ no_null-escaped (b ∷ bytes) =
 
 -- ---- cut nowhere
 
--- a text that is cut only behind it
+-- a text that isn't cut itself: only what follows it is
 abbrev pub IsUncut : List ℕ → Type 0
 IsUncut text = (tail : List ℕ) → cut_after false (text ++ tail) ≡ behind text (cut_after false tail)
 

@@ -41,7 +41,7 @@ no_sign (d ∷ ds) h =
     let plus : eqb d 43 ≡ false = grind (arith, nat_tests, common_steps) in
     (minus, rw (minus, plus) refl)
 
--- a numeral of right form, behind a sign or behind none
+-- a numeral of right form, with a sign before it or none
 number_of : (text digits : List ℕ) (sign : Bool) (n : ℕ) → without_leading_sign text ≡ digits → starts_with_minus text ≡ sign → list_all is_ascii_digit digits ≡ true → ltb 0 (length digits) ≡ true
     → digits_value 10 digits ≡ n → bigint_of text ≡ signed_number sign n
 number_of text digits sign n after minus form some value =

@@ -35,7 +35,7 @@ unfolding encode_with
 encode_lower-plain [] = refl
 encode_lower-plain (b ∷ bytes) = rw (plain_at lower_digits (b / 16) refl, plain_at lower_digits (b % 16) refl) (encode_lower-plain bytes)
 
--- a bytea's text behind a second backslash
+-- a bytea's text after a second backslash
 pub bytea_escaped : (bytes : List ℕ) → escaped (bytea_text bytes) ≡ 92 ∷ bytea_text bytes
 bytea_escaped bytes = ap (λ (rest : List ℕ). 92 ∷ 92 ∷ 120 ∷ rest) (escaped-plain (encode_lower bytes) (encode_lower-plain bytes))
 
@@ -63,7 +63,7 @@ starts_by old more new h =
     let le : length old ≤ length (old ++ more) = omega (arith, length-append old more) in
     sym (take-take (length old) (length (old ++ more)) new le) ∙ ap (take (length old)) h ∙ starts old more
 
--- one more field behind a tab
+-- one more field after a tab
 pub one_more : {X : Type 0} (text : X → List ℕ) (c : ℕ) (old : List ℕ) (xs : List X) (i : ℕ) (x : X) → i < length xs → x ≡ get_or xs i x
     → ((old ++ flat_map (λ y. c ∷ text y) (take i xs)) ++ c ∷ []) ++ text x ≡ old ++ flat_map (λ y. c ∷ text y) (take (i + 1) xs)
 one_more text c old xs i x lt at =

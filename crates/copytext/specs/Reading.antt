@@ -1,4 +1,4 @@
--- What a line of COPY text reads as. The format is that of PostgreSQL's manual, "COPY", "Text Format"; stricter than there, a field holds no newline and no carriage return, not even behind a backslash.
+-- What a line of COPY text reads as. The format is that of PostgreSQL's manual, "COPY", "Text Format"; stricter than there, a field holds no newline and no carriage return, not even after a backslash.
 use Rattle.std.specs.Prelude.{ℕ, zero, suc, ◌+◌, ◌*◌, ◌==◌, nat_lt, Bool, false, not, ◌&&◌, ◌||◌, if◌then◌else◌, List, [], ◌∷◌, length, slice_get, Option, Some, None, is_some, Result, Ok, Err}
 use Rattle.std.specs.Char.{is_digit, digit_value}
 use Rattle.std.specs.List.{list_all, list_any}
@@ -18,7 +18,7 @@ abbrev pub onto_first : ℕ → List (List ℕ) → List (List ℕ)
 onto_first b [] = (b ∷ []) ∷ []
 onto_first b (field ∷ fields) = (b ∷ field) ∷ fields
 
--- the line cut at each tab that no backslash escapes; behind a backslash that isn't itself escaped, the next byte is
+-- the line cut at each tab that no backslash escapes; after a backslash that isn't itself escaped, the next byte is
 abbrev pub cut_after : Bool → List ℕ → List (List ℕ)
 cut_after is_escaped [] = [] ∷ []
 cut_after is_escaped (b ∷ line) =
@@ -29,12 +29,12 @@ cut_after is_escaped (b ∷ line) =
 abbrev pub cut : List ℕ → List (List ℕ)
 cut line = cut_after false line
 
--- the fields behind a tab, where there is one
+-- the fields after a tab, where there is one
 abbrev pub cut_more : Option (List ℕ) → List (List ℕ)
 cut_more None = []
 cut_more (Some line) = cut line
 
--- ---- what stands behind a backslash: the byte that it makes, and how many bytes it takes
+-- ---- what follows a backslash: the byte that it makes, and how many bytes it takes
 
 -- the digit at a place, where there is one
 abbrev pub digit_at : ℕ → List ℕ → ℕ → Option ℕ
@@ -46,7 +46,7 @@ octal_escape a (Some b) (Some c) = if nat_lt (64 * a + 8 * b + c) 256 then Some 
 octal_escape a (Some b) None = Some (8 * a + b, 2)
 octal_escape a None other = Some (a, 1)
 
--- behind an x one or two hexadecimal digits, as many as there are; with none the x itself
+-- after an x one or two hexadecimal digits, as many as there are; with none the x itself
 abbrev pub hexadecimal_escape : Option ℕ → Option ℕ → ℕ × ℕ
 hexadecimal_escape (Some a) (Some b) = (16 * a + b, 3)
 hexadecimal_escape (Some a) None = (a, 2)
@@ -63,7 +63,7 @@ byte_of c =
     else if c == 114 then 13
     else c
 
--- the byte that the bytes behind a backslash make, and how many of them it takes; none for a backslash at the end, or where octal digits make no byte
+-- the byte that the bytes after a backslash make, and how many of them it takes; none for a backslash at the end, or where octal digits make no byte
 abbrev pub escape : List ℕ → Option (ℕ × ℕ)
 escape [] = None
 escape (c ∷ text) =
@@ -73,7 +73,7 @@ escape (c ∷ text) =
 
 -- ---- the content of a field
 
--- the content behind the first bytes, which an escape has taken
+-- the content after the first bytes, which an escape has taken
 abbrev pub content_after : List ℕ → ℕ → Option (List ℕ)
 content_after [] taken = Some []
 content_after (b ∷ raw) (suc taken) = content_after raw taken
@@ -85,7 +85,7 @@ content_after (b ∷ raw) zero =
 abbrev pub content : List ℕ → Option (List ℕ)
 content raw = content_after raw 0
 
--- a newline and a carriage return stand in no line, not even behind a backslash
+-- a newline and a carriage return stand in no line, not even after a backslash
 abbrev pub is_break : ℕ → Bool
 is_break b = (b == newline) || (b == carriage_return)
 

@@ -19,7 +19,7 @@ carriage_return = 13
 abbrev pub backslash : ℕ
 backslash = 92
 
--- the letter that is written behind a backslash in a byte's place: b, t, n, v, f, r for 8 to 13, and the backslash itself
+-- the letter that is written after a backslash in a byte's place: b, t, n, v, f, r for 8 to 13, and the backslash itself
 abbrev pub letter_of : ℕ → Option ℕ
 letter_of b =
     if b == 8 then Some 98

@@ -54,7 +54,7 @@ fn hexadecimal_escape(a: Option<u32>, b: Option<u32>) -> (u32, usize)
     }
 }
 
-// The byte that a letter behind a backslash stands for.
+// The byte that a letter after a backslash stands for.
 fn byte_of(letter: u8) -> u8
     ensures { result ≡ byte_of letter }
 {
@@ -69,7 +69,7 @@ fn byte_of(letter: u8) -> u8
     }
 }
 
-// What stands behind a backslash: the byte that it makes, and how many bytes it takes.
+// What follows a backslash: the byte that it makes, and how many bytes it takes.
 pub fn escape(text: &[u8]) -> Option<(u32, usize)>
     ensures value { result ≡ escape text.now }
     ensures small { IfSome result (λ e. e.0 < 256) }

@@ -101,7 +101,7 @@ fn is_field(raw: &[u8]) -> bool
     !has_break(raw) && has_content(raw)
 }
 
-// The raw bytes of the first field, and what stands behind its tab.
+// The raw bytes of the first field, and what follows its tab.
 pub fn first_field(text: &[u8]) -> (&[u8], Option<&[u8]>)
     ensures fields { cut text.now ≡ result.0.now ∷ cut_more (option_copied result.1) }
     ensures shorter { IfSome result.1 (λ more. length more.now < length text.now) }
@@ -113,7 +113,7 @@ pub fn first_field(text: &[u8]) -> (&[u8], Option<&[u8]>)
     }
 }
 
-// Whether a line is cut into so many fields, each of right form.
+// Whether a line is cut into `count` fields, each of right form.
 pub fn has_form(line: &[u8], count: usize) -> bool
     ensures { result ≡ list_all is_field (cut line.now) && (length (cut line.now) == count) }
 {

@@ -13,7 +13,7 @@ use value::hexadecimal::push_hexadecimal;
 use value::refusal::Refusal;
 use value::value::Value;
 
-// The letter that is written behind a backslash in a byte's place.
+// The letter that is written after a backslash in a byte's place.
 fn letter_of(byte: u8) -> Option<u8>
     ensures { result ≡ letter_of byte }
 {

@@ -10,7 +10,7 @@ use std::alloc::Allocator;
 use std::process::Abort;
 use value::refusal::{Refusal, TxnNo};
 
-// What was asked before a call, each line behind `> `, and what it was answered.
+// What was asked before a call, each line after `> `, and its answers.
 const BEFORE: &str = "\
 > 1 BEGIN
 1 BEGIN
@@ -190,7 +190,7 @@ const QUIET: &str = "\
 2 COMMIT
 ";
 
-// Refuses each request of a call after these texts, which makes at least so many.
+// Refuses each request for memory of a call after these texts. The call makes at least `least` requests.
 fn assert_takes<A: Allocator + Copy>(
     rt: &impl Abort,
     memory: &Memory,

@@ -126,7 +126,7 @@ fn answer<A: Allocator + Copy>(
     }
 }
 
-/// The numbers that a core goes on from, as a text. Its tables are told by later events.
+/// The numbers that a core goes on from, as a text. Later events show its tables.
 pub fn opening_text<A: Allocator>(ample: Global, core: &Core<A>) -> Result<String, Refusal> {
     let base = core.history().base();
     Ok(format!(in ample; "{base:?}")?)
@@ -146,7 +146,7 @@ fn checkpoint<A: Allocator + Copy>(
     }
 }
 
-// The core behind a call, and what it answered, as a text of ample memory.
+// The core after a call, and what it answered, as a text of ample memory.
 fn call_on<A: Allocator + Copy>(
     ample: Global,
     alloc: A,
@@ -161,7 +161,7 @@ fn call_on<A: Allocator + Copy>(
     (core, answer)
 }
 
-// Events behind the one that is tried. Their replies tell of what the core keeps.
+// Events after the one that is tried. Their replies show what the core keeps.
 const LATER: &str = "\
 1 IMPORT 1
 1 SELECT * FROM p
@@ -174,7 +174,7 @@ const LATER: &str = "\
 3 POLL
 4 COMMIT";
 
-// A text, and behind it the core's replies to the later events.
+// A text, followed by the core's replies to the later events.
 fn later<A: Allocator + Copy>(
     ample: Global,
     alloc: A,
@@ -221,7 +221,7 @@ fn expected<A: Allocator + Copy>(
     Ok(Wanted { done, untouched })
 }
 
-// The core behind a call one of whose requests is refused, what it answered, and whether it made as many.
+// The core after a call one of whose requests is refused, what it answered, and whether it made that many requests.
 fn refused<A: Allocator + Copy>(
     memory: &Memory,
     alloc: A,
@@ -250,7 +250,7 @@ fn is_out_of_memory(answer: &Result<String, Refusal>) -> bool {
 enum Found {
     /// The call made fewer, and did the same as ever.
     Done,
-    /// The call made as many, and did the same as ever: it can do without.
+    /// The call made that many requests, and did the same as ever: it can do without.
     Spared,
     /// The call answered out of memory, and the core answers what comes later as if it had not been made.
     Refused,

@@ -118,7 +118,7 @@ fn append<A: Allocator + Copy>(
     Ok(())
 }
 
-/// A core after the sessions' lines, each behind `> `. Below it stands what it is answered.
+/// A core after the sessions' lines, each after `> `. Below a line stands its answer.
 pub fn core_after<A: Allocator + Copy>(alloc: A, script: &str) -> Result<Core<A>, Refusal> {
     let mut core = open(alloc, CREATES)?;
     let mut text = Vec::new(alloc);

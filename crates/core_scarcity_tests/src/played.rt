@@ -12,7 +12,7 @@ use std::sync::Wait;
 use std::thread::Threads;
 use value::refusal::Refusal;
 
-// What is played: a script by its place in the list, or the one behind a checkpoint.
+// What is played: a script by its place in the list, or the one after a checkpoint.
 #[derive(Clone, Copy)]
 enum Played {
     Worked(usize),

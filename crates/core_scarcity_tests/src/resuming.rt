@@ -1,4 +1,4 @@
-//! A server that goes on with a checkpoint's core, while a request for memory of its opening or of a line behind it is
+//! A server that goes on with a checkpoint's core, while a request for memory of its opening or of a later line is
 //! refused.
 
 ghost use Rattle.std.specs.Prelude.{◌≡◌, []};
@@ -28,7 +28,7 @@ const BEFORE: &str = "\
 1 INSERT INTO t VALUES (2, 'another')
 1 COMMIT";
 
-/// The script behind it: the number of a commit goes on, and sessions begin anew.
+/// The script after the checkpoint: the number of a commit goes on, and sessions begin anew.
 pub const AFTER: &str = "\
 CREATE TABLE t (id bigint PRIMARY KEY, name text NOT NULL);
 > 2 BEGIN DEFERRABLE
@@ -112,7 +112,7 @@ where
     Ok(back)
 }
 
-// The same on a word of its own, which is made of the core's opening.
+// Goes on with a core on a word of its own, which is made of the core's opening.
 #[tactic(auto, using(std::proofs::lemmas::List::nil_from_length))]
 fn go_on<'m, R: Abort + Threads + Wait + Sync>(
     rt: &R,
@@ -129,7 +129,7 @@ fn go_on<'m, R: Abort + Threads + Wait + Sync>(
     resume::<Brand, _, _>(rt, (memory, memory), (&word, first), core, out)
 }
 
-/// What comes of the script behind the checkpoint, while one request is refused; where that is one of the server's
+/// What comes of the script after the checkpoint, while one request is refused; where that is one of the server's
 /// opening, the core that came back goes on.
 pub fn go_on_at_last<R: Abort + Threads + Wait + Sync>(
     rt: &R,

@@ -1,4 +1,4 @@
-//! Whole scripts. A script goes on behind an event that was refused, and ends where it can't be read or its replies
+//! Whole scripts. A script goes on after an event that was refused, and ends where it can't be read or its replies
 //! can't be printed.
 
 use crate::driver::Memory;
@@ -220,8 +220,8 @@ fn is_of(ended: &Ended, likely: &Likely) -> bool {
     ended.out == likely.out && likely.dumped.unwrap_or(ended.dumped) == ended.dumped
 }
 
-// How a script may end of which a request was refused: it did without, or goes on behind the line that made it, or it
-// has printed a beginning and ends.
+// Whether a script may end like this when one request was refused: it did without, or goes on after the line that made
+// the request, or it has printed a beginning and ends.
 fn is_right(ended: &Ended, wanted: &Ended, likely: &[Likely]) -> bool {
     match ended.status {
         0 if ended.out == wanted.out => ended.err.is_empty() && ended.dumped == wanted.dumped,
@@ -239,7 +239,7 @@ fn is_right(ended: &Ended, wanted: &Ended, likely: &[Likely]) -> bool {
 // More requests than any tried script makes.
 const MOST_REQUESTS: u64 = 5000;
 
-// Refuses each request of a script in turn. Answers behind how many it went on, and by how many it ended.
+// Refuses each request of a script in turn. Returns after how many it went on, and by how many it ended.
 fn refuse_each<R: Abort + Threads + Wait + Sync, A: Allocator + Copy + Send + Sync>(
     rt: &R,
     memory: &Memory,

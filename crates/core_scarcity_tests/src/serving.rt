@@ -153,7 +153,7 @@ where
     }
 }
 
-/// What a script comes to: what is asked and answered; and behind each line the state, and at the end the history.
+/// The run of a script: what is asked and answered; after each line the state, and at the end the history.
 #[derive(Drop, PartialEq)]
 pub struct Told {
     pub text: Vec<u8>,
@@ -318,8 +318,8 @@ where
     Ok(())
 }
 
-/// The lines of a script are asked on a server, and answered. Then it is closed, and its history is told, and audited
-/// where the script has an audit.
+/// Asks the lines of a script on a server. Then the server is closed, and its history is shown, and audited where the
+/// script has an audit.
 pub fn play<'w, J, A, R>(
     rt: &R,
     (memory, alloc): (&Memory, A),
@@ -380,7 +380,7 @@ where
     Ok(is_opened)
 }
 
-// The same on a server and a word of its own.
+// Plays a script on a server and a word of its own.
 fn serve_anew<R: Abort + Threads + Wait + Sync>(
     rt: &R,
     memory: &Memory,

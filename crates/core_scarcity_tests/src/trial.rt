@@ -70,13 +70,13 @@ impl Trial {
         }
     }
 
-    /// From here on requests are counted, and the one may be refused. Answers how many the memory has had.
+    /// From here on requests are counted, and the one may be refused. Returns how many the memory has had.
     pub fn begin(&self, memory: &Memory) -> u64 {
         memory.refuse(self.number.saturating_sub(self.made));
         memory.requests()
     }
 
-    /// Up to here they were. Whether any was made.
+    /// Ends the counting of requests, and returns whether any was made.
     pub fn end(&mut self, memory: &Memory, start: u64) -> bool {
         memory.refuse(0);
         let made = memory.requests().wrapping_sub(start);

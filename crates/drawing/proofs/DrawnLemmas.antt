@@ -14,7 +14,7 @@ pub filter_skips : {X : Type 0} (p : X → Bool) (xs : List X) (x : X) → p x �
 filter_skips p [] x e = ap (λ b. cond b (x ∷ []) []) e
 filter_skips p (y ∷ ys) x e = ap (λ l. cond (p y) (y ∷ l) l) (filter_skips p ys x e)
 
--- one that passes comes behind the others
+-- an element that passes comes after the others
 pub filter_keeps : {X : Type 0} (p : X → Bool) (xs : List X) (x : X) → p x ≡ true → filter p (xs ++ x ∷ []) ≡ filter p xs ++ x ∷ []
 filter_keeps p [] x e = ap (λ b. cond b (x ∷ []) []) e
 filter_keeps p (y ∷ ys) x e = ap (λ l. cond (p y) (y ∷ l) l) (filter_keeps p ys x e) ∙ go (p y)

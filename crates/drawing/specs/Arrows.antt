@@ -7,9 +7,9 @@ use Rattle.value.specs.declared.refusal.Place.TheVariants.{Cause as OfCause}
 use Rattle.statement.specs.declared.reply.Reply.{Reply}
 use Rattle.statement.specs.declared.reply.Reply.TheVariants.{Refused}
 use Rattle.history.specs.declared.event.Record.{Record}
-use Rattle.witness.specs.Edges.{edge_between}
-use Rattle.witness.specs.Trails.{Trail}
-use Rattle.witness.specs.declared.edge.Edge.{Edge}
+use Rattle.retrace.specs.Edges.{edge_between}
+use Rattle.retrace.specs.Trails.{Trail}
+use Rattle.retrace.specs.declared.witness.edge.Edge.{Edge}
 use Rattle.retrace.specs.Runs.{Going}
 use Rattle.drawing.specs.Lives.{bar_of}
 use Rattle.drawing.specs.declared.arrow.Arrow.{Arrow}
@@ -21,12 +21,12 @@ use Rattle.drawing.specs.declared.bar.Ending.TheVariants as ending
 abbrev pub is_shown : ℕ → Bar → Bool
 is_shown first b = nat_le first b.end
 
--- it wasn't rolled back: it committed, was refused, or goes on
+-- a transaction wasn't rolled back: it committed, was refused, or goes on
 abbrev pub is_kept : Ending → Bool
 is_kept ending.Undone = false
 is_kept _ = true
 
--- the transaction of this number has that number of its own, where so many were before
+-- the transaction of this number has that number of its own, where `base` transactions came before
 abbrev pub is_numbered : ℕ → ℕ → ℕ → Bool
 is_numbered base n own = nat_lt base n && own == n - base
 
@@ -49,7 +49,7 @@ module _ {A : Type 0} where
   abbrev pub arrow_between : Trail A → Trail A → List (Arrow A)
   arrow_between t u = arrow_of t u (edge_between t u)
 
-  -- those of t
+  -- the conflicts of t to some transactions
   abbrev pub arrows_from : List (Going A) → Trail A → List (Arrow A)
   arrows_from gs t = flat_map (λ (g : Going A). arrow_between t g.trace) gs
 
@@ -62,7 +62,7 @@ module _ {A : Type 0} where
   abbrev pub is_between : ℕ → ℕ → ℕ → Arrow A → Bool
   is_between base m n a = is_numbered base m a.from && is_numbered base n a.to
 
-  -- it is one of a structure's two conflicts
+  -- a conflict is one of a structure's two
   abbrev pub is_in : ℕ → Cause → Arrow A → Bool
   is_in base k a = is_between base k.a.0 k.b.0 a || is_between base k.b.0 k.c.0 a
 
@@ -74,6 +74,6 @@ module _ {A : Type 0} where
   is_told base a (Refused r) = is_at base a r.place
   is_told base a _ = false
 
-  -- it is one of the structure of a refusal
+  -- a conflict is one of the structure of a refusal
   abbrev pub is_in_danger : ℕ → List (Record A) → Arrow A → Bool
   is_in_danger base es a = list_any (λ (e : Record A). is_told base a e.reply) es

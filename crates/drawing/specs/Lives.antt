@@ -14,7 +14,7 @@ use Rattle.drawing.specs.declared.bar.Bar.{Bar}
 use Rattle.drawing.specs.declared.bar.Ending.{Ending}
 use Rattle.drawing.specs.declared.bar.Ending.TheVariants as ending
 
--- the code of a refusal for the sake of others
+-- the code of a refusal because of other transactions
 abbrev pub is_failure_code : Code → Bool
 is_failure_code SerializationFailure = true
 is_failure_code _ = false
@@ -23,13 +23,13 @@ is_failure_code _ = false
 abbrev pub capped : ℕ → ℕ
 capped n = min n (2 ^ 64 - 1)
 
--- the place of a transaction's end: so many behind its BEGIN; or that of the last event
+-- the place of the end of a transaction, which n events part from its BEGIN; or that of the last event
 abbrev pub end_from : ℕ → ℕ → Option ℕ → ℕ
 end_from begin last (Some n) = capped (capped (begin + n) + 1)
 end_from begin last None = last
 
 module _ {A : Type 0} where
-  -- the refusal of one that has to be run again for the sake of others
+  -- the refusal of a transaction that has to be run again because of others
   abbrev pub is_serialization_failure : Reply A → Bool
   is_serialization_failure (Refused r) = is_failure_code r.code
   is_serialization_failure _ = false
@@ -43,7 +43,7 @@ module _ {A : Type 0} where
   abbrev pub ends : ℕ → Record A → Bool
   ends s e = e.session == s && is_last e.action
 
-  -- it tells how that ends: a refusal for the sake of others does so before the end
+  -- an event says how the transaction ends: a refusal because of others does so before the end
   abbrev pub decides : ℕ → Record A → Bool
   decides s e = ends s e || e.session == s && is_serialization_failure e.reply
 
@@ -51,7 +51,7 @@ module _ {A : Type 0} where
   ending_by Committed = ending.Committed
   ending_by r = if is_serialization_failure r then ending.Failed else ending.Undone
 
-  -- how a transaction has ended: by the first event behind its BEGIN that tells; else it goes on
+  -- how a transaction has ended: by the first event after its BEGIN that says so; else it goes on
   abbrev pub ending_of : List (Record A) → Going A → Ending
   ending_of es g = option_map_or (λ (e : Record A). ending_by e.reply) (find (decides g.trace.session) (drop g.trace.begin es)) ending.Open
 

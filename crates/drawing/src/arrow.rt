@@ -11,11 +11,11 @@ use history::event::Record;
 use history::list::History;
 use retrace::past::retrace;
 use retrace::run::Run;
+use retrace::witness::edge::{Edge, edge_between};
+use retrace::witness::trace::Trace;
 use statement::reply::Reply;
 use std::alloc::{Allocator, Global};
 use value::refusal::{Cause, Place, Refusal, TxnNo};
-use witness::edge::{Edge, edge_between};
-use witness::trace::Trace;
 
 /// A conflict: the numbers of the transaction that has read and of the one that wrote what it doesn't see, since the
 /// history's opening; and what shows it.
@@ -124,7 +124,7 @@ fn push_arrows<A: Allocator + Copy>(
     Ok(())
 }
 
-/// The conflicts among some transactions, each with what shows it: exactly those that crate witness finds, reader by
+/// The conflicts among some transactions, each with what shows it: exactly those that `retrace` finds, reader by
 /// reader, and of each writer by writer.
 pub fn arrows<A: Allocator + Copy>(alloc: A, runs: &[Run<A>]) -> Result<Vec<Arrow<A>, A>, Refusal>
     ensures ok { IfOk result (λ made. made.items ≡ arrows runs.now) }
@@ -162,14 +162,14 @@ pub fn picture_of<A: Allocator + Copy>(
     })
 }
 
-// Whether a number is that of a transaction, where so many were before the base.
+// Whether a number is that of a transaction, where `base` transactions came before.
 fn is_numbered(base: u64, number: TxnNo, own: u64) -> bool
     ensures { result ≡ is_numbered base number.0 own }
 {
     base < number.0 && own == number.0 - base
 }
 
-// Whether a conflict is from one transaction to another, where so many were before the base.
+// Whether a conflict is from one transaction to another, where `base` transactions came before.
 fn is_between<A: Allocator>(arrow: &Arrow<A>, base: u64, from: TxnNo, to: TxnNo) -> bool
     ensures { result ≡ is_between base from.0 to.0 arrow.now }
 {
@@ -183,7 +183,7 @@ fn is_in<A: Allocator>(arrow: &Arrow<A>, base: u64, cause: Cause) -> bool
     is_between(arrow, base, cause.a, cause.b) || is_between(arrow, base, cause.b, cause.c)
 }
 
-// Whether a reply refuses for the sake of a dangerous structure that has a conflict.
+// Whether a reply refuses because of a dangerous structure of which a conflict is part.
 fn is_told<A: Allocator>(arrow: &Arrow<A>, base: u64, reply: &Reply<A>) -> bool
     ensures { result ≡ is_told base arrow.now reply.now }
 {
@@ -196,7 +196,7 @@ fn is_told<A: Allocator>(arrow: &Arrow<A>, base: u64, reply: &Reply<A>) -> bool
     }
 }
 
-/// Whether a conflict is one of the dangerous structure of a refusal, where so many transactions were before the base.
+/// Whether a conflict is one of the dangerous structure of a refusal, where `base` transactions came before.
 pub fn is_in_danger<A: Allocator>(arrow: &Arrow<A>, base: u64, records: &[Record<A>]) -> bool
     ensures { result ≡ is_in_danger base records.now arrow.now }
 {

@@ -17,7 +17,7 @@ use value::refusal::{Code, Refusal};
 pub enum Ending {
     /// It has committed.
     Committed,
-    /// It was refused for the sake of others (40001), by its COMMIT or by a statement.
+    /// It was refused because of other transactions (40001), by its COMMIT or by a statement.
     Failed,
     /// It was rolled back, by its session or for a statement that failed.
     Undone,
@@ -39,14 +39,14 @@ pub struct Bar {
     pub commit: u64,
 }
 
-// Whether a code is that of a refusal for the sake of others.
+// Whether a code is that of a refusal because of other transactions.
 fn is_failure_code(code: Code) -> bool
     ensures { result ≡ is_failure_code code }
 {
     matches!(code, Code::SerializationFailure)
 }
 
-// Whether a reply refuses for the sake of others.
+// Whether a reply refuses because of other transactions.
 fn is_serialization_failure<A: Allocator>(reply: &Reply<A>) -> bool
     ensures { result ≡ is_serialization_failure reply.now }
 {
@@ -63,14 +63,14 @@ fn ends<A: Allocator>(entry: &Record<A>, session: SessionId) -> bool
     entry.session == session && matches!(&entry.action, Action::Commit | Action::Rollback)
 }
 
-// Whether an event tells how its session's transaction ends.
+// Whether an event says how its session's transaction ends.
 fn decides<A: Allocator>(entry: &Record<A>, session: SessionId) -> bool
     ensures { result ≡ decides session entry.now }
 {
     ends(entry, session) || entry.session == session && is_serialization_failure(&entry.reply)
 }
 
-// How a transaction ends by such an event.
+// How a transaction ends by an event that says so.
 fn ending_by<A: Allocator>(entry: &Record<A>) -> Ending
     ensures { result ≡ ending_by entry.now.reply }
 {
@@ -86,14 +86,14 @@ fn ending_by<A: Allocator>(entry: &Record<A>) -> Ending
     }
 }
 
-// The records behind the first so many.
+// The records after the first `count`.
 fn behind<A: Allocator>(records: &[Record<A>], count: u64) -> &[Record<A>]
     ensures { result.now ≡ drop count records.now }
 {
     &records[(count as usize).min(records.len())..]
 }
 
-// The first event that tells how a session's transaction ends.
+// The first event that says how a session's transaction ends.
 fn first_deciding<A: Allocator>(records: &[Record<A>], session: SessionId) -> Option<&Record<A>>
     ensures { option_copied result ≡ find (decides session) records.now }
 {
@@ -146,7 +146,7 @@ pub fn bar_of<A: Allocator>(records: &[Record<A>], run: &Run<A>) -> Bar
     }
 }
 
-/// The same of each of a history's transactions, in their order.
+/// How long each of a history's transactions lasts, and how it ends, in their order.
 pub fn bars<A: Allocator + Copy>(
     alloc: A,
     records: &[Record<A>],

@@ -130,7 +130,7 @@ impl<'h, A: Allocator> Canvas<'h, A> {
         Ok(())
     }
 
-    // An event: its letter, and its line's text for who points at it.
+    // An event: its letter, and its line's text for a pointer over it.
     fn write_event<W: Write>(&self, place: u64, entry: &Record<A>, out: &mut W) -> io::Result<()> {
         let x = self.layout.x(place);
         let y = self.layout.y(entry.session.number()).saturating_add(4);

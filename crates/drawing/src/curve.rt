@@ -89,7 +89,7 @@ impl Curve {
         }
     }
 
-    /// Its point after so many eighths of it.
+    /// Its point after `eighths` eighths of it.
     pub(crate) fn point(&self, eighths: u64) -> Point {
         let done = eighths.min(8);
         let left = 8 - done;

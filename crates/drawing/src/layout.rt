@@ -7,7 +7,7 @@ use std::alloc::{AllocError, Allocator};
 
 /// Where the first event stands.
 pub(crate) const LEFT: u64 = 116;
-/// What is left free behind the last event.
+/// What is left free after the last event.
 const RIGHT: u64 = 56;
 /// Where the first lane's middle is.
 const TOP: u64 = 112;
@@ -15,7 +15,7 @@ const TOP: u64 = 112;
 const LANE: u64 = 116;
 /// Half the height of a bar.
 pub(crate) const HALF: u64 = 12;
-/// What is left below the last lane's middle for what is told of it.
+/// What is left below the last lane's middle for the notes to it.
 const BELOW: u64 = 108;
 /// The height of a line of text.
 pub(crate) const LINE: u64 = 18;
@@ -29,7 +29,7 @@ pub(crate) struct Layout<A: Allocator> {
     step: u64,
 }
 
-// How far events are from each other, where there are so many.
+// How far events are from each other, where there are `events` of them.
 fn step_of(events: u64) -> u64 {
     if events <= 40 {
         38
@@ -114,7 +114,7 @@ impl<A: Allocator> Layout<A> {
         lane.saturating_mul(LANE).saturating_add(TOP)
     }
 
-    /// The same of a session's lane.
+    /// Where the middle of a session's lane is from the top.
     pub(crate) fn y(&self, session: u32) -> u64 {
         let lane = self.lanes.iter().position(|number| *number == session);
         self.lane_y(lane.unwrap_or(0) as u64)
@@ -139,7 +139,7 @@ impl<A: Allocator> Layout<A> {
             .max(760)
     }
 
-    /// Where what is told below the lanes begins.
+    /// Where the notes below the lanes begin.
     pub(crate) fn foot(&self) -> u64 {
         let lanes = (self.lanes.len() as u64).saturating_sub(1);
         self.lane_y(lanes).saturating_add(BELOW)

@@ -1,4 +1,4 @@
-//! What is told beside a picture's lanes.
+//! The notes beside a picture's lanes.
 
 use crate::bar::Ending;
 use crate::canvas::{Canvas, class_of, mark_of};
@@ -54,7 +54,7 @@ impl<'h, A: Allocator> Canvas<'h, A> {
         Ok(())
     }
 
-    // Whether a reply refuses for the sake of others.
+    // The refusal of a reply, where it is one because of other transactions.
     fn failure_of<'r>(&self, reply: &'r Reply<A>) -> Option<&'r Refusal> {
         match reply {
             Reply::Refused(refusal) if refusal.code == Code::SerializationFailure => Some(refusal),
@@ -80,7 +80,7 @@ impl<'h, A: Allocator> Canvas<'h, A> {
         Ok(y)
     }
 
-    // What is told below the lanes; and how high the picture is.
+    // Writes the notes below the lanes; returns how high the picture is.
     pub(crate) fn write_foot<W: Write>(&self, out: &mut W) -> io::Result<u64> {
         let mut y = self
             .write_refusals(self.layout.foot(), out)?

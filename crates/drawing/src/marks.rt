@@ -52,7 +52,7 @@ impl<'h, A: Allocator> Canvas<'h, A> {
         Ok(())
     }
 
-    // The snapshot of the transaction that a session has behind so many events.
+    // The snapshot of the transaction in which a session asked for a dump.
     fn snapshot_of(&self, dump: &Dump) -> Option<u64> {
         let mut found = None;
         for bar in self.picture.bars.as_slice() {

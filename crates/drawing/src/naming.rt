@@ -4,11 +4,11 @@ use crate::bar::Ending;
 use crate::subject::Subject;
 use copytext::write_field;
 use history::event::Action;
+use retrace::witness::item::Item;
 use std::alloc::Allocator;
 use std::io::{self, ErrorKind, Write};
-use witness::item::Item;
 
-// What is told of a character that may not stand in the text of a picture.
+// What is written for a character that may not stand in the text of a picture.
 const REPLACED: &str = "?";
 
 // Whether a character may not stand in the text of a picture, in any form.
@@ -30,7 +30,7 @@ fn write_letter<W: Write>(letter: char, out: &mut W) -> io::Result<()> {
     }
 }
 
-/// Writes bytes of the script as text of a picture, at most so many characters of them.
+/// Writes bytes of the script as text of a picture, at most `most` characters of them.
 pub(crate) fn write_escaped<W: Write>(bytes: &[u8], most: u64, out: &mut W) -> io::Result<()> {
     let Ok(text) = std::str::from_utf8(bytes) else {
         return out.write_all(REPLACED.as_bytes());
@@ -46,7 +46,7 @@ pub(crate) fn write_escaped<W: Write>(bytes: &[u8], most: u64, out: &mut W) -> i
     Ok(())
 }
 
-/// How many characters bytes have as text of a picture, where so many are written at most.
+/// How many characters bytes have as text of a picture, where `most` are written at most.
 pub(crate) fn width_of(bytes: &[u8], most: u64) -> u64 {
     let Ok(text) = std::str::from_utf8(bytes) else {
         return 1;

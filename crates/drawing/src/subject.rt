@@ -6,7 +6,7 @@ use history::session_id::SessionId;
 use std::alloc::{Allocator, Global};
 use value::refusal::TxnNo;
 
-/// A dump that a session asked for behind so many events, and the line of the script that asked for it.
+/// A dump that a session asked for after a number of events, and the line of the script that asked for it.
 #[derive(Clone, Copy, Debug, PartialEq, Eq)]
 pub struct Dump {
     pub place: u64,
@@ -14,7 +14,7 @@ pub struct Dump {
     pub line: u64,
 }
 
-/// A history, and what its records don't tell: the committed transactions in the serial order, the script, for each
+/// A history, and what its records don't have: the committed transactions in the serial order, the script, for each
 /// event the line that asked for it, and the dumps.
 #[derive(Drop)]
 pub struct Subject<'h, A: Allocator = Global> {

@@ -73,7 +73,7 @@ fn write_body<A: Allocator + Copy, W: Write>(
     canvas.write_foot(out)
 }
 
-// What stands before what is drawn, in so much room.
+// What stands before what is drawn, in a picture of this width and height.
 fn write_head<W: Write>(width: u64, height: u64, out: &mut W) -> io::Result<()> {
     writeln!(
         out,
@@ -105,7 +105,7 @@ fn written<A: Allocator + Copy>(
     Ok(text)
 }
 
-/// The text of a picture as SVG. It needs nothing beside it, and has no text of the script but as text.
+/// The text of a picture as SVG. It needs no other file, and has text of the script only as text.
 pub fn svg_text<A: Allocator + Copy>(
     alloc: A,
     subject: &Subject<'_, A>,

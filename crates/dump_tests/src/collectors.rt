@@ -14,7 +14,7 @@ use std::alloc::Global;
 use std::process::Abort;
 use value::refusal::{Code, Refusal};
 
-// A device that takes at most three bytes a write, and fails at the write that is told, counted from 1.
+// A device that takes at most three bytes a write, and fails at the given write, counted from 1.
 #[derive(Drop)]
 struct Narrow<'r, R: Abort> {
     rt: &'r R,
@@ -52,7 +52,7 @@ impl<'r, R: Abort> Narrow<'r, R> {
         }
     }
 
-    // Whether it has taken so many bytes, which begin the text, and failed if it was to.
+    // Whether it has taken `count` bytes, which begin the text, and failed if it was to.
     fn has_taken(&self, text: &str, count: usize, has_failed: bool) -> bool {
         self.taken.len() == count
             && text.as_bytes().starts_with(self.taken.as_slice())

@@ -15,7 +15,7 @@ use std::sync::Wait;
 use std::thread::Threads;
 use value::refusal::Refusal;
 
-/// Whether tables are dumped as this text, by so many jobs, so many rows a piece.
+/// Whether tables are dumped as this text, by `jobs` jobs, with `rows` rows a piece.
 pub fn writes<R: Abort + Threads + Wait + Sync, G: Gate>(
     rt: &R,
     alloc: Global,
@@ -44,7 +44,7 @@ pub fn writes<R: Abort + Threads + Wait + Sync, G: Gate>(
     done.is_ok() && device.taken.as_slice() == text.as_bytes()
 }
 
-// Whether so many jobs dump seven keys one a piece, each while the others do.
+// Whether `jobs` jobs dump seven keys one a piece, each while the others do.
 fn meet<R: Abort + Threads + Wait + Sync>(
     rt: &R,
     alloc: Global,
@@ -76,7 +76,7 @@ fn a_late_piece_takes_its_place(rt: HostRuntime) -> Result<(), Refusal> {
     Ok(())
 }
 
-// Whether a dump's tables are dumped by so many jobs, and these pieces drawn and handed over.
+// Whether a dump's tables are dumped by `jobs` jobs, and these pieces drawn and handed over.
 fn draws<R: Abort + Threads + Wait + Sync>(
     rt: &R,
     alloc: Global,
@@ -110,7 +110,7 @@ fn each_piece_is_drawn_once(rt: HostRuntime) -> Result<(), Refusal> {
 }
 
 // Dumps the example's tables by pieces of a row to a device that fails at one of its writes, and looks at what came of
-// it. Answers whether it failed.
+// it. Returns whether it failed.
 fn fails_at<R: Abort + Threads + Wait + Sync>(
     rt: &R,
     alloc: Global,
@@ -141,7 +141,7 @@ fn fails_at<R: Abort + Threads + Wait + Sync>(
     done.is_err()
 }
 
-// Lets each write fail in turn, and answers how many there are; 0 where a thousand tell no end.
+// Lets each write fail in turn, and returns how many there are; 0 where a thousand show no end.
 fn failing_writes<R: Abort + Threads + Wait + Sync>(
     rt: &R,
     alloc: Global,
@@ -173,7 +173,7 @@ fn each_write_fails_once(rt: HostRuntime) -> Result<(), Refusal> {
     Ok(())
 }
 
-// Whether the calling thread dumps the example by so many rows a piece.
+// Whether the calling thread dumps the example with `rows` rows a piece.
 fn writes_alone(
     rt: &impl Abort,
     alloc: Global,

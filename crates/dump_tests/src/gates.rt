@@ -54,7 +54,7 @@ impl Gate for Meeting {
     fn after(&self, _piece: u64) {}
 }
 
-/// A piece is held until so many others were handed over.
+/// A piece is held until a number of others were handed over.
 #[derive(Drop)]
 pub struct Holding {
     held: u64,

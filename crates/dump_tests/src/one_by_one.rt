@@ -31,7 +31,7 @@ impl SnapshotReader<Global> for OneByOne<'_> {
     }
 }
 
-// Whether a dump's tables, their rows given one by one, are dumped as its text, by so many rows a piece.
+// Whether a dump's tables, their rows given one by one, are dumped as its text, by `rows` rows a piece.
 fn writes(rt: &impl Abort, alloc: Global, text: &str, rows: u32) -> Result<bool, Refusal> {
     let (catalog, tables) = tables_of(alloc, text)?;
     let Some(rows) = PieceRows::new(rows) else {

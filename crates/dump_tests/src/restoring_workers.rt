@@ -13,7 +13,7 @@ use std::sync::Wait;
 use std::thread::Threads;
 use value::refusal::Refusal;
 
-// Writes so many rows of a table behind its COPY line, and their end. Each row's second column is its first once more.
+// Writes `count` rows of a table after its COPY line, and their end. Each row's second column is its first once more.
 fn push_rows(alloc: Global, text: &mut String, count: u32) -> Result<(), Refusal> {
     for row in 0..count {
         let line = format!(in alloc; "{row}\t{row}\n")?;
@@ -24,7 +24,7 @@ fn push_rows(alloc: Global, text: &mut String, count: u32) -> Result<(), Refusal
     Ok(())
 }
 
-// A dump of two tables of so many rows each, of which the second refers to the first.
+// A dump of two tables with `count` and `referring` rows, of which the second refers to the first.
 fn many_rows(alloc: Global, count: u32, referring: u32) -> Result<String, Refusal> {
     let head = "-- dump 2
 CREATE TABLE t (id bigint PRIMARY KEY, name text);
@@ -39,7 +39,7 @@ COPY t (id, name) FROM stdin;
     Ok(text)
 }
 
-// What so many jobs read of a dump.
+// What `jobs` jobs read of a dump.
 fn read<R: Threads + Sync, G: Gate>(
     rt: &R,
     alloc: Global,
@@ -73,7 +73,7 @@ fn pieces_of_a_thousand_lines(rt: HostRuntime) -> Result<(), Refusal> {
     Ok(())
 }
 
-// Whether so many jobs read a dump, each while the others do; dumped by one, it is the same text.
+// Whether `jobs` jobs read a dump, each while the others do; dumped by one, it is the same text.
 fn meet<R: Abort + Threads + Wait + Sync>(
     rt: &R,
     alloc: Global,

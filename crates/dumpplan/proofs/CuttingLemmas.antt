@@ -24,11 +24,11 @@ module _ {A : Type 0} where
 
   -- ---- cuts
 
-  -- a piece with room begins a further one nowhere but behind its rows
+  -- a piece with room begins a further one nowhere but after its rows
   fresh : (most : ℕ) (row : Row A) (rows : List (Row A)) → 0 < most → cuts most most (row ∷ rows) ≡ cuts most (most - 1) rows
   fresh most row rows some = let full : (most == 0) ≡ false = grind (arith, nat_tests) in rw full refl
 
-  -- the first so many rows fill a piece, or are the last
+  -- the first `room` rows fill a piece, or are the last
   cuts-room : (most room : ℕ) (batch more : List (Row A)) → 0 < most → batch ≡ take room (batch ++ more) → cuts most room (batch ++ more) ≡ first_key more ++ cuts most most more
   cuts-room most room [] [] some is = refl
   cuts-room most zero [] (row ∷ rows) some is = ap (λ ks. row.0 ∷ ks) (sym (fresh most row rows some))
@@ -44,7 +44,7 @@ module _ {A : Type 0} where
   first-taken (suc most) [] some = refl
   first-taken (suc most) (row ∷ rows) some = refl
 
-  -- once the rows behind a batch are read, its own are counted, and the first of these is a cut
+  -- once the rows after a batch are read, its own are counted, and the first of these is a cut
   pub cut_next : (most n count : ℕ) (keys more : List (Key A)) (total : List (Key A)) (rows : List (Row A)) (batch next : List (Bor (Row A))) → 0 < most
       → lent batch ≡ take most (to_come rows batch) → IsBatch most rows (rows_behind rows (lent batch)) next → more ≡ keys ++ first_key (lent next)
       → keys ++ cuts most most (to_come rows batch) ≡ total → n + length (to_come rows batch) ≡ count
@@ -72,7 +72,7 @@ module _ {A : Type 0} where
       let left : length (to_come rows next) ≡ length (rows_behind rows (lent batch)) = ap length behind.1 in
       omega (arith, all, own, left, some)
 
-  -- behind a batch of none there are none
+  -- where a batch has no rows, none follow it
   pub none_left : (rows : List (Row A)) (batch : List (Bor (Row A))) → batch ≡ [] → to_come rows batch ≡ []
   none_left rows batch is = rw is refl
 
@@ -86,7 +86,7 @@ module _ {A : Type 0} where
   first_key-some [] first is = absurd cc
   first_key-some (row ∷ rows) first is = let same : first ≡ row = cc in ap (λ (r : Bor (Row A)). r.now.0 ∷ []) (sym same)
 
-  -- the last of a batch has those behind it
+  -- the rows after the last of a batch are those after the batch
   pub behind_batch : (rows : List (Row A)) (batch : List (Bor (Row A))) (last : Bor (Row A)) → Some last ≡ slice_get batch (length batch - 1) → rows_behind rows (lent batch) ≡ rows_after rows last.now.0
   behind_batch rows batch last is = behind_last rows (lent batch) last.now (rw (length-map batch (λ row. row.now), slice_get-map (λ row. row.now) batch (length batch - 1), sym is) refl)
 

@@ -6,7 +6,7 @@ use Rattle.std.specs.Fmt.{decimal}
 use Rattle.std.specs.List.{flat_map, join_with_byte}
 use Rattle.dumpplan.specs.Lines.{comma_separated, number_text}
 
--- behind the first, each text stands behind a comma and a space
+-- after the first, each text follows a comma and a space
 more_separated : {X : Type 0} (text : X → List ℕ) (y : X) (ys : List X) → join_with_byte 44 ((32 ∷ text y) ∷ map (λ t. 32 ∷ t) (map text ys)) ≡ 32 ∷ text y ++ flat_map (λ z. 44 ∷ 32 ∷ text z) ys
 more_separated text y [] = ap (λ (rest : List ℕ). 32 ∷ rest) (sym (append-nil (text y)))
 more_separated text y (z ∷ zs) = ap (λ (rest : List ℕ). 32 ∷ text y ++ 44 ∷ rest) (more_separated text z zs)

@@ -11,7 +11,7 @@ use Rattle.copytext.specs.Writing.{row_text}
 use Rattle.dumpplan.specs.Lines.{written_column, key_text, column_text, column_texts, comma_separated, copy_line, row_line, end_of_rows, rows_line}
 use Rattle.dumpplan.specs.Parts.{ended, table_text}
 
--- a table's columns: the key's, and the others behind a comma and a space
+-- a table's columns: the key's, and the others, each after a comma and a space
 pub columns_text : (c : Catalog) (d : Column) (ds : List Column) → comma_separated (column_texts (map (written_column c) (d ∷ ds))) ≡ key_text (written_column c d) ++ flat_map (λ e. 44 ∷ 32 ∷ column_text (written_column c e)) ds
 columns_text c d ds = parted (key_text (written_column c d)) ds
   where

@@ -1,5 +1,5 @@
 -- The lines of a dump: its first and last line, each table's CREATE TABLE and COPY line, its rows, and their number.
--- Source: PostgreSQL manual, CREATE TABLE and COPY's text format; the first line, the row counts and the last line are this project's own.
+-- Source: PostgreSQL manual, CREATE TABLE and COPY's text format; the first line, the row counts and the last line are ours.
 use Rattle.std.specs.Prelude.{ℕ, zero, suc, ◌+◌, Bool, true, false, if◌then◌else◌, Option, Some, None, option_and_then, slice_get, List, [], ◌∷◌, ◌++◌, length, map, codes}
 use Rattle.std.specs.Int.Digits.{digits_of}
 use Rattle.std.specs.List.{flat_map, join_with_byte}
@@ -50,7 +50,7 @@ abbrev pub not_null_text : Bool → List ℕ
 not_null_text true = codes " NOT NULL"
 not_null_text false = []
 
--- a column's name and kind, and what stands behind them
+-- a column's name and kind, and what follows them
 abbrev pub named_text : ColumnDef → List ℕ → List ℕ
 named_text d marks = d.name ++ space ∷ kind_word d.kind ++ marks
 
@@ -77,7 +77,7 @@ create_line d = codes "CREATE TABLE " ++ d.name ++ codes " (" ++ comma_separated
 abbrev pub copy_line : TableSchema → List ℕ
 copy_line d = codes "COPY " ++ d.name ++ codes " (" ++ comma_separated (map (λ c. c.name) d.columns) ++ codes ") FROM stdin;"
 
--- behind a table's rows
+-- the line after a table's rows
 abbrev pub end_of_rows : List ℕ
 end_of_rows = codes "\\."
 
@@ -86,7 +86,7 @@ abbrev pub number_text : ℕ → List ℕ
 number_text zero = codes "0"
 number_text (suc n) = map (λ d. 48 + d) (digits_of 10 (suc n))
 
--- behind that line in version 2: how many rows the table has
+-- the line after that in version 2: how many rows the table has
 abbrev pub rows_line : ℕ → List ℕ
 rows_line n = codes "-- rows " ++ number_text n
 
@@ -126,6 +126,6 @@ module _ {A : Type 0} where
   abbrev pub dump_text : Catalog → Tables A → List ℕ
   dump_text c X = dump_of true c X
 
-  -- the same in version 1
+  -- the dump text of a catalog and tables, in version 1
   abbrev pub dump_text1 : Catalog → Tables A → List ℕ
   dump_text1 c X = dump_of false c X

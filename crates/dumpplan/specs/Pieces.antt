@@ -1,5 +1,5 @@
 -- How a dump is cut into pieces, and the text of each.
--- Source: COPY's text format in the PostgreSQL manual; the cutting is this project's own.
+-- Source: COPY's text format in the PostgreSQL manual; the cutting is ours.
 use Rattle.std.specs.Prelude.{◌≡◌, ℕ, ◌+◌, ◌-◌, ◌==◌, ◌<◌, Bool, true, if◌then◌else◌, List, [], ◌∷◌, ◌++◌, length, map, filter, take, slice_get, Option, Some, None}
 use Rattle.std.specs.Borrow.{Bor}
 use Rattle.std.specs.List.{flat_map}
@@ -51,7 +51,7 @@ module _ {A : Type 0} where
   start_text d None = copy_line d ++ 10 ∷ []
   start_text d (Some first) = []
 
-  -- the last one ends with the two lines behind its rows
+  -- the last one ends with the two lines after its rows
   abbrev pub stop_text : RowsEnd A → List ℕ
   stop_text (Before end) = []
   stop_text (Last count) = ended (end_of_rows ∷ rows_line count ∷ [])
@@ -73,7 +73,7 @@ module _ {A : Type 0} where
   abbrev pub piece_texts : Catalog → Tables A → List (Piece A) → List (List ℕ)
   piece_texts c X pieces = map (piece_text c X) pieces
 
-  -- the piece is one of so many tables
+  -- the piece is one of `tables` tables
   abbrev pub IsPieceOf : ℕ → Piece A → Type 0
   IsPieceOf tables Head = Unit {0}
   IsPieceOf tables (Rows r) = r.table < tables
@@ -85,7 +85,7 @@ module _ {A : Type 0} where
 
   -- ---- the cutting
 
-  -- the keys of the rows that begin a further piece, where a piece has at most so many rows and the one at hand has room for so many
+  -- the keys of the rows that begin a further piece, where a piece has `most` rows at most and the one at hand has room for `room`
   abbrev pub cuts : ℕ → ℕ → List (Row A) → List (Key A)
   cuts most room [] = []
   cuts most room (row ∷ rows) = if room == 0 then row.0 ∷ cuts most (most - 1) rows else cuts most (room - 1) rows
@@ -95,20 +95,20 @@ module _ {A : Type 0} where
   first_key [] = []
   first_key (row ∷ rows) = row.0 ∷ []
 
-  -- a batch of a table's rows, and the rows behind it
+  -- a batch of a table's rows, and the rows after it
   abbrev pub to_come : List (Row A) → List (Bor (Row A)) → List (Row A)
   to_come rows batch = lent batch ++ rows_behind rows (lent batch)
 
-  -- a batch is the first of the rows that are left, so many at most, and those behind it are the others
+  -- a batch is the first of the rows that are left, `most` at most, and those after it are the others
   abbrev pub IsBatch : ℕ → List (Row A) → List (Row A) → List (Bor (Row A)) → Type 0
   IsBatch most rows left batch = (lent batch ≡ take most (to_come rows batch)) × (to_come rows batch ≡ left)
 
-  -- the rows of a table from a key on, cut at these keys; the table has so many
+  -- the rows of a table from a key on, cut at these keys; the table has `count` rows
   abbrev pub ranges : ℕ → ℕ → Option (Key A) → List (Key A) → List (RowRange A)
   ranges table count from [] = record { table = table; from = from; end = Last count } ∷ []
   ranges table count from (key ∷ keys) = record { table = table; from = from; end = Before key } ∷ ranges table count (Some key) keys
 
-  -- the pieces of a table: its rows by key, in runs of so many
+  -- the pieces of a table: its rows by key, in runs of `most`
   abbrev pub table_pieces : ℕ → ℕ → List (Row A) → List (Piece A)
   table_pieces most table rows = map Rows (ranges table (length rows) None (cuts most most rows))
 

@@ -118,7 +118,7 @@ fn append_column<A: Allocator>(
     append_reference(referenced_name(catalog, column), text)
 }
 
-// Appends columns that aren't the key's, each behind a comma and a space.
+// Appends columns that aren't the key's, each after a comma and a space.
 fn append_more_columns<A: Allocator>(
     catalog: &Catalog<A>,
     columns: &[Column<A>],

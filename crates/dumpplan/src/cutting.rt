@@ -33,7 +33,7 @@ fn most_rows(piece_rows: PieceRows) -> usize
     piece_rows.get() as usize
 }
 
-// So many rows more. No reader has as many rows as there are numbers of 64 bits.
+// `rows` rows and `more` further ones. No reader has as many rows as there are numbers of 64 bits.
 fn rows_with(rows: u64, more: usize) -> Result<u64, Refusal>
     ensures ok { IfOk result (λ n. n ≡ rows + more) }
     ensures memory { IfErr result (λ e. e ≡ out_of_memory) }
@@ -62,7 +62,7 @@ fn push_cut<A: Allocator + Copy>(
     }
 }
 
-// The first rows of a table, so many at most.
+// The first rows of a table, `most` at most.
 fn first_rows<'r, A: Allocator + Copy, R: SnapshotReader<A>>(
     alloc: A,
     reader: &'r R,
@@ -81,7 +81,7 @@ fn first_rows<'r, A: Allocator + Copy, R: SnapshotReader<A>>(
     Ok(batch)
 }
 
-// The rows behind one, so many at most.
+// The rows after one, `most` at most.
 fn rows_after<'r, A: Allocator + Copy, R: SnapshotReader<A>>(
     alloc: A,
     reader: &'r R,
@@ -99,7 +99,7 @@ fn rows_after<'r, A: Allocator + Copy, R: SnapshotReader<A>>(
     Ok(batch)
 }
 
-// The rows behind those of a batch, so many at most; None where it has none.
+// The rows after those of a batch, `most` at most; None where the batch is empty.
 fn rows_behind<'r, A: Allocator + Copy, R: SnapshotReader<A>>(
     alloc: A,
     reader: &'r R,
@@ -195,7 +195,7 @@ fn push_table<A: Allocator + Copy, R: SnapshotReader<A>>(
 }
 
 /// Cuts the dump of a reader's tables, which are the catalog's: the head is a piece, each table's rows are pieces of at
-/// most so many, an empty table is one piece, and the last line is one.
+/// most `piece_rows` rows, an empty table is one piece, and the last line is one.
 pub fn plan<A: Allocator + Copy, R: SnapshotReader<A>>(
     alloc: A,
     reader: &R,

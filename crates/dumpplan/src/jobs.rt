@@ -23,7 +23,7 @@ impl Model for Jobs {
 }
 
 impl Jobs {
-    /// None where the number isn't 1 to 64.
+    /// `count` workers; none where that isn't 1 to 64.
     pub fn new(count: u32) -> Option<Jobs>
         ensures jobs { IfSome result (λ j. j ≡ count) }
         ensures some { IsSome result ↔ ((1 ≤ count) × (count ≤ 64)) }
@@ -63,7 +63,7 @@ impl Model for PieceRows {
 }
 
 impl PieceRows {
-    /// None where the number isn't 1 to 1000000.
+    /// `most` rows; none where that isn't 1 to 1000000.
     pub fn new(most: u32) -> Option<PieceRows>
         ensures rows { IfSome result (λ p. p ≡ most) }
         ensures some { IsSome result ↔ ((1 ≤ most) × (most ≤ 1000000)) }

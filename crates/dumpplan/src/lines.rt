@@ -10,7 +10,7 @@ use schema::catalog::{Column, TableSchema};
 use std::alloc::Allocator;
 use value::refusal::Refusal;
 
-// Appends the names of columns, each behind a comma and a space.
+// Appends the names of columns, each after a comma and a space.
 fn append_more_names<A: Allocator>(
     columns: &[Column<A>],
     text: &mut Vec<u8, A>,

@@ -14,7 +14,7 @@ use value::key::Key;
 pub enum RowsEnd<A: Allocator = Global> {
     /// To the row before this key.
     Before(Key<A>),
-    /// To the last row of the table, which has so many rows.
+    /// To the last row of the table, which has this number of rows.
     Last(u64),
 }
 
@@ -34,7 +34,8 @@ pub struct RowRange<A: Allocator = Global> {
 pub enum Piece<A: Allocator = Global> {
     /// The first line and the CREATE TABLE lines.
     Head,
-    /// Rows of a table. The first ones stand behind the COPY line, the last ones before the lines that end the table.
+    /// Rows of a table. The first ones follow the COPY line, and the last ones stand before the lines that end the
+    /// table.
     Rows(RowRange<A>),
     /// The last line.
     End,

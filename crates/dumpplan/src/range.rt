@@ -32,7 +32,7 @@ fn append_start<A: Allocator>(
     }
 }
 
-// Appends what stands behind a table's rows, where these are its last.
+// Appends what follows a table's rows, where these are its last.
 fn append_stop<A: Allocator>(
     alloc: A,
     end: &RowsEnd<A>,

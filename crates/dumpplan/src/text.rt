@@ -11,7 +11,7 @@ use schema::catalog::{Catalog, TableNo, TableSchema};
 use std::alloc::Allocator;
 use value::refusal::{Code, Refusal};
 
-// One more row than so many. No reader has as many rows as there are numbers of 64 bits.
+// `rows` rows, and one more. No reader has as many rows as there are numbers of 64 bits.
 pub(crate) fn one_more(rows: u64) -> Result<u64, Refusal>
     ensures ok { IfOk result (λ n. n ≡ rows + 1) }
     ensures memory { IfErr result (λ e. e ≡ out_of_memory) }
@@ -64,7 +64,7 @@ pub(crate) fn append_copy_line<A: Allocator>(
     Ok(())
 }
 
-// Appends the lines behind a table's rows.
+// Appends the lines after a table's rows.
 pub(crate) fn append_end_of_rows<A: Allocator>(
     alloc: A,
     rows: u64,

@@ -11,6 +11,6 @@ Dumped text taken failures (Ok done) taken_now failures_now = WroteAll taken fai
 Dumped text taken failures (Err Device) taken_now failures_now = WroteSome taken failures text taken_now failures_now
 Dumped text taken failures (Err Memory) taken_now failures_now = Began taken text taken_now × (failures_now ≡ failures)
 
--- the first so many pieces were offered, and taken
+-- the first `count` pieces were offered, and taken
 abbrev pub AreGiven : ℕ → Gathering → Type 0
 AreGiven count c = (k : ℕ) → k < count → is_given c k ≡ true

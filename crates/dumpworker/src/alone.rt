@@ -53,7 +53,7 @@ fn offer_pieces<A: Allocator + Copy, R: SnapshotReader<A>, W: Device>(
     Ok(())
 }
 
-// Writes the pieces of a plan, and gives the device back.
+// Writes the pieces of a plan, and returns the device.
 fn write_in_order<'a, A: Allocator + Copy, R: SnapshotReader<A>, W: Device>(
     alloc: A,
     reader: &'a R,
@@ -72,7 +72,7 @@ fn write_in_order<'a, A: Allocator + Copy, R: SnapshotReader<A>, W: Device>(
         Err(device) => return (Err(DumpFault::Memory), device),
     };
     let source = Source::new(reader, catalog, plan);
-    // The collector knows how far they came.
+    // The collector knows how many pieces were offered.
     let _offered = offer_pieces(alloc, &source, &mut collector);
     (ended(&collector), collector.into_device())
 }

@@ -35,7 +35,7 @@ impl Play<(), Hand> for Draw {
     ghost then = { λ s v found w. Draws v.0 found w.0 × (w.1 ≡ v.1) };
 }
 
-/// A worker gives another one as many draws.
+/// A worker gives another one the draws that each worker gets.
 pub struct Deal;
 
 impl Split<Hand> for Deal {
@@ -69,7 +69,7 @@ impl<A: Allocator + Copy> Counter<A> {
         Ok((Counter { table }, Drawer { seat }))
     }
 
-    /// Another worker's right, with as many draws.
+    /// Another worker's right, with the draws that each worker gets.
     pub fn another(&self, drawer: &mut Drawer) -> Drawer
         requires table { drawer.old.seat.table_id ≡ self.now.table.shared.table_id }
         requires enough { drawer.old.seat.me.0.each ≤ drawer.old.seat.me.0.left }

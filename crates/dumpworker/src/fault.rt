@@ -10,7 +10,7 @@ use value::refusal::Refusal;
 pub enum DumpFault {
     /// The device has failed.
     Device,
-    /// A growth was refused.
+    /// Out of memory.
     Memory,
 }
 

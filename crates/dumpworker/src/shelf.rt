@@ -34,7 +34,7 @@ impl Job for Brand {
     ghost failures = { 0 };
 }
 
-/// That a shelf is stopped: it alone says so.
+/// That a shelf is stopped. Only a shelf makes this value.
 #[derive(Drop)]
 pub(crate) struct Stopped {
     by_shelf: (),

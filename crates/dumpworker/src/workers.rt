@@ -24,7 +24,7 @@ pub(crate) struct Workers<'w, T, G, A: Allocator> {
     pub(crate) rt: &'w T,
     pub(crate) alloc: A,
     pub(crate) jobs: Jobs,
-    /// It is asked about each piece.
+    /// The gate that is asked about each piece.
     pub(crate) gate: &'w G,
 }
 
@@ -76,7 +76,7 @@ where
     G: Gate,
     T: Threads + Wait + Sync,
 {
-    /// Lets as many workers work as there are jobs. The calling thread is one; one that isn't started is left out.
+    /// Runs as many workers as there are jobs. The calling thread is one; a thread that can't be started is left out.
     pub(crate) fn work_in_scope<R, W, D>(
         &self,
         source: &Source<'_, R, A>,

@@ -64,9 +64,10 @@ where
     }
 }
 
-/// Writes the dump text of a reader's tables, which are the catalog's, in pieces of up to so many rows. The calling
-/// thread is one of the workers, of which there are as many as jobs, and the others are started; one that the machine
-/// doesn't start is left out. The gate is asked about each piece. After a fault the device has a beginning of the text.
+/// Writes the dump text of a reader's tables, which are the catalog's, in pieces of up to `piece_rows` rows. The
+/// calling thread is one of the workers, of which there are as many as jobs, and the others are started; one that the
+/// machine doesn't start is left out. The gate is asked about each piece. After a fault the device has a beginning of
+/// the text.
 pub fn dump<A, R, W, G, T>(
     rt: &T,
     alloc: A,

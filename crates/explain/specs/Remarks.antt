@@ -1,9 +1,9 @@
--- Remarks: lines behind a reply, for a person.
+-- Remarks: lines after a reply, for a person.
 use Rattle.std.specs.Prelude.{◌≡◌, ℕ, ◌==◌, if◌then◌else◌, List, ◌++◌, codes, map}
 use Rattle.std.specs.Fmt.{decimal}
 use Rattle.std.specs.List.{flat_map}
 
--- a newline is told as a space
+-- a newline is written as a space
 abbrev pub unbroken : ℕ → ℕ
 unbroken b = if b == 10 then 32 else b
 

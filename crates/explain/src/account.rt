@@ -1,4 +1,4 @@
-//! Why a transaction was refused, told from a history.
+//! Why a transaction was refused, explained by its history.
 
 ghost use Rattle.std.specs.Prelude.{◌≡◌, IfOk, IfErr};
 ghost use Rattle.value.specs.Refusals.{out_of_memory};
@@ -7,18 +7,18 @@ ghost use Rattle.explain.specs.Remarks.{AreRemarks};
 use crate::remark::remark_lines;
 use history::list::History;
 use history::session_id::SessionId;
-use retrace::past::retrace;
 use retrace::run::Run;
 use schema::catalog::TableNo;
 use std::alloc::{Allocator, Global};
 use value::refusal::{Place, Refusal};
 
-/// A history, its transactions, and for each of its events the line of the script that asked for it.
+/// A history up to a refusal, its transactions, and for each of its events the line of the script that asked for it.
 #[derive(Drop)]
-pub(crate) struct Account<'h, A: Allocator = Global> {
-    pub(crate) history: &'h History<A>,
-    pub(crate) runs: &'h [Run<A>],
-    pub(crate) lines: &'h [u64],
+pub struct Account<'h, A: Allocator = Global> {
+    pub history: &'h History<A>,
+    /// What retrace finds of the events up to the refusal.
+    pub runs: &'h [Run<A>],
+    pub lines: &'h [u64],
 }
 
 impl<'h, A: Allocator> Account<'h, A> {
@@ -68,44 +68,34 @@ impl<'h, A: Allocator> Account<'h, A> {
         }
         last
     }
-}
 
-/// Why a session's transaction was refused, in words: remarks, each in a line of its own; nothing where
-/// the refusal is for another reason than other transactions. `lines` has for each record of the history
-/// the line of the script that asked for it.
-pub fn why<A: Allocator + Copy>(
-    alloc: A,
-    history: &History<A>,
-    lines: &[u64],
-    session: SessionId,
-    refusal: Refusal,
-) -> Result<Vec<u8, A>, Refusal>
-    ensures remarks { IfOk result (λ text. AreRemarks session text.items) }
-    ensures memory { IfErr result (λ e. e ≡ out_of_memory) }
-{
-    let remarks = remarks_of(alloc, history, lines, session, refusal)?;
-    remark_lines(alloc, session, remarks.as_slice())
-}
+    // The remarks on a refusal.
+    fn remarks_on(
+        &self,
+        alloc: A,
+        session: SessionId,
+        refusal: Refusal,
+    ) -> Result<Vec<Vec<u8, A>, A>, Refusal>
+    where
+        A: Copy,
+        ensures memory { IfErr result (λ e. e ≡ out_of_memory) }
+    {
+        match refusal.place {
+            Place::Cause(cause) => self.on_cause(alloc, session, cause),
+            Place::Row => self.on_row(alloc, session),
+            _ => Ok(Vec::new(alloc)),
+        }
+    }
 
-// The remarks on a refusal.
-fn remarks_of<A: Allocator + Copy>(
-    alloc: A,
-    history: &History<A>,
-    lines: &[u64],
-    session: SessionId,
-    refusal: Refusal,
-) -> Result<Vec<Vec<u8, A>, A>, Refusal>
-    ensures memory { IfErr result (λ e. e ≡ out_of_memory) }
-{
-    let runs = retrace(alloc, history)?;
-    let account = Account {
-        history,
-        runs: runs.as_slice(),
-        lines,
-    };
-    match refusal.place {
-        Place::Cause(cause) => account.on_cause(alloc, session, cause),
-        Place::Row => account.on_row(alloc, session),
-        _ => Ok(Vec::new(alloc)),
+    /// Why a session's transaction was refused, in words: remarks, each in a line of its own; nothing where
+    /// the refusal is for another reason than other transactions.
+    pub fn why(&self, alloc: A, session: SessionId, refusal: Refusal) -> Result<Vec<u8, A>, Refusal>
+    where
+        A: Copy,
+        ensures remarks { IfOk result (λ text. AreRemarks session text.items) }
+        ensures memory { IfErr result (λ e. e ≡ out_of_memory) }
+    {
+        let remarks = self.remarks_on(alloc, session, refusal)?;
+        remark_lines(alloc, session, remarks.as_slice())
     }
 }

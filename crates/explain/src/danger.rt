@@ -6,10 +6,10 @@ ghost use Rattle.value.specs.Refusals.{out_of_memory};
 ghost use Rattle.explain.specs.Why.{danger_of, edge_from, edge_of, edge_to, is_numbered, numbered};
 
 use retrace::run::Run;
+use retrace::witness::edge::{Edge, edge_between};
+use retrace::witness::trace::Trace;
 use std::alloc::{Allocator, Global};
 use value::refusal::{Cause, Refusal, TxnNo};
-use witness::edge::{Edge, edge_between};
-use witness::trace::Trace;
 
 /// A dangerous structure: what shows that `a` has a conflict to `b`, and `b` one to `c`.
 #[derive_where(Debug)]
@@ -29,14 +29,14 @@ impl<A: Allocator> Drop for Danger<A> {
     }
 }
 
-// Whether a transaction has this number, where so many were before the base.
+// Whether a transaction has this number, where `base` transactions came before.
 fn is_numbered<A: Allocator>(run: &Run<A>, base: u64, number: TxnNo) -> bool
     ensures { result ≡ is_numbered base number.0 run.now }
 {
     base < number.0 && run.trace.number == number.0 - base
 }
 
-/// The transaction of a number, where so many were before the base.
+/// The transaction of a number, where `base` transactions came before.
 pub fn numbered<A: Allocator>(runs: &[Run<A>], base: u64, number: TxnNo) -> Option<&Run<A>>
     ensures { option_copied result ≡ numbered base number.0 runs.now }
 {

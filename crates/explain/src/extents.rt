@@ -6,14 +6,14 @@ ghost use Rattle.value.specs.Refusals.{out_of_memory};
 use crate::account::Account;
 use crate::remark::{append_number, append_word};
 use copytext::write_field;
+use retrace::witness::edge::Edge;
+use retrace::witness::hold::{Hold, greatest_key, least_key};
+use retrace::witness::item::Item;
 use schema::catalog::TableNo;
 use statement::reading::{End, Extent, Reading};
 use std::alloc::Allocator;
 use value::key::Key;
 use value::refusal::Refusal;
-use witness::edge::Edge;
-use witness::hold::{Hold, greatest_key, least_key};
-use witness::item::Item;
 
 // Appends a key, as COPY text.
 fn append_key<A: Allocator>(key: &Key<A>, text: &mut Vec<u8, A>) -> Result<(), Refusal>

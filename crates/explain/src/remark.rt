@@ -1,4 +1,4 @@
-//! Remarks: lines behind a reply, for a person.
+//! Remarks: lines after a reply, for a person.
 
 ghost use Rattle.std.specs.Prelude.{◌≡◌, ◌++◌, codes, map, IfOk, IfErr, OnOk};
 ghost use Rattle.std.specs.Fmt.{decimal};

@@ -9,12 +9,12 @@ use crate::remark::{append_number, append_word};
 use crate::rival::{rival, taken};
 use history::session_id::SessionId;
 use retrace::run::Run;
+use retrace::witness::edge::Edge;
+use retrace::witness::meeting::read_by;
+use retrace::witness::trace::Moment;
 use schema::changes::Change;
 use std::alloc::Allocator;
 use value::refusal::{Cause, Refusal, TxnNo};
-use witness::edge::Edge;
-use witness::meeting::read_by;
-use witness::trace::Moment;
 
 /// Which of a conflict's transactions are introduced, with their session and the line of their BEGIN.
 #[derive(Clone, Copy, PartialEq, Eq)]
@@ -78,7 +78,7 @@ impl<'h, A: Allocator> Account<'h, A> {
         }
     }
 
-    // Appends who read what.
+    // Appends which transaction read what.
     fn append_reader(
         &self,
         reader: &Run<A>,
@@ -94,7 +94,7 @@ impl<'h, A: Allocator> Account<'h, A> {
         self.append_at(edge.read, text)
     }
 
-    // Appends who wrote what.
+    // Appends which transaction wrote what.
     fn append_writer(
         &self,
         writer: &Run<A>,
@@ -110,7 +110,7 @@ impl<'h, A: Allocator> Account<'h, A> {
         self.append_at(edge.written, text)
     }
 
-    // Who read what, and who wrote it.
+    // Which transaction read what, and which wrote it.
     fn conflict(
         &self,
         alloc: A,
@@ -197,7 +197,7 @@ impl<'h, A: Allocator> Account<'h, A> {
         append_word(", but ", text)
     }
 
-    // Appends who was first.
+    // Appends which transaction committed first.
     fn append_first(&self, cause: Cause, text: &mut Vec<u8, A>) -> Result<(), Refusal>
         ensures memory { IfErr result (λ e. e ≡ out_of_memory) }
     {
@@ -210,7 +210,7 @@ impl<'h, A: Allocator> Account<'h, A> {
         append_word("'s snapshot.", text)
     }
 
-    // What follows of a structure.
+    // What follows from a structure.
     fn consequence(&self, alloc: A, session: SessionId, cause: Cause) -> Result<Vec<u8, A>, Refusal>
         ensures memory { IfErr result (λ e. e ≡ out_of_memory) }
     {
@@ -270,7 +270,7 @@ impl<'h, A: Allocator> Account<'h, A> {
         self.push_danger(alloc, &danger, remarks)
     }
 
-    // Adds the remark on what follows of it.
+    // Adds the remark on what follows from a structure.
     fn push_consequence(
         &self,
         alloc: A,
@@ -285,7 +285,7 @@ impl<'h, A: Allocator> Account<'h, A> {
         Ok(())
     }
 
-    /// Remarks on a refusal for the sake of a dangerous structure.
+    /// Remarks on a refusal because of a dangerous structure.
     pub(crate) fn on_cause(
         &self,
         alloc: A,
@@ -318,7 +318,7 @@ impl<'h, A: Allocator> Account<'h, A> {
         self.append_introduced(run, text)
     }
 
-    // Who has a row.
+    // Which transaction has a row.
     fn holder(
         &self,
         alloc: A,
@@ -336,7 +336,7 @@ impl<'h, A: Allocator> Account<'h, A> {
         Ok(text)
     }
 
-    // What follows of a row that another transaction has.
+    // What follows where another transaction has the row.
     fn first_updater(&self, alloc: A, session: SessionId) -> Result<Vec<u8, A>, Refusal>
         ensures memory { IfErr result (λ e. e ≡ out_of_memory) }
     {
@@ -346,7 +346,7 @@ impl<'h, A: Allocator> Account<'h, A> {
         Ok(text)
     }
 
-    // Adds the remark on who has the row that a transaction would have written.
+    // Adds the remark on which transaction has the row that another would have written.
     fn push_holder(
         &self,
         alloc: A,
@@ -355,17 +355,16 @@ impl<'h, A: Allocator> Account<'h, A> {
     ) -> Result<(), Refusal>
         ensures memory { IfErr result (λ e. e ≡ out_of_memory) }
     {
-        let records = self.history.records();
-        let Some(change) = taken(records, self.runs, run) else {
+        let Some(change) = taken(self.runs, run) else {
             return Ok(());
         };
-        if let Some(rival) = rival(records, self.runs, &run.trace, change) {
+        if let Some(rival) = rival(self.runs, &run.trace, change) {
             remarks.push(self.holder(alloc, run, rival, change)?)?;
         }
         Ok(())
     }
 
-    /// Remarks on a refusal for the sake of a row.
+    /// Remarks on a refusal because of a row.
     pub(crate) fn on_row(&self, alloc: A, session: SessionId) -> Result<Vec<Vec<u8, A>, A>, Refusal>
     where
         A: Copy,

@@ -83,7 +83,7 @@ apart_snoc {A} views w apart alone i j x y ei ej hx hy s =
     (at_end views w y j ej))
     (at_end views w x i ei)
 
--- a seat beside one whose view was changed knows what it knew
+-- a seat other than one whose view was changed knows what it knew
 beside : {A : Type 0} (views : List (Knowledge A)) (id other : ℕ) (b w : Knowledge A) → ¬ (other ≡ id) → get_elem? (set views id b) other ≡ some w → get_elem? views other ≡ some w
 beside {A} views id other b w ne there =
     ⊎_elim (λ (t : (other ≡ id) × (b ≡ w)). absurd (ne t.0)) (λ (t : (other ≢ id) × (get_elem? views other ≡ some w)). t.1) (at_set views id other b w there)
@@ -180,7 +180,7 @@ module _ {A : Type 0} (opening : Opening A) (slots id : ℕ) (v : Knowledge A) (
         (record { same = refl; begins = mine.seen; length_is = n; legal = λ l. k.legal (legal_sound opening v.seen l); mine = λ t. (mine.holds t).0 }, refl),
       )
 
-  -- what was told is compared
+  -- what was passed on is compared
   pub compares : v.keeps ≡ false → Allows (IsKept opening) slots id (v, c) 0 (λ n. n) (λ n w. Compared v w.0 × (w.1 ≡ c))
   compares alone s h len at small =
       let log = h.0 in
@@ -205,7 +205,7 @@ module _ {A : Type 0} (opening : Opening A) (slots id : ℕ) (v : Knowledge A) (
         (record { same = refl; seen = up; told = other; mine = λ t e. e ∙ squeeze v.session v.seen best log up inside (sym e ∙ (mine.holds t).0) }, refl),
       )
 
-  -- the lock's seat looks at a pass that it was told of
+  -- the lock's seat looks at a pass whose history it was given
   pub checks : v.keeps ≡ true → v.holds ≡ true → Allows (IsKept opening) slots id (v, c) 0 (λ n. n) (λ n w. Checked v w.0 × (w.1 ≡ c))
   checks whole has s h len at small =
       let log = h.0 in
@@ -219,7 +219,7 @@ module _ {A : Type 0} (opening : Opening A) (slots id : ℕ) (v : Knowledge A) (
         ((refl, subst (λ l. IsPrefix v.told l) (sym all) mine.told, subst (λ l. v.mine ≡ of_session v.session l) (sym all) (mine.holds has).0), refl),
       )
 
-  -- the lock's seat is told which event comes next
+  -- the lock's seat is given the event that comes next
   pub expects : (e : Record A) → v.keeps ≡ true → v.holds ≡ true → Allows (IsKept opening) slots id (v, c) 0 (λ n. either (n == 0) 0 n) (λ n w. Noted (some e) v w.0 × (w.1 ≡ c))
   expects e whole has s h len at small =
       let log = h.0 in

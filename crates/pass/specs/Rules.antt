@@ -1,4 +1,4 @@
--- The rule of the history word: what is true whenever the word may change, and what each step tells.
+-- The rule of the history word: what is true whenever the word may change, and what each step shows.
 use Rattle.std.specs.Prelude.{ℕ, ◌+◌, ◌≡◌, ◌≤◌, true, false, List, [], ◌∷◌, ◌++◌, length}
 use mathlib.Core.Option.{Option, none, some}
 use mathlib.Core.List.{IsPrefix}
@@ -37,7 +37,7 @@ module _ {A : Type 0} where
   abbrev pub nobody : Knowledge A
   nobody = record { seen = []; told = []; keeps = false; made = 0; holds = false; session = 0; mine = []; next = no_record }
 
-  -- the same with no right to act
+  -- a seat with no right to act
   abbrev pub bare : Knowledge A → Knowledge A
   bare v = record v { holds = false }
 
@@ -57,17 +57,17 @@ module _ {A : Type 0} where
   abbrev pub next_one : Knowledge A → Knowledge A
   next_one v = record { seen = v.seen; told = []; keeps = false; made = 0; holds = v.keeps; session = v.made + 1; mine = of_session (v.made + 1) v.seen; next = no_record }
 
-  -- the right to act comes in: the lock's seat is told what came, another seat has then seen it
+  -- the right to act comes in: the lock's seat is given what came, another seat has then seen it
   abbrev pub united : Knowledge A → Knowledge A → Knowledge A
   united v w = record { seen = pick v.keeps v.seen w.seen; told = pick v.keeps w.seen v.seen; keeps = v.keeps; made = v.made; holds = w.holds; session = w.session; mine = w.mine; next = v.next }
 
-  -- a seat that is told of what another has seen
+  -- a seat that is given what another has seen
   abbrev pub heard : Knowledge A → Knowledge A → Knowledge A
   heard v w = record v { told = w.seen }
 
   -- ---- the rule
 
-  -- what is true of what one seat knows, where the lock's seat is the keeper and made so many sessions
+  -- what is true of what one seat knows, where the lock's seat is the keeper and has made `made` sessions
   pub record Fits (log : List (Record A)) (keeper made by : ℕ) (v : Knowledge A) : Type 0 where
     pub seen : IsPrefix v.seen log
     pub told : IsPrefix v.told log
@@ -92,7 +92,7 @@ module _ {A : Type 0} where
   abbrev pub IsKept : Opening A → State (Record A) (Knowledge A) → Type 0
   IsKept o s = (log : List (Record A)) × (keeper : ℕ) × (made : ℕ) × IsKeptBy o log keeper made s.words s.views
 
-  -- ---- what steps tell
+  -- ---- what steps show
 
   -- all of the history is seen; what this seat did stands in it, each once, in order
   pub record Looked (o : Opening A) (v : Knowledge A) (found : ℕ) (w : Knowledge A) : Type 0 where
@@ -102,18 +102,18 @@ module _ {A : Type 0} where
     pub legal : Legal o v.seen → Legal o w.seen
     pub mine : v.holds ≡ true → v.mine ≡ of_session v.session w.seen
 
-  -- of what was seen and what was told one begins the other, and the longer is seen
+  -- of what was seen and what was given, one begins the other, and the longer is seen
   pub record Compared (v w : Knowledge A) : Type 0 where
     pub same : w ≡ record v { seen = longer v.seen v.told }
     pub seen : IsPrefix v.seen w.seen
     pub told : IsPrefix v.told w.seen
     pub mine : v.holds ≡ true → (v.mine ≡ of_session v.session v.seen) → v.mine ≡ of_session v.session w.seen
 
-  -- what the lock's seat was told begins what it has seen, and what the session did is what it has of it
+  -- what the lock's seat was given begins what it has seen, and what the session did is what it has of it
   abbrev pub Checked : Knowledge A → Knowledge A → Type 0
   Checked v w = (w ≡ v) × IsPrefix v.told v.seen × (v.mine ≡ of_session v.session v.seen)
 
-  -- the lock's seat is told which event comes next
+  -- the lock's seat is given the event that comes next
   abbrev pub Noted : Option (Record A) → Knowledge A → Knowledge A → Type 0
   Noted none v w = ⊥
   Noted (some e) v w = w ≡ record v { next = e }

@@ -15,8 +15,8 @@ use history::session_id::SessionId;
 use std::alloc::{Allocator, Global};
 use std::marker::{Model, PhantomData};
 
-/// The seat that lies under a server's lock, beside the core. It has seen the whole history, which
-/// is legal, and makes the passes.
+/// The seat that lies under a server's lock, with the core. It has seen the whole history, which is legal, and makes
+/// the passes.
 #[derive(Drop)]
 pub struct Keeper<'w, J: Naming<A>, A: Allocator = Global> {
     word: &'w HistoryWord<A>,
@@ -124,7 +124,7 @@ impl<'w, J: Naming<A>, A: Allocator> Keeper<'w, J, A> {
     pub fn is_legal(&self)
         ensures { Legal J.opening self.now.records }
     {
-        // Naming a field tells what the type keeps true.
+        // Naming a field shows the prover what the type keeps true.
         let _seat = &self.seat;
     }
 }

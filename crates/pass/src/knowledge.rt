@@ -9,16 +9,16 @@ use std::collections::LinkedList;
 pub struct Knowledge<A: Allocator> {
     /// A beginning of the history.
     pub seen: LinkedList<Record<A>>,
-    /// Another one, of which this seat was told.
+    /// What another seat has seen, which this seat was given: a beginning of the history too.
     pub told: LinkedList<Record<A>>,
     /// Whether it is the lock's own seat, which has seen the whole history.
     pub keeps: bool,
-    /// Of the lock's seat: how many sessions it made.
+    /// How many sessions it made, where it is the lock's seat.
     pub made: u32,
     /// Whether it has the right to act for its session, with all that the session did.
     pub holds: bool,
     pub session: u32,
     pub mine: LinkedList<(Action<A>, Reply<A>)>,
-    /// Of the lock's seat: the event that comes next.
+    /// The event that comes next, where it is the lock's seat.
     pub next: Record<A>,
 }

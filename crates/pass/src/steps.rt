@@ -1,4 +1,4 @@
-//! The moves of a seat, each with what it tells.
+//! The moves of a seat, each with what it shows.
 
 ghost use Rattle.std.specs.Prelude.{◌≡◌, ◌+◌, ◌<◌, ◌^◌, [], true, false, length};
 ghost use mathlib.Core.Option.{some};
@@ -47,7 +47,7 @@ pub(crate) fn tell<A: Allocator>(words: &Words<A>, seat: &mut Place<A>) -> Place
     words.shared.split_seat::<Note>(seat)
 }
 
-/// The right to act comes in: the lock's seat is told what the other has seen, and another seat has then seen it.
+/// The right to act comes in: the lock's seat is given what the other has seen, and another seat has then seen it.
 pub(crate) fn unite<A: Allocator>(words: &Words<A>, seat: &mut Place<A>, other: Place<A>)
     requires table { (seat.old.table_id ≡ words.now.shared.table_id) × (other.table_id ≡ words.now.shared.table_id) }
     requires one { words.now.shared.table_id.words ≡ 1 }
@@ -58,7 +58,7 @@ pub(crate) fn unite<A: Allocator>(words: &Words<A>, seat: &mut Place<A>, other: 
     words.shared.join_seat::<Unite>(seat, other);
 }
 
-/// A seat is told of what another has seen.
+/// Gives a seat what another has seen.
 pub(crate) fn hear<A: Allocator>(words: &Words<A>, seat: &mut Place<A>, other: Place<A>)
     requires table { (seat.old.table_id ≡ words.now.shared.table_id) × (other.table_id ≡ words.now.shared.table_id) }
     requires one { words.now.shared.table_id.words ≡ 1 }
@@ -81,7 +81,7 @@ pub(crate) fn look<A: Allocator, J: Naming<A>>(words: &Words<A>, seat: &mut Plac
     words.shared.load::<Look<J>>(seat, 0)
 }
 
-/// It sees the longer of what it has seen and was told.
+/// It sees the longer of what it has seen and was given.
 pub(crate) fn compare<A: Allocator>(words: &Words<A>, seat: &mut Place<A>)
     requires table { seat.old.table_id ≡ words.now.shared.table_id }
     requires one { words.now.shared.table_id.words ≡ 1 }
@@ -92,7 +92,7 @@ pub(crate) fn compare<A: Allocator>(words: &Words<A>, seat: &mut Place<A>)
     words.shared.load::<Compare>(seat, 0);
 }
 
-/// The lock's seat checks what it was told.
+/// The lock's seat checks what it was given.
 pub(crate) fn check<A: Allocator>(words: &Words<A>, seat: &mut Place<A>)
     requires table { seat.old.table_id ≡ words.now.shared.table_id }
     requires one { words.now.shared.table_id.words ≡ 1 }
@@ -103,7 +103,7 @@ pub(crate) fn check<A: Allocator>(words: &Words<A>, seat: &mut Place<A>)
     words.shared.load::<Check>(seat, 0);
 }
 
-/// The lock's seat is told which event comes next. The word stays as it is.
+/// The lock's seat is given the event that comes next. The word stays as it is.
 pub(crate) fn expect<A: Allocator>(words: &Words<A>, seat: &mut Place<A>, entry: &Record<A>)
     requires table { seat.old.table_id ≡ words.now.shared.table_id }
     requires one { words.now.shared.table_id.words ≡ 1 }

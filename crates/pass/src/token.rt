@@ -42,7 +42,7 @@ impl<'w, J: Naming<A>, A: Allocator> Model for Pass<'w, J, A> {
 }
 
 impl<'w, J: Naming<A>, A: Allocator> Pass<'w, J, A> {
-    /// How many events the history has. It is one load, and waits for nobody.
+    /// How many events the history has. It is one load, and waits for no other thread.
     pub fn stamp(&mut self) -> u64
         ensures length { result ≡ length self.new.seen }
         ensures looked { HasLooked J.opening self.old self.new }
@@ -56,7 +56,7 @@ impl<'w, J: Naming<A>, A: Allocator> Pass<'w, J, A> {
         ensures legal { Legal J.opening self.now.seen }
         ensures exact { self.now.mine ≡ of_session self.now.session self.now.seen }
     {
-        // Naming a field tells what the type keeps true.
+        // Naming a field shows the prover what the type keeps true.
         let _seat = &self.seat;
         self.session
     }
@@ -77,8 +77,8 @@ impl<'w, J: Naming<A>, A: Allocator> Pass<'w, J, A> {
         compare(self.word.words(), &mut self.seat);
     }
 
-    /// Both have then seen the longer of what they had seen, of which the other is a beginning. It
-    /// is six loads of one word, three for each pass, and waits for nobody.
+    /// Both have then seen the longer of what they had seen, of which the other is a beginning. It is six loads of one
+    /// word, three for each pass, and waits for no other thread.
     pub fn meet(&mut self, other: &mut Pass<'w, J, A>)
         ensures pass { self.new ≡ record {
           session = self.old.session;
@@ -97,7 +97,7 @@ impl<'w, J: Naming<A>, A: Allocator> Pass<'w, J, A> {
     {
         self.learn(other);
         other.learn(self);
-        // The call tells what every pass keeps true.
+        // The call shows the prover what every pass keeps true.
         let _session = self.session();
     }
 }

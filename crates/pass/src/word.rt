@@ -152,7 +152,7 @@ impl<A: Allocator, J: Naming<A>> Play<Record<A>, Knowledge<A>> for Look<J> {
     ghost then = { λ s v found w. Looked J.opening v.0 found w.0 × (w.1 ≡ v.1) };
 }
 
-/// A look that compares what was seen with what was told, and sees the longer.
+/// A look that compares what was seen with what was given, and sees the longer.
 pub(crate) struct Compare;
 
 impl<A: Allocator> Play<Record<A>, Knowledge<A>> for Compare {
@@ -161,7 +161,7 @@ impl<A: Allocator> Play<Record<A>, Knowledge<A>> for Compare {
     ghost then = { λ s v found w. Compared v.0 w.0 × (w.1 ≡ v.1) };
 }
 
-/// A look of the lock's seat, which checks a pass that it was told of.
+/// A look of the lock's seat, which checks a pass whose history it was given.
 pub(crate) struct Check;
 
 impl<A: Allocator> Play<Record<A>, Knowledge<A>> for Check {
@@ -170,7 +170,7 @@ impl<A: Allocator> Play<Record<A>, Knowledge<A>> for Check {
     ghost then = { λ s v found w. Checked v.0 w.0 × (w.1 ≡ v.1) };
 }
 
-/// The lock's seat is told which event comes next.
+/// The lock's seat is given the event that comes next.
 pub(crate) struct Expect;
 
 impl<A: Allocator> Play<Record<A>, Knowledge<A>> for Expect {
@@ -221,7 +221,7 @@ impl<A: Allocator> Split<Knowledge<A>> for Note {
     ghost right = { note };
 }
 
-/// The right comes in. The lock's seat is told what came; another seat then has seen what came.
+/// The right comes in. The lock's seat is given what came; another seat then has seen what came.
 pub(crate) struct Unite;
 
 impl<A: Allocator> Join<Knowledge<A>> for Unite {
@@ -232,7 +232,7 @@ impl<A: Allocator> Join<Knowledge<A>> for Unite {
     ghost spent = { nobody };
 }
 
-/// It is told of what another has seen.
+/// A seat is given what another has seen.
 pub(crate) struct Hear;
 
 impl<A: Allocator> Join<Knowledge<A>> for Hear {

@@ -4,19 +4,19 @@
 
 #![tactic(auto)]
 
-use command_check::words::check_words;
-use command_draw::words::draw_words;
-use command_explore::words::explore_words;
-use command_prompt::words::prompt_words;
 use command_run::manner::Manner;
 use command_run::words::told_words;
+use command_shell::prompt::words::prompt_words;
 use command_shell::words::shell_words;
-use conversation::streams::Streams;
+use commands::check::words::check_words;
+use commands::draw::words::draw_words;
+use commands::exploration::words::explore_words;
 use program::host::HostFiles;
 use program::machine::Machine;
 use program::naming::NamingOutput;
 use program::reasons::SystemErrors;
 use program::words::run_words;
+use shell::conversation::streams::Streams;
 use std::alloc::Global;
 use std::io::{BufReader, ErrorKind, IsTerminal, Write};
 use std::process::ExitCode;
@@ -24,7 +24,7 @@ use std::sync::Wait;
 use std::thread::Threads;
 use std::{env, io};
 
-// The words behind the program's name.
+// The words after the program's name.
 fn words(rt: &HostRuntime) -> io::Result<Vec<String>> {
     let mut words = Vec::new(rt.alloc());
     for word in env::args(rt)?.skip(1) {
@@ -33,11 +33,23 @@ fn words(rt: &HostRuntime) -> io::Result<Vec<String>> {
     Ok(words)
 }
 
-// The words, lent.
+// Commands that parse their own words.
+const OWN: &[&str] = &["check", "draw", "explore", "shell"];
+
+// The words, lent. Where they ask for help for a command that parses its own words, they become that command's own call
+// for help.
 fn lend<'w>(rt: &HostRuntime, words: &'w [String]) -> io::Result<Vec<&'w str>> {
     let mut lent = Vec::new(rt.alloc());
     for word in words {
         lent.push(word.as_str())?;
+    }
+    if let ["help", command] = lent.as_slice() {
+        if OWN.contains(command) {
+            let command = *command;
+            lent.clear();
+            lent.push(command)?;
+            lent.push("--help")?;
+        }
     }
     Ok(lent)
 }
@@ -52,7 +64,7 @@ fn end_without_words(rt: &HostRuntime, error: &io::Error) -> ExitCode {
     ExitCode::from(2)
 }
 
-// Tells a person who gave no words what is read.
+// Says to a person who gave no words what is read.
 fn greet(rt: &HostRuntime, words: &[&str]) {
     if words.is_empty() && rt.stdin().is_terminal() {
         let _ = eprintln!(rt;
@@ -65,11 +77,41 @@ fn greet(rt: &HostRuntime, words: &[&str]) {
 #[derive(Drop)]
 struct Answers<'r> {
     rt: &'r HostRuntime,
+    // What was written after the last newline: the prompt, at which what is typed next stands.
+    prompt: Vec<u8>,
+}
+
+// How the answer to a line begins that the input's end has cut off. At a terminal, typed bytes stand on the prompt's
+// line.
+const CUT_OFF: &[u8] = b"ERROR 42601 the input ends in the middle of a line";
+
+// What follows the last newline.
+fn last_part(text: &[u8]) -> &[u8] {
+    match text.iter().rposition(|byte| *byte == b'\n') {
+        Some(place) => text.get(place.saturating_add(1)..).unwrap_or(b""),
+        None => text,
+    }
+}
+
+impl<'r> Answers<'r> {
+    // Writes the refusal of a cut-off line on a line of its own, in its own words alone, and the prompt again.
+    fn write_refusal(&mut self, refusal: &[u8]) -> io::Result<()> {
+        let mut out = self.rt.stdout();
+        out.write_all(b"\n")?;
+        out.write_all(refusal)?;
+        out.write_all(self.prompt.as_slice())
+    }
 }
 
 impl<'r> Write for Answers<'r> {
     fn write(&mut self, buf: &[u8]) -> io::Result<usize> {
+        if buf.starts_with(CUT_OFF) {
+            self.write_refusal(buf)?;
+            return Ok(buf.len());
+        }
         NamingOutput::new(self.rt).write_all(buf)?;
+        self.prompt.clear();
+        self.prompt.extend_from_slice(last_part(buf))?;
         Ok(buf.len())
     }
 
@@ -91,14 +133,18 @@ fn shell<R: Threads + Wait + Sync, W: Write, E: Write>(
         return 1;
     };
     if rt.stdin().is_terminal() && rt.stdout().is_terminal() {
-        let mut streams = Streams::new(reader, Answers { rt });
+        let answers = Answers {
+            rt,
+            prompt: Vec::new(machine.alloc),
+        };
+        let mut streams = Streams::new(reader, answers);
         return prompt_words(machine, words, rt, &mut streams, out, err);
     }
     let mut streams = Streams::new(reader, rt.stdout());
     shell_words(machine, words, &mut streams, out, err)
 }
 
-// Does what the words ask for: a command that has its words to itself, or else the program's.
+// Does what the words ask for: a command that parses its own words, or else the program's.
 fn do_words<R: Threads + Wait + Sync, W: Write, E: Write>(
     rt: &R,
     alloc: Global,

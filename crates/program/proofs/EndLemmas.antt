@@ -51,7 +51,7 @@ are_help ks e s has memory help done = help_of ks e has (λ m. refused_is_not_do
 abbrev stdout_fails : Fault
 stdout_fails = fault.Device (record { ref_ptr = (0, 0); now = codes "-" })
 
--- what is told where the words have a fault, and no help is printed
+-- how the program ends where its words have a fault, and it prints no help
 pub without_task : (A G : Type 0) (writes : Writing) (held : List ℕ → Option (List ℕ)) (input : Option (List ℕ)) (words : List Text) (e : Error) (s : Status) (before after : Option (List ℕ)) → HasKind (faults words) e → (s ≡ Usage → IsMistake (kind_of e)) → (kind_of e ≡ OutOfMemory → s ≡ Refused) → ((s ≡ Done) ⊎ (s ≡ Device) → (kind_of e ≡ DisplayHelp) ⊎ (kind_of e ≡ DisplayVersion)) → (s ≡ Refused → after ≡ before) → (s ≡ Done → ⊥) → EndsAs A G writes held input words s before after
 without_task A G writes held input words e Done before after has mistake memory help silent other = absurd (other refl)
 without_task A G writes held input words e Refused before after has mistake memory help silent other = (Fails fault.ScriptOutOfMemory, refl, inl (inl (refl, silent refl)))

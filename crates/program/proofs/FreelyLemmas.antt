@@ -64,7 +64,7 @@ pub of_both : {T E : Type 0} (r : Result T E) (P Q R : T → Type 0) → ((x : T
 of_both (Ok x) P Q R f p q = f x p q
 of_both (Err e) P Q R f p q = p
 
--- sessions of which each has ended print what all tell
+-- where each session has ended well, the joined text is what is printed of all sessions
 pub all_printed : {A X V F : Type 0} (writes : Writing) (o : Opening A) (most : ℕ) (ls : List (Line A)) (xs ys : List X) (items : V → List ℕ) (pass : X → Known A) (lines : X → List (Line A)) (told : X → Result V F) (s : ℕ) (t : List ℕ) → length ys ≡ length xs → ((i : ℕ) (d : X) → i < length xs → IfOk (told (get_or ys i d)) (λ v. HasPlayed writes o most (lines (get_or xs i d)) (pass (get_or xs i d)) (items v) (pass (get_or ys i d)))) → ((k : ℕ) (p : Known A) → slice_get (map pass xs) k ≡ Some p → p ≡ fresh (s + k)) → All (λ x. lines x ≡ ls) xs → AreJoined items (map told ys) t → ArePrinted writes o most ls s (map pass ys) t
 all_printed writes o most ls [] [] items pass lines told s t e each new same joined = joined
 all_printed writes o most ls [] (y ∷ ys) items pass lines told s t e each new same joined = absurd (omega (arith, e))
@@ -98,7 +98,7 @@ one_ends o most ls (x ∷ xs) [] lines told f e each same none = absurd none
 one_ends o most ls (x ∷ xs) (y ∷ ys) lines told f e each same (inl is) = subst (λ l. SessionsEnd o most l f) (same 0 x (omega arith)) (IfErr-at_err (λ g. SessionsEnd o most (lines x) g) is (each 0 x (omega arith)))
 one_ends o most ls (x ∷ xs) (y ∷ ys) lines told f e each same (inr more) = one_ends o most ls xs ys lines told f (omega (arith, e)) (λ i d lt. each (suc i) d (omega (arith, lt))) (λ k d lt. same (suc k) d (omega (arith, lt))) more
 
--- the same, where memory may have been refused too
+-- the fault by which one of the sessions has stopped, or out of memory, ends the sessions
 pub these_end : {A X V : Type 0} (o : Opening A) (most : ℕ) (ls : List (Line A)) (xs ys : List X) (lines : X → List (Line A)) (told : X → Result V Fault) (f : Fault) → length ys ≡ length xs → ((i : ℕ) (d : X) → i < length xs → IfErr (told (get_or ys i d)) (λ g. SessionsEnd o most (lines (get_or xs i d)) g)) → All (λ x. lines x ≡ ls) xs → (f ≡ fault.ScriptOutOfMemory) ⊎ IsFaultOf f (map told ys) → SessionsEnd o most ls f
 these_end o most ls xs ys lines told f e each same (inl memory) = inl memory
 these_end o most ls xs ys lines told f e each same (inr stopped) = one_ends o most ls xs ys lines told f e each same stopped

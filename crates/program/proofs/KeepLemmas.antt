@@ -29,6 +29,6 @@ module _ {A : Type 0} where
   dump_ends writes h s path d f g dumped at (inl memory) = inl memory
   dump_ends writes h s path d f g dumped at (inr device) = inr (subst (IsFileFault path) (sym device.0) at, subst (λ z. IsDumpedAt writes h s path z) device.1 dumped)
 
-  -- what a dump came to, and what is told of it
+  -- the result of a dump, and what is printed of it
   pub dump_is_told : (writes : Writing) (h : Recorded A) (s t : ℕ) (path text : List ℕ) (d : Result (Unit {0}) BackupFault) → t ≡ s → IsDumpedAt writes h t path d → dump_text s d ≡ Some text → TellsDumpAt writes h s path text
   dump_is_told writes h s t path text d same dumped told = (d, subst (λ n. IsDumpedAt writes h n path d) same dumped, told)

@@ -7,7 +7,7 @@ module _ {H S : Type 0} where
   pub done_none : (does : H → S → H → List ℕ → Type 0) (h : H) → AreDone does h [] h []
   done_none does h = (refl, refl)
 
-  -- one more step was done behind the others
+  -- one more step was done after the others
   pub done_more : (does : H → S → H → List ℕ → Type 0) (h m k : H) (xs : List S) (x : S) (t u : List ℕ) → AreDone does h xs m t → does m x k u → AreDone does h (xs ++ x ∷ []) k (t ++ u)
   done_more does h m k [] x t u done step =
       let from : does h x k u = subst (λ (w : H). does w x k u) done.0 step in

@@ -26,7 +26,7 @@ pub no_script : (A : Type 0) (way : Schedule) (known : Option (List ℕ)) (path 
 no_script A way known path bytes text line all same (inl e) = inr (inl (ap script_fault e))
 no_script A way known path bytes text line all same (inr e) = inr (inr (bytes, line, all, subst (λ b. said {A = A} way b ≡ Err line) same e, refl))
 
--- a restore's dump was read, and not written again or not told
+-- a restore read its dump, but did not write it again, or did not print what it read
 pub unwritten : (A : Type 0) (known : Option (List ℕ)) (path out : List ℕ) (f : Fault) (q : Printed) → (f ≡ fault.DumpOutOfMemory) ⊎ IsFileFault out f ⊎ IsUnprinted f q → IsUnrestored A known path out f q
 unwritten A known path out f q (inl e) = inl (inr (inr e))
 unwritten A known path out f q (inr e) = inr e
@@ -44,7 +44,7 @@ script_ends_freely held way s catalog opens lines f q created opened lined (inr 
 ))
 script_ends_freely held way s catalog opens lines f q created opened lined (inr (inr e)) = inr (inr e)
 
--- the sessions of a script were ended, and what they have told wasn't printed
+-- the sessions of a script were ended, and their output wasn't printed
 pub printing_ends : {A : Type 0} (held : List ℕ → Option (List ℕ)) (way : FreeWay) (s : Said A) (c : Catalog) (X : Tables A) (f : Fault) (q : Printed) → BeginsWith held s.opens s.catalog c X → (f ≡ fault.ScriptOutOfMemory) ⊎ IsUnprinted f q → ScriptEndsFreely held way s f q
 printing_ends held way s c X f q begins (inl e) = inr (inl (c, X, begins, inl e))
 printing_ends held way s c X f q begins (inr e) = inr (inr e)

@@ -1,4 +1,4 @@
--- What a command line asks for (this project's own choice). To clap a command's rows are its arguments, with their values.
+-- What a command line asks for. To clap a command's rows are its arguments, with their values.
 use Rattle.std.specs.Prelude.{◌≡◌, ◌≢◌, ◌⊎◌, ◌^◌, ◌<◌, ◌≤◌, ℕ, not, true, false, List, [], ◌∷◌, Option, Some, None, codes, unwrap_or}
 use Rattle.std.specs.Str.Parse.{IsNumeral, digits_value, without_leading_plus}
 use Rattle.clap.specs.Words.{Row, Text, first_of, one_of, subcommand_of}
@@ -30,7 +30,7 @@ Writes may usual (Some text) n = (IsNumber may text × (n ≡ number_of text)) �
 abbrev pub WritesEvents : List Row → ℕ → Type 0
 WritesEvents rows = Writes (λ n. n < 2 ^ 32) 100000 (one_of (codes "events") rows)
 
--- there may be so many workers
+-- a restore may have n workers
 abbrev pub MayWork : ℕ → Type 0
 MayWork n = (1 ≤ n) × (n ≤ 64)
 

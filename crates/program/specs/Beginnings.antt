@@ -1,4 +1,4 @@
--- What a script begins with, and why it doesn't begin (this project's own choice).
+-- What a script begins with, and why it doesn't begin.
 use Rattle.std.specs.Prelude.{◌≡◌, ◌⊎◌, ℕ, List, Option, Some, None, Ok, Err}
 use Rattle.schema.specs.Definition.{Catalog}
 use Rattle.schema.specs.Inserting.{empty_tables}

@@ -1,4 +1,4 @@
--- The command line (this project's own choice), in the words of clap: `run SCRIPT [--events N] [--free [--no-check]]`, `audit SCRIPT [--events N]`, `--version` and `restore DUMP [--jobs N] --out FILE`.
+-- The command line, in the words of clap: `run SCRIPT [--events N] [--free [--no-check]]`, `audit SCRIPT [--events N]`, `--version` and `restore DUMP [--jobs N] --out FILE`.
 use Rattle.std.specs.Prelude.{◌≡◌, ◌≢◌, ◌&&◌, Bool, not, true, false, List, [], ◌∷◌, Option, Some, None, pos, codes, if◌then◌else◌}
 use Rattle.std.specs.Str.{bytes_eq}
 use Rattle.clap.specs.Kinds.{or_else}
@@ -67,7 +67,7 @@ is_yes (Some text) = bytes_eq text (codes "true")
 abbrev pub is_set : Text → List Row → Bool
 is_set id rows = is_yes (first_of id rows)
 
--- a command is told to leave out the check of sessions that run freely, and not to run them so
+-- a command has `--no-check`, which leaves out a check of `--free`, and has no `--free`
 abbrev pub lacks_free : Option (Text × List Row) → Bool
 lacks_free None = false
 lacks_free (Some command) = is_set (codes "no-check") command.1 && not (is_set (codes "free") command.1)

@@ -1,4 +1,4 @@
--- What comes of a dump that a script asks for, and what is printed of it (this project's own choice).
+-- The result of a dump that a script asks for, and what is printed of it.
 use Rattle.std.specs.Prelude.{◌≡◌, ◌⊎◌, ℕ, List, [], Option, Some, None, Result, Ok, Err}
 use Rattle.value.specs.Refusals.{AnswersOrNoMemory, out_of_memory}
 use Rattle.statement.specs.declared.reply.Reply.TheVariants.{Refused}
@@ -18,14 +18,14 @@ dump_text s (Err (Dump Memory)) = Some (reply_text {A = Unit {0}} s (Refused out
 dump_text s (Err (Dump Device)) = None
 
 module _ {A : Type 0} where
-  -- Session s asked for a dump after the history h, to an empty file: it is whole, or the session may view no tables, or the file failed, before it had taken all or when it was to be kept. Memory may be wanting for it at any time.
+  -- Session s asked for a dump after the history h, to an empty file: it is whole, or the session may view no tables, or the file failed, before it had taken all or when it was to be kept. Memory may run out at any time.
   abbrev pub IsDumped : Recorded A → ℕ → Result (Unit {0}) BackupFault → Type 0
   IsDumped h s (Ok done) = (written : List ℕ) × IsWhole h s [] written
   IsDumped h s (Err (View e)) = AnswersOrNoMemory (Err e) (viewed h s)
   IsDumped h s (Err (Dump Memory)) = Unit {0}
   IsDumped h s (Err (Dump Device)) = ((written : List ℕ) × (failures : ℕ) × IsNone h s [] 0 (Dump Device) written failures) ⊎ ((written : List ℕ) × IsWhole h s [] written)
 
-  -- The same of a dump to the file of a path: where it is done, the whole of it was written there.
+  -- The result of a dump to the file of a path. If the dump is done, the whole of it was written there.
   abbrev pub IsDumpedAt : Writing → Recorded A → ℕ → List ℕ → Result (Unit {0}) BackupFault → Type 0
   IsDumpedAt writes h s path (Ok done) = (written : List ℕ) × IsWhole h s [] written × writes path written
   IsDumpedAt writes h s path (Err e) = IsDumped h s (Err e)

@@ -1,4 +1,4 @@
--- How the program ends (this project's own choice).
+-- How the program ends.
 use Rattle.std.specs.Prelude.{◌≡◌, ◌==◌, ℕ, Result, Ok, Err, if◌then◌else◌}
 use Rattle.restore.specs.declared.error.RestoreFault.{RestoreFault}
 use Rattle.program.specs.declared.fault.Fault.{Fault}
@@ -25,7 +25,7 @@ status fault.DumpOutOfMemory = Refused
 abbrev pub script_fault : ℕ → Fault
 script_fault line = if line == 0 then fault.ScriptOutOfMemory else fault.Script line
 
--- the same of a dump's, with its code
+-- the fault of a dump, with its code: its first faulty line, or out of memory
 abbrev pub dump_fault : RestoreFault → Fault
 dump_fault f = if f.line == 0 then fault.DumpOutOfMemory else fault.Dump f.line f.code
 

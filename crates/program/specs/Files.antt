@@ -1,4 +1,4 @@
--- What is read of paths, and what is written to them (this project's own choice).
+-- What is read of paths, and what is written to them.
 use Rattle.std.specs.Prelude.{◌≡◌, ℕ, List, [], Option, codes, if◌then◌else◌, IfSome}
 use Rattle.std.specs.Str.{bytes_eq}
 use Rattle.program.specs.declared.fault.Fault.{Fault}

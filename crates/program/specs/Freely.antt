@@ -1,4 +1,4 @@
--- What the lines of sessions do that run freely, each on its thread, and what is printed of them (this project's own choice).
+-- What the lines of sessions do that run freely, each on its thread, and what is printed of them.
 use Rattle.std.specs.Prelude.{◌≡◌, ◌≢◌, ◌≤◌, ◌⊎◌, ◌++◌, [], ◌∷◌, ℕ, suc, Bool, true, false, List, length, slice_get, All, Option, Some, Result, Ok, Err}
 use Rattle.schema.specs.Definition.{Catalog}
 use Rattle.schema.specs.declared.tables.Tables.{Tables}
@@ -18,7 +18,7 @@ use Rattle.script.specs.declared.script.Step.TheVariants as step
 use Rattle.script.specs.declared.schedule.Schedule.TheVariants.{Free}
 use Rattle.script.specs.Printing.{reply_text}
 use Rattle.script.specs.Scripts.{Said, said}
-use Rattle.ordering.specs.Orders.{check_line}
+use Rattle.audit.specs.Orders.{check_line}
 use Rattle.program.specs.Beginnings.{BeginsWith}
 use Rattle.program.specs.Dumps.{TellsDumpAt}
 use Rattle.program.specs.Files.{IsAllOf, Writing, read_of}
@@ -33,7 +33,7 @@ abbrev pub IsFaultOf : {V F : Type 0} → F → List (Result V F) → Type 0
 IsFaultOf f [] = ⊥
 IsFaultOf f (r ∷ rs) = (r ≡ Err f) ⊎ IsFaultOf f rs
 
--- Nobody has stopped, and the text is what all have told, one after the other.
+-- No session has stopped, and the text is what is printed of each session, one after the other.
 abbrev pub AreJoined : {V F : Type 0} → (V → List ℕ) → List (Result V F) → List ℕ → Type 0
 AreJoined items [] text = text ≡ []
 AreJoined items (Ok v ∷ rs) text = (rest : List ℕ) × AreJoined items rs rest × (text ≡ items v ++ rest)
@@ -58,7 +58,7 @@ module _ {A : Type 0} where
   abbrev pub IsCallTold : Opening A → ℕ → Known A → Request A → List ℕ → Known A → Type 0
   IsCallTold o most p a text q = (r : Reply A) × IsCall most p (asked o.catalog a) r q × (text ≡ reply_text p.session r)
 
-  -- the same of WAIT, which polls
+  -- The text is what is printed of the answer to WAIT, which polls; by that the pass, which knew p, came to know q.
   abbrev pub IsWaitTold : ℕ → Known A → List ℕ → Known A → Type 0
   IsWaitTold most p text q = (r : Reply A) × HasPolled most p r q × (text ≡ reply_text p.session r)
 
@@ -72,7 +72,7 @@ module _ {A : Type 0} where
   IsTold writes o most p (command.Ask a) text q = IsCallTold o most p a text q
   IsTold writes o most p command.Wait text q = IsWaitTold most p text q
 
-  -- The same of a line of the script: only a line of the pass's own session does anything.
+  -- A line of the script changes what the pass p knows to q, and prints the text. Only a line of the pass's own session does anything.
   abbrev pub IsAtLine : Writing → Opening A → ℕ → Step A → Known A → List ℕ → Known A → Type 0
   IsAtLine writes o most (step.Session s k) p text q = ((s ≡ p.session) × IsTold writes o most p k text q) ⊎ ((s ≢ p.session) × (text ≡ []) × (q ≡ p))
   IsAtLine writes o most step.Checkpoint p text q = (text ≡ []) × (q ≡ p)
@@ -82,7 +82,7 @@ module _ {A : Type 0} where
   AreTold writes o most [] p text q = (text ≡ []) × (q ≡ p)
   AreTold writes o most (l ∷ ls) p text q = (middle : Known A) × (first rest : List ℕ) × IsAtLine writes o most l.step p first middle × AreTold writes o most ls middle rest q × (text ≡ first ++ rest)
 
-  -- The text is what is printed of the lines. Behind the last one the session has left: a transaction that it had open was rolled back, and of that nothing is printed.
+  -- The text is what is printed of the lines. After the last one the session has left: a transaction that it had open was rolled back, and of that nothing is printed.
   unfoldable pub HasPlayed : Writing → Opening A → ℕ → List (Line A) → Known A → List ℕ → Known A → Type 0
   HasPlayed writes o most ls p text q = (middle : Known A) × AreTold writes o most ls p text middle × HasLeft o most middle q
 
@@ -95,7 +95,7 @@ module _ {A : Type 0} where
   ArePrinted writes o most ls s [] text = text ≡ []
   ArePrinted writes o most ls s (q ∷ qs) text = (first rest : List ℕ) × HasPlayed writes o most ls (fresh s) first q × ArePrinted writes o most ls (suc s) qs rest × (text ≡ first ++ rest)
 
-  -- The text is what is printed of the lines that sessions 1, 2, .. did, and, where that is checked, that the serial order is one. Each line is of one of them. There is one legal history of this opening, with room for so many events: it begins with what each session has seen, and has of it just what it did.
+  -- The text is what is printed of the lines that sessions 1, 2, .. did, and, where that is checked, that the serial order is one. Each line is of one of them. There is one legal history of this opening, with room for this number of events: it begins with what each session has seen, and of each session it has exactly what that session did.
   pub record AreServed (writes : Writing) (o : Opening A) (most : ℕ) (is_checked : Bool) (ls : List (Line A)) (text : List ℕ) : Type 0 where
     pub history : Recorded A
     pub passes : List (Known A)
@@ -112,7 +112,7 @@ module _ {A : Type 0} where
   abbrev pub SessionsHaveRun : Writing → Opening A → FreeWay → List (Line A) → Printed → Printed → Type 0
   SessionsHaveRun writes o way ls p q = (text : List ℕ) × AreServed writes o way.most_events way.is_checked ls text × Adds p q text × IsFlushed q
 
-  -- the same of the sessions of a script, from its tables on
+  -- The text is what is printed of the sessions of a script, which began with its tables.
   abbrev pub ScriptHasRunFreely : Writing → (List ℕ → Option (List ℕ)) → FreeWay → Said A → Printed → Printed → Type 0
   ScriptHasRunFreely writes held way s p q = (c : Catalog) × (X : Tables A) × BeginsWith held s.opens s.catalog c X
       × SessionsHaveRun writes (record { catalog = c; tables = X; base = zero_base }) way s.lines p q

@@ -1,4 +1,4 @@
--- What has been done where the program ends with 0, and why it ends otherwise (this project's own choice).
+-- What has been done where the program ends with 0, and why it ends otherwise.
 use Rattle.std.specs.Prelude.{◌≡◌, ◌⊎◌, ℕ, List, Option, codes}
 use Rattle.clap.specs.Words.{IsAmong, Kinds, Text}
 use Rattle.clap.specs.declared.error.ErrorKind.TheVariants.{DisplayHelp, DisplayVersion}
@@ -18,13 +18,13 @@ use Rattle.program.specs.declared.fault.Status.TheVariants.{Usage}
 use Rattle.program.specs.declared.task.Task.{Task}
 use Rattle.program.specs.declared.task.Task.TheVariants as task
 
--- A task was done, and what it tells was printed: the lines of a script, one after the other, or by its sessions freely, whose memory is of type G; or a dump was read, and written to a file again.
+-- A task was done, and its output was printed. It did the lines of a script, one after the other, or by its sessions freely, whose memory is of type G; or it read a dump, and wrote it to a file again.
 abbrev pub HasDoneTask : (A G : Type 0) → Writing → (List ℕ → Option (List ℕ)) → Option (List ℕ) → Task → Printed → Printed → Type 0
 HasDoneTask A G writes held input (task.Run path way) p q = PathHasRun A writes held input way path.now p q
 HasDoneTask A G writes held input (task.Free path way) p q = PathHasRunFreely G writes held input way path.now p q
 HasDoneTask A G writes held input (task.Restore dump jobs out) p q = IsRestored A writes held input dump.now out.now p q
 
--- the same, where standard output had this and has that
+-- A task was done, where standard output had this before and has that after it.
 abbrev pub IsDoneOn : (A G : Type 0) → Writing → (List ℕ → Option (List ℕ)) → Option (List ℕ) → Task → Option (List ℕ) → Option (List ℕ) → Type 0
 IsDoneOn A G writes held input r before after = (stream : ℕ) × (q : Printed) × HasDoneTask A G writes held input r (unprinted stream before) q × (q.out ≡ after)
 
@@ -61,10 +61,10 @@ abbrev pub IsUndone : (A G : Type 0) → Writing → (List ℕ → Option (List 
 IsUndone A G writes held input words Mistaken before after = MayBeMistaken (faults words)
 IsUndone A G writes held input words (Fails f) before after = IsWithoutTask words f before after ⊎ ((r : Task) × AsksFor (command_of words) r × IsStoppedOn A G writes held input r f before after)
 
--- the same, with this status
+-- what the words ask for wasn't done, and the program ends with this status
 abbrev pub EndsAs : (A G : Type 0) → Writing → (List ℕ → Option (List ℕ)) → Option (List ℕ) → List Text → Status → Option (List ℕ) → Option (List ℕ) → Type 0
 EndsAs A G writes held input words s before after = (e : Ending) × (s ≡ status_of e) × IsUndone A G writes held input words e before after
 
--- the same, with this exit status
+-- what the words ask for wasn't done, and the program ends with this exit status
 abbrev pub HasEnded : (A G : Type 0) → Writing → (List ℕ → Option (List ℕ)) → Option (List ℕ) → List Text → ℕ → Option (List ℕ) → Option (List ℕ) → Type 0
 HasEnded A G writes held input words n before after = (e : Ending) × (n ≡ code (status_of e)) × IsUndone A G writes held input words e before after

@@ -17,11 +17,11 @@ unprinted stream out = record { stream = stream; out = out; held = []; failed = 
 abbrev pub all : Printed → Option (List ℕ)
 all p = append_known p.out p.held
 
--- This text was printed behind all before, and nothing has failed in between.
+-- This text was printed after all before, and nothing has failed in between.
 abbrev pub Adds : Printed → Printed → List ℕ → Type 0
 Adds p q text = (q.stream ≡ p.stream) × (q.failed ≡ p.failed) × Appends (all p) (all q) text
 
--- This text was printed behind all before; or the stream has failed.
+-- This text was printed after all before; or the stream has failed.
 abbrev pub Prints : Printed → Printed → List ℕ → Type 0
 Prints p q text = (q.stream ≡ p.stream) × (p.failed ≡ true → q.failed ≡ true) × ((q.failed ≡ true) ⊎ Appends (all p) (all q) text)
 

@@ -1,4 +1,4 @@
--- What `restore` comes to, and what it prints (this project's own format).
+-- The result of `restore`, and what it prints.
 use Rattle.std.specs.Prelude.{◌≡◌, ℕ, ◌^◌, ◌-◌, List, ◌++◌, Option, Ok, codes, length, min}
 use Rattle.std.specs.Fmt.{decimal}
 use Rattle.std.specs.List.{sum_by}

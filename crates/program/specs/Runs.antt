@@ -1,4 +1,4 @@
--- What the lines of a script do, one after the other, and what is printed of them (this project's own choice).
+-- What the lines of a script do, one after the other, and what is printed of them.
 use Rattle.std.specs.Prelude.{◌≡◌, ◌⊎◌, ℕ, true, List, [], ◌++◌, Option, Some, None, Ok, Err, codes, slice_get, take}
 use Rattle.value.specs.declared.refusal.Refusal.{Refusal}
 use Rattle.value.specs.Codes.{sqlstate}
@@ -21,7 +21,7 @@ use Rattle.script.specs.Scripts.{Said, said}
 use Rattle.program.specs.Beginnings.{BeginsWith, IsUnbegun}
 use Rattle.program.specs.Dumps.{IsDumped, TellsDumpAt}
 use Rattle.program.specs.Files.{IsAllOf, IsFileFault, Writing, read_of}
-use Rattle.ordering.specs.Orders.{check_line, order_lines}
+use Rattle.audit.specs.Orders.{check_line, order_lines}
 use Rattle.program.specs.Printed.{Adds, IsFlushed, Printed, Prints}
 use Rattle.program.specs.Steps.{AreDone}
 use Rattle.program.specs.declared.fault.Fault.{Fault}
@@ -39,7 +39,7 @@ shown_text Order text = []
 abbrev pub refused_text : Refusal → List ℕ
 refused_text e = codes "ERROR " ++ sqlstate e.code ++ codes "\n"
 
--- what is told of a checkpoint: that it is done, or its refusal
+-- what is printed of a checkpoint: that it is done, or its refusal
 abbrev pub told_of_checkpoint : Option Refusal → List ℕ
 told_of_checkpoint None = codes "CHECKPOINT\n"
 told_of_checkpoint (Some e) = refused_text e
@@ -56,18 +56,18 @@ module _ {A : Type 0} where
   order_text Replies h = []
   order_text Order h = order_lines (world h) ++ check_line true
 
-  -- The history h goes on, as k, from the tables that it has come to; or that is refused, and k is h.
+  -- The history h goes on, as k, from the tables that it leaves; or that is refused, and k is h.
   abbrev pub Checkpoints : ℕ → Recorded A → Recorded A → Option Refusal → Type 0
   Checkpoints most h k None = IsCheckpoint h most (Ok k)
   Checkpoints most h k (Some e) = IsCheckpoint h most (Err (k, e))
 
-  -- What is told of a command of session s, by which h has become k: what came of a dump to its path, which is no event; else the reply to its event, of WAIT that to a POLL.
+  -- What is printed of a command of session s that takes h to k. For a dump, which is no event, it is the result of the dump to its path. Else it is the reply to the command's event; for WAIT, the reply to a POLL.
   abbrev pub TellsCommandAt : Writing → Recorded A → Recorded A → ℕ → Command A → List ℕ → Type 0
   TellsCommandAt writes h k s (command.Dump request) text = (k ≡ h) × TellsDumpAt writes h s request.path text
   TellsCommandAt writes h k s (command.Ask request) text = Tells h k s request text
   TellsCommandAt writes h k s command.Wait text = Tells h k s ask.Poll text
 
-  -- the same, and what is printed of it
+  -- A command of session s took h to k, and the text is what is printed of it.
   abbrev pub IsAnswered : Writing → Way → Recorded A → ℕ → Command A → Recorded A → List ℕ → Type 0
   IsAnswered writes way h s c k text = (told : List ℕ) × TellsCommandAt writes h k s c told × (text ≡ shown_text way.shown told)
 
@@ -80,12 +80,12 @@ module _ {A : Type 0} where
   IsDone writes way h (Session s c) k text = IsAnswered writes way h s c k text
   IsDone writes way h Checkpoint k text = IsPassed way h k text
 
-  -- Why a command of session s, after the history h, ends its script: memory was refused for what is told of it; or it is a dump, and its file has failed.
+  -- Why a command of session s, after the history h, ends its script: there was no memory for what is printed of it; or it is a dump, and its file has failed.
   abbrev pub EndsBy : Recorded A → ℕ → Command A → Fault → Type 0
   EndsBy h s (command.Dump request) f = (f ≡ fault.ScriptOutOfMemory) ⊎ (IsFileFault request.path f × IsDumped h s (Err (Dump Device)))
   EndsBy h s c f = f ≡ fault.ScriptOutOfMemory
 
-  -- the same of a step
+  -- why a step, after the history h, ends its script
   abbrev pub Stops : Recorded A → Step A → Fault → Type 0
   Stops h (Session s c) f = EndsBy h s c f
   Stops h Checkpoint f = f ≡ fault.ScriptOutOfMemory
@@ -94,11 +94,11 @@ module _ {A : Type 0} where
   abbrev pub LinesAreDone : Writing → Way → Recorded A → List (Line A) → Recorded A → List ℕ → Type 0
   LinesAreDone writes way = AreDone (λ h line k text. IsDone writes way h line.step k text)
 
-  -- All lines were done, and what is to be printed of them was printed, with the serial order behind it where that is shown.
+  -- All lines were done, and what is to be printed of them was printed, followed by the serial order where that is shown.
   abbrev pub HasRun : Writing → Way → Recorded A → List (Line A) → Printed → Printed → Type 0
   HasRun writes way h lines p q = (k : Recorded A) × (text : List ℕ) × LinesAreDone writes way h lines k text × Adds p q (text ++ order_text way.shown k)
 
-  -- standard output has failed, or the step behind n lines ends the script, after the history k
+  -- standard output has failed, or the step after n lines ends the script, after the history k
   abbrev pub IsDeviceAt : Recorded A → List (Line A) → ℕ → Fault → Printed → Type 0
   IsDeviceAt k lines n f q = (IsFileFault (codes "-") f × (q.failed ≡ true)) ⊎ ((line : Line A) × (slice_get lines n ≡ Some line) × Stops k line.step f)
 
@@ -110,7 +110,7 @@ module _ {A : Type 0} where
   abbrev pub HasStopped : Writing → Way → Recorded A → List (Line A) → Fault → Printed → Printed → Type 0
   HasStopped writes way h lines f p q = (n : ℕ) × (k : Recorded A) × (text : List ℕ) × LinesAreDone writes way h (take n lines) k text × Prints p q text × EndsAt k lines n f q
 
-  -- the history of some tables before any event, with room for so many
+  -- the history of some tables before any event, with room for `most` events
   abbrev pub begun : Catalog → Tables A → ℕ → Recorded A
   begun c X most = record { opening = record { catalog = c; tables = X; base = zero_base }; records = []; most = most }
 

@@ -1,4 +1,4 @@
--- Why a task isn't done, and what it has printed by then (this project's own choice).
+-- Why a task isn't done, and what it has printed by then.
 use Rattle.std.specs.Prelude.{◌≡◌, ◌⊎◌, ℕ, true, List, [], Option, Ok, Err, codes}
 use Rattle.schema.specs.Definition.{Catalog}
 use Rattle.schema.specs.declared.tables.Tables.{Tables}
@@ -19,7 +19,7 @@ use Rattle.program.specs.declared.run.Way.{Way}
 use Rattle.program.specs.declared.task.Task.{Task}
 use Rattle.program.specs.declared.task.Task.TheVariants as task
 
--- No script was read of a path, of which this is known: its file has failed, or it was out of memory, or what it has is none, told by its first faulty line.
+-- No script was read of a path, of which this is known. Its file has failed, or it was out of memory, or its text is no script: the fault then has the number of the first faulty line.
 abbrev pub IsNoScript : (A : Type 0) → Schedule → Option (List ℕ) → List ℕ → Fault → Type 0
 IsNoScript A way known path f = IsFileFault path f ⊎ (f ≡ fault.ScriptOutOfMemory) ⊎ ((bytes : List ℕ) × (n : ℕ) × IsAllOf known bytes × (said {A = A} way bytes ≡ Err n) × (f ≡ script_fault n))
 
@@ -33,13 +33,13 @@ abbrev pub IsUnprinted : Fault → Printed → Type 0
 IsUnprinted f q = IsFileFault (codes "-") f × (q.failed ≡ true)
 
 module _ {A : Type 0} where
-  -- Why the sessions of a script haven't come to their end: its tables weren't opened; or this has ended the sessions, from its tables on; or standard output has failed.
+  -- Why the sessions of a script haven't finished: its tables weren't opened; or this fault ended the sessions, which began with its tables; or standard output has failed.
   abbrev pub ScriptEndsFreely : (List ℕ → Option (List ℕ)) → FreeWay → Said A → Fault → Printed → Type 0
   ScriptEndsFreely held way s f q = IsUnopened A held s.opens f
       ⊎ ((c : Catalog) × (X : Tables A) × BeginsWith held s.opens s.catalog c X × SessionsEnd (record { catalog = c; tables = X; base = zero_base }) way.most_events s.lines f)
       ⊎ IsUnprinted f q
 
--- No script was read of a path; or the sessions of the script that it says haven't come to their end.
+-- No script was read of a path; or the sessions of the script that it says haven't finished.
 abbrev pub PathEndsFreely : (A : Type 0) → (List ℕ → Option (List ℕ)) → Option (List ℕ) → FreeWay → List ℕ → Fault → Printed → Type 0
 PathEndsFreely A held input way path f q = IsNoScript A Free (read_of held input path) path f
     ⊎ ((bytes : List ℕ) × (s : Said A) × IsAllOf (read_of held input path) bytes × (said Free bytes ≡ Ok s) × ScriptEndsFreely held way s f q)

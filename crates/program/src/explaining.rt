@@ -1,4 +1,4 @@
-//! What is told of a refused script or dump behind its first line, for a person.
+//! Explains a refused script or dump to a person, after the first line of its report.
 
 ghost use Rattle.std.specs.Prelude.{◌≡◌, ◌≢◌};
 ghost use Rattle.program.specs.Ends as spec;
@@ -12,7 +12,7 @@ use std::alloc::Allocator;
 use std::io::Write;
 use value::refusal::TxnNo;
 
-/// Tells the first faulty line of a script, and why it is refused.
+/// Reports the first faulty line of a script, and why it is refused.
 pub(crate) fn tell_line<A: Allocator + Copy, E: Write>(
     alloc: A,
     schedule: Schedule,
@@ -33,15 +33,16 @@ pub(crate) fn tell_line<A: Allocator + Copy, E: Write>(
     status
 }
 
-// Whether memory holds so many events.
-fn holds_events<A: Allocator + Copy>(alloc: A, most_events: u32) -> bool {
+/// Whether memory holds `most_events` events, with what a serial order of them takes. It only decides how the program
+/// reports that it is out of memory.
+pub fn holds_events<A: Allocator + Copy>(alloc: A, most_events: u32) -> bool {
     let records = Vec::<Record<A>, A>::with_capacity(alloc, most_events as usize);
     let keys = Vec::<(TxnNo, SerialKey), A>::with_capacity(alloc, most_events as usize);
     records.is_ok() && keys.is_ok()
 }
 
-/// How a script that was read has ended, with its fault told where there is one. Out of memory that hasn't room for so
-/// many events is told as that.
+/// How a script that was read has ended, with a report of its fault where there is one. Where memory has no room for
+/// the most events that the history may have, an out-of-memory report says so.
 pub(crate) fn end_script<A: Allocator + Copy, E: Write>(
     alloc: A,
     most_events: u32,

@@ -10,7 +10,7 @@ use std::io::Write;
 use thiserror::Error;
 use value::refusal::Code;
 
-/// Why the program ends before its time, as it is told on standard error.
+/// Why the program ends before its time, as standard error reports it.
 #[derive(Debug, Drop, Error)]
 pub enum Fault<'p> {
     /// A line of the script.
@@ -22,7 +22,7 @@ pub enum Fault<'p> {
     /// A file or a standard stream that couldn't be read or written.
     #[error("device: {}", Shown(path))]
     Device { path: &'p str },
-    /// Out of memory for a script, for its tables or for what is told of its lines, or for the words of the command
+    /// Out of memory for a script, for its tables or for what is printed of its lines, or for the words of the command
     /// line.
     #[error("script line 0")]
     ScriptOutOfMemory,
@@ -59,7 +59,7 @@ impl Status {
 }
 
 impl<'p> Fault<'p> {
-    /// The first faulty line of a script, or out of memory, which its reader tells of line 0.
+    /// The first faulty line of a script; line 0 where its reader was out of memory.
     pub(crate) fn of_line(line: u64) -> Fault<'p>
         ensures { result ≡ spec.script_fault line }
     {
@@ -70,7 +70,7 @@ impl<'p> Fault<'p> {
         }
     }
 
-    /// The first faulty line of a dump, or out of memory, which its reader tells of line 0.
+    /// The first faulty line of a dump; line 0 where its reader was out of memory.
     pub(crate) fn of_dump(fault: RestoreFault) -> Fault<'p>
         ensures { result ≡ spec.dump_fault fault }
     {
@@ -84,7 +84,7 @@ impl<'p> Fault<'p> {
         }
     }
 
-    /// How the program ends for it.
+    /// How the program ends for this fault.
     pub fn status(&self) -> Status
         ensures kind { result ≡ spec.status self.now }
         ensures no_usage { result ≢ Status.Usage }
@@ -99,8 +99,8 @@ impl<'p> Fault<'p> {
     }
 }
 
-/// Tells a fault in a line, and in another that it is out of memory or what is wrong in a dump; and how the program
-/// ends for it.
+/// Reports a fault in a line, and in another that it is out of memory or what is wrong in a dump; and returns how the
+/// program ends for it.
 pub(crate) fn tell<E: Write>(fault: &Fault<'_>, err: &mut E) -> Status
     ensures kind { result ≡ spec.status fault.now }
     ensures no_usage { result ≢ Status.Usage }
@@ -114,7 +114,7 @@ pub(crate) fn tell<E: Write>(fault: &Fault<'_>, err: &mut E) -> Status
     fault.status()
 }
 
-/// How the program ends, with its fault told where there is one.
+/// How the program ends, with a report of its fault where there is one.
 pub(crate) fn end<E: Write>(done: Result<(), Fault<'_>>, err: &mut E) -> Status
     ensures kind { result ≡ spec.end done.entry }
     ensures no_usage { result ≢ Status.Usage }

@@ -1,4 +1,4 @@
-//! What is told of a faulty line of a dump, for a person.
+//! Explains a faulty line of a dump to a person.
 
 ghost use Rattle.std.specs.Prelude.{◌<◌, length};
 

@@ -13,13 +13,13 @@ pub const MOST_HELD: usize = 1 << 16;
 /// Why a file wasn't read.
 #[derive(Clone, Copy, Debug, PartialEq, Eq)]
 pub enum ReadError {
-    /// It isn't there, or can't be read.
+    /// The file isn't there, or can't be read.
     Device,
-    /// A growth was refused.
+    /// Out of memory.
     Memory,
 }
 
-/// What is written, and put in its place once all was written.
+/// A file that is written, and put in its place once all was written.
 pub trait Placed: Device {
     ghost use Rattle.std.specs.Prelude.{ℕ, List};
 
@@ -40,8 +40,8 @@ pub trait OutFile: Placed {
     ghost path: { Self → List ℕ };
 }
 
-/// What is told of files: what the file of a path has, and what standard input has, where that is known; and
-/// which files are written.
+/// What is known of files: what the file of a path has, and what standard input has, where that is known; and which
+/// files are written.
 pub trait Stored {
     ghost use Rattle.std.specs.Prelude.{ℕ, List, Option};
 
@@ -56,7 +56,7 @@ pub trait Stored {
         None
     }
 
-    /// How many bytes of what is printed are held back at most: 0 where somebody looks on.
+    /// How many bytes of what is printed are held back at most: 0 where a person reads along.
     fn most_held(&self) -> usize {
         MOST_HELD
     }

@@ -73,7 +73,7 @@ where
         print_whole(text.as_slice(), Fault::ScriptOutOfMemory, printer)
     }
 
-    // Does a script that was read, and tells why it isn't done where it isn't.
+    // Does a script that was read; reports why where it can't be finished.
     fn serve_script<W: Write, E: Write, A: Allocator>(
         &self,
         script: Script,
@@ -93,9 +93,8 @@ where
         end_script(self.alloc, way.most_events, done, err)
     }
 
-    /// Does the script of a path, or of standard input, with each session on a thread of its own. Prints
-    /// the replies, session by session, once all have ended, and tells on `err` why it isn't done where it
-    /// isn't.
+    /// Does the script of a path, or of standard input, with each session on a thread of its own. Prints the replies,
+    /// session by session, once all have ended. Where it can't be finished, reports why on `err`.
     pub(crate) fn run_free<W: Write, E: Write, A: Allocator>(
         &self,
         path: &str,

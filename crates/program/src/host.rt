@@ -67,7 +67,7 @@ fn error_of(error: &io::Error) -> ReadError {
     }
 }
 
-// All that a reader has left, where so many bytes are expected. What comes before it fails isn't that.
+// All that a reader has left, where `expected` bytes are expected. What comes before it fails isn't that.
 fn read_all<A: Allocator, R: Read>(
     alloc: A,
     reader: &mut R,
@@ -81,7 +81,7 @@ fn read_all<A: Allocator, R: Read>(
     }
 }
 
-// How many bytes a file is expected to have: as many as the system tells, which may be none.
+// How many bytes a file is expected to have: its length as the system reports it; 0 where it reports none.
 fn expected_of(file: &File) -> usize {
     match file.metadata() {
         Ok(found) => usize::try_from(found.len()).unwrap_or(0),

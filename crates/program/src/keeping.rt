@@ -8,7 +8,7 @@ use crate::files::Placed;
 use backup::BackupFault;
 use dumpworker::DumpFault;
 
-/// Keeps a file to which all was written; tells the failure of one of a path that can't be kept.
+/// Keeps a file to which all was written. Where it can't be kept, the fault names its path.
 pub(crate) fn keep_file<'p, O: Placed>(file: &mut O, path: &'p str) -> Result<(), Fault<'p>>
     requires sound { O.failures file.old ≡ 0 }
     ensures kept { OnOk result (O.kept file.new ≡ O.taken file.old) }

@@ -7,7 +7,7 @@ use crate::files::Placed;
 use collector::{Device, DeviceError};
 use http_server::Log;
 
-/// What opens a file in which nothing is.
+/// Opens an empty file.
 pub trait Opener {
     type Out: Placed + Drop;
 
@@ -28,7 +28,7 @@ pub struct LateFile<O: Opener> {
 }
 
 impl<O: Opener> LateFile<O> {
-    // Opens it, where it isn't open.
+    // Opens the file, unless it is open.
     fn open(&mut self)
         ensures taken { option_map_or O.Out.taken self.new.file [] ≡ option_map_or O.Out.taken self.old.file [] }
         ensures kept { option_map_or O.Out.kept self.new.file [] ≡ option_map_or O.Out.kept self.old.file [] }
@@ -40,7 +40,7 @@ impl<O: Opener> LateFile<O> {
         }
     }
 
-    /// It isn't opened yet.
+    /// A file that isn't opened yet.
     pub fn new(opener: O) -> LateFile<O>
         ensures opener { result.opener ≡ opener }
         ensures file { result.file ≡ None }

@@ -4,7 +4,7 @@
 
 pub mod arguments;
 mod dumping;
-mod explaining;
+pub mod explaining;
 mod fault;
 pub mod faulty;
 pub mod files;

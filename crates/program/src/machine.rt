@@ -1,4 +1,4 @@
-//! What a command is done with.
+//! The threads, the memory and the files of a command.
 
 ghost use Rattle.std.specs.Prelude.{◌≡◌};
 
@@ -16,7 +16,7 @@ pub struct Machine<'m, F, T, A> {
 }
 
 impl<'m, F, T, A> Machine<'m, F, T, A> {
-    /// The same, with another memory.
+    /// This machine's threads and files, with another memory.
     pub(crate) fn with_memory<B>(&self, alloc: B) -> Machine<'m, F, T, B>
         ensures { result.files.now ≡ self.now.files.now }
     {

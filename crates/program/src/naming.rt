@@ -18,7 +18,7 @@ pub struct NamingOutput<'r> {
     length: usize,
 }
 
-// What is told of a code.
+// The words that are added to a code.
 fn words_of(code: &str) -> &'static str {
     match code {
         "22003" => " (numeric_value_out_of_range: 64 bits don't hold it)",
@@ -46,12 +46,19 @@ fn words_of(code: &str) -> &'static str {
     }
 }
 
-// What is told of a line: of a refusal, with a session's number or without one.
+// Whether a word is a number, as of a session.
+fn is_number(word: &str) -> bool {
+    let digits = word.as_bytes();
+    !digits.is_empty() && digits.iter().all(|byte| byte.is_ascii_digit())
+}
+
+// The words for a line's refusal, with a session's number or without one. A row of a drawn table begins with a space.
 fn words_behind(line: &str) -> &'static str {
     let mut words = line.split(' ');
     let is_error = match words.next() {
         Some("ERROR") => true,
-        _ => words.next() == Some("ERROR"),
+        Some(word) => is_number(word) && words.next() == Some("ERROR"),
+        None => false,
     };
     match words.next() {
         Some(code) if is_error => words_of(code),
@@ -59,7 +66,7 @@ fn words_behind(line: &str) -> &'static str {
     }
 }
 
-// How many bytes of some are of their first line, with its newline.
+// How many bytes the first line of some bytes has, with its newline.
 fn line_length(bytes: &[u8]) -> usize
     ensures { result ≤ length bytes.now }
 {
@@ -90,7 +97,7 @@ impl<'r> NamingOutput<'r> {
         }
     }
 
-    // Writes the rest of a line, and what is told of it.
+    // Writes the rest of a line, with the words that are added to it.
     fn end_line(&mut self, rest: &[u8]) -> io::Result<()> {
         self.look_at(rest);
         let line = self.line.get(..self.length).unwrap_or(&[]);

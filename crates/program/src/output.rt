@@ -14,7 +14,7 @@ use std::marker::Model;
 pub(crate) enum PrintError {
     /// Standard output has failed.
     Device,
-    /// A growth was refused.
+    /// Out of memory.
     Memory,
 }
 
@@ -123,7 +123,7 @@ pub(crate) fn print_whole<'p, W: Write, A: Allocator>(
     }
 }
 
-/// How a fault of printing is told.
+/// The program's fault for a fault of printing.
 pub(crate) fn fault_of_print(error: PrintError) -> Fault<'static>
     ensures device { error ≡ PrintError.Device → IsFileFault (codes "-") result }
     ensures memory { error ≡ PrintError.Memory → result ≡ Fault.ScriptOutOfMemory }

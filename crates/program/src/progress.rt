@@ -1,4 +1,4 @@
-//! How far long work is, told on a terminal.
+//! How far long work is, shown on a terminal.
 
 use dumpplan::Gate;
 use std::io::IsTerminal;
@@ -11,6 +11,11 @@ const PAUSE: u64 = 100;
 // As many blanks as a line has bytes at most.
 const BLANKS: &str = "                                                            ";
 
+// Between these a terminal leaves out what is wider than itself, in place of going on in a further line (DECAWM).
+const UNWRAPPED: &str = "\x1b[?7l";
+
+const WRAPPED: &str = "\x1b[?7h";
+
 /// A stage of long work.
 #[derive(Clone, Copy, Debug, PartialEq, Eq)]
 pub enum Stage {
@@ -18,11 +23,11 @@ pub enum Stage {
     Reading,
     /// A dump is written.
     Writing,
-    /// So many schedules are run.
+    /// This number of schedules is run.
     Exploring(u64),
 }
 
-/// A line on standard error that tells how many pieces are done.
+/// A line on standard error that shows how many pieces are done.
 #[derive(Drop)]
 pub struct Line<'r> {
     rt: &'r HostRuntime,
@@ -34,7 +39,7 @@ pub struct Line<'r> {
 }
 
 impl<'r> Line<'r> {
-    // Whether it is to be shown now. Of threads that ask at once one is told so.
+    // Whether it is to be shown now. Of threads that ask at once only one gets a yes.
     fn is_due(&self) -> bool {
         let Ok(passed) = self.start.elapsed(self.rt) else {
             return false;
@@ -54,9 +59,15 @@ impl<'r> Line<'r> {
     // Shows how many pieces are done.
     fn show(&self, done: u64) {
         let shown = match self.stage {
-            Stage::Reading => eprint!(self.rt; "\r{done} pieces of up to 1000 rows read"),
-            Stage::Writing => eprint!(self.rt; "\r{done} pieces of up to 1000 rows written"),
-            Stage::Exploring(all) => eprint!(self.rt; "\r{done} of {all} schedules"),
+            Stage::Reading => {
+                eprint!(self.rt; "\r{UNWRAPPED}{done} pieces of up to 1000 rows read{WRAPPED}")
+            }
+            Stage::Writing => {
+                eprint!(self.rt; "\r{UNWRAPPED}{done} pieces of up to 1000 rows written{WRAPPED}")
+            }
+            Stage::Exploring(all) => {
+                eprint!(self.rt; "\r{UNWRAPPED}{done} of {all} schedules{WRAPPED}")
+            }
         };
         let _ = shown;
     }
@@ -72,7 +83,7 @@ impl<'r> Line<'r> {
     // Takes away what was shown.
     fn clear(&self) {
         if self.due.load(Ordering::SeqCst) > PAUSE {
-            let _ = eprint!(self.rt; "\r{BLANKS}\r");
+            let _ = eprint!(self.rt; "\r{UNWRAPPED}{BLANKS}{WRAPPED}\r");
         }
     }
 }

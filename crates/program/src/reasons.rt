@@ -23,7 +23,7 @@ fn number_of(kind: ErrorKind) -> u32 {
     }
 }
 
-// What is told of a number.
+// The words for a number.
 fn words_of(number: u32) -> Option<&'static str> {
     match number {
         1 => Some("no such file or folder"),
@@ -53,7 +53,7 @@ impl Drop for SystemErrors {
 }
 
 impl SystemErrors {
-    /// None so far.
+    /// No file was refused so far.
     pub fn none() -> SystemErrors {
         SystemErrors {
             number: AtomicU32::new(0),

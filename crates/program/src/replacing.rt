@@ -27,7 +27,7 @@ enum Way {
     InPlace,
 }
 
-// Where a new file lies, and whose place it takes.
+// Where a new file lies, and which file's place it takes.
 #[derive(Drop)]
 struct Part {
     path: String,
@@ -40,7 +40,7 @@ pub struct NewFile<'r, R: Files> {
     rt: &'r R,
     file: R::File,
     part: Option<Part>,
-    // Where it is told why it fails.
+    // Where it notes why it fails.
     errors: Option<&'r SystemErrors>,
     taken: Log<u8, ()>,
     failed: Log<(), ()>,
@@ -94,8 +94,8 @@ fn way_of<R: Files>(rt: &R, alloc: Global, path: &str) -> io::Result<Way> {
     }
 }
 
-// The n-th name for a new file in the folder of a target, of which nothing but its folder is in the name: a name
-// that is as long as names may be has a new file beside it, too. Nothing where the target has no name.
+// The n-th name for a new file in the folder of a target. Only the target's folder is part of it, so even a target with
+// the longest name that there may be has a new file beside it. None where the target has no name.
 fn part_path(
     alloc: Global,
     process: u32,
@@ -113,7 +113,7 @@ fn part_path(
     Ok(Some(path))
 }
 
-// A new file beside a target, under a name that nobody has.
+// A new file beside a target, under a name that no file has.
 fn create_part<R: Files>(
     rt: &R,
     alloc: Global,
@@ -151,8 +151,8 @@ impl<'r, R: Files> NewFile<'r, R> {
         }
     }
 
-    // A new file beside the one that is at a path, with the permissions of that. Whoever may not write that one
-    // may not replace it.
+    // A new file beside the one at a path, with that one's permissions. A process that may not write that one may not
+    // replace it.
     fn beside(
         rt: &'r R,
         alloc: Global,
@@ -171,8 +171,7 @@ impl<'r, R: Files> NewFile<'r, R> {
         Ok(made)
     }
 
-    /// A file for a path, in which nothing is. The number of the process is part of the name under which it is
-    /// written.
+    /// A file for a path, which is empty. The number of the process is part of the name under which it is written.
     pub fn open(rt: &'r R, alloc: Global, process: u32, path: &str) -> io::Result<NewFile<'r, R>>
         ensures taken { IfOk result (λ f. f.taken.items ≡ []) }
         ensures failed { IfOk result (λ f. f.failed.items ≡ []) }
@@ -191,7 +190,7 @@ impl<'r, R: Files> NewFile<'r, R> {
         }
     }
 
-    /// The same, which tells why it fails.
+    /// This file, which from now on notes in `errors` why it fails.
     pub(crate) fn telling(self, errors: &'r SystemErrors) -> NewFile<'r, R>
         ensures taken { result.taken ≡ self.entry.taken }
         ensures failed { result.failed ≡ self.entry.failed }
@@ -202,7 +201,7 @@ impl<'r, R: Files> NewFile<'r, R> {
         told
     }
 
-    // Tells why it has failed.
+    // Notes why it has failed.
     fn tell(&self, error: &io::Error) {
         if let Some(errors) = self.errors {
             errors.note(error.kind());

@@ -44,7 +44,7 @@ fn append<A: Allocator>(word: &str, number: u64, text: &mut Vec<u8, A>) -> Resul
     Ok(())
 }
 
-// So many, as a dump is asked for it.
+// How many rows a piece of a dump has.
 fn piece_rows() -> PieceRows
     ensures { result ≡ 1000 }
 {
@@ -82,7 +82,7 @@ fn told<A: Allocator>(
     Ok(text)
 }
 
-// Sound tables are as many as the catalog's. It does nothing.
+// A sound state has as many tables as its catalog. It does nothing.
 fn sound_tables_are_counted<A: Allocator>(_catalog: &Catalog<A>, _tables: &Tables<A>)
     requires { is_sound _catalog.now _tables.now ≡ true }
     ensures { length _tables.now ≡ length _catalog.now }
@@ -116,7 +116,7 @@ where
     F: Files<A>,
     T: Threads + Sync,
 {
-    // The same, which shows how far it is where the files say so.
+    // Reads a dump as `read_dump` does, and shows how far it is where the files say so.
     fn read_shown<'p>(&self, dump: &[u8], jobs: Jobs) -> Result<(Catalog<A>, Tables<A>), Fault<'p>>
         ensures read { (result ≡ loaded (read_dump dump.now)) ⊎ (result ≡ loaded (Err no_memory)) }
         ensures sound { IfOk result (λ x. is_sound x.0 x.1 ≡ true) }
@@ -164,8 +164,7 @@ where
         }
     }
 
-    // Writes tables that a dump has read as to a file, and tells how many they are and how many rows they
-    // have.
+    // Writes tables that a dump has read as to a file, and prints how many they are and how many rows they have.
     fn write_and_tell<'p, W: Write>(
         &self,
         catalog: &Catalog<A>,
@@ -191,7 +190,7 @@ where
         print_whole(text.as_slice(), Fault::DumpOutOfMemory, printer)
     }
 
-    /// Loads a dump, writes its text to a file, and tells its tables and rows.
+    /// Loads a dump, writes its text to a file, and prints how many tables and rows it has.
     pub(crate) fn restore_file<'p, W: Write>(
         &self,
         path: &'p str,

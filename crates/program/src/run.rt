@@ -76,7 +76,7 @@ fn empty_tables<'p, A: Allocator + Copy>(
     }
 }
 
-// Prints a text behind what was printed before.
+// Prints a text after what was printed before.
 fn show<'p, A, W>(text: &[u8], printer: &mut Printer<'_, W, A>) -> Result<(), Fault<'p>>
 where
     A: Allocator,
@@ -204,7 +204,7 @@ where
         show(order.as_slice(), printer)
     }
 
-    // The same, and writes all that was printed, whether or not the lines were done.
+    // Does the lines as `do_lines` does, and writes all that was printed, whether or not the lines were done.
     fn do_all_lines<'p, W: Write>(
         &self,
         mut core: Core<A>,
@@ -248,7 +248,7 @@ where
         self.do_all_lines(core, lines, way, printer)
     }
 
-    // Does a script that was read, and tells why it isn't done where it isn't.
+    // Does a script that was read; reports why where it can't be finished.
     fn do_read<W: Write, E: Write>(
         &self,
         script: Script<A>,
@@ -272,8 +272,8 @@ where
         status
     }
 
-    /// Does the script of a path, or of standard input, prints what is shown of it, and tells on `err`
-    /// why it isn't done where it isn't.
+    /// Does the script of a path, or of standard input, and prints what is shown of it. Where it can't be finished,
+    /// reports why on `err`.
     pub(crate) fn run_file<W: Write, E: Write>(
         &self,
         path: &str,

@@ -43,7 +43,7 @@ pub(crate) fn printed_reply<A: Allocator>(
     }
 }
 
-// Does what a session asks for, and gives what is printed of it.
+// Does what a session asks for, and returns what is printed of it.
 fn tell_event<A: Allocator + Copy>(
     alloc: A,
     core: &mut Core<A>,
@@ -57,8 +57,8 @@ fn tell_event<A: Allocator + Copy>(
     printed_reply(alloc, session, &reply)
 }
 
-/// Lets the history go on from the tables that it has come to, with room for so many events more:
-/// the refusal where it doesn't.
+/// Lets the history go on from its present tables, with room for `most_events` events more. Returns the refusal where
+/// it can't.
 pub(crate) fn checkpoint<A: Allocator + Copy>(
     alloc: A,
     core: &mut Core<A>,
@@ -82,7 +82,7 @@ where
     F::Out: Send,
     T: Threads + Wait + Sync,
 {
-    // Writes a dump of a session's safe snapshot to a file in which nothing is.
+    // Writes a dump of a session's safe snapshot to an empty file.
     fn write_dump(
         &self,
         core: &Core<A>,
@@ -118,7 +118,7 @@ where
         keep_dumped(&mut file, dumped)
     }
 
-    // Does a dump of a session's safe snapshot, and gives what is printed of it.
+    // Does a dump of a session's safe snapshot, and returns what is printed of it.
     fn tell_dump<'s>(
         &self,
         core: &Core<A>,
@@ -134,7 +134,7 @@ where
         dump_text(self.alloc, session, request.path.as_str(), done)
     }
 
-    /// Does a session's command, and gives what is told of it.
+    /// Does a session's command, and returns what is printed of it.
     pub(crate) fn do_command<'s>(
         &self,
         core: &mut Core<A>,

@@ -10,8 +10,8 @@ use crate::files::Files;
 use crate::machine::Machine;
 use crate::run::{Shown, Way};
 use crate::sessions::checkpoint;
+use audit::ordering::order_text;
 use history::session_id::SessionId;
-use ordering::order_text;
 use script::command::Command;
 use script::script::Step;
 use session::sessions::Core;
@@ -51,7 +51,7 @@ fn refused_text<A: Allocator>(alloc: A, refusal: Refusal) -> Result<Vec<u8, A>, 
     Ok(text)
 }
 
-// What is told of a checkpoint: that it is done, or its refusal.
+// What is printed of a checkpoint: that it is done, or its refusal.
 fn told_of_checkpoint<A: Allocator>(
     alloc: A,
     refusal: Option<Refusal>,
@@ -116,7 +116,7 @@ where
     F::Out: Send,
     T: Threads + Wait + Sync,
 {
-    // Does a session's command, and gives what is printed of it.
+    // Does a session's command, and returns what is printed of it.
     fn pass_command<'p>(
         &self,
         core: &mut Core<A>,
@@ -132,7 +132,7 @@ where
         Ok(shown_text(self.alloc, way.shown, text))
     }
 
-    /// Does a step, and gives what is printed of it.
+    /// Does a step, and returns what is printed of it.
     pub(crate) fn do_step<'p>(
         &self,
         core: &mut Core<A>,

@@ -17,7 +17,7 @@ use std::alloc::{AllocError, Global};
 
 const VERSION: &str = "0.1.0";
 
-// What the help tells of the commands that have their words to themselves, in crates above.
+// What the help says of the commands in the crates above, which parse their own words.
 const OTHER_COMMANDS: &str = "Commands with a help of their own (pgserial COMMAND --help):
   shell    Answer lines at once: of a person at a terminal, or of a program through pipes
   explore  Do a script in every interleaving of its sessions, and count what comes of it
@@ -47,7 +47,7 @@ pub(crate) enum Task<'w> {
     },
 }
 
-// That sessions run freely.
+// The flag by which sessions run freely.
 fn free<'w>(alloc: Global) -> Arg<'w>
     ensures rule { rule_of result ≡ spec.free }
     ensures local { result.global ≡ false }
@@ -58,7 +58,7 @@ fn free<'w>(alloc: Global) -> Arg<'w>
         .help("Run each session on a thread of its own")
 }
 
-// That the check at the end of sessions that run freely is left out.
+// The flag that leaves out the check at the end of sessions that run freely.
 fn no_check<'w>(alloc: Global) -> Arg<'w>
     ensures rule { rule_of result ≡ spec.no_check }
     ensures local { result.global ≡ false }
@@ -280,7 +280,7 @@ fn task_of<'w>(matches: &ArgMatches<'w>) -> Task<'w>
     }
 }
 
-// Whether a command is to leave out the check of sessions that run freely, and not to run them so.
+// Whether a command leaves out the check of sessions that run freely, and doesn't run them so.
 fn lacks_free(matches: &ArgMatches<'_>) -> bool
     ensures { result ≡ spec.lacks_free (subcommand_rows_of matches.now) }
 {
@@ -290,7 +290,7 @@ fn lacks_free(matches: &ArgMatches<'_>) -> bool
     }
 }
 
-// The mistake of such words.
+// The error for words that leave out that check, and don't run sessions freely.
 fn free_is_lacking(alloc: Global) -> Result<Error, AllocError>
     ensures { IfOk result (λ e. kind_of e ≡ ErrorKind.MissingRequiredArgument) }
 {
@@ -305,8 +305,8 @@ fn free_is_lacking(alloc: Global) -> Result<Error, AllocError>
     )
 }
 
-/// What the words, behind the program's name, ask for. No word at all asks for the script on
-/// standard input. The error is a mistake in the words, `--help`, `--version`, or out of memory.
+/// What the words after the program's name ask for. No word at all asks for the script on standard input. The error is
+/// a mistake in the words, `--help`, `--version`, or out of memory.
 pub(crate) fn read_words<'w>(alloc: Global, words: &'w [&'w str]) -> Result<Task<'w>, Error>
     ensures asked { IfOk result (λ r. asked.AsksFor (asked.command_of (map (λ w. w.now) words.entry.now)) r) }
     ensures fails { FailsBy (spec.faults (map (λ w. w.now) words.entry.now)) result }

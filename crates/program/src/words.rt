@@ -70,7 +70,7 @@ fn show_help<W: Write, E: Write>(help: &Error, out: &mut W, err: &mut E) -> Stat
     }
 }
 
-// Tells a mistake in the words, or that there was no memory for them; or shows the help that they ask for.
+// Reports a mistake in the words, or that there was no memory for them; or shows the help that they ask for.
 fn tell_words<W: Write, E: Write>(error: &Error, out: &mut W, err: &mut E) -> Status
     ensures mistake { IsMistake (kind_of error.now) → result ≡ Status.Usage }
     ensures usage { result ≡ Status.Usage → IsMistake (kind_of error.now) }
@@ -89,7 +89,7 @@ fn tell_words<W: Write, E: Write>(error: &Error, out: &mut W, err: &mut E) -> St
     }
 }
 
-// Does what the words ask for, or tells why it doesn't.
+// Does what the words ask for, or reports why it doesn't.
 fn done<A, F, W, E, T>(
     machine: &Machine<'_, F, T, A>,
     words: &[&str],
@@ -120,18 +120,18 @@ where
     }
 }
 
-// Tells why a file has failed, where that is known.
+// Reports why a file has failed, where that is known.
 fn tell_reason<E: Write>(status: Status, reason: Option<&str>, err: &mut E) {
     if let (Status::Device, Some(reason)) = (status, reason) {
         let _ = writeln!(err, "{reason}");
     }
 }
 
-/// Does what the words behind the program's name ask for, over these files, and gives the exit
-/// status: 0 where it was done, refused statements included; 1 where a script or a dump is refused, or
-/// it was out of memory; 2 for mistaken words; 3 where a file or standard output failed. Why it wasn't 0 is told
-/// in a line on `err`, and behind it for a person what is wrong and what would be right. The parser of words, and
-/// sessions that run freely, take their memory of `words_memory`, and all else of `alloc`.
+/// Does what the words after the program's name ask for, over these files, and returns the exit status: 0 where it was
+/// done, refused statements included; 1 where a script or a dump is refused, or it was out of memory; 2 for mistaken
+/// words; 3 where a file or standard output failed. Where it isn't 0, a line on `err` says why, and the lines after it
+/// explain to a person what is wrong and what would be right. The parser of words, and sessions that run freely, take
+/// their memory of `words_memory`, and all else of `alloc`.
 pub fn run_words<A, F, W, E, T>(
     rt: &T,
     words_memory: Global,

@@ -22,7 +22,7 @@ pub(crate) fn one_job() -> Jobs
     jobs
 }
 
-/// So many workers, or one where there can't be so many.
+/// `count` workers, or one where there may not be that many.
 pub(crate) fn so_many(count: u32) -> Jobs
     ensures { (MayWork count × (result ≡ count)) ⊎ ((MayWork count → ⊥) × (result ≡ 1)) }
 {
@@ -32,7 +32,7 @@ pub(crate) fn so_many(count: u32) -> Jobs
     }
 }
 
-// A worker for each of so many processors, as far as there can be so many.
+// A worker for each processor, and 64 at most.
 fn one_each(processors: NonZeroUsize) -> Jobs
     ensures { result ≡ min (non_zero_usize_get processors) 64 }
 {

@@ -1,4 +1,4 @@
-//! Writes that take what they say.
+//! Writes that take as many bytes as they report.
 
 ghost use Rattle.std.specs.Prelude.{◌≡◌, ◌≢◌, ◌<◌, ◌≤◌, [], length, take, IfOk};
 ghost use Rattle.std.specs.Io.KnownBytes.{Appends};
@@ -17,9 +17,8 @@ fn some_of(bytes: &[u8], written: usize) -> io::Result<usize>
     }
 }
 
-/// Writes the first of the bytes, at least one where there is one, and says how many; or why it failed.
-/// It tries again where it was interrupted before it wrote any. What the writer has then are just those bytes
-/// behind what it had.
+/// Writes the first of the bytes, at least one where there is one, and returns how many; or why it failed. It tries
+/// again where it was interrupted before it wrote any. The writer then has just those bytes after what it had.
 #[tactic(auto, using(crate::proofs::WriteLemmas::keeps_same, crate::proofs::WriteLemmas::keeps_twice, crate::proofs::WriteLemmas::keeps_and_appends))]
 pub fn write_some<W: Write>(writer: &mut W, bytes: &[u8]) -> io::Result<usize>
     ensures some { IfOk result (λ n. (n ≤ length bytes.now) × (bytes.now ≢ [] → 0 < n)) }

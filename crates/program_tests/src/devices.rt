@@ -31,7 +31,7 @@ fn a_dump_to_a_full_file(rt: HostRuntime) -> Result<(), Fail> {
     Ok(())
 }
 
-// Asserts that the program ends by the failure of a standard output that takes so many bytes.
+// Asserts that the program ends by the failure of a standard output that takes `most` bytes.
 fn assert_closed<R: Abort + AllocGlobal + Sync + Threads + Wait>(
     rt: &R,
     given: Given<'_>,
@@ -61,7 +61,7 @@ fn standard_output_fails(rt: HostRuntime) -> Result<(), Fail> {
     assert_closed(&rt, restored, 5)
 }
 
-// A dump to a file for which memory is wanting is refused, and the session goes on.
+// A dump to a file for which there is no memory is refused, and the session goes on.
 const SCARCE: &str = "\
 1 BEGIN READ ONLY DEFERRABLE;
 1 POLL;

@@ -19,7 +19,7 @@ COPY c (id, p, raw) FROM stdin;
 -- end
 ";
 
-/// The same as version 2 has it.
+/// The dump as version 2 has it.
 pub const WRITTEN: &str = "\
 -- dump 2
 CREATE TABLE p (id bigint PRIMARY KEY, name text NOT NULL);

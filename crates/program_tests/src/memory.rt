@@ -10,8 +10,8 @@ use std::mem;
 use std::sync::atomic::{AtomicBool, AtomicU64, Ordering};
 
 /// Files with their bytes, what standard input has, the one path whose file takes anything, the bytes that it takes,
-/// whether it has taken all of these, and how often something was written. A path `scarce` is one for which memory is
-/// wanting.
+/// whether it has taken all of these, and how often something was written. A path `scarce` is one for which there is no
+/// memory.
 #[derive(Drop)]
 pub struct MemoryFiles<'f> {
     pub files: &'f [(&'f str, &'f [u8])],
@@ -22,7 +22,7 @@ pub struct MemoryFiles<'f> {
     pub writes: &'f AtomicU64,
 }
 
-/// A file that takes certain bytes, fails at another, and is full behind them.
+/// A file that takes certain bytes, fails at another, and is full after them.
 #[derive(Drop)]
 pub struct MemoryFile<'f> {
     left: &'f [u8],

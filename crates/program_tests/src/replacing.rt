@@ -137,7 +137,7 @@ impl<'d> Files for &'d Disk {
     }
 }
 
-// Writes twice to a file in which nothing is.
+// Writes twice to an empty file.
 fn write_twice<O: Placed>(file: &mut O) -> Result<(), DeviceError>
     ensures sound { OnOk result (O.failures file.new ≡ O.failures file.old) }
 {

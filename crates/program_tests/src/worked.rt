@@ -3,7 +3,7 @@
 use crate::driver::{Given, assert_ends};
 use std::test::Fail;
 
-// The lines of the script stand behind `> `, the replies behind two spaces, and what the audit prints behind `= `.
+// The lines of the script stand after `> `, the replies after two spaces, and what the audit prints after `= `.
 // As in tests/isolation.transcript: a read-only anomaly
 const ANOMALY: &str = "\
 > CREATE TABLE account (id bigint PRIMARY KEY, balance bigint);
@@ -45,7 +45,7 @@ const ANOMALY: &str = "\
 = check yes
 ";
 
-// What stands behind a mark in a script's lines, each with its newline.
+// What follows a mark in a script's lines, each with its newline.
 fn behind<R: AllocGlobal>(rt: &R, script: &str, mark: &str) -> Result<String, Fail> {
     let mut text = String::new(rt.alloc());
     for line in script.lines() {

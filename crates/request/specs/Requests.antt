@@ -1,4 +1,4 @@
--- What a request asks for (this project's own form; the statements are those of the PostgreSQL manual's "SQL Commands").
+-- What a request asks for (the statements are those of the PostgreSQL manual's "SQL Commands").
 use Rattle.std.specs.Prelude.{Bool, true, false, Result, Ok, Err}
 use Rattle.value.specs.declared.refusal.Refusal.{Refusal}
 use Rattle.schema.specs.Definition.{Catalog}

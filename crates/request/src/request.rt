@@ -13,7 +13,7 @@ use std::alloc::{Allocator, Global};
 use value::refusal::{Code, Mode, Refusal};
 use value::text::Text;
 
-/// What a session asks for: an event, but that a statement is still its text.
+/// What a session asks for: an event, except that a statement is still its text.
 #[derive(Drop)]
 #[derive_where(Debug)]
 pub enum Request<A: Allocator = Global> {
@@ -29,11 +29,11 @@ pub enum Request<A: Allocator = Global> {
     Import(u64),
     Commit,
     Rollback,
-    /// That versions which no transaction can see any more are dropped.
+    /// Versions which no transaction can see any more are dropped.
     Prune,
 }
 
-// What a text asks for. Want of memory is no refusal of the text.
+// What a text asks for. Out of memory is no refusal of the text.
 fn action_of_text<A: Allocator + Copy>(
     alloc: A,
     catalog: &Catalog<A>,
@@ -62,7 +62,7 @@ fn action_of_refusal<A: Allocator>(refusal: Refusal) -> Result<Action<A>, Refusa
 }
 
 impl<A: Allocator> Request<A> {
-    /// The action that it asks for; a text is parsed. Want of memory to parse one is the only refusal.
+    /// The action that it asks for; a text is parsed. Out of memory to parse one is the only refusal.
     pub fn action(&self, alloc: A, catalog: &Catalog<A>) -> Result<Action<A>, Refusal>
     where
         A: Copy,

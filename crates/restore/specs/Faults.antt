@@ -1,5 +1,5 @@
 -- A line's fault, by that line and the lines before it. No table is built for it.
--- Source: PostgreSQL manual, COPY's text format and the codes of constraints; the lines of a dump and the order of the faults are this project's own.
+-- Source: PostgreSQL manual, COPY's text format and the codes of constraints; the lines of a dump and the order of the faults are ours.
 use Rattle.std.specs.Prelude.{◌≡◌, ◌<◌, ℕ, ◌+◌, take, drop, Bool, true, false, not, ◌||◌, if◌then◌else◌, Option, Some, None, List, [], ◌∷◌, ◌++◌, length, slice_get, codes, Result, Ok, Err}
 use Rattle.std.specs.List.{list_any, zip}
 use Rattle.std.specs.Option.{option_map_or}
@@ -63,7 +63,7 @@ module _ {A : Type 0} where
   abbrev pub rows_fault : Catalog → (ℕ → List (Row A)) → ℕ → List ℕ → Option Code
   rows_fault c earlier t line = if bytes_eq line end_of_rows then None else read_row_fault c earlier t (row_of_line (kinds_of c t) line)
 
--- a line at its place, behind the first line and these
+-- the fault of a line at its place, after the first line and these
 abbrev pub fault_at : Type 0 → Bool → List (List ℕ) → Place → List ℕ → Option Code
 fault_at A counted lines (Count t) line = unless_it_is (rows_line (length (row_lines counted lines t))) line
 fault_at A counted lines (Copy t) line = copy_fault (slice_get (catalog_of lines) t) line
@@ -74,7 +74,7 @@ fault_at A counted lines Nothing line = Some BadCopyFileFormat
 abbrev pub counts : List ℕ → Bool
 counts first = bytes_eq first (first_line true)
 
--- behind the first line and these: a CREATE TABLE line, or any other
+-- after the first line and these: a CREATE TABLE line, or any other
 abbrev pub fault_behind : Type 0 → Bool → List (List ℕ) → Option (List ℕ) → List ℕ → Option Code
 fault_behind A counted lines (Some text) line = refused (with_table (catalog_of lines) text)
 fault_behind A counted lines None line = fault_at A counted lines (place_behind counted lines) line
@@ -95,12 +95,12 @@ abbrev pub are_whole : List (List ℕ) → Bool
 are_whole [] = false
 are_whole (first ∷ lines) = is_nothing (place_behind (counts first) lines)
 
--- behind the last newline nothing may stand, and the last line must have come
+-- nothing may follow the last newline, and the last line must have come
 abbrev pub end_fault : List (List ℕ) → List ℕ → Option Code
 end_fault before [] = if are_whole before then None else Some BadCopyFileFormat
 end_fault before (b ∷ text) = Some BadCopyFileFormat
 
--- a line with lines behind it, or what stands behind the last newline
+-- a line with lines after it, or what follows the last newline
 abbrev pub fault_of : Type 0 → List (List ℕ) → List ℕ → List (List ℕ) → Option Code
 fault_of A before line [] = end_fault before line
 fault_of A before line (next ∷ lines) = line_fault A before line

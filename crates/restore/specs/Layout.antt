@@ -1,5 +1,5 @@
 -- Where a line of a dump stands, by the lines before it: which lines are CREATE TABLE lines, and which are the rows of a table.
--- Source: PostgreSQL manual, COPY's text format; the lines of a dump are this project's own.
+-- Source: PostgreSQL manual, COPY's text format; the lines of a dump are ours.
 use Rattle.std.specs.Prelude.{ℕ, ◌+◌, ◌-◌, ◌==◌, nat_lt, Bool, true, false, ◌&&◌, if◌then◌else◌, Option, Some, None, List, [], ◌∷◌, length, map, drop, codes, Result, Ok, Err, slice_index_or}
 use Rattle.std.specs.List.{slice_split, filter_map, fold, range_with_len}
 use Rattle.std.specs.Option.{option_map_or}
@@ -18,7 +18,7 @@ use Rattle.restore.specs.CreateLine.{behind, table_of}
 use Rattle.restore.specs.Rows.{row_of_line}
 use Rattle.restore.specs.Steps.{◌>>=◌}
 
--- the lines of a text, and what stands behind the last newline
+-- the lines of a text, and what follows the last newline
 abbrev pub lines_of : List ℕ → List (List ℕ)
 lines_of text = slice_split (λ b. b == newline) text
 
@@ -29,7 +29,7 @@ version line =
     else (if bytes_eq line (first_line false) then Ok false
     else Err BadCopyFileFormat)
 
--- one table more, of what stands behind CREATE TABLE
+-- one table more, of what follows CREATE TABLE
 abbrev pub with_table : Catalog → List ℕ → Result Catalog Code
 with_table c text = table_of text >>= λ d. added c d
 
@@ -42,14 +42,14 @@ abbrev pub found : {X : Type 0} → Result X Code → Option X
 found (Ok x) = Some x
 found (Err code) = None
 
--- ---- From here on lines are those behind the first. It says in a Bool whether the rows of a table are counted.
+-- ---- From here on lines are those after the first. A Bool says whether the rows of a table are counted.
 
--- what stands behind the words CREATE TABLE, in the lines from the first on that begin so
+-- what follows the words CREATE TABLE, in the lines from the first on that begin so
 abbrev pub create_texts : List (List ℕ) → List (List ℕ)
 create_texts [] = []
 create_texts (line ∷ lines) = option_map_or (λ text. text ∷ create_texts lines) (behind (codes "CREATE TABLE ") line) []
 
--- the lines behind those
+-- the lines after those
 abbrev pub behind_creates : List (List ℕ) → List (List ℕ)
 behind_creates [] = []
 behind_creates (line ∷ lines) = option_map_or (λ text. behind_creates lines) (behind (codes "CREATE TABLE ") line) (line ∷ lines)
@@ -66,7 +66,7 @@ catalog_of lines = fold taken_up [] (create_texts lines)
 abbrev pub parts : List (List ℕ) → List (List (List ℕ))
 parts lines = slice_split (λ line. bytes_eq line end_of_rows) (behind_creates lines)
 
--- how many of a table's lines stand before its rows: its COPY line, and behind the first table also how many rows the table before has, where they are counted
+-- how many of a table's lines stand before its rows: its COPY line, and after the first table also how many rows the table before has, where they are counted
 abbrev pub lead : Bool → ℕ → ℕ
 lead counted t = if counted && nat_lt 0 t then 2 else 1
 
@@ -74,14 +74,14 @@ lead counted t = if counted && nat_lt 0 t then 2 else 1
 abbrev pub row_lines : Bool → List (List ℕ) → ℕ → List (List ℕ)
 row_lines counted lines t = drop (lead counted t) (slice_index_or (parts lines) t [])
 
--- what may stand behind some lines
+-- what may follow some lines
 pub data Place : Type 0 where
   Count : ℕ → Place  -- how many rows a table has
-  Copy : ℕ → Place  -- a table's COPY line, or behind the last table the last line
+  Copy : ℕ → Place  -- a table's COPY line, or after the last table the last line
   Rows : ℕ → Place  -- a row of a table, or the line that ends its rows
   Nothing : Place  -- nothing: the last line has come
 
--- behind so many lines of a table, where there are so many tables
+-- what may follow n lines of a table, where there are `tables` tables
 abbrev pub place_in : ℕ → Bool → ℕ → ℕ → Place
 place_in tables counted t n =
     if n + 1 == lead counted t then Copy t

@@ -36,26 +36,26 @@ abbrev pub IsBehind : ℕ → List ℕ → ReadError → Type 0
 IsBehind number text read.Memory = ⊥
 IsBehind number text (read.Faulty f) = ((length text == 0) ≡ false) × (f ≡ fault number BadCopyFileFormat)
 
--- nothing is left, or something stands behind the last line
+-- nothing is left, or something follows the last line
 abbrev pub IsEnd : ℕ → List ℕ → Result (Unit {0}) ReadError → Type 0
 IsEnd number text (Ok u) = (length text == 0) ≡ true
 IsEnd number text (Err e) = IsBehind number text e
 
--- a line is a row's: it isn't the line behind the rows
+-- a line is a row's: it isn't the line after the rows
 abbrev pub is_row_line : List ℕ → Bool
 is_row_line line = not (bytes_eq line end_of_rows)
 
--- the next line, if there is one, is the line behind the rows
+-- the next line, if there is one, is the line after the rows
 abbrev pub HasNoRowLine : List ℕ → Type 0
 HasNoRowLine text = (line rest : List ℕ) → parted 10 text ≡ Some (line, rest) → bytes_eq line end_of_rows ≡ true
 
--- a line and those behind it up to the lines that are left, all of them of rows
+-- a line and those after it up to the lines that are left, all of them of rows
 pub record AreRowLines (first : Line) (rows : List (Bor (List ℕ))) (left : Lines) : Type 0 where
   pub lines : first.bytes.now ∷ lines_of first.rest.text.now ≡ map (λ line. line.now) rows ++ lines_of left.text.now
   pub number : left.number + 1 ≡ first.rest.number + length rows
   pub rows_alone : list_all is_row_line (map (λ line. line.now) rows) ≡ true
 
--- the next lines are those of rows, the first of them told by itself, up to the lines that are left; or no row's line is next
+-- the next lines are those of rows, the first of them given by itself, up to the lines that are left; or no row's line is next
 abbrev pub AreFound : {A : Type 0} → ℕ → List ℕ → Option (Line × Vec (Bor (List ℕ)) A × Lines) → Type 0
 AreFound number text None = HasNoRowLine text
 AreFound number text (Some (first, rows, left)) =

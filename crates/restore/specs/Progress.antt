@@ -1,4 +1,4 @@
--- A dump read line by line, as the code reads it: what the lines so far have come to. `Reading` says what a dump reads as without it.
+-- A dump read line by line, as the code reads it: how far the lines so far lead. `Reading` says what a dump reads as without it.
 use Rattle.std.specs.Prelude.{ℕ, ◌+◌, Bool, true, false, if◌then◌else◌, Option, Some, None, slice_get, List, [], ◌∷◌, length, codes, Result, Ok, Err}
 use Rattle.std.specs.Str.{bytes_eq}
 use Rattle.value.specs.declared.refusal.Code.{Code}
@@ -16,7 +16,7 @@ use Rattle.restore.specs.Steps.{◌>>=◌, fault}
 use Rattle.restore.specs.CreateLine.{behind}
 use Rattle.restore.specs.Layout.{lines_of, version, with_table, kinds_of}
 
--- what the lines so far have come to; a Bool says whether the version counts a table's rows
+-- how far the lines so far lead; a Bool says whether the version counts a table's rows
 pub data Progress (A : Type 0) : Type 0 where
   Start : Progress A  -- there was no line yet
   Created : Bool → Catalog → Progress A  -- the tables of the CREATE TABLE lines
@@ -26,7 +26,7 @@ pub data Progress (A : Type 0) : Type 0 where
   Whole : Catalog → Tables A → Progress A  -- the last line
 
 module _ {A : Type 0} where
-  -- ---- what a line may be, and what it comes to, or its fault
+  -- ---- what a line may be, and what it leads to, or its fault
 
   abbrev pub first : List ℕ → Result (Progress A) Code
   first line = version line >>= λ counted. Ok (Created counted [])
@@ -54,7 +54,7 @@ module _ {A : Type 0} where
   abbrev pub with_row : Catalog → Tables A → ℕ → List ℕ → Result (Tables A) Code
   with_row c X t line = line_values (kinds_of c t) line >>= λ values. with_values c X t values
 
-  -- behind a table's rows: version 2 counts them
+  -- after a table's rows: version 2 counts them
   abbrev pub ended : Bool → Catalog → Tables A → ℕ → Progress A
   ended true c X t = Behind true c X t
   ended false c X t = Before false c X (t + 1)
@@ -88,7 +88,7 @@ module _ {A : Type 0} where
   after number (Ok more) go_on = go_on more
   after number (Err code) go_on = Err (fault number code)
 
-  -- the lines from this number on; behind the last newline nothing may stand
+  -- the lines from this number on; nothing may follow the last newline
   unfoldable pub read_lines : ℕ → Progress A → List (List ℕ) → Result (Catalog × Tables A) RestoreFault
   read_lines number progress [] = whole number progress
   read_lines number progress ([] ∷ []) = whole number progress

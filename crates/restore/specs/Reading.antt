@@ -1,5 +1,5 @@
 -- What a dump reads as: its first faulty line, or else the catalog of its CREATE TABLE lines and the rows of its rows' lines.
--- Source: PostgreSQL manual, COPY's text format and the codes of constraints; the lines of a dump and the order of the faults are this project's own.
+-- Source: PostgreSQL manual, COPY's text format and the codes of constraints; the lines of a dump and the order of the faults are ours.
 use Rattle.std.specs.Prelude.{ℕ, ◌-◌, Option, Some, None, List, [], ◌∷◌, length, take, Result, Ok, Err}
 use Rattle.schema.specs.Definition.{Catalog}
 use Rattle.schema.specs.declared.tables.Tables.{Tables}

@@ -1,4 +1,4 @@
--- What the lines of rows read as, one after another and by pieces, and which rows may be put behind those of a table.
+-- What the lines of rows read as, one after another and by pieces, and which rows may be put after those of a table.
 use Rattle.std.specs.Prelude.{◌≡◌, ℕ, ◌*◌, ◌<◌, Bool, true, false, not, ◌&&◌, Option, Some, None, is_some, List, [], ◌∷◌, find, length, map, take, drop, slice_index_or, Result, Ok, Err, IfOk, IfSome, Vec}
 use Rattle.std.specs.Borrow.{Bor}
 use Rattle.std.specs.List.{AllByRecursion, list_any}
@@ -36,7 +36,7 @@ module _ {A : Type 0} where
   abbrev pub row_of_line : List Kind → List ℕ → Result (Row A) Code
   row_of_line kinds line = line_values kinds line >>= λ values. row_of_values values
 
-  -- ---- rows that may be put behind those of a table
+  -- ---- rows that may be put after those of a table
 
   -- The references of a row are looked up in tables: each names a row of these. Or they are looked up nowhere: there are none.
   abbrev pub are_found : Option (Tables A) → List Column → List (Value A) → Bool
@@ -51,7 +51,7 @@ module _ {A : Type 0} where
   abbrev pub is_behind : Rows A → Value A → Bool
   is_behind table key = not (is_some (find (λ row. is_le (value_cmp key row.0)) table))
 
-  -- a row may be put behind those of a table among tables
+  -- a row may be put after those of a table among tables
   abbrev pub IsNext : Tables A → List Column → Rows A → Row A → Type 0
   IsNext X columns table row = (is_free (Some X) columns row ≡ true) × (is_behind table row.0 ≡ true)
 
@@ -61,13 +61,13 @@ module _ {A : Type 0} where
   rise_from known columns key (Ok row ∷ rows) = is_lt (value_cmp key row.0) && is_free known columns row && rise_from known columns row.0 rows
   rise_from known columns key (Err e ∷ rows) = false
 
-  -- the same from the key of the first
+  -- some rows rise from the first on
   abbrev pub rise : Option (Tables A) → List Column → List (Result (Row A) LineError) → Bool
   rise known columns [] = false
   rise known columns (Ok row ∷ rows) = is_free known columns row && rise_from known columns row.0 rows
   rise known columns (Err e ∷ rows) = false
 
-  -- the first of some rows comes behind a table
+  -- the first of some rows comes after a table
   abbrev pub follows : Rows A → List (Result (Row A) LineError) → Bool
   follows table [] = false
   follows table (Ok row ∷ rows) = is_behind table row.0
@@ -89,7 +89,7 @@ module _ {A : Type 0} where
   abbrev pub IsPiece : Option (Tables A) → List Column → List Kind → ReadPiece A → List (List ℕ) → Type 0
   IsPiece known columns kinds piece lines = AreRead kinds piece.rows.items lines × (piece.rise ≡ rise known columns piece.rows.items)
 
-  -- each piece is that of so many lines, the last that of the rest
+  -- each piece is that of `size` lines, the last that of the rest
   abbrev pub ArePieces : {E : Type 0} → ℕ → List Kind → List (Result (ReadPiece A) E) → List (List ℕ) → Type 0
   ArePieces size kinds [] lines = lines ≡ []
   ArePieces size kinds (piece ∷ pieces) lines = IfOk piece (λ p. AreRead kinds p.rows.items (take size lines)) × ArePieces size kinds pieces (drop size lines)
@@ -108,7 +108,7 @@ module _ {A : Type 0} where
   abbrev pub AreDrawn : Option (Tables A) → List Column → List Kind → List (Bor (List ℕ)) → List (Drawn A) → Type 0
   AreDrawn known columns kinds lines drawn = AllByRecursion (λ d. IsPiece known columns kinds d.piece (lines_at lines d.place)) drawn
 
-  -- so it is for each thread
+  -- each piece that any of the threads has drawn is that of its place
   abbrev pub AreAllDrawn : {E : Type 0} → Option (Tables A) → List Column → List Kind → List (Bor (List ℕ)) → List (Result (Vec (Drawn A) A) E) → Type 0
   AreAllDrawn known columns kinds lines all = AllByRecursion (λ r. IfOk r (λ drawn. AreDrawn known columns kinds lines drawn.items)) all
 

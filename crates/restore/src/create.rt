@@ -28,7 +28,7 @@ fn name_of<A: Allocator>(alloc: A, word: &[u8]) -> Result<Text<A>, LineError>
     }
 }
 
-// A kind's word, and what stands behind it.
+// A kind's word, and what follows it.
 #[tactic(auto, unfolding(crate::specs::CreateLine::kind_at))]
 fn kind_at(text: &[u8]) -> Result<(Kind, &[u8]), LineError>
     ensures { Gives (λ x. (x.0, x.1.now)) result (spec.kind_at text.now) }
@@ -85,7 +85,7 @@ fn key_column<A: Allocator + Copy>(alloc: A, text: &[u8]) -> Result<ColumnDef<A>
     Ok(ColumnDef::new(name, kind, false, references))
 }
 
-// Whether a column is marked NOT NULL, and what stands behind that.
+// Whether a column is marked NOT NULL, and what follows that.
 fn not_null_at(marks: &[u8]) -> (bool, &[u8])
     ensures { (result.0, result.1.now) ≡ spec.not_null_at marks.now }
 {
@@ -95,7 +95,7 @@ fn not_null_at(marks: &[u8]) -> (bool, &[u8])
     }
 }
 
-// Any other column.
+// A column that isn't the key's.
 #[tactic(auto, unfolding(crate::specs::CreateLine::other_column))]
 fn other_column<A: Allocator + Copy>(alloc: A, text: &[u8]) -> Result<ColumnDef<A>, LineError>
     ensures { Gives (λ d. d) result (spec.other_column text.now) }
@@ -158,7 +158,7 @@ fn defined<A: Allocator + Copy>(
     }
 }
 
-// The table of what stands behind the words CREATE TABLE.
+// The table of what follows the words CREATE TABLE.
 #[tactic(auto, unfolding(crate::specs::CreateLine::table_of))]
 fn table_of<A: Allocator + Copy>(alloc: A, text: &[u8]) -> Result<TableDef<A>, LineError>
     ensures { Gives (λ d. d) result (spec.table_of text.now) }
@@ -172,7 +172,7 @@ fn table_of<A: Allocator + Copy>(alloc: A, text: &[u8]) -> Result<TableDef<A>, L
     defined(alloc, name, columns)
 }
 
-/// Adds the table of what stands behind the words CREATE TABLE.
+/// Adds the table of what follows the words CREATE TABLE.
 pub fn add_table<A: Allocator + Copy>(
     alloc: A,
     catalog: &mut Catalog<A>,

@@ -42,7 +42,7 @@ pub struct RoundLines<'l, 'd> {
     pub lines: &'l [&'d [u8]],
     /// The kinds of their values.
     pub kinds: &'l [Kind],
-    /// Where the lines of the round behind it are looked for.
+    /// Where the lines of the round after it are looked for.
     pub ahead: Ahead<'d>,
 }
 
@@ -59,7 +59,7 @@ pub struct PieceReader<'r, 'd, G, A: Allocator> {
     pub lines: &'r [&'d [u8]],
     /// How many pieces of the dump come before.
     pub before: u64,
-    /// It is asked about each piece.
+    /// The gate that is asked about each piece.
     pub gate: &'r G,
 }
 
@@ -78,7 +78,7 @@ pub struct Draws {
 }
 
 impl Draws {
-    /// None is drawn yet.
+    /// No piece is drawn yet.
     pub fn new() -> Draws {
         Draws {
             count: AtomicUsize::new(0),
@@ -91,14 +91,14 @@ impl Draws {
     }
 }
 
-// How many pieces so many lines have.
+// How many pieces `lines` lines have.
 fn piece_count(lines: usize) -> usize
     ensures { result ≡ lines / 1000 + min 1 (lines % 1000) }
 {
     lines.div_ceil(PIECE_LINES)
 }
 
-// Where the piece at a place begins among so many lines; at their end, where there is none.
+// Where the piece at a place begins among `lines` lines; at their end, where there is none.
 fn start_of(lines: usize, place: usize) -> usize
     ensures start { result ≡ min (place * 1000) lines }
     ensures within { result ≤ lines }
@@ -106,7 +106,7 @@ fn start_of(lines: usize, place: usize) -> usize
     place.saturating_mul(PIECE_LINES).min(lines)
 }
 
-// The lines behind so many.
+// The lines after the first `count`.
 fn lines_behind<'l, 'd>(lines: &'l [&'d [u8]], count: usize) -> &'l [&'d [u8]]
     requires { count ≤ length lines.now }
     ensures { result.now ≡ drop count lines.now }
@@ -115,7 +115,7 @@ fn lines_behind<'l, 'd>(lines: &'l [&'d [u8]], count: usize) -> &'l [&'d [u8]]
     rest
 }
 
-// The first of some lines, so many at most.
+// The first of some lines, `most` of them at most.
 fn first_lines<'l, 'd>(lines: &'l [&'d [u8]], most: usize) -> &'l [&'d [u8]]
     ensures { result.now ≡ take most lines.now }
 {
@@ -123,7 +123,7 @@ fn first_lines<'l, 'd>(lines: &'l [&'d [u8]], most: usize) -> &'l [&'d [u8]]
     first
 }
 
-// The lines of the piece at a place; none behind the last piece.
+// The lines of the piece at a place; none after the last piece.
 fn piece_lines<'l, 'd>(lines: &'l [&'d [u8]], place: usize) -> &'l [&'d [u8]]
     ensures { result.now ≡ take 1000 (drop (place * 1000) lines.now) }
 {
@@ -131,12 +131,12 @@ fn piece_lines<'l, 'd>(lines: &'l [&'d [u8]], place: usize) -> &'l [&'d [u8]]
     first_lines(rest, PIECE_LINES)
 }
 
-// The number of the piece at a place of a round, where so many come before the round.
+// The number of the piece at a place of a round, where `before` pieces come before the round.
 fn number_at(before: u64, place: usize) -> u64 {
     before.saturating_add(place as u64).saturating_add(1)
 }
 
-// So many places, each without a piece.
+// `count` places, each without a piece.
 fn empty_places<A: Allocator>(
     alloc: A,
     count: usize,
@@ -178,7 +178,7 @@ fn put_drawn<A: Allocator>(places: &mut Vec<Option<ReadPiece<A>>, A>, drawn: Dra
     }
 }
 
-// So many places with the pieces that threads have drawn.
+// `count` places with the pieces that threads have drawn.
 fn placed<A: Allocator>(
     alloc: A,
     count: usize,
@@ -329,7 +329,7 @@ impl<'r, 'd, G: Gate, A: Allocator + Copy> PieceReader<'r, 'd, G, A> {
 }
 
 impl<'r, 'd, G: Gate, A: Allocator + Copy + Send + Sync> PieceReader<'r, 'd, G, A> {
-    /// Draws pieces by so many threads.
+    /// Draws pieces by `threads` threads.
     pub fn draw_by_threads<R: Threads + Sync>(
         &self,
         rt: &R,
@@ -351,7 +351,7 @@ impl<'r, 'd, G: Gate, A: Allocator + Copy + Send + Sync> PieceReader<'r, 'd, G, 
         Ok(all)
     }
 
-    /// The pieces of all lines, read by so many threads.
+    /// The pieces of all lines, read by `threads` threads.
     pub fn read_by_threads<R: Threads + Sync>(
         &self,
         rt: &R,

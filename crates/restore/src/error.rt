@@ -8,8 +8,7 @@ ghost use Rattle.restore.specs.declared.error.ReadError.TheVariants as read;
 use std::alloc::{AllocError, AllocFailed};
 use value::refusal::{Code, Refusal};
 
-/// The first line of a dump that isn't taken, counted from 1, and why. Want of memory is told of no line: its number is
-/// 0.
+/// The first line of a dump that isn't taken, counted from 1, and why. Out of memory has no line: its number is 0.
 #[derive(Clone, Copy, Debug, PartialEq, Eq)]
 pub struct RestoreFault {
     pub line: u64,
@@ -19,7 +18,7 @@ pub struct RestoreFault {
 /// Why a line isn't taken.
 #[derive(Debug, Drop)]
 pub enum LineError {
-    /// A growth was refused.
+    /// Out of memory.
     Memory,
     /// The line is refused.
     Refused(Code),
@@ -28,7 +27,7 @@ pub enum LineError {
 /// Why lines aren't taken.
 #[derive(Debug, Drop)]
 pub enum ReadError {
-    /// A growth was refused.
+    /// Out of memory.
     Memory,
     /// The first faulty line.
     Faulty(RestoreFault),

@@ -20,7 +20,7 @@ pub fn reads_what_is_dumped<A: Allocator>()
         read_dump (dump_text1 c X) ≡ Ok (c, X) }
 {}
 
-/// What a dump reads as is told by its lines alone: the first line that has a fault, by itself and the lines before it,
+/// The lines of a dump alone say what it reads as: the first line that has a fault, by itself and the lines before it,
 /// with its code; and where no line has one, the catalog of its CREATE TABLE lines and the rows of its rows' lines.
 pub fn reads_by_its_lines<A: Allocator>()
     ensures faulty { (dump : List ℕ) (f : RestoreFault) → IsFirstFault A (lines_of dump) f →

@@ -34,11 +34,11 @@ pub struct Ahead<'d> {
     pub most: usize,
 }
 
-/// Lines of rows: the first, all of them, and what is left behind them. Nothing where no row's line is next.
+/// Lines of rows: the first, all of them, and what is left after them. Nothing where no row's line is next.
 pub type FoundRows<'d, A> = Option<(Line<'d>, Vec<&'d [u8], A>, Lines<'d>)>;
 
-/// The next line, which must be ended by a newline, and the lines after it. A number past those of 64 bits is told as
-/// out of memory: no dump has so many lines.
+/// The next line, which must be ended by a newline, and the lines after it. A number that 64 bits don't hold is
+/// reported as out of memory: no dump has that many lines.
 pub fn next_line(lines: Lines<'_>) -> Result<(&[u8], Lines<'_>), ReadError>
     ensures line { IsNextLine lines.entry.number lines.entry.text.now result }
 {
@@ -73,7 +73,7 @@ pub fn next_row_line(left: Lines<'_>) -> Result<Option<(&[u8], Lines<'_>)>, Read
     }
 }
 
-/// A row's line and those of the rows behind it, at most so many in all, and the lines after them.
+/// A row's line and those of the rows after it, at most `most` in all, and the lines after them.
 pub fn row_lines<'d, A: Allocator>(
     alloc: A,
     first: Line<'d>,
@@ -130,7 +130,7 @@ pub fn length_of_line(text: &[u8]) -> usize
     }
 }
 
-/// Refuses what stands behind the last line.
+/// Refuses what follows the last line.
 pub fn end_of_lines(lines: Lines<'_>) -> Result<(), ReadError>
     ensures { IsEnd lines.entry.number lines.entry.text.now result }
 {

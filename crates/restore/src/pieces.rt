@@ -1,4 +1,4 @@
-//! Rows that are put behind those of a table, a piece of lines after another.
+//! Rows that are put after those of a table, a piece of lines after another.
 
 ghost use Rattle.std.specs.Prelude.{◌≡◌, ◌≢◌, ◌+◌, ◌<◌, ◌^◌, ◌++◌, ◌&&◌, ℕ, Bool, List, [], Some, length, vec_len, map, is_some, true, IfOk, IfErr, OnOk};
 ghost use Rattle.std.specs.List.{list_any, list_all};
@@ -72,14 +72,14 @@ fn are_found<A: Allocator>(known: Option<&Tables<A>>, columns: &[Column<A>], row
     }
 }
 
-// Whether nothing but a key that is there stands against a row.
+// Whether nothing forbids a row, except a key that is there.
 fn is_free<A: Allocator>(known: Option<&Tables<A>>, columns: &[Column<A>], row: &Row<A>) -> bool
     ensures { result ≡ is_free (option_copied known.entry) columns.now row.now }
 {
     are_found(known, columns, row) && !row_lacks_value(columns, row)
 }
 
-// Whether nothing stands against a row behind a key.
+// Whether a row comes after a key, and nothing forbids it.
 fn rises<A: Allocator>(
     known: Option<&Tables<A>>,
     columns: &[Column<A>],
@@ -146,7 +146,7 @@ fn is_behind<A: Allocator>(tables: &Tables<A>, table: TableNo, key: &Key<A>) -> 
     tables.next_row(table, Bound::From(key)).is_none()
 }
 
-// Whether the first of some rows comes behind all of a table.
+// Whether the first of some rows comes after all of a table.
 fn follows<A: Allocator>(tables: &Tables<A>, table: TableNo, rows: &[ReadRow<A>]) -> bool
     requires { table < length tables.now }
     ensures { result ≡ follows (rows_of tables.now table) rows.now }
@@ -160,7 +160,7 @@ fn follows<A: Allocator>(tables: &Tables<A>, table: TableNo, rows: &[ReadRow<A>]
     }
 }
 
-// Puts a row, as its line read, behind those of a table.
+// Puts a row, as its line read, after those of a table.
 fn put_read<A: Allocator + Copy>(
     alloc: A,
     _catalog: &Catalog<A>,
@@ -184,8 +184,7 @@ fn put_read<A: Allocator + Copy>(
     Ok(())
 }
 
-// Puts rows that rise behind those of a table, up to the first that isn't taken. The first stands in the line of a
-// number.
+// Puts rows that rise after those of a table, up to the first that isn't taken. `number` is the line of the first.
 fn put_rows<A: Allocator + Copy>(
     alloc: A,
     catalog: &Catalog<A>,
@@ -218,7 +217,8 @@ fn put_rows<A: Allocator + Copy>(
     Ok(())
 }
 
-// Takes the rows of a piece into a table: behind all of its own where that can be told, or one after another.
+// Takes the rows of a piece into a table: after all of its own where they are known to belong there, or one after
+// another.
 fn take_rows<A: Allocator + Copy>(
     alloc: A,
     catalog: &Catalog<A>,
@@ -248,8 +248,8 @@ fn take_rows<A: Allocator + Copy>(
     }
 }
 
-// The number of the line so many lines on. One past those of 64 bits is told as out of memory: no dump has so many
-// lines.
+// The number of the line that is `count` lines on. One that 64 bits don't hold is reported as out of memory: no dump
+// has that many lines.
 fn number_after(number: u64, count: usize) -> Result<u64, ReadError>
     ensures ok { IfOk result (λ n. (n ≡ number + count) × (number + count < 2 ^ 64)) }
     ensures memory { IfErr result (λ e. e ≡ error.Memory) }
@@ -260,8 +260,7 @@ fn number_after(number: u64, count: usize) -> Result<u64, ReadError>
     }
 }
 
-/// Takes the rows of pieces into a table, up to the first row that isn't taken. The first stands in the line of a
-/// number.
+/// Takes the rows of pieces into a table, up to the first row that isn't taken. `number` is the line of the first.
 pub fn take_pieces<A: Allocator + Copy>(
     alloc: A,
     catalog: &Catalog<A>,

@@ -104,7 +104,7 @@ pub fn read_copy_line<'d, A: Allocator + Copy>(
     }
 }
 
-// The rows of a table, and the line behind them.
+// The rows of a table, and the line after them.
 fn read_rows<'d, A: Allocator + Copy>(
     alloc: A,
     mut lines: Lines<'d>,
@@ -134,7 +134,7 @@ fn read_rows<'d, A: Allocator + Copy>(
     }
 }
 
-/// The line behind the rows of a table, where no row's line is next.
+/// The line after the rows of a table, where no row's line is next.
 pub fn read_end_of_rows<'d, A: Allocator>(
     lines: Lines<'d>,
     catalog: &Catalog<A>,
@@ -220,7 +220,7 @@ fn read_tables<'d, A: Allocator + Copy>(
     Ok(lines)
 }
 
-/// The last line, behind which nothing stands.
+/// The last line, which nothing follows.
 pub fn read_end<A: Allocator>(
     lines: Lines<'_>,
     catalog: &Catalog<A>,

@@ -44,7 +44,7 @@ pub type ReadRow<A> = Result<Row<A>, LineError>;
 #[derive(Drop)]
 pub struct ReadPiece<A: Allocator> {
     pub rows: Vec<ReadRow<A>, A>,
-    /// Whether they all were read, their keys rise, and nothing else stands against them but a key that is there.
+    /// Whether they all were read, their keys rise, and nothing forbids them except a key that is there.
     pub rise: bool,
 }
 
@@ -93,10 +93,10 @@ fn row_of_line<A: Allocator + Copy>(alloc: A, kinds: &[Kind], line: &[u8]) -> Re
     }
 }
 
-// Asks for about as much memory as the rows of so many lines take, and gives it back at once. The allocator of a
+// Asks for about as much memory as the rows of `lines` lines take, and gives it back at once. The allocator of a
 // thread that isn't the first gets its memory from the system as it is asked for it, so a page at a time for rows, and
-// each time the other threads wait. Nothing rests on it: where it is refused, the rows are asked for one by one all
-// the same.
+// each time the other threads wait. Nothing rests on it: where it is refused, the rows are asked for one by one all the
+// same.
 fn make_room<A: Allocator>(alloc: A, kinds: usize, lines: usize) {
     let bytes = lines.saturating_mul(kinds).saturating_mul(FIELD_BYTES);
     let mut room: Vec<u8, A> = Vec::new(alloc);
@@ -183,8 +183,8 @@ pub fn insert_line<A: Allocator + Copy>(
     insert_read(alloc, catalog, tables, table, row)
 }
 
-/// Inserts rows, each as its line read, into a table, up to the first that isn't taken. The first stands in the line of
-/// a number.
+/// Inserts rows, each as its line read, into a table, up to the first that isn't taken. `number` is the line of the
+/// first.
 pub fn insert_rows<A: Allocator + Copy>(
     alloc: A,
     catalog: &Catalog<A>,

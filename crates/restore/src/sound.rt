@@ -1,4 +1,4 @@
-//! That whatever a dump reads as is sound.
+//! Whatever a dump reads as is sound.
 
 ghost use Rattle.std.specs.Prelude.{◌≡◌, ℕ, List, true, Ok};
 ghost use Rattle.schema.specs.Definition.{Catalog};

@@ -7,7 +7,7 @@ ghost use Rattle.restore.specs.CreateLine.{behind, parted, parts_of};
 
 use memchr::memchr;
 
-/// What stands behind some bytes, where the text begins with them.
+/// What follows some bytes, where the text begins with them.
 pub fn behind<'t>(bytes: &[u8], text: &'t [u8]) -> Option<&'t [u8]>
     ensures { option_copied result ≡ behind bytes.now text.now }
 {
@@ -22,7 +22,7 @@ fn place_of(byte: u8, text: &[u8]) -> Option<usize>
     memchr(byte, text)
 }
 
-// What stands before and behind a place.
+// What stands before and after a place.
 fn around(text: &[u8], place: usize) -> (&[u8], &[u8])
     requires { place < length text.now }
     ensures before { result.0.now ≡ take place text.now }
@@ -31,7 +31,7 @@ fn around(text: &[u8], place: usize) -> (&[u8], &[u8])
     (&text[..place], &text[place + 1..])
 }
 
-/// What stands before and behind the first of a byte, where the text has it.
+/// What stands before and after the first occurrence of a byte, where the text has it.
 pub fn parted(byte: u8, text: &[u8]) -> Option<(&[u8], &[u8])>
     ensures parts { MatchOption result (parted byte text.now ≡ None)
         (λ p. parted byte text.now ≡ Some (p.0.now, p.1.now)) }
@@ -43,7 +43,7 @@ pub fn parted(byte: u8, text: &[u8]) -> Option<(&[u8], &[u8])>
     }
 }
 
-/// The first of the parts between commas, and what stands behind its comma.
+/// The first of the parts between commas, and what follows its comma.
 pub fn first_part(text: &[u8]) -> (&[u8], Option<&[u8]>)
     ensures parts { slice_split (λ b. b == 44) text.now ≡ result.0.now ∷ parts_of (option_copied result.1) }
     ensures shorter { IfSome result.1 (λ more. length more.now < length text.now) }

@@ -54,13 +54,13 @@ pub struct Workers<'w, R, G, A: Allocator> {
     before: u64,
     /// How many pieces the next round has for each thread at most. The first round has one.
     share: usize,
-    /// About how many bytes stand behind the rows of the table at hand.
+    /// About how many bytes follow the rows of the table at hand.
     behind: usize,
 }
 
-// About how many pieces have three fifths of the bytes that are left of a table, where a line has so many. The rows of
-// these are taken in less time than the others are read meanwhile. Of a table that is longer than was expected nothing is
-// known.
+// About how many pieces have three fifths of the bytes that are left of a table, where a line has this length. Their
+// rows are taken in less time than the others are read meanwhile. Of a table that is longer than was expected nothing
+// is known.
 fn most_of(left: usize, line: usize) -> usize {
     if left == 0 {
         return ROUND_PIECES;
@@ -82,13 +82,13 @@ impl<'w, R: Threads + Sync, G: Gate, A: Allocator + Copy + Send + Sync> Workers<
         }
     }
 
-    // A table begins, and so many bytes are left for so many tables: each is expected to have as many.
+    // A table begins, with `left` bytes left for `tables` tables: each is expected to have as many.
     fn begin_table(&mut self, left: usize, tables: usize) {
         self.behind = left.saturating_sub(left / tables.max(1));
     }
 
-    // How many lines a round has at most, where so many bytes are left of the dump, and a line has so many. The rows of a
-    // table's last are taken when nothing of it is left to read, so rounds are shorter towards its end.
+    // How many lines a round has at most, where `left` bytes are left of the dump, and a line has `line`. The rows of a
+    // table's last round are taken when nothing of it is left to read, so rounds are shorter towards its end.
     fn most_lines(&self, left: usize, line: usize) -> usize {
         let jobs = self.jobs.get() as usize;
         let most = most_of(left.saturating_sub(self.behind), line);
@@ -105,7 +105,7 @@ impl<'w, R: Threads + Sync, G: Gate, A: Allocator + Copy + Send + Sync> Workers<
             .min(few)
     }
 
-    // Counts a round of so many lines. The next has twice as many pieces.
+    // Counts a round of `lines` lines. The next has twice as many pieces.
     fn count_round(&mut self, lines: usize) {
         let pieces = lines.div_ceil(PIECE_LINES) as u64;
         self.before = self.before.saturating_add(pieces);
@@ -204,7 +204,7 @@ impl<'w, R: Threads + Sync, G: Gate, A: Allocator + Copy + Send + Sync> Workers<
     }
 
     // The next round, whose lines are read once the rows of the round before are taken: what its rows reference is
-    // looked up in the tables with these. The lines ahead are looked for behind that.
+    // looked up in the tables with these. The lines ahead are looked for after that.
     fn read_behind<'d>(
         &self,
         catalog: &Catalog<A>,
@@ -247,8 +247,8 @@ impl<'w, R: Threads + Sync, G: Gate, A: Allocator + Copy + Send + Sync> Workers<
         }
     }
 
-    // The next round, of lines that are found; what is left behind it, and the lines that are found there. The rows of the
-    // round before are taken.
+    // The next round, of lines that are found; what is left after it, and the lines that are found there. The rows of
+    // the round before are taken.
     fn next_round<'d>(
         &mut self,
         found: (Line<'d>, Vec<&'d [u8], A>, Lines<'d>),
@@ -282,7 +282,7 @@ impl<'w, R: Threads + Sync, G: Gate, A: Allocator + Copy + Send + Sync> Workers<
         Ok((left, round, found))
     }
 
-    // The rows of a table, and the line behind them.
+    // The rows of a table, and the line after them.
     fn read_rows<'d>(
         &mut self,
         mut lines: Lines<'d>,

@@ -48,7 +48,7 @@ fn refused_of_ten<A: Allocator + Copy>(alloc: A) -> u64 {
     refused
 }
 
-// The same on each of two threads.
+// How many of ten requests are refused on each of two threads.
 fn refused_of_two_threads<A: Allocator + Copy + Send + Sync>(
     rt: &impl Threads,
     alloc: A,

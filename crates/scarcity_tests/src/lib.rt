@@ -16,6 +16,8 @@ mod fixture;
 #[cfg(test)]
 mod kept;
 #[cfg(test)]
+mod overlaid;
+#[cfg(test)]
 mod rows;
 #[cfg(test)]
 mod statements;

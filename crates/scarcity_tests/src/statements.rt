@@ -3,12 +3,13 @@
 use crate::driver::{Call, Memory, assert_takes};
 use crate::fixture::{CREATES, Database, not_asked, some_tables};
 use scarce::Scarce;
+use schema::changes::Changes;
 use schema::definition::TableDef;
 use sqltext::create::parse_create;
 use sqltext::parse::parse_statement;
 use statement::evaluate::{evaluate, sound_tables_are_held};
 use statement::footprint::footprint;
-use statement::outcome::{Marks, Writes};
+use statement::outcome::Marks;
 use statement::reading::Footprint;
 use statement::reply::Reply;
 use statement::statement::Statement;
@@ -48,7 +49,7 @@ struct Lent<A: Allocator> {
 #[derive_where(Debug)]
 struct Shown<A: Allocator> {
     reply: Reply<A>,
-    changes: Writes<A>,
+    changes: Changes<A>,
     marks: Marks<A>,
 }
 

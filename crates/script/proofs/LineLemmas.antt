@@ -16,7 +16,7 @@ abbrev pub by_cut : List ℕ → Option (List ℕ × List ℕ) → List (List �
 by_cut text None = text ∷ []
 by_cut text (Some p) = p.0 ∷ slice_split ends_line p.1
 
--- a text's lines are the one that is cut off and those behind it, or all of it
+-- a text's lines are the one that is cut off and those after it, or all of it
 pub parts : (text : List ℕ) → slice_split ends_line text ≡ by_cut text (cut 10 text)
 parts text = by_test (nat_lt (position_or_len ends_line text) (length text)) refl
   where
@@ -26,6 +26,6 @@ parts text = by_test (nat_lt (position_or_len ends_line text) (length text)) ref
     by_test false h =
         slice_split_none ends_line text (λ k d l. let passes = prefix_len_passes (λ x. not (ends_line x)) text k d (grind (arith, nat_tests, common_steps)) in grind (arith, common_steps))
 
--- behind a line that is cut off a line comes
+-- after a line that is cut off a line comes
 pub some_part : (text : List ℕ) → 0 < length (slice_split ends_line text)
 some_part text = let counted = length-slice_split ends_line text in grind (arith, common_steps)

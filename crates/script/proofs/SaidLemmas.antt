@@ -10,7 +10,7 @@ use Rattle.script.specs.declared.error.LineError.TheVariants.{Memory, Faulty}
 use Rattle.script.proofs.LineLemmas.{by_cut, ends_line, parts, some_part}
 
 module _ {A : Type 0} (schedule : Schedule) where
-  -- what the lines behind the first say, where that one may come
+  -- what the lines after the first say, where that one may come
   abbrev pub behind : ℕ → List (List ℕ) → Option (Said A) → Result (Said A) ℕ
   behind n more said = option_map_or (λ t. said_from schedule t (n + 1) more) said (Err n)
 
@@ -37,7 +37,7 @@ module _ {A : Type 0} (schedule : Schedule) where
       → said_from schedule s n (slice_split ends_line text) ≡ said_from schedule t (n + 1) (slice_split ends_line more)
   goes_on s t n text line more e may = said_cut s n text line more e ∙ ap (behind n (slice_split ends_line more)) may
 
-  -- a line that may not come, or for which memory was wanting
+  -- a line that may not come, or for which there was no memory
   pub is_faulty : (s : Said A) (n : ℕ) (text line more : List ℕ) (error : LineError) → Some (line, more) ≡ cut 10 text → Lacks error (with_line schedule s n line)
       → (line_of error n ≡ 0) ⊎ (said_from schedule s n (slice_split ends_line text) ≡ Err (line_of error n))
   is_faulty s n text line more Memory e lacks = inl refl

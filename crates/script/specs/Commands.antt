@@ -1,4 +1,4 @@
--- What a session's line of a script asks for (this project's own format).
+-- What a session's line of a script asks for.
 use Rattle.std.specs.Prelude.{◌≡◌, ℕ, ◌-◌, ◌^◌, ◌==◌, nat_le, nat_lt, Bool, ◌&&◌, ◌||◌, if◌then◌else◌, Option, Some, None, is_some, Result, Ok, Err, List, [], ◌∷◌, length, take, codes, slice_index}
 use Rattle.std.specs.Char.{is_ascii_digit, is_ascii_alphanumeric}
 use Rattle.std.specs.List.{list_all, list_any, prefix_len, position_or_len, before_first, after_first}
@@ -27,7 +27,7 @@ Gives view (Err e) answer = Lacks e answer
 
 -- ---- words and numbers
 
--- what stands before the first such byte, and what behind it
+-- what stands before and after the first such byte
 abbrev pub cut : ℕ → List ℕ → Option (List ℕ × List ℕ)
 cut c text = if nat_lt (position_or_len (λ b. b == c) text) (length text) then Some (before_first (λ b. b == c) text, after_first (λ b. b == c) text) else None
 
@@ -68,7 +68,7 @@ text_of bytes = if is_utf8 bytes then Some bytes else None
 abbrev pub path_of : List ℕ → Option (List ℕ)
 path_of bytes = if length bytes == 0 || list_any (λ b. b == 32) bytes then None else text_of bytes
 
--- a number from 1 on, of at most so many
+-- a number from 1 on, `most` at most
 abbrev pub up_to : ℕ → Option ℕ → Option ℕ
 up_to most None = None
 up_to most (Some n) = if nat_lt 0 n && nat_le n most then Some n else None
@@ -133,7 +133,7 @@ module _ {A : Type 0} where
   unfoldable pub sql_of : List ℕ → Option (Command A)
   sql_of text = text_of text >>= λ sql. Some (Ask (Sql sql))
 
-  -- a command with something behind its first word
+  -- a command with something after its first word
   abbrev pub argued : List ℕ → Option (Command A)
   argued text = cut 32 text >>= λ p. with_argument p.0 p.1
 

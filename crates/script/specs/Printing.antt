@@ -1,4 +1,4 @@
--- How replies are printed (PostgreSQL manual, "Command tags" of the message CommandComplete, for BEGIN to SELECT; the other words, the numbers of sessions and the rows are this project's own).
+-- How replies are printed (PostgreSQL manual, "Command tags" of the message CommandComplete, for BEGIN to SELECT; the other words, the numbers of sessions and the rows are ours).
 use Rattle.std.specs.Prelude.{ℕ, List, [], ◌++◌, codes, length}
 use Rattle.std.specs.Fmt.{decimal}
 use Rattle.std.specs.List.{flat_map}
@@ -13,7 +13,7 @@ abbrev pub done_text : ℕ → List ℕ
 done_text s = decimal s ++ codes " DUMP\n"
 
 module _ {A : Type 0} where
-  -- the first line of a reply, behind the session's number
+  -- the first line of a reply, after the session's number
   abbrev pub tag : Reply A → List ℕ
   tag Begun = codes "BEGIN"
   tag Committed = codes "COMMIT"
@@ -33,7 +33,7 @@ module _ {A : Type 0} where
   abbrev pub row_line : ℕ → List (Value A) → List ℕ
   row_line s values = decimal s ++ codes " | " ++ row_text values
 
-  -- the lines behind the first
+  -- the lines after the first
   abbrev pub rows_text : ℕ → Reply A → List ℕ
   rows_text s (Rows rows) = flat_map (row_line s) rows
   rows_text s _ = []

@@ -1,4 +1,4 @@
--- What a script says, line by line (this project's own format).
+-- What a script says, line by line.
 use Rattle.std.specs.Prelude.{◌≡◌, ◌⊎◌, ℕ, ◌+◌, ◌==◌, Bool, true, false, not, ◌&&◌, ◌||◌, if◌then◌else◌, Option, Some, None, is_some, Result, Ok, Err, List, [], ◌∷◌, ◌++◌, length, take, drop, codes, slice_index}
 use Rattle.std.specs.Char.{is_ascii_digit}
 use Rattle.std.specs.List.{slice_split}
@@ -95,7 +95,7 @@ module _ {A : Type 0} where
       else if bytes_eq line (codes "CHECKPOINT;") then with_checkpoint schedule s n
       else created_in s line
 
-  -- With the lines from the n-th on: what is said, or the number of the first that may not come. Behind the last newline stands nothing.
+  -- With the lines from the n-th on: what is said, or the number of the first that may not come. Nothing follows the last newline.
   abbrev pub said_from : Schedule → Said A → ℕ → List (List ℕ) → Result (Said A) ℕ
   said_from schedule s n [] = Ok s
   said_from schedule s n (line ∷ more) =
@@ -106,12 +106,12 @@ module _ {A : Type 0} where
   abbrev pub said : Schedule → List ℕ → Result (Said A) ℕ
   said schedule text = said_from schedule nothing 1 (slice_split (λ b. b == 10) text)
 
--- What a call returned, seen by view, is what is said, or the number of the first faulty line, counted from 1; or memory ran out, which is told of line 0.
+-- What a call returned, seen by view, is what is said, or the number of the first faulty line, counted from 1; or memory ran out, which is reported as line 0.
 abbrev pub Says : {X Y : Type 0} → (X → Y) → Result X ScriptFault → Result Y ℕ → Type 0
 Says view (Ok x) answer = answer ≡ Ok (view x)
 Says view (Err e) answer = (e.line ≡ 0) ⊎ (answer ≡ Err e.line)
 
--- the line of which a fault tells
+-- the line that a fault reports
 abbrev pub line_of : LineError → ℕ → ℕ
 line_of Memory n = 0
 line_of Faulty n = n

@@ -1,4 +1,4 @@
--- What is told to a person (this project's own choice).
+-- What is explained to a person.
 use Rattle.std.specs.Prelude.{ℕ, Bool, ◌&&◌, nat_le, nat_lt}
 
 -- a byte that a terminal shows, and does nothing else by

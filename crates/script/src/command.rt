@@ -39,7 +39,7 @@ impl<A: Allocator> Drop for DumpRequest<A> {
 pub enum Command<A: Allocator = Global> {
     /// An event.
     Ask(Request<A>),
-    /// That the session goes on once its snapshot is safe.
+    /// WAIT: the session goes on once its snapshot is safe.
     Wait,
     /// A dump of the safe snapshot.
     Dump(DumpRequest<A>),
@@ -184,7 +184,7 @@ fn with_argument<A: Allocator>(
     }
 }
 
-// A command with something behind its first word.
+// A command with something after its first word.
 fn argued<A: Allocator>(alloc: A, text: &[u8]) -> Result<Command<A>, LineError>
     ensures { Gives (λ c. c) result (spec.argued text.now) }
 {

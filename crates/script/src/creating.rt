@@ -64,7 +64,7 @@ fn form_of(is_key: bool) -> Reason {
     }
 }
 
-// What comes next behind a token that stands at the head of the line; else what is wrong with it.
+// What comes next after a token that stands at the head of the line; else what is wrong with it.
 fn after_head(next: Next, token: Token) -> Result<Next, Reason> {
     match (next, token.kind) {
         (Next::Create, TokenKind::Create) => Ok(Next::Table),
@@ -77,12 +77,12 @@ fn after_head(next: Next, token: Token) -> Result<Next, Reason> {
     }
 }
 
-// The same behind a column's kind.
+// What comes next after a column's kind.
 fn after_kind(is_key: bool) -> Next {
     if is_key { Next::Primary } else { Next::Marks }
 }
 
-// The same of a column's token.
+// What comes next after a column's token; else what is wrong with it.
 fn after_column(next: Next, token: Token) -> Result<Next, Reason> {
     match (next, token.kind) {
         (Next::Name(is_key), TokenKind::Name) => Ok(Next::Kind(is_key)),
@@ -100,7 +100,7 @@ fn after_column(next: Next, token: Token) -> Result<Next, Reason> {
     }
 }
 
-// The same behind a column's marks.
+// What comes next after a column's marks; else what is wrong with the token.
 fn after_marks(is_key: bool, takes_reference: bool, token: Token) -> Result<Next, Reason> {
     match token.kind {
         TokenKind::References if takes_reference => Ok(Next::ReferenceName(is_key)),
@@ -110,7 +110,7 @@ fn after_marks(is_key: bool, takes_reference: bool, token: Token) -> Result<Next
     }
 }
 
-// What comes next behind a token; else what is wrong with it.
+// What comes next after a token; else what is wrong with it.
 fn after(next: Next, token: Token) -> Result<Next, Reason> {
     match next {
         Next::Marks if !token.is(TokenKind::Not) => after_marks(false, true, token),

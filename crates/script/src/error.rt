@@ -8,9 +8,9 @@ use std::alloc::{AllocError, AllocFailed};
 /// Why a line of a script wasn't read.
 #[derive(Debug, Drop)]
 pub enum LineError {
-    /// A growth was refused.
+    /// Out of memory.
     Memory,
-    /// It isn't a line that may stand where it stands.
+    /// The line may not stand where it stands.
     Faulty,
 }
 

@@ -12,7 +12,7 @@ use sqltext::token::Token;
 use std::alloc::{AllocError, Allocator};
 use value::refusal::Code;
 
-/// What is wrong, and the bytes of the line where it is; none where these tell nothing.
+/// What is wrong, and the bytes of the line where it is; none where these show nothing.
 #[derive(Clone, Copy)]
 pub(crate) struct Found<'l> {
     pub(crate) shown: &'l [u8],
@@ -108,7 +108,7 @@ fn found_in_table<'l, A: Allocator + Copy>(
     }
 }
 
-// What is wrong with a line that is no session's and no OPEN, as its first token tells that is out of place.
+// What is wrong with a line that is no session's and no OPEN, as far as its first token that is out of place shows it.
 fn found_at_token<'l>(
     takes_tables: bool,
     wrong: Option<(Token, Reason)>,
@@ -143,7 +143,7 @@ fn found_in_create<A: Allocator + Copy>(
     }
 }
 
-// What is wrong with a line whose first bytes tell.
+// What is wrong with a line, where its first bytes show it.
 fn found_at_start<'l, A: Allocator>(
     schedule: Schedule,
     before: &Script<A>,

@@ -26,7 +26,7 @@ fn append_number<A: Allocator>(number: u64, text: &mut Vec<u8, A>) -> Result<(),
     Ok(())
 }
 
-// Appends a word and a number behind it.
+// Appends a word, followed by a number.
 fn append_numbered<A: Allocator>(
     word: &str,
     number: u64,
@@ -134,7 +134,7 @@ fn append_rows<A: Allocator>(
     Ok(())
 }
 
-// Appends the lines behind the first.
+// Appends the lines after the first.
 fn append_more<A: Allocator>(
     session: SessionId,
     reply: &Reply<A>,

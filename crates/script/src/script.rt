@@ -31,7 +31,7 @@ use value::text::Text;
 pub enum Step<A: Allocator = Global> {
     /// A session's command.
     Session(SessionId, Command<A>),
-    /// That the history goes on from the tables that it has come to.
+    /// The history goes on from its present tables.
     Checkpoint,
 }
 
@@ -318,9 +318,8 @@ impl<A: Allocator> Script<A> {
     }
 }
 
-/// What a text says as a script that is run so, or its first line that may not stand where it stands.
-/// Behind the last line's newline stands nothing; a text that doesn't end in a newline is faulty in
-/// its last line.
+/// What a text says as a script that is run so, or its first line that may not stand where it stands. Nothing follows
+/// the last line's newline; a text that doesn't end in a newline is faulty in its last line.
 pub fn read_script<A: Allocator + Copy>(
     alloc: A,
     schedule: Schedule,

@@ -1,4 +1,4 @@
-//! What is wrong with a line of a script, told to a person.
+//! What is wrong with a line of a script, explained to a person.
 
 ghost use Rattle.std.specs.Prelude.{◌≡◌, ◌<◌, true, IfOk, OnOk};
 ghost use Rattle.std.specs.List.{list_all};
@@ -68,7 +68,7 @@ fn words_of_bytes<A: Allocator + Copy>(alloc: A, byte: usize) -> Result<Vec<u8, 
     Ok(words)
 }
 
-// The words for a line that comes behind others.
+// The words for a line that comes after others.
 fn words_of_line<A: Allocator + Copy>(
     alloc: A,
     schedule: Schedule,
@@ -131,7 +131,7 @@ fn shown_as<A: Allocator>(alloc: A, bytes: &[u8]) -> Result<Vec<u8, A>, AllocErr
 
 /// What is wrong with a script's first faulty line, of this number, and what would be right: for a person, and worked
 /// out anew from the text. It has printable bytes of ASCII alone, whatever the text has: others are shown as `\x` and
-/// their number; and of the text 200 bytes at most. Of line 0 it tells that it was out of memory.
+/// their number; and of the text 200 bytes at most. For line 0 it says that it was out of memory.
 pub fn explain<A: Allocator + Copy>(
     alloc: A,
     schedule: Schedule,

@@ -21,7 +21,7 @@ fn run_length(byte: u8, text: &[u8]) -> usize
     end
 }
 
-/// What stands before the first such byte, and what behind it.
+/// What stands before and after the first such byte.
 pub fn cut(byte: u8, text: &[u8]) -> Option<(&[u8], &[u8])>
     ensures value { option_map (λ p. (p.0.now, p.1.now)) result ≡ spec.cut byte text.now }
     ensures shorter { IfSome result (λ p. length p.1.now < length text.now) }

@@ -1,4 +1,4 @@
--- How it is told that a script isn't done (this project's own choice).
+-- How it is reported that a script isn't done.
 use Rattle.std.specs.Prelude.{◌≡◌, ◌⊎◌, ℕ, List, Option, Some, None, Err}
 use Rattle.value.specs.declared.refusal.Code.TheVariants.{OutOfMemory}
 use Rattle.restore.specs.Reading.{read_dump}
@@ -13,11 +13,11 @@ status (fault.Script line) = 1
 status (fault.Dump line c) = 1
 status (fault.Device path) = 3
 
--- Out of memory, for a script, for its tables or for what is told of its lines, or for the words of the command line. Of all faults these two alone can't be told from giving up.
+-- Out of memory, for a script, for its tables or for what is printed of its lines, or for the words of the command line. Of all faults, only this one and the next can't be distinguished from giving up.
 abbrev pub out_of_memory : Fault
 out_of_memory = fault.Script 0
 
--- the same for the dump that a script opens
+-- out of memory for the dump that a script opens
 abbrev pub dump_out_of_memory : Fault
 dump_out_of_memory = fault.Dump 0 OutOfMemory
 

@@ -1,4 +1,4 @@
-//! What is told of a checkpoint.
+//! What is printed of a checkpoint.
 
 ghost use Rattle.std.specs.Prelude.{◌≡◌, IfOk};
 ghost use Rattle.program.specs.Runs as spec;
@@ -17,7 +17,7 @@ fn refused_text<A: Allocator>(alloc: A, refusal: Refusal) -> Result<Vec<u8, A>, 
     Ok(text)
 }
 
-/// What is told of a checkpoint: that it is done, or its refusal.
+/// What is printed of a checkpoint: that it is done, or its refusal.
 pub fn told_of_checkpoint<A: Allocator>(
     alloc: A,
     refusal: Option<Refusal>,

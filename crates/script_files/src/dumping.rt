@@ -83,7 +83,7 @@ fn dump_text<'p, A: Allocator>(
     }
 }
 
-// Writes a dump of a session's safe snapshot to a file in which nothing is.
+// Writes a dump of a session's safe snapshot to an empty file.
 fn write_dump<A: Allocator + Copy, O: Placed>(
     alloc: A,
     core: &Core<A>,
@@ -117,8 +117,8 @@ fn dump_to_file<A: Allocator + Copy, F: Files<A>>(
     keep_dumped(&mut file, dumped)
 }
 
-/// Does a dump of a session's safe snapshot by the calling thread alone, however many workers are asked for, and gives what
-/// is printed of it. It waits for no thread, so that who answers a line may call it.
+/// Dumps a session's safe snapshot by the calling thread alone, however many workers are asked for, and returns what is
+/// printed of it. It waits for no thread, so code that answers a line may call it.
 pub fn tell_dump<'s, A: Allocator + Copy, F: Files<A>, T>(
     machine: &Machine<'_, F, T, A>,
     core: &Core<A>,

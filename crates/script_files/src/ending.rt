@@ -5,7 +5,9 @@ ghost use Rattle.std.specs.Io.KnownBytes.{Appends, Keeps};
 ghost use Rattle.script_files.specs.Ends.{IsToldBy};
 ghost use Rattle.script_files.specs.Faults.{IsFileFault};
 
-use crate::fault::{Fault, tell};
+use crate::fault::Fault;
+use crate::room::{Room, tell_in};
+use std::alloc::Allocator;
 use std::io::Write;
 
 /// Prints a text.
@@ -19,8 +21,10 @@ pub fn show<'p, W: Write>(text: &[u8], out: &mut W) -> Result<(), Fault<'p>>
     }
 }
 
-/// Writes what was printed, whether or not the lines were done; tells why they weren't; and gives the exit status.
-pub fn end<W: Write, E: Write>(
+/// Writes what was printed, whether or not the lines were done, and returns the exit status. Where they weren't done,
+/// it reports why; `room` says how many events the history was to have room for.
+pub fn end<A: Allocator + Copy, W: Write, E: Write>(
+    room: Room<A>,
     done: Result<(), Fault<'_>>,
     reason: Option<&str>,
     out: &mut W,
@@ -37,6 +41,6 @@ pub fn end<W: Write, E: Write>(
     };
     match done {
         Ok(()) => 0,
-        Err(fault) => tell(&fault, reason, err),
+        Err(fault) => tell_in(room, &fault, reason, err),
     }
 }

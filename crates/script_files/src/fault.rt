@@ -10,7 +10,7 @@ use std::alloc::Allocator;
 use std::io::Write;
 use value::refusal::Code;
 
-/// Why a script isn't done, as it is told on standard error.
+/// Why a script isn't done, as standard error reports it.
 #[derive(Clone, Copy, Debug, PartialEq, Eq)]
 pub enum Fault<'p> {
     /// A line of the script, 0 for out of memory.
@@ -21,8 +21,8 @@ pub enum Fault<'p> {
     Device(&'p str),
 }
 
-/// Tells a fault in a line, and behind it for a person that it was out of memory, or why a file has failed, where that is
-/// known; and gives the exit status.
+/// Reports a fault in a line. A second line says to a person that it was out of memory, or why a file has failed, where
+/// that is known. Returns the exit status.
 pub fn tell<E: Write>(fault: &Fault<'_>, reason: Option<&str>, err: &mut E) -> u8
     ensures { result ≡ spec.status fault.now }
 {
@@ -49,7 +49,7 @@ pub fn tell<E: Write>(fault: &Fault<'_>, reason: Option<&str>, err: &mut E) -> u
     }
 }
 
-/// Tells the first faulty line of a script that is done in the order of its lines, and why it is refused.
+/// Reports the first faulty line of a script that is done in the order of its lines, and why it is refused.
 pub fn tell_line<A: Allocator + Copy, E: Write>(alloc: A, text: &[u8], line: u64, err: &mut E) -> u8
     ensures { result ≡ 1 }
 {

@@ -1,5 +1,5 @@
-//! Scripts over files: read, opened on the core that they begin with, and dumped; what is printed of them, and how it
-//! is told that they end.
+//! Scripts over files: read, opened on the core that they begin with, and dumped; what is printed of them, and how
+//! their end is reported.
 
 #![tactic(auto)]
 
@@ -9,3 +9,4 @@ pub mod ending;
 pub mod fault;
 pub mod mistake;
 pub mod opening;
+pub mod room;

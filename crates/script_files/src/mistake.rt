@@ -19,8 +19,8 @@ fn show_help<W: Write, E: Write>(help: &Error, out: &mut W, err: &mut E) -> u8
     }
 }
 
-/// Tells a mistake in the words of a command line, or that there was no memory for them; or shows the help that they ask
-/// for. The exit status.
+/// Reports a mistake in the words of a command line, or that there was no memory for them; or shows the help that they
+/// ask for. Returns the exit status.
 pub fn tell_words<W: Write, E: Write>(error: &Error, out: &mut W, err: &mut E) -> u8
     ensures mistake { IsMistake (kind_of error.now) → result ≡ 2 }
     ensures usage { result ≡ 2 → IsMistake (kind_of error.now) }

@@ -122,8 +122,8 @@ fn open_tables<'p, A: Allocator + Copy, F: Files<A>>(
     }
 }
 
-/// The core that a script begins with, which creates the tables of a catalog or opens the dump of a path: with room for
-/// so many events.
+/// The core that a script begins with, which creates the tables of a catalog or opens the dump of a path. It has room
+/// for `most_events` events.
 pub fn open_core<'p, A: Allocator + Copy, F: Files<A>>(
     alloc: A,
     files: &F,

@@ -17,7 +17,7 @@ use value::refusal::Mode;
 use value::text::Text;
 use value::value::Value;
 
-// Whether there are so many events in time.
+// Whether the history has `events` events in time.
 fn are_seen<'w, J: Naming<Global>>(pass: &mut Pass<'w, J>, events: u64) -> bool {
     for _ in 0..MOST_TURNS {
         if pass.stamp() >= events {
@@ -148,7 +148,7 @@ impl<'p> Part<'p> {
     }
 }
 
-/// Plays the lines of a session. An answer that isn't the line's ends the program, whoever waits.
+/// Plays the lines of a session. An answer that isn't the line's ends the program, whichever sessions wait.
 pub(crate) fn play<'w, J: Naming<Global>, R: Threads + Wait + Abort + Sync>(
     rt: &R,
     alloc: Global,

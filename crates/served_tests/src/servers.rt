@@ -21,9 +21,10 @@ use std::sync::Wait;
 use std::thread::Threads;
 use value::refusal::{Code, Refusal};
 
-// Scripts of three sessions, with blank lines between them. A line has a session's number, what it asks for and what it
-// is answered. Behind `one row` stands the number that it has. AFTER 6 waits for six events. DUMP 2 BY 3 is a dump by two jobs with three rows a piece, one where no number of rows is said. At SHUT and OPEN a barrier is shut and opened at which SELECTs, views and
-// dumps are held, and REACH waits until one is.
+// Scripts of three sessions, with blank lines between them. A line has a session's number, what it asks for and its
+// answer. `one row` is followed by the number that the row has. AFTER 6 waits for six events. DUMP 2 BY 3 is a dump by
+// two jobs with three rows a piece, one where no number of rows is said. At SHUT and OPEN a barrier is shut and opened
+// at which SELECTs, views and dumps are held, and REACH waits until one is.
 const SCRIPTS: &str = "\
 1 BEGIN: begun
 1 INSERT INTO a VALUES (1): inserted

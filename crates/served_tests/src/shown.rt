@@ -76,7 +76,7 @@ fn word_of(text: &[u8]) -> &'static str {
     }
 }
 
-/// What a dump of the session's snapshot says, by so many jobs and with so many rows a piece; its pieces wait at the
+/// What a dump of the session's snapshot says, by these numbers of jobs and of rows a piece; its pieces wait at the
 /// barrier.
 pub(crate) fn dumped<'w, J: Naming<Global>, R: Threads + Wait + Abort + Sync>(
     rt: &R,

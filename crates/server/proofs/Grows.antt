@@ -60,7 +60,7 @@ module _ {A : Type 0} where
   pub closed_push : (records : List (Record A)) (xs : List (Known A)) (p : Known A) → All (λ q. HasClosed q records) xs → HasClosed p records → All (λ q. HasClosed q records) (xs ++ p ∷ [])
   closed_push records xs p all one = All-append (λ q. HasClosed q records) xs (p ∷ []) all (All-cons (λ q. HasClosed q records) p [] one (All-nil (λ q. HasClosed q records)))
 
-  -- a ROLLBACK behind a look is one of the session that has looked
+  -- a ROLLBACK after a look is one of the session that has looked
   pub call_after : (o : Opening A) (most : ℕ) (p m q : Known A) (r : Reply A) → m.session ≡ p.session → m.mine ≡ p.mine → IsCall most m Rollback r q → HasLeft o most p q
   call_after o most p m q r same kept call = inr (r, (call.0 ∙ same, go call.1))
     where

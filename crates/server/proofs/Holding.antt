@@ -1,4 +1,4 @@
--- A call that goes on behind its first hold of the lock is the call.
+-- A call that goes on after its first hold of the lock is the call.
 use Rattle.std.proofs.Common.{◌≡◌, ℕ, List, [], ◌∷◌, ◌++◌, ap, ◌∙◌, inl, inr}
 use Rattle.statement.specs.declared.reply.Reply.{Reply}
 use Rattle.statement.specs.declared.statement.Statement.{Statement}

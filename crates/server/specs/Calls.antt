@@ -14,7 +14,7 @@ use Rattle.history.specs.Answer.{IsLegal, of_session, view_answer}
 use Rattle.transactions.specs.Courses.{takes_memory}
 use Rattle.pass.specs.Knowing.{Known}
 
--- there can't be so many sessions: there are 1 to 64
+-- there can't be n sessions: there are 1 to 64
 abbrev pub is_no_count : ℕ → Bool
 is_no_count n = n == 0 || nat_lt 64 n
 
@@ -23,7 +23,7 @@ module _ {A : Type 0} where
   abbrev pub AreFresh : List (Known A) → Type 0
   AreFresh passes = (k : ℕ) (p : Known A) → slice_get passes k ≡ Some p → p ≡ record { session = suc k; seen = []; mine = [] }
 
-  -- They are the passes of sessions 1 to n, which have seen and done nothing.
+  -- These are the passes of sessions 1 to n, which have seen and done nothing.
   pub record AreOpened (n : ℕ) (opened : List (Known A)) : Type 0 where
     pub passes : AreFresh opened
     pub count : length opened ≡ n
@@ -40,7 +40,7 @@ module _ {A : Type 0} where
     pub seen : q.seen ≡ before ++ record { session = p.session; action = a; reply = r } ∷ []
     pub mine : q.mine ≡ p.mine ++ (a, r) ∷ []
 
-  -- It was not, and the pass has done what it had: an action that takes memory got none, or the history that is seen has as many events as it may have.
+  -- The call wasn't recorded, and the pass has done what it had: an action that takes memory got none, or the history that is seen has as many events as it may have.
   pub record WasLeft (most : ℕ) (p : Known A) (a : Action A) (r : Reply A) (q : Known A) : Type 0 where
     pub reason : (takes_memory a ≡ true) × (r ≡ Refused out_of_memory) ⊎ (length q.seen ≡ most) × (r ≡ Refused (of_code ProgramLimitExceeded))
     pub mine : q.mine ≡ p.mine
@@ -57,7 +57,7 @@ module _ {A : Type 0} where
   abbrev pub HasLeft : Opening A → ℕ → Known A → Known A → Type 0
   HasLeft o most p q = (HasNone o q.seen q.session × (q.session ≡ p.session) × (q.mine ≡ p.mine)) ⊎ ((r : Reply A) × IsCall most p Rollback r q)
 
-  -- So far the session has done n polls more, and each was answered to wait.
+  -- The session has done n polls more, and each was answered to wait.
   pub record HasWaited (p q : Known A) (n : ℕ) : Type 0 where
     pub session : q.session ≡ p.session
     pub seen : IsPrefix p.seen q.seen
@@ -71,7 +71,7 @@ module _ {A : Type 0} where
   abbrev pub HasClosed : Known A → List (Record A) → Type 0
   HasClosed p records = IsPrefix p.seen records × (p.mine ≡ of_session p.session records)
 
-  -- The history that a server of these passes leaves behind: it is legal, has this opening and room for so many events, begins with what each pass has seen, and has of its session just what it did.
+  -- The history that a server of these passes leaves: it is legal, has this opening and room for `room` events, begins with what each pass has seen, and of each pass's session it has exactly what that did.
   pub record IsClosed (o : Opening A) (room : ℕ) (closed : List (Known A)) (h : Recorded A) : Type 0 where
     pub opening : h.opening ≡ o
     pub most : h.most ≡ room

@@ -5,8 +5,8 @@ use std::sync::atomic::{AtomicU64, Ordering};
 use std::sync::{Mutex, MutexGuard, Wait};
 use std::time::Duration;
 
-// How often a session looks whether the lock is free before it sleeps until that is told. So many looks take longer
-// than most holds, and a sleep that is told of its end costs whoever has the lock as much as some events.
+// How often a session looks whether the lock is free before it sleeps until it is woken. This number of looks takes
+// longer than most holds, and to wake a sleeper costs the session that has the lock as much as some events.
 const LOOKS: u32 = 2_048;
 
 // How often a session finds the lock taken as it begins a transaction before sessions give way there.
@@ -22,11 +22,11 @@ const LONGER: u64 = 8;
 // there are.
 const LONGEST: u64 = 400;
 
-// How many it takes at most where there are many sessions.
+// How many microseconds a nap takes at most where there are many sessions.
 const LONGEST_OF_ALL: u64 = 10_000;
 
-/// Where sessions begin transactions. Whoever finds the lock taken there gives way: it naps, and looks again. So a
-/// few sessions at a time are within a transaction, and each goes on for some events before another processor has
+/// Where sessions begin transactions. A session that finds the lock taken there gives way: it naps, and looks again. So
+/// a few sessions at a time are within a transaction, and each goes on for some events before another processor has
 /// what lies under the lock.
 #[derive(Drop)]
 pub(crate) struct Entrance {
@@ -38,7 +38,7 @@ pub(crate) struct Entrance {
 }
 
 impl Entrance {
-    /// The entrance of so many sessions.
+    /// The entrance of `sessions` sessions.
     pub(crate) fn new(sessions: u32) -> Entrance {
         Entrance {
             sessions,

@@ -15,8 +15,8 @@ pub(crate) struct Reading<A: Allocator = Global> {
 /// What the first hold of the lock gives for a SELECT.
 #[derive(Drop)]
 pub(crate) enum FirstHold<A: Allocator = Global> {
-    /// It is answered already.
+    /// The SELECT is answered already.
     Replied(Reply<A>),
-    /// It is to be evaluated.
+    /// The SELECT is to be evaluated.
     Reads(Reading<A>),
 }

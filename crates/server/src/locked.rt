@@ -73,7 +73,7 @@ impl<'w, J: Naming<A>, A: Allocator> Locked<'w, J, A> {
         } else {
             self.keeper.show(pass);
         }
-        // Nothing happens here: the call tells the prover what every pass keeps true.
+        // Nothing happens here: the call shows the prover what every pass keeps true.
         let _session = pass.session();
         reply
     }
@@ -146,7 +146,7 @@ impl<'w, J: Naming<A>, A: Allocator> Locked<'w, J, A> {
         ensures seen { HasSeen J.opening pass.old pass.new }
         ensures call { IsCall J.most pass.old (Action.Run statement) result pass.new }
     {
-        // Nothing happens here: the call tells the prover what every pass keeps true.
+        // Nothing happens here: the call shows the prover what every pass keeps true.
         let _session = pass.session();
         self.keeper.show(pass);
         self.core.is_legal();
@@ -180,7 +180,7 @@ impl<'w, J: Naming<A>, A: Allocator> Locked<'w, J, A> {
     }
 
     // Rolls the transaction of the pass's session back, where it has one. That is refused only where the history is
-    // full, which answers everybody so.
+    // full, which refuses every event.
     pub(crate) fn leave(&mut self, alloc: A, pass: &mut Pass<'w, J, A>)
     where
         A: Copy,

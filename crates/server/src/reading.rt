@@ -1,4 +1,4 @@
-//! SELECTs, which are evaluated while the lock is free, but where a caller without a gate reads one row.
+//! SELECTs, which are evaluated while the lock is free, except where a caller without a gate reads one row.
 
 ghost use Rattle.std.specs.Prelude.{◌≡◌, true, false, Ok, IfOk, IfErr};
 ghost use Rattle.value.specs.Refusals.{out_of_memory};
@@ -43,7 +43,7 @@ fn selects_one_row<A: Allocator>(statement: &Statement<A>) -> bool {
     }
 }
 
-// Whether an action runs such a statement.
+// Whether an action runs a SELECT that names the one row it reads.
 fn runs_one_row<A: Allocator>(action: &Action<A>) -> bool {
     match action {
         Action::Run(statement) => selects_one_row(statement),
@@ -102,7 +102,7 @@ impl<'w, J: Naming<A>, A: Allocator> Server<'w, J, A> {
         match request.action(alloc, &self.catalog) {
             Ok(action) => self.act_gated(rt, alloc, pass, action, gate),
             Err(refusal) => {
-                // Nothing happens here: the call tells the prover what every pass keeps true.
+                // Nothing happens here: the call shows the prover what every pass keeps true.
                 let _session = pass.session();
                 Reply::Refused(refusal)
             }
@@ -194,7 +194,7 @@ impl<'w, J: Naming<A>, A: Allocator> Server<'w, J, A> {
         ensures seen { HasSeen J.opening pass.old pass.new }
         ensures call { IsCall J.most pass.old (Action.Run reading.statement) result pass.new }
     {
-        // Nothing happens here: the call tells the prover what every pass keeps true.
+        // Nothing happens here: the call shows the prover what every pass keeps true.
         let _session = pass.session();
         readers_are_sound::<A>();
         readers_stay::<A>();

@@ -49,7 +49,7 @@ impl<'w, J: Naming<A>, A: Allocator> Drop for Server<'w, J, A> {
     }
 }
 
-// Whether there can't be so many sessions.
+// Whether there can't be `sessions` sessions: there are 1 to 64.
 fn is_no_count_of_sessions(sessions: u32) -> bool
     ensures { result ≡ is_no_count sessions }
 {
@@ -93,8 +93,8 @@ fn is_wait<A: Allocator>(reply: &Reply<A>) -> bool
 }
 
 impl<'w, J: Naming<A>, A: Allocator> Server<'w, J, A> {
-    /// A server that begins with these tables and has room for so many events, and the passes of sessions 1, 2, ..;
-    /// refused with 54000 for no events, or sessions outside 1 to 64. The word is made of the same catalog and
+    /// A server that begins with these tables and has room for `max_events` events, and the passes of sessions 1, 2,
+    /// ..; refused with 54000 for no events, or sessions outside 1 to 64. The word is made of the same catalog and
     /// tables, and serves this server alone.
     pub fn open(
         alloc: A,
@@ -187,9 +187,9 @@ impl<'w, J: Naming<A>, A: Allocator> Server<'w, J, A> {
         Ok((server, passes))
     }
 
-    /// Does one event of the pass's session. A text is parsed before the lock is taken, and a SELECT
-    /// evaluated while it is free, but where it reads one row. The reply is recorded, but when out of
-    /// memory (53200) or on a full history (54000).
+    /// Does one event of the pass's session. A text is parsed before the lock is taken, and a SELECT is evaluated while
+    /// it is free, except where it reads one row. The reply is recorded, except when out of memory (53200) or on a full
+    /// history (54000).
     pub fn call<R: Wait>(
         &self,
         rt: &R,
@@ -205,7 +205,7 @@ impl<'w, J: Naming<A>, A: Allocator> Server<'w, J, A> {
         match request.action(alloc, &self.catalog) {
             Ok(action) => self.act_at_once(rt, alloc, pass, action),
             Err(refusal) => {
-                // Nothing happens here: the call tells the prover what every pass keeps true.
+                // Nothing happens here: the call shows the prover what every pass keeps true.
                 let _session = pass.session();
                 Reply::Refused(refusal)
             }
@@ -254,7 +254,7 @@ impl<'w, J: Naming<A>, A: Allocator> Server<'w, J, A> {
         ensures seen { HasSeen J.opening pass.old pass.new }
         ensures polls { HasPolled J.most pass.old result pass.new }
     {
-        // Held from poll to poll, but for the sleep between, so that no event is missed. A call of the
+        // The lock is held from poll to poll, except for the sleep between, so that no event is missed. A call of the
         // server in this loop would wait for the lock for ever: the polls go to what lies under it.
         let mut locked = self.locked.lock(rt);
         for _ in rt.forever() {
@@ -267,10 +267,9 @@ impl<'w, J: Naming<A>, A: Allocator> Server<'w, J, A> {
         unreachable!()
     }
 
-    /// Rolls the transaction of the pass's session back, where it has one, as the end of its
-    /// connection does, and wakes the sessions that wait for it. ROLLBACK takes no memory; a full
-    /// history has no room for it, and answers 54000 to everybody who waits. The session may call
-    /// again, and is then in no transaction.
+    /// Rolls the transaction of the pass's session back, where it has one, as the end of its connection does, and wakes
+    /// the sessions that wait for it. ROLLBACK takes no memory; a full history has no room for it, and answers 54000 to
+    /// all that wait. The session may call again, and is then in no transaction.
     pub fn leave<R: Wait>(&self, rt: &R, alloc: A, pass: &mut Pass<'w, J, A>)
     where
         A: Copy,

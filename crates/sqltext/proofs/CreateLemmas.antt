@@ -25,7 +25,7 @@ failed r = Err r
 same_refusal : (r s : Refusal) → failed r ≡ failed s → r ≡ s
 same_refusal r s e = cc
 
--- a refusal other than for want of memory is the answer
+-- a refusal other than out of memory is the answer
 pub answered : (answer : Result TableDef Refusal) (r : Refusal) → AnswersOrNoMemory (failed r) answer → (r.code ≡ OutOfMemory → ⊥) → answer ≡ Err r
 answered answer r h other =
     elim h [ inl e ↦ sym e | inr e ↦ absurd (other (ap (λ (s : Refusal). s.code) (same_refusal r out_of_memory e))) ]

@@ -30,7 +30,7 @@ one_token after at (b ∷ text) some no_blank moves within =
     skips is_number (first.1 - 1) (at + 1) text (omega arith) ∙ rw (place, drop-cons first.1 b text moves) refl in
     rw no_blank (ap (λ (more : List Token). token_at at first ∷ more) passed)
 
--- the same in the middle of a text, behind the tokens that were read
+-- one token more in the middle of a text, after the tokens that were read
 pub goes_on : (before pushed : List Token) (after : Bool) (at : ℕ) (text rest : List ℕ) (first : TokenKind × ℕ) (is_number : Bool) (all : List Token)
     → rest ≡ drop at text → at < length text → first ≡ first_token rest after → is_blank (slice_index rest 0) ≡ false → 1 ≤ first.1 → first.1 ≤ length rest
     → is_number ≡ same_kind first.0 kind.Number → pushed ≡ before ++ token_at at first ∷ []

@@ -71,7 +71,7 @@ module _ {T : Type 0} (separator : TokenKind) (item : Reader T) where
     unroll [] = refl
     unroll (t ∷ us) = same_rounds (more_of separator item (length us)) others (t ∷ us) (λ rest lt. enough (length us) (length rest) rest (omega arith) (omega arith))
 
--- no tokens, or so many items with separators before them
+-- no tokens, or this list of items with separators before them
 abbrev pub Round : {T : Type 0} → TokenKind → (T → Phrase) → List T → Phrase
 Round separator S xs = (λ us. (word separator then Bound S (λ x. Made (λ ys. x ∷ ys) (more separator S)) xs) us) or Is [] xs
 

@@ -1,5 +1,5 @@
 -- What the text of a CREATE TABLE says: a table, or that it is none.
--- Source: PostgreSQL manual, CREATE TABLE; the forms that are read are this project's own.
+-- Source: PostgreSQL manual, CREATE TABLE; the forms that are read are ours.
 use Rattle.std.specs.Prelude.{ℕ, Bool, true, false, if◌then◌else◌, List, [], ◌∷◌, Option, Some, None, Result, Ok, Err}
 use Rattle.std.specs.Option.{option_map_or}
 use Rattle.std.specs.Str.{is_utf8}
@@ -92,7 +92,7 @@ definitions text first others = each (definition text) others >>= λ ds. Ok (fir
 abbrev pub defined_table : List ℕ → List ColumnDef → Result TableDef Refusal
 defined_table name columns = pointing_nowhere (defined name columns)
 
--- letters in small letters, but for those between quotes
+-- letters in small letters, except those between quotes
 abbrev pub small : List ℕ → List ℕ
 small = in_small_letters false
 

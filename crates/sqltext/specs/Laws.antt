@@ -51,7 +51,7 @@ abbrev pub RefusesTheFirstFault : Type 0 → Type 0
 RefusesTheFirstFault A = (ts : List Token) (refusal : Refusal) → whole {A = A} ts ≡ Err refusal
     → (before : List Token) × (rest : List Token) × (ts ≡ before ++ rest) × (refusal ≡ syntax_error rest) × BeginAStatement A before × NoneGoesOn A before rest
 
--- the tokens of a text, whose letters are small but for what stands between quotes
+-- the tokens of a text, whose letters are small except those between quotes
 abbrev pub tokens_of : List ℕ → List Token
 tokens_of text = tokens (in_small_letters false text)
 
@@ -65,7 +65,7 @@ abbrev pub RefusesWhatIsNot : Type 0 → Type 0
 RefusesWhatIsNot A = (catalog : Catalog) (text : List ℕ) → length text ≤ 65536 → ((tree : Tree A) → Spells tree (tokens_of text) → ⊥)
     → (before : List Token) × (rest : List Token) × (tokens_of text ≡ before ++ rest) × (parsed {A = A} catalog text ≡ Err (syntax_error rest)) × BeginAStatement A before × NoneGoesOn A before rest
 
--- the same of a CREATE TABLE
+-- tokens read as a CREATE TABLE exactly where they spell it
 abbrev pub ReadsSpelledTables : Type 0
 ReadsSpelledTables = (ts : List Token) (table : TableParts) → (whole_table ts ≡ Ok table) ↔ SpellsTable table ts
 

@@ -1,5 +1,5 @@
--- The tokens of a text, told without reading it: a text is its tokens' spellings with blanks between, each the longest that fits.
--- Source: PostgreSQL manual, SQL syntax, lexical structure; the signs, the reserved words and the limit of names are this project's own.
+-- The tokens of a text, given without reading it: a text is its tokens' spellings with blanks between, each the longest that fits.
+-- Source: PostgreSQL manual, SQL syntax, lexical structure; the signs, the reserved words and the limit of names are ours.
 use Rattle.std.specs.Prelude.{◌≡◌, ◌≢◌, ◌≤◌, ◌⊎◌, ℕ, ◌+◌, Bool, true, false, if◌then◌else◌, ◌==◌, List, [], ◌∷◌, ◌++◌, length, codes, Contains}
 use Rattle.std.specs.List.{list_all}
 use Rattle.std.specs.Char.{is_ascii_digit}
@@ -63,7 +63,7 @@ IsFirst after_number k bytes rest = (IsSpelling after_number k bytes rest × IsL
 
 -- ---- the tokens of a text
 
--- behind blanks nothing stands right after a number
+-- after blanks nothing stands right after a number
 abbrev pub right_after : Bool → List ℕ → Bool
 right_after after_number [] = after_number
 right_after after_number (b ∷ blanks) = false

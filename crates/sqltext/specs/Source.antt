@@ -3,7 +3,7 @@ use Rattle.std.specs.Prelude.{ℕ, ◌-◌, Bool, true, false, not, if◌then◌
 use Rattle.std.specs.Char.{to_ascii_lowercase}
 use Rattle.sqltext.specs.declared.token.Token.{Token}
 
--- letters in small letters, but for those between quotes; a doubled quote ends a quoted text and begins one again
+-- letters in small letters, except those between quotes; a doubled quote ends a quoted text and begins one again
 abbrev pub in_small_letters : Bool → List ℕ → List ℕ
 in_small_letters is_quoted [] = []
 in_small_letters is_quoted (b ∷ text) =

@@ -1,5 +1,5 @@
 -- The tokens of a text.
--- Source: PostgreSQL manual, SQL syntax, lexical structure; the signs, the reserved words and the limit of names are this project's own.
+-- Source: PostgreSQL manual, SQL syntax, lexical structure; the signs, the reserved words and the limit of names are ours.
 use Rattle.std.specs.Prelude.{◌≡◌, ◌≤◌, ℕ, zero, suc, ◌+◌, ◌-◌, Bool, true, false, not, ◌&&◌, ◌||◌, if◌then◌else◌, ◌==◌, nat_le, List, [], ◌∷◌, length, take, drop, map, slice_index, Option, Some, None}
 use Rattle.std.specs.Char.{is_ascii_digit, is_ascii_lowercase}
 use Rattle.std.specs.List.{prefix_len}
@@ -56,7 +56,7 @@ word text after_number = (if after_number then kind.Unknown else word_kind (take
 
 -- ---- quoted texts
 
--- the length up to and with the closing quote, of a text that begins after so many bytes; a doubled quote doesn't close
+-- the length up to and with the closing quote, of a text that begins after `at` bytes; a doubled quote doesn't close
 abbrev pub closing : Bool → ℕ → List ℕ → Option ℕ
 closing is_second at [] = None
 closing true at (b ∷ text) = closing false (at + 1) text
@@ -107,7 +107,7 @@ first_token text after_number =
 abbrev pub token_at : ℕ → TokenKind × ℕ → Token
 token_at start first = record { kind = first.0; start = start; end = start + first.1 }
 
--- The tokens from a place on. So many bytes belong to the token before; a number stands right before or doesn't.
+-- The tokens from a place on. The next `inside` bytes belong to the token before; a number stands right before or doesn't.
 abbrev pub tokens_from : Bool → ℕ → ℕ → List ℕ → List Token
 tokens_from after_number inside at [] = record { kind = kind.End; start = at; end = at } ∷ []
 tokens_from after_number (suc inside) at (b ∷ text) = tokens_from after_number inside (at + 1) text

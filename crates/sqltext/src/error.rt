@@ -10,7 +10,7 @@ use value::refusal::{Code, Place, Refusal};
 /// Why a text was not parsed.
 #[derive(Debug, Drop)]
 pub enum ParseError {
-    /// A growth was refused.
+    /// Out of memory.
     Memory,
     /// The text is refused.
     Refused(Refusal),

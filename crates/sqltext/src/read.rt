@@ -47,7 +47,7 @@ pub fn expect(tokens: &[Token], kind: TokenKind) -> Read<'_, Token>
     }
 }
 
-/// That no tokens are left.
+/// Requires that no tokens are left.
 #[tactic(auto, unfolding(crate::specs::Reading::nothing_left))]
 pub fn nothing_left(tokens: &[Token]) -> Result<(), ParseError>
     ensures { Gives (λ u. u) result (spec.nothing_left tokens.now) }
@@ -66,7 +66,7 @@ pub trait Item: Copy + Drop {
 
     ghost reads: { List Token → Result (Self × List Token) Refusal };
 
-    /// Reads one.
+    /// Reads one item.
     fn read(tokens: &[Token]) -> Result<(Self, &[Token]), ParseError>
         ensures { Gives (λ x. (x.0, x.1.now)) result (reads tokens.now) };
 }

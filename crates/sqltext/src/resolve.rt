@@ -284,7 +284,7 @@ fn target<A: Allocator>(
     Ok((place, kind))
 }
 
-// That a column is of numbers.
+// Requires a column of numbers.
 fn require_bigint(kind: Kind, name: Name) -> Result<(), ParseError>
     ensures { Gives (λ x. x) result (spec.require_bigint kind name) }
 {

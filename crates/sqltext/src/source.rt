@@ -8,7 +8,7 @@ use std::alloc::{AllocError, Allocator};
 
 const QUOTE: u8 = b'\'';
 
-/// The text with letters in small letters, but for those between quotes.
+/// The text with letters in small letters, except those between quotes.
 pub fn in_small_letters<A: Allocator>(alloc: A, text: &[u8]) -> Result<Vec<u8, A>, AllocError>
     ensures { IfOk result (λ small. small.items ≡ spec.in_small_letters false text.now) }
 {

@@ -8,7 +8,7 @@ pub fn not_a_case() -> Refusal {
     Refusal::of_code(Code::SyntaxError)
 }
 
-/// What stands before and behind the first colon.
+/// What stands before and after the first colon.
 pub fn cut(text: &str) -> Result<(&str, &str), Refusal> {
     text.split_once(":").ok_or(not_a_case())
 }

@@ -8,7 +8,7 @@ use value::kind::Kind;
 use value::refusal::Refusal;
 use value::text::Text;
 
-// A column: its name, behind `>` where it references the table of that name.
+// A column: its name, after `>` where it references the table of that name.
 fn column(alloc: Global, text: &str) -> Result<ColumnDef, Refusal> {
     let (name, references) = match text.strip_prefix(">") {
         Some(name) => (name, Some(Text::from_str(alloc, name)?)),
@@ -18,7 +18,7 @@ fn column(alloc: Global, text: &str) -> Result<ColumnDef, Refusal> {
     Ok(ColumnDef::new(name, Kind::Bigint, false, references))
 }
 
-// Adds a table: its name, and behind a colon its columns.
+// Adds a table: its name, and after a colon its columns.
 fn add(alloc: Global, catalog: &mut Catalog, text: &str) -> Result<(), Refusal> {
     let (name, texts) = cut(text)?;
     let mut columns = Vec::new(alloc);
@@ -30,7 +30,7 @@ fn add(alloc: Global, catalog: &mut Catalog, text: &str) -> Result<(), Refusal> 
     Ok(())
 }
 
-/// A catalog of tables, a line for each: its name, and behind a colon its columns.
+/// A catalog of tables, a line for each: its name, and after a colon its columns.
 pub fn catalog(alloc: Global, texts: &str) -> Result<Catalog, Refusal> {
     let mut catalog = Catalog::new(alloc);
     for text in texts.lines() {

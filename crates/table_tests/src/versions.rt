@@ -77,7 +77,7 @@ fn opening(alloc: Global) -> Result<Rows, Refusal>
     Ok(versions)
 }
 
-// The changes of a commit: a number beside a key, or none where it goes.
+// The changes of a commit: the row of a key and a number, or no row of the key.
 fn changes(alloc: Global, (number, beside): (i64, Option<i64>)) -> Result<Vec<Change>, Refusal> {
     let table = TableNo::at(0);
     let mut changes = Changes::new(alloc);
@@ -170,7 +170,7 @@ fn assert_newest(
     Ok(())
 }
 
-// A key is put in beside another, taken away, and put in again.
+// A second key is put in, taken away, and put in again.
 fn write_three(rt: &impl Abort, alloc: Global, versions: &mut Rows) -> Result<(), Refusal>
     requires below { TablesAreBelow 1 versions.old }
     requires has { 0 < length versions.old }
@@ -183,7 +183,7 @@ fn write_three(rt: &impl Abort, alloc: Global, versions: &mut Rows) -> Result<()
     commit(alloc, versions, 3, (5, Some(51)))
 }
 
-// What is shown of that, and which commits were the newest.
+// What is shown of the three writes, and which commits were the newest.
 fn assert_three(rt: &impl Abort, alloc: Global, versions: &Rows) -> Result<(), Refusal>
     requires { 0 < length versions.now }
 {
@@ -204,8 +204,8 @@ fn a_key_that_goes_and_comes_again(rt: HostRuntime) -> Result<(), Refusal> {
     assert_newest(&rt, &versions, 5, Some(3))
 }
 
-// Writes a key by a thousand commits beside the snapshot of the opening, and beside that of the third
-// commit once it is there: beside the key stands the commit's number.
+// Writes a key by a thousand commits, while the snapshot of the opening is read, and from the third commit on that
+// one's too: the key's row has the commit's number.
 fn write_beside_two(alloc: Global, versions: &mut Rows) -> Result<(), Refusal>
     requires { TablesAreBelow 1 versions.old }
     ensures { OnOk result (length versions.new ≡ length versions.old) }
@@ -235,8 +235,8 @@ const SHOWN: [(u64, i64); 8] = [
     (1000, 1000),
 ];
 
-// Of a thousand versions those stay that the two snapshots show, and the newest. So a snapshot between
-// shows the one before it that stayed.
+// Of a thousand versions, those that the two snapshots show stay, and the newest. So a snapshot between shows the one
+// before it that stayed.
 #[test]
 fn a_key_keeps_what_open_snapshots_show(rt: HostRuntime) -> Result<(), Refusal> {
     let alloc = rt.alloc();

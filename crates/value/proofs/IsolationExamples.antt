@@ -37,7 +37,7 @@ write_skew = refl
 pivot_first : let last = commits 4 [] in dooms_of (live 2 (3 ∷ []) ∷ live 3 (4 ∷ []) ∷ last ∷ []) last ≡ cause 2 3 4 ∷ []
 pivot_first = refl
 
--- One that has read what the committer wrote, and whose own writes nobody has read, is left alone.
+-- One that has read what the committer wrote, and whose own writes no transaction has read, is left alone.
 no_first : let last = commits 4 [] in dooms_of (live 2 [] ∷ live 3 (4 ∷ []) ∷ last ∷ []) last ≡ []
 no_first = refl
 

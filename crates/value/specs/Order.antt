@@ -1,4 +1,4 @@
--- The order of values, this project's choice: null, then numbers, then texts by their bytes (as collation "C" has it), then byteas by their bytes.
+-- The order of values: null, then numbers, then texts by their bytes (as collation "C" has it), then byteas by their bytes.
 use Rattle.std.specs.Prelude.{◌≡◌, ℕ, ℤ, pos, List, [], Bool}
 use Rattle.std.specs.Cmp.{IsTotalOrder, IsEquivalence, int_cmp_total, nat_cmp_total}
 use Rattle.std.specs.Cmp.Lexicographic.{slice_cmp}

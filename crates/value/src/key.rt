@@ -60,7 +60,7 @@ impl<A: Allocator> Key<A> {
         &self.value
     }
 
-    /// An equal key, with memory of its own. Refused only for want of it (53200).
+    /// An equal key, with memory of its own. Refused only with 53200, out of memory.
     pub fn copy(&self, alloc: A) -> Result<Key<A>, Refusal>
         ensures ok { IfOk result (λ k. k ≡ self.now) }
         ensures err { IfErr result (λ e. e ≡ out_of_memory) }

@@ -30,12 +30,12 @@ pub enum Code {
     ActiveSqlTransaction,
     /// A write in a read-only transaction.
     ReadOnlySqlTransaction,
-    /// What needs a transaction, in a session that has none.
+    /// An action that needs a transaction, in a session that has none.
     NoActiveSqlTransaction,
-    /// What a failed transaction no longer does.
+    /// An action that a failed transaction no longer does.
     InFailedSqlTransaction,
     /// A commit that would make a dangerous structure, a transaction that another's commit has doomed, or a write of a
-    /// row that a transaction beside it has written. To be tried again.
+    /// row that a concurrent transaction has written. To be tried again.
     SerializationFailure,
     /// A text that is no statement, or a bad table definition.
     SyntaxError,
@@ -48,7 +48,7 @@ pub enum Code {
     UndefinedTable,
     /// A table's name that is there already.
     DuplicateTable,
-    /// A growth was refused. Nothing has changed.
+    /// Out of memory. Nothing has changed.
     OutOfMemory,
     /// One of this server's limits: tables, columns, a statement's length, recorded events.
     ProgramLimitExceeded,
@@ -157,11 +157,11 @@ pub enum Place {
 /// What a transaction may do, and when its snapshot is taken. All are SERIALIZABLE.
 #[derive(Clone, Copy, Debug, PartialEq, Eq)]
 pub enum Mode {
-    /// It may read and write, on the snapshot at its BEGIN.
+    /// The transaction may read and write, on the snapshot at its BEGIN.
     ReadWrite,
-    /// It may only read, on the snapshot at its BEGIN or on one that it imports.
+    /// The transaction may only read, on the snapshot at its BEGIN or on one that it imports.
     ReadOnly,
-    /// It may only read, on a safe snapshot, for which it waits.
+    /// The transaction may only read, on a safe snapshot, for which it waits.
     Deferrable,
 }
 

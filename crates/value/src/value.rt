@@ -49,7 +49,7 @@ impl<A: Allocator> Value<A> {
         }
     }
 
-    /// An equal value, with memory of its own. Refused only for want of it (53200).
+    /// An equal value, with memory of its own. Refused only with 53200, out of memory.
     pub fn copy(&self, alloc: A) -> Result<Value<A>, Refusal>
         ensures ok { IfOk result (λ v. v ≡ self.now) }
         ensures err { IfErr result (λ e. e ≡ out_of_memory) }

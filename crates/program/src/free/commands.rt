@@ -49,7 +49,7 @@ pub(crate) struct Client<'c, 'w, J: Naming<Global>, S, T> {
 }
 
 impl<'c, 'w, J: Naming<Global>, S, T: Wait> Client<'c, 'w, J, S, T> {
-    // Does what a session asks for, and gives what is printed of it.
+    // Does what a session asks for, and returns what is printed of it.
     fn tell_call(
         &self,
         pass: &mut Pass<'w, J>,
@@ -63,7 +63,7 @@ impl<'c, 'w, J: Naming<Global>, S, T: Wait> Client<'c, 'w, J, S, T> {
         printed_reply(self.alloc, session, &reply)
     }
 
-    // Waits until a session's snapshot is safe, and gives what is printed of that.
+    // Waits until a session's snapshot is safe, and returns what is printed of that.
     fn tell_wait(&self, pass: &mut Pass<'w, J>) -> Result<Vec<u8>, Fault<'static>>
         ensures told { IfOk result (λ text. IsWaitTold J.most pass.old text.items pass.new) }
         ensures fault { IfErr result (λ f. f ≡ Fault.ScriptOutOfMemory) }
@@ -80,7 +80,7 @@ where
     S: Sinks,
     T: Threads + Wait + Sync,
 {
-    // Writes a dump of the safe snapshot of a pass's session to a file in which nothing is.
+    // Writes a dump of the safe snapshot of a pass's session to an empty file.
     fn write_dump(
         &self,
         pass: &mut Pass<'w, J>,
@@ -123,7 +123,7 @@ where
         keep_dumped(&mut file, dumped)
     }
 
-    // Does a dump, and gives what is printed of it.
+    // Does a dump, and returns what is printed of it.
     fn tell_dump<'p>(
         &self,
         pass: &mut Pass<'w, J>,
@@ -140,7 +140,7 @@ where
         dump_text(self.alloc, session, request.path.as_str(), done)
     }
 
-    // Does a command, and gives what is printed of it.
+    // Does a command, and returns what is printed of it.
     fn tell_command<'p>(
         &self,
         pass: &mut Pass<'w, J>,
@@ -158,7 +158,7 @@ where
         }
     }
 
-    // Does a session's command where the session is the pass's, and gives what is printed of it.
+    // Does a session's command where the session is the pass's, and returns what is printed of it.
     fn tell_own<'p>(
         &self,
         pass: &mut Pass<'w, J>,
@@ -177,7 +177,7 @@ where
         }
     }
 
-    // Does a line, where it is of the pass's session, and gives what is printed of it.
+    // Does a line, where it is of the pass's session, and returns what is printed of it.
     fn tell_line<'p>(&self, pass: &mut Pass<'w, J>, line: &'p Line) -> Result<Vec<u8>, Fault<'p>>
         ensures told { IfOk result (λ text. IsAtLine (IsWritten S.Out.path S.Out.kept) J.opening J.most
             line.entry.now.step pass.old text.items pass.new) }
@@ -189,8 +189,8 @@ where
         }
     }
 
-    /// Does the lines of the pass's session, in their order, and gives what is printed of them. It stops at
-    /// the first fault, and tells it.
+    /// Does the lines of the pass's session, in their order, and returns what is printed of them. It stops at the first
+    /// fault, and returns that.
     pub(crate) fn tell_lines<'p>(
         &self,
         pass: &mut Pass<'w, J>,

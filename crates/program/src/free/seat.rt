@@ -47,8 +47,8 @@ impl<'p, 's, 'w, J: Naming<Global>, S: Sinks> Seat<'p, 's, 'w, J, S> {
         }
     }
 
-    /// Does the session's lines, in their order. It stops at a fault. Then the session leaves, whether or
-    /// not all its lines were done: no transaction of it stays behind for which others would wait.
+    /// Does the session's lines, in their order. It stops at a fault. Then the session leaves, whether or not all its
+    /// lines were done: it leaves no open transaction for which others would wait.
     #[tactic(auto, unfolding(crate::specs::Freely::HasPlayed))]
     pub(crate) fn play<T: Threads + Wait + Sync>(&mut self, rt: &T, alloc: Global)
         ensures told { IfOk self.new.told (λ text. HasPlayed (IsWritten S.Out.path S.Out.kept) J.opening J.most
@@ -65,8 +65,7 @@ impl<'p, 's, 'w, J: Naming<Global>, S: Sinks> Seat<'p, 's, 'w, J, S> {
         self.server.leave(rt, alloc, &mut self.pass);
     }
 
-    /// Adds its pass, and what is printed of it, to those of the sessions before it; or tells why it has
-    /// stopped.
+    /// Adds its pass, and what is printed of it, to those of the sessions before it; or returns why it has stopped.
     pub(crate) fn end(
         self,
         passes: &mut Vec<Pass<'w, J>>,

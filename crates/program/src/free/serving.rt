@@ -12,8 +12,8 @@ ghost use Rattle.program.specs.Freely.{AreJoined, ArePrinted, AreServed, HasPlay
 use crate::fault::Fault;
 use crate::free::seat::Seat;
 use crate::free::sinks::Sinks;
+use audit::ordering::append_check;
 use history::base::Base;
-use ordering::append_check;
 use pass::token::Pass;
 use pass::word::{FirstSeat, HistoryWord, Naming};
 use schema::catalog::Catalog;
@@ -31,8 +31,8 @@ use std::thread::Threads;
 /// The greatest number of sessions, and so of threads.
 const MOST_SESSIONS: usize = 64;
 
-/// What sessions begin with: tables, room for so many events, whether their order is checked at the end, and the lines
-/// of their script.
+/// What sessions begin with: tables, the most events that their history may have, whether their order is checked at the
+/// end, and the lines of their script.
 #[derive(Drop)]
 pub(crate) struct Beginning<'p> {
     pub(crate) catalog: Catalog,

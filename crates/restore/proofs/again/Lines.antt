@@ -72,7 +72,7 @@ module _ {A : Type 0} where
       let rest = g first.0 next lines in
       (rest.0, ap (read_lines n p) (append_assoc ls (m ∷ ms) (next ∷ lines)) ∙ first.1 ∙ rest.1)
 
-  -- what a line comes to doesn't depend on which of two it follows
+  -- what a line leads to doesn't depend on which of two it follows
   pub goes_alike : (p q r : Progress A) (line : List ℕ) (ls : List (List ℕ)) → step p line ≡ step q line → GoesTo q (line ∷ ls) r → GoesTo p (line ∷ ls) r
   goes_alike p q r line [] s g n next lines =
       let rest = g n next lines in
@@ -81,7 +81,7 @@ module _ {A : Type 0} where
       let rest = g n next lines in
       (rest.0, read_step n p line l (ls ++ next ∷ lines) ∙ ap (λ x. after n x (λ more. read_lines (n + 1) more (l ∷ ls ++ next ∷ lines))) s ∙ sym (read_step n q line l (ls ++ next ∷ lines)) ∙ rest.1)
 
-  -- behind the last line nothing stands
+  -- nothing follows the last line
   pub reads_whole : (p : Progress A) (ls : List (List ℕ)) (c : Catalog) (X : Tables A) → GoesTo p ls (Whole c X) → (n : ℕ) → read_lines n p (ls ++ [] ∷ []) ≡ Ok (c, X)
   unfolding read_lines
   reads_whole p ls c X g n = (g n [] []).1

@@ -1,4 +1,4 @@
--- A row of sound tables, written as a line and put in behind the rows before it.
+-- A row of sound tables, written as a line and put in after the rows before it.
 use Rattle.std.proofs.Common.{◌≡◌, ℕ, ◌<◌, Bool, true, false, Ok, not, eqb, ◌&&◌, ◌||◌, List, [], ◌∷◌, ◌++◌, length, set, map, Option, Some, None, is_some, refl, sym, ap, ◌∙◌, arith}
 use Rattle.std.specs.List.{list_any, list_all}
 use Rattle.std.specs.FinMap.{find, is_sorted}
@@ -153,7 +153,7 @@ module _ {A : Type 0} where
       → row_at Y t row.0 ≡ None → dangles Y ds (cells row) ≡ false → inserting_fault c Y t row ≡ None
   no_fault c Y t row ds columns kinds zeros null key reference = rw (columns, kinds, zeros, null, key, reference) refl
 
-  -- the tables before, the rows before, and what stands behind
+  -- the tables before, the rows before, and what follows
   pub inserted_again : (c before : Catalog) (X : Tables A) (Xs : List (List (Row A))) (front : List (Row A)) (row : Row A) (rest : List (Row A)) (es : List (List (Row A))) (ds : List Column)
       → columns_of c (length Xs) ≡ ds → length before ≡ length Xs → list_all (references_key before) ds ≡ true → ((u : ℕ) → u < length Xs → rows_of X u ≡ rows_of Xs u)
       → fits_columns X ds (cells row) ≡ true → is_sorted value_cmp (front ++ row ∷ rest) ≡ true

@@ -241,7 +241,7 @@ columns_lack c apart other (d ∷ ds) h =
     let a = are_columns d ds h in
     joined_lacks c 44 (key_text d) (map (λ t. 32 ∷ t) (map column_text ds)) other (key_lacks c apart d a.key) (others_lack c apart ds a.others)
 
--- what stands behind the words CREATE TABLE
+-- what follows the words CREATE TABLE
 abbrev pub behind_words : TableDef → List ℕ
 behind_words d = d.name ++ codes " (" ++ comma_separated (column_texts d.columns) ++ codes ");"
 

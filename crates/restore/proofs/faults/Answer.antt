@@ -69,7 +69,7 @@ lead_zero true = refl
 lead_zero false = refl
 
 module _ {A : Type 0} where
-  -- ---- what the lines behind the first have come to
+  -- ---- the catalog and the tables that the lines after the first have made
 
   pub record Holds (counted : Bool) (c : Catalog) (X : Tables A) (lines : List (List ℕ)) : Type 0 where
     pub catalog : catalog_of lines ≡ c
@@ -205,7 +205,7 @@ module _ {A : Type 0} where
             (is_fault ∙ rw is refl, subst P next (part ++ line ∷ [], to, begun_with lines line none, full))
         go false is = is_fault ∙ rw is refl
 
-    -- ---- a row, or the line behind the rows
+    -- ---- a row, or the line after the rows
 
     row_there : (u : ℕ) (k : Value A) → is_some (row_at X u k) ≡ has_key (rows_of_table counted lines u) k
     row_there u k =
@@ -317,7 +317,7 @@ module _ {A : Type 0} where
           go false is =
               subst (λ (r : Result (Tables A) Code). Agrees (r >>= λ Y. Ok (Within counted c Y t)) (first ∷ lines) line) (sym (with_row_is c X t line)) (by_row (row_of_line (kinds_of c t) line) refl is)
 
-  -- behind the last line nothing may stand
+  -- nothing may follow the last line
   pub nothing_agrees : (counted : Bool) (c : Catalog) (X : Tables A) (first : List ℕ) (lines : List (List ℕ)) (t : ℕ) (part : List (List ℕ)) (s : At counted c X first lines t part) (line : List ℕ) → create_text (behind_creates lines) line ≡ None
       → lead counted t ≤ length part → length c ≤ t → line_fault A (first ∷ lines) line ≡ Some BadCopyFileFormat
   nothing_agrees counted c X first lines t part s line none long past = fault_is counted c X first lines t part s line none Nothing (at_nothing (length c) counted t (length part) long past)

@@ -18,7 +18,7 @@ same_fault : (f g : RestoreFault) → some_fault f ≡ Some g → f ≡ g
 same_fault f g e = cc
 
 module _ (A : Type 0) where
-  -- the fault at a place among the lines behind some
+  -- the fault at a place among the lines after some
   abbrev from : List (List ℕ) → List (List ℕ) → ℕ → Option Code
   from before lines i = fault_from A (before ++ take i lines) (drop i lines)
 

@@ -1,4 +1,4 @@
--- A line more behind others: which CREATE TABLE lines, parts and row lines there are then.
+-- A line more after others: which CREATE TABLE lines, parts and row lines there are then.
 use Rattle.std.proofs.Common.{◌≡◌, ◌≢◌, ℕ, zero, suc, ◌<◌, ◌≤◌, ◌==◌, ◌⊎◌, inl, inr, Bool, true, false, cond, List, [], ◌∷◌, ◌++◌, length, drop, Option, Some, None, refl, ap, sym, subst, ◌∙◌, arith, length-append}
 use Rattle.std.specs.Prelude.{codes, slice_index_or}
 use Rattle.std.specs.List.{slice_split, onto_first, fold}
@@ -16,10 +16,10 @@ use Rattle.restore.specs.Faults.{create_text}
 abbrev pub Told : ℕ → ℕ → Type 0
 Told a b = (((a == b) ≡ true) × (a ≡ b)) ⊎ (((a == b) ≡ false) × (a ≢ b))
 
--- ---- an element more behind a list that is cut
+-- ---- an element more after a list that is cut
 
 module _ {X : Type 0} where
-  -- an element behind the last part
+  -- an element after the last part
   abbrev pub behind_last : List (List X) → X → List (List X)
   behind_last [] x = (x ∷ []) ∷ []
   behind_last (p ∷ []) x = (p ++ x ∷ []) ∷ []
@@ -88,7 +88,7 @@ module _ {X : Type 0} where
   at_end (p ∷ ps) zero = refl
   at_end (p ∷ ps) (suc u) = at_end ps u
 
-  -- what stands in a part behind so many elements
+  -- what a part has after its leading elements
   abbrev pub rest_of : (ℕ → ℕ) → List (List X) → ℕ → List X
   rest_of lead ps u = drop (lead u) (slice_index_or ps u [])
 
@@ -143,7 +143,7 @@ other_line (l ∷ lines) line is = go (behind (codes "CREATE TABLE ") l) is (λ 
     go (Some t) h more = (ap (λ (ts : List (List ℕ)). t ∷ ts) (more h).0, (more h).1)
     go None h more = (refl, refl)
 
--- behind any line but those no CREATE TABLE line may stand
+-- after any line but those no CREATE TABLE line may stand
 pub no_more_texts : (xs : List (List ℕ)) (line other : List ℕ) → create_text (xs ++ line ∷ []) other ≡ None
 no_more_texts [] line other = refl
 no_more_texts (x ∷ xs) line other = refl

@@ -1,4 +1,4 @@
--- Where a line stands, and what stands against a row: by the lines before, and by the tables that they have come to.
+-- Where a line stands, and what forbids a row: by the lines before, and by the tables that they make.
 use Rattle.std.proofs.Common.{◌≡◌, ℕ, ◌+◌, ◌-◌, ◌<◌, ◌≤◌, ◌==◌, Bool, true, false, not, ◌||◌, if◌then◌else◌, List, [], ◌∷◌, ◌++◌, length, Option, Some, None, is_some, refl, ap, ◌∙◌, arith, length-append}
 use Rattle.std.proofs.lemmas.Bool.{le-ltb, lt-ltb}
 use Rattle.std.specs.Prelude.{slice_index_or}

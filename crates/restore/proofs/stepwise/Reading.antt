@@ -63,11 +63,11 @@ module _ {A : Type 0} where
   more_lines n p [] (next ∷ lines) some = refl
   more_lines n p (b ∷ line) (next ∷ lines) some = refl
 
-  -- a line that is a step, with others behind it
+  -- a line that is a step, with others after it
   pub stepped_on : (n : ℕ) (p q : Progress A) (line : List ℕ) (lines : List (List ℕ)) → (lines ≡ [] → ⊥) → step p line ≡ Ok q → read_lines n p (line ∷ lines) ≡ read_lines (n + 1) q lines
   stepped_on n p q line lines some h = more_lines n p line lines some ∙ rw h refl
 
-  -- a line that is none, with others behind it
+  -- a line that is none, with others after it
   pub refused_on : (e : LineError) (n : ℕ) (p : Progress A) (line : List ℕ) (lines : List (List ℕ)) → (lines ≡ [] → ⊥) → Fails e (step p line) → Stops (read_error n e) (read_lines n p (line ∷ lines))
   refused_on line.Memory n p text lines some h = tt
   refused_on (line.Refused code) n p text lines some h = more_lines n p text lines some ∙ rw h refl
@@ -157,7 +157,7 @@ module _ {A : Type 0} where
   unfolding read_lines
   nothing_more n c X = refl
 
-  -- behind the last line nothing stands
+  -- nothing follows the last line
   pub is_whole : (n : ℕ) (c : Catalog) (X : Tables A) (text : List ℕ) → (length text == 0) ≡ true → read_lines n (Whole c X) (lines_of text) ≡ Ok (c, X)
   is_whole n c X [] h = nothing_more n c X
   is_whole n c X (b ∷ text) h = absurd (let none : length (b ∷ text) ≡ 0 = eqb-true (length (b ∷ text)) 0 h in omega arith)

@@ -19,14 +19,14 @@ code_fails : (T : Type 0) (code : Code) → Fails {Y = T} (code_error code) (Err
 code_fails T OutOfMemory = tt
 code_fails T _ = refl
 
--- a refusal is the fault of the line, or tells of want of memory
+-- a refusal is the fault of the line, or says that memory ran out
 pub refused : {T : Type 0} (answer : Result T Code) (r : Refusal) → AnswersOrNoMemory (failed r) (pointing_nowhere answer) → Fails (line_error r) answer
 refused (Ok x) r (inl e) = absurd cc
 refused {T} (Ok x) r (inr e) = subst (λ (s : Refusal). Fails {Y = T} (line_error s) (Ok x)) (sym (same_refusal r out_of_memory e)) tt
 refused {T} (Err code) r (inl e) = subst (λ (s : Refusal). Fails {Y = T} (line_error s) (Err code)) (sym (same_refusal r (of_code code) e)) (code_fails T code)
 refused {T} (Err code) r (inr e) = subst (λ (s : Refusal). Fails {Y = T} (line_error s) (Err code)) (sym (same_refusal r out_of_memory e)) tt
 
--- the same, where want of memory is told apart
+-- a refusal is the fault of the line, or is out of memory, where the two are distinguished
 pub refused_or_memory : {T : Type 0} (answer : Result T Code) (r : Refusal) → (r ≡ out_of_memory) ⊎ (pointing_nowhere answer ≡ Err r) → Fails (line_error r) answer
 refused_or_memory answer r (inl memory) = refused answer r (inr (ap failed memory))
 refused_or_memory answer r (inr fault) = refused answer r (inl (sym fault))

@@ -1,4 +1,4 @@
--- A row that is put behind those of its table.
+-- A row that is put after those of its table.
 use Rattle.std.proofs.Common.{◌≡◌, ℕ, ◌==◌, Bool, true, false, cond, not, ◌&&◌, ◌||◌, Bor, List, [], ◌∷◌, length, map, Option, Some, None, is_some, find, slice_set, Result, Ok, Err, IfOk, refl, ap, sym, subst, ◌∙◌, arith}
 use Rattle.std.specs.List.{list_any, list_all}
 use Rattle.std.specs.FinMap.{find as entry_at}
@@ -122,7 +122,7 @@ module _ {A : Type 0} where
       let p = or_parts (is_some d.references) (list_any (λ e. is_some e.references) ds) h in
       or_from (not (is_there X d v)) (dangles X ds vs) (is_there_so X d.references v p.0) (none_dangles X ds vs p.1)
 
-  -- ---- a key behind a table
+  -- ---- a key after those of a table
 
   behind-first : (k : Value A) (row : Row A) (rows : Rows A) → is_behind (row ∷ rows) k ≡ true → (value_cmp k row.0 ≡ Greater) × (is_behind rows k ≡ true)
   behind-first k row rows h = go (value_cmp k row.0) refl h
@@ -143,7 +143,7 @@ module _ {A : Type 0} where
   turned : (k l : Value A) → value_cmp k l ≡ Less → value_cmp l k ≡ Greater
   turned k l less = value_cmp-total.antisymm l k ∙ ap ordering_reverse less
 
-  -- a key after a row that is put behind a table is behind the table with it
+  -- where a row is put at the end of a table, a key after it comes after the whole table
   pub still_behind : (rows : Rows A) (row : Row A) (l : Value A) → is_behind rows row.0 ≡ true → value_cmp row.0 l ≡ Less → is_behind (put_row rows row) l ≡ true
   still_behind [] row l h less = behind-more l row [] (turned row.0 l less) refl
   still_behind (first ∷ rows) row l h less =
@@ -151,7 +151,7 @@ module _ {A : Type 0} where
       let below : value_cmp first.0 row.0 ≡ Less = value_cmp-total.antisymm first.0 row.0 ∙ ap ordering_reverse p.0 in
       rw p.0 (behind-more l first (put_row rows row) (turned first.0 l (value_cmp-total.trans first.0 row.0 l below less)) (still_behind rows row l p.1 less))
 
-  -- ---- the row of a line, put behind its table
+  -- ---- the row of a line, put after its table
 
   pub put_is : (c : Catalog) (X : Tables A) (t : ℕ) (text : List ℕ) (row : Row A) → row_of_line (kinds_of c t) text ≡ Ok row → IsNext X (columns_of c t) (rows_of X t) row
       → with_row c X t text ≡ Ok (slice_set X t (put_row (rows_of X t) row))

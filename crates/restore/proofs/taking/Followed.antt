@@ -1,4 +1,4 @@
--- Rows that rise, put behind their table one after another.
+-- Rows that rise, put after their table one after another.
 use Rattle.std.proofs.Common.{◌≡◌, true, ◌&&◌, List, [], ◌∷◌, Some, Result, Ok, Err, sym, subst}
 use Rattle.std.specs.Ordering.{is_lt}
 use Rattle.std.proofs.lemmas.Bool.{and_parts}
@@ -14,7 +14,7 @@ use Rattle.restore.proofs.taking.Behind.{still_behind}
 use Rattle.restore.proofs.taking.StillThere.{free-still, rise_from-too}
 
 module _ {A : Type 0} where
-  -- the next of some rows may be put behind a table, and those behind it rise from its key
+  -- the next of some rows may be put after a table, and those after it rise from its key
   abbrev pub IsFollowed : Tables A → List Column → Rows A → List (Result (Row A) LineError) → Type 0
   IsFollowed X ds table [] = Unit {0}
   IsFollowed X ds table (Ok row ∷ rows) = IsNext X ds table row × (rise_from (Some X) ds row.0 rows ≡ true)

@@ -1,4 +1,4 @@
--- Rounds of lines: read piece by piece, and taken behind one another.
+-- Rounds of lines: read piece by piece, and taken one after another.
 use Rattle.std.proofs.Common.{◌≡◌, ℕ, zero, suc, ◌+◌, ◌-◌, ◌*◌, ◌/◌, ◌%◌, ◌<◌, ◌≤◌, min, Bool, true, false, Bor, List, [], ◌∷◌, ◌++◌, map, take, drop, Option, Some, None, Result, Ok, Err, refl, sym, ap, subst, ◌∙◌, arith, append_assoc}
 use Rattle.std.specs.Str.{bytes_eq}
 use Rattle.std.proofs.Math.Nat.{mod-lt}
@@ -37,7 +37,7 @@ none_next text None is none other = is
 none_next text (Some x) is none other = absurd (differs (bytes_eq x.0 end_of_rows) (none x.0 x.1 is) (other x.0 x.1 is))
 
 module _ {A : Type 0} where
-  -- where no row is next, the line behind the rows is, or the dump's end
+  -- where no row is next, the line after the rows is, or the dump's end
   pub rows_ended : (counted : Bool) (c : Catalog) (X : Tables A) (t : ℕ) (r : Result Lines ReadError) (n : ℕ) (text : List ℕ) → HasNoRowLine text → IsWantedLine end_of_rows n text r
       → Reads (λ l. read_lines l.number (ended counted c X t) (lines_of l.text.now)) r (read_lines n (Within counted c X t) (lines_of text))
   rows_ended counted c X t (Ok rest) n text none h = stepped rest n (Within counted c X t) (ended counted c X t) text end_of_rows h.0 h.1 (rows_end counted c X t end_of_rows (bytes_eq-self end_of_rows))
@@ -77,7 +77,7 @@ module _ {A : Type 0} where
 next_times : (q s : ℕ) → (q + 1) * s ≡ q * s + s
 next_times q s = grind arith
 
--- so many pieces of a size have all lines
+-- as many pieces of a size as are needed have all lines
 pub covers : (n s p : ℕ) → 0 < s → p ≡ n / s + min 1 (n % s) → n ≤ p * s
 covers n s p some e = go (n % s) refl
   where
@@ -91,7 +91,7 @@ covers n s p some e = go (n % s) refl
         let all : p * s ≡ n / s * s + s = ap (λ k. k * s) pieces ∙ next_times (n / s) s in
         omega (arith, all, div-add-mod' n s, mod-lt n some)
 
--- ---- one round behind another
+-- ---- one round after another
 
 pub some_lines : (line : List ℕ) (lines : List (List ℕ)) → (line ∷ lines) ≡ [] → ⊥
 some_lines line lines e = absurd cc
@@ -129,7 +129,7 @@ module _ {A E : Type 0} (c : Catalog) (t : ℕ) (X : Tables A) (told : Told A) w
     sound = taken.1;
   }
 
-  -- the next of the lines that are left is told by itself
+  -- the next of the lines that are left is given by itself
   pub waiting-line : (Y : Tables A) (number : ℕ) (pieces : List (Result (ReadPiece A) E)) (next : ℕ) (text line rest : List ℕ) → parted 10 text ≡ Some (line, rest) → AreWaiting c t X told Y number pieces next (lines_of text)
       → AreWaiting c t X told Y number pieces next (line ∷ lines_of rest)
   waiting-line Y number pieces next text line rest at h = subst (AreWaiting c t X told Y number pieces next) (split-parted 10 text line rest at) h

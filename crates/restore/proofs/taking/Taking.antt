@@ -38,7 +38,7 @@ module _ {A : Type 0} where
       subst (λ (r : Result (Row A) LineError). IfOk r (λ x. rows_of Y t ≡ put_row (rows_of X t) x)) (sym was)
       (ap (λ (Z : Tables A). rows_of Z t) made ∙ get_or-set_same X t (put_row (rows_of X t) row) [] within)
 
-  -- the first of rows that may be put behind a table
+  -- the first of rows that may be put after a table
   pub next_is : (X : Tables A) (ds : List Column) (table : Rows A) (left rest : List (Result (Row A) LineError)) (read : Result (Row A) LineError) → left ≡ read ∷ rest → IsFollowed X ds table left → IfOk read (λ r. IsNext X ds table r)
   next_is X ds table left rest read e f = go read (subst (IsFollowed X ds table) e f)
     where
@@ -46,7 +46,7 @@ module _ {A : Type 0} where
       go (Ok row) f = f.0
       go (Err e) f = absurd f
 
-  -- and those behind it
+  -- and those after it
   pub followed-on : (X Y : Tables A) (ds : List Column) (table new : Rows A) (left rest : List (Result (Row A) LineError)) (read : Result (Row A) LineError) → left ≡ read ∷ rest → AreStillThere X Y → IsFollowed X ds table left → IfOk read (λ r. new ≡ put_row table r)
       → IsFollowed Y ds new rest
   followed-on X Y ds table new left rest read e still f put = go read (subst (IsFollowed X ds table) e f) put

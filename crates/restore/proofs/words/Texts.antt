@@ -7,7 +7,7 @@ use Rattle.std.proofs.lemmas.Bool.Decides.{nat_tests}
 use Rattle.value.proofs.Basics.{eqb-self}
 use Rattle.restore.specs.CreateLine.{behind, parted}
 
--- ---- behind some bytes
+-- ---- after some bytes
 
 pub behind-append : (bytes rest : List ℕ) → behind bytes (bytes ++ rest) ≡ Some rest
 behind-append [] rest = refl
@@ -22,9 +22,9 @@ behind-none (b ∷ bytes) (c ∷ text) h = go (b == c) refl (behind-none bytes t
     go false is more = refl
     go true is more = more (λ rest e. h rest (ap (λ (d : ℕ). d ∷ text) (sym (eqb-true b c is)) ∙ ap (λ (t : List ℕ). b ∷ t) e))
 
--- ---- before and behind a byte
+-- ---- before and after a byte
 
--- what stands before and behind a byte, by whether it is the first
+-- what stands before and after a byte, by whether it is the first
 abbrev found_with : ℕ → List ℕ → Bool → Option (List ℕ × List ℕ) → Option (List ℕ × List ℕ)
 found_with b text same found = if same then Some ([], text) else option_map (λ parts. (b ∷ parts.0, parts.1)) found
 

@@ -14,7 +14,7 @@ no_quote_test (b ∷ rest) h = ne_eqb b 39 (λ e. h rest (ap (λ (c : ℕ). c �
 no_quote_from : (rest : List ℕ) → (slice_index rest 0 == 39) ≡ false → NoQuote rest
 no_quote_from rest h more e = true≢false (sym (ap (λ (r : List ℕ). slice_index r 0 == 39) e) ∙ h)
 
--- ---- a doubled text is passed over, up to the quote behind it
+-- ---- a doubled text is passed over, up to the quote after it
 
 doubled_quote : (b : ℕ) (text : List ℕ) → (b == 39) ≡ true → doubled (b ∷ text) ≡ 39 ∷ 39 ∷ doubled text
 doubled_quote b text e = ap (λ (q : Bool). cond q (39 ∷ 39 ∷ doubled text) (b ∷ doubled text)) e
@@ -45,11 +45,11 @@ closing_doubled (b ∷ inner) at rest h = go (b == 39) refl (λ n. closing_doubl
 
 -- ---- and only a doubled text is
 
--- so many bytes after a place a doubled text is closed
+-- a doubled text and its closing quote end after n bytes, where the text begins after `at`
 abbrev IsClosed : ℕ → List ℕ → ℕ → Type 0
 IsClosed at text n = (inner : List ℕ) × (rest : List ℕ) × (text ≡ doubled inner ++ 39 ∷ rest) × NoQuote rest × (n ≡ at + length (doubled inner) + 1)
 
--- the same, maybe behind the second of two quotes
+-- a doubled text and its closing quote end after n bytes, maybe with the second of two quotes before the text
 abbrev Closed : Bool → ℕ → List ℕ → ℕ → Type 0
 Closed false at text n = IsClosed at text n
 Closed true at text n = (b : ℕ) × (more : List ℕ) × (text ≡ b ∷ more) × IsClosed (at + 1) more n

@@ -1,13 +1,13 @@
 use Rattle.std.proofs.Common.{◌∙◌, sym, arith}
 use Rattle.value.proofs.Basics.{find-next}
 use Rattle.explain.specs.Why.{is_taken}
-use Rattle.explain.proofs.FindLemmas.{find_here}
+use Rattle.retrace.proofs.FindLemmas.{find_here}
 use Rattle.explain.proofs.rival.first_taken.Goals as goal
 
 pub returns-then-is_taken : goal.returns-then-is_taken
 returns-then-is_taken g c =
-    find_here (is_taken c.args.records.now c.args.runs.now c.args.reader.now) c.args.changes.now c.loop-change.change-index c.change-item.result (omega arith) c.change-item.is c.loop-change.invariant (sym c.is_taken.ensures ∙ c.if-is_taken.true)
+    find_here (is_taken c.args.runs.now c.args.trace.now) c.args.changes.now c.loop-change.change-index c.change-item.result (omega arith) c.change-item.is c.loop-change.invariant (sym c.is_taken.ensures ∙ c.if-is_taken.true)
 
 pub loop-change-preserved : goal.loop-change-preserved
 loop-change-preserved g c =
-    find-next (is_taken c.args.records.now c.args.runs.now c.args.reader.now) c.args.changes.now c.loop-change.change-index c.change-item.result (omega arith) c.change-item.is c.loop-change.invariant (sym c.is_taken.ensures ∙ c.if-is_taken.false)
+    find-next (is_taken c.args.runs.now c.args.trace.now) c.args.changes.now c.loop-change.change-index c.change-item.result (omega arith) c.change-item.is c.loop-change.invariant (sym c.is_taken.ensures ∙ c.if-is_taken.false)

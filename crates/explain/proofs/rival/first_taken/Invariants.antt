@@ -5,4 +5,4 @@ use Rattle.explain.proofs.rival.first_taken.Given as goal
 
 -- none so far
 abbrev pub invariant-loop-change : goal.invariant-loop-change
-invariant-loop-change g l = find (is_taken l.records l.runs l.reader) (take l.change-index l.changes) ≡ None
+invariant-loop-change g l = find (is_taken l.runs l.trace) (take l.change-index l.changes) ≡ None

@@ -10,7 +10,7 @@ use Rattle.restore.proofs.taking.Pieces.{IsInserting}
 use Rattle.restore.proofs.taking.Taking.{IsKept}
 use Rattle.restore.proofs.pieces.put_rows.Given as goal
 
--- the rows so far, and those left, which may be put behind them
+-- the rows so far, and those left, which may be put after them
 abbrev pub invariant-loop-row : goal.invariant-loop-row
 invariant-loop-row g l = record {
   rows : (counted : Bool) (lines more : List (List ℕ)) → AreRead (kinds_of l.catalog l.table) l.fn.rows.items lines → list_all is_row_line lines ≡ true → more ≢ []

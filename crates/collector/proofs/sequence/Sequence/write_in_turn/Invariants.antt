@@ -2,7 +2,7 @@ use Rattle.std.proofs.Common.{◌-◌, length}
 use Rattle.collector.specs.Gathered.{IsSameJob, GoesOn}
 use Rattle.collector.proofs.sequence.Sequence.write_in_turn.Given as goal
 
--- the same pieces are given, and the device hasn't failed
+-- the given pieces stay the same, and the device hasn't failed
 abbrev pub invariant-loop-self : goal.invariant-loop-self
 invariant-loop-self g l = IsSameJob l.initial.self l.self × GoesOn l.initial.self l.self
 

@@ -3,6 +3,6 @@ use Rattle.program.specs.Files.{IsWritten}
 use Rattle.program.specs.Freely.{AreTold}
 use Rattle.program.proofs.free.commands.Client.tell_lines.Given as goal
 
--- the lines so far are told
+-- what is printed of the lines so far
 abbrev pub invariant-loop-line : goal.invariant-loop-line
 invariant-loop-line g l = AreTold (IsWritten g.S.Out.OutFile.path g.S.Out.Placed.kept) g.J.Naming.opening g.J.Naming.most (take l.line-index l.lines) l.fn.pass l.text.items l.pass
