@@ -101,7 +101,7 @@ class Waiting(Case):
         self.assertEqual(done.returncode, 0, done.stderr)
         lines = self.lines()
         self.assertLess(lines.index("> 2 UPDATE t SET v = 2 WHERE id = 1;"), lines.index("  1 COMMIT", lines.index("> 2 BEGIN;")))
-        self.assertLess(lines.index("  1 COMMIT", lines.index("> 2 BEGIN;")), lines.index("> 2 ROLLBACK;"))
+        self.assertLess(lines.index("> 1 COMMIT;", lines.index("> 2 BEGIN;")), lines.index("> 2 ROLLBACK;"))
         self.assertEqual(lines[-1], "  2 ROLLBACK")
         self.assertEqual(verdict(self.path).answer, "yes")
 
