@@ -2,3 +2,4 @@ pub mod Commands
 pub mod Printing
 pub mod Scripts
 pub mod Telling
+pub mod Transcribing

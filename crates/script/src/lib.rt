@@ -12,4 +12,5 @@ mod reason;
 pub mod schedule;
 pub mod script;
 pub mod telling;
-mod words;
+pub mod transcribing;
+pub mod words;

@@ -138,7 +138,7 @@ fn is_text(line: &[u8]) -> bool
 }
 
 // Whether a line is empty or a comment.
-fn is_passed_over(line: &[u8]) -> bool
+pub(crate) fn is_passed_over(line: &[u8]) -> bool
     ensures { result ≡ spec.is_passed_over line.now }
 {
     line.is_empty() || line[..line.len().min(2)] == b"--"[..]
