@@ -1,1 +1,5 @@
-pub mod LineLemmas
+pub mod GatherLemmas
+pub mod OpeningLemmas
+pub mod ReadingLemmas
+pub mod SessionLemmas
+pub mod TraceLemmas

@@ -1,3 +1,9 @@
+pub mod Asking
 pub mod Lines
+pub mod Opening
+pub mod Outcomes
+pub mod Reading
 pub mod Reasons
-pub mod Writing
+pub mod Recorded
+pub mod Saying
+pub mod Sessions

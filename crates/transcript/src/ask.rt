@@ -1,16 +1,24 @@
 //! What a session asks for.
 
-use crate::fault::{Reason, reason_of};
-use crate::words::{before_end, cut, session_of};
+ghost use Rattle.std.specs.Prelude.{◌≡◌};
+ghost use Rattle.script.specs.Commands as script;
+ghost use Rattle.sqltext.specs.Parsed.{parsed};
+ghost use Rattle.transcript.specs.Asking as spec;
+ghost use Rattle.transcript.specs.Outcomes.{Gives};
+
+use crate::fault::{LineError, Reason};
+use crate::words::before_end;
 use history::session_id::SessionId;
 use request::request::Request;
 use schema::catalog::Catalog;
 use script::command::{Command, command_of};
-use script::error::LineError;
+use script::error;
 use script::schedule::Schedule;
+use script::words::{cut, session_of};
 use sqltext::parse::parse_statement;
 use statement::statement::Statement;
 use std::alloc::Allocator;
+use value::refusal::Code;
 
 /// What a session asks for.
 #[derive(Drop)]
@@ -29,18 +37,38 @@ pub(crate) enum Asked<A: Allocator> {
     NoStatement,
 }
 
-// The statement that a text says.
+// What a text asks for.
 fn statement_of<A: Allocator + Copy>(
     alloc: A,
     catalog: &Catalog<A>,
     text: &str,
-) -> Result<Asked<A>, Reason> {
+) -> Result<Asked<A>, LineError>
+    ensures { Gives (λ a. a) result (Some (spec.spoken (parsed catalog.now text.now))) }
+{
     match parse_statement(alloc, catalog, text) {
         Ok(statement) => Ok(Asked::Statement(statement)),
-        Err(refusal) => match reason_of(refusal, Reason::NoStatement) {
-            Reason::Memory => Err(Reason::Memory),
-            _ => Ok(Asked::NoStatement),
-        },
+        Err(refusal) if refusal.code == Code::OutOfMemory => Err(LineError::Memory),
+        Err(_) => Ok(Asked::NoStatement),
+    }
+}
+
+// What a session's request asks for.
+fn asked_of_request<A: Allocator + Copy>(
+    alloc: A,
+    catalog: &Catalog<A>,
+    request: Request<A>,
+) -> Result<Asked<A>, LineError>
+    ensures { Gives (λ a. a) result (Some (spec.asked_by catalog.now (Command.Ask request))) }
+{
+    match request {
+        Request::Begin(_) => Ok(Asked::Begin),
+        Request::Sql(text) => statement_of(alloc, catalog, text.as_str()),
+        Request::Poll => Ok(Asked::Poll),
+        Request::Export => Ok(Asked::Export),
+        Request::Import(_) => Ok(Asked::Import),
+        Request::Commit => Ok(Asked::Commit),
+        Request::Rollback => Ok(Asked::Rollback),
+        Request::Prune => Ok(Asked::Prune),
     }
 }
 
@@ -49,38 +77,46 @@ fn asked_of<A: Allocator + Copy>(
     alloc: A,
     catalog: &Catalog<A>,
     command: Command<A>,
-) -> Result<Asked<A>, Reason> {
+) -> Result<Asked<A>, LineError>
+    ensures { Gives (λ a. a) result (Some (spec.asked_by catalog.now command)) }
+{
     match command {
-        Command::Ask(Request::Begin(_)) => Ok(Asked::Begin),
-        Command::Ask(Request::Sql(text)) => statement_of(alloc, catalog, text.as_str()),
-        Command::Ask(Request::Poll) | Command::Wait => Ok(Asked::Poll),
-        Command::Ask(Request::Export) => Ok(Asked::Export),
-        Command::Ask(Request::Import(_)) => Ok(Asked::Import),
-        Command::Ask(Request::Commit) => Ok(Asked::Commit),
-        Command::Ask(Request::Rollback) => Ok(Asked::Rollback),
-        Command::Ask(Request::Prune) => Ok(Asked::Prune),
+        Command::Ask(request) => asked_of_request(alloc, catalog, request),
+        Command::Wait => Ok(Asked::Poll),
         Command::Dump(_) => Ok(Asked::Dump),
     }
 }
 
+// The command of a session's line, without its `;`.
+fn command_in<A: Allocator>(alloc: A, text: &[u8]) -> Result<Command<A>, LineError>
+    ensures { Gives (λ c. c) result (script.command_of Schedule.Free text.now) }
+{
+    match command_of(alloc, Schedule::Free, text) {
+        Ok(command) => Ok(command),
+        Err(error::LineError::Memory) => Err(LineError::Memory),
+        Err(error::LineError::Faulty) => Err(LineError::Faulty(Reason::NoCommand)),
+    }
+}
+
 /// Whose line it is, and what it asks for.
+#[tactic(auto, unfolding(crate::specs::Asking::asked))]
 pub(crate) fn asked_in<A: Allocator + Copy>(
     alloc: A,
     catalog: &Catalog<A>,
     line: &[u8],
-) -> Result<(SessionId, Asked<A>), Reason> {
+) -> Result<(SessionId, Asked<A>), LineError>
+    ensures { Gives (λ p. (p.0, p.1)) result (spec.asked catalog.now line.now) }
+{
     let Some((number, rest)) = cut(b' ', line) else {
-        return Err(Reason::NoCommand);
+        return Err(LineError::Faulty(Reason::NoCommand));
     };
-    let (Some(session), Some(text)) = (session_of(number), before_end(rest)) else {
-        return Err(Reason::NoCommand);
+    let Some(session) = session_of(number) else {
+        return Err(LineError::Faulty(Reason::NoCommand));
     };
-    match command_of(alloc, Schedule::Free, text) {
-        Ok(command) => {
-            let asked = asked_of(alloc, catalog, command)?;
-            Ok((session, asked))
-        }
-        Err(LineError::Memory) => Err(Reason::Memory),
-        Err(LineError::Faulty) => Err(Reason::NoCommand),
-    }
+    let Some(text) = before_end(rest) else {
+        return Err(LineError::Faulty(Reason::NoCommand));
+    };
+    let command = command_in(alloc, text)?;
+    let asked = asked_of(alloc, catalog, command)?;
+    Ok((session, asked))
 }

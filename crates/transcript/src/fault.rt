@@ -1,8 +1,9 @@
 //! Why a transcript isn't one.
 
 ghost use Rattle.std.specs.Prelude.{◌≡◌};
+ghost use Rattle.transcript.specs.Outcomes.{error_of, reason_of};
 ghost use Rattle.transcript.specs.Reasons.{reason_text};
-ghost use Rattle.transcript.specs.declared.fault.Reason.TheVariants as reason;
+ghost use Rattle.transcript.specs.declared.fault.LineError.TheVariants as error;
 
 use std::alloc::{AllocError, AllocFailed};
 use value::refusal::{Code, Refusal};
@@ -57,19 +58,40 @@ impl Reason {
     }
 }
 
-impl From<AllocError> for Reason {
-    ghost from_gives = { λ _ e. e ≡ reason.Memory };
+/// Why a line wasn't read.
+#[derive(Clone, Copy)]
+pub(crate) enum LineError {
+    /// A growth was refused.
+    Memory,
+    /// It may not stand where it stands.
+    Faulty(Reason),
+}
 
-    fn from(_error: AllocError) -> Reason {
-        Reason::Memory
+impl LineError {
+    /// The reason that is given of the line.
+    pub(crate) fn reason(self) -> Reason
+        ensures { result ≡ reason_of self }
+    {
+        match self {
+            LineError::Memory => Reason::Memory,
+            LineError::Faulty(reason) => reason,
+        }
     }
 }
 
-impl<T: Drop> From<AllocFailed<T>> for Reason {
-    ghost from_gives = { λ _ e. e ≡ reason.Memory };
+impl From<AllocError> for LineError {
+    ghost from_gives = { λ _ e. e ≡ error.Memory };
 
-    fn from(_error: AllocFailed<T>) -> Reason {
-        Reason::Memory
+    fn from(_error: AllocError) -> LineError {
+        LineError::Memory
+    }
+}
+
+impl<T: Drop> From<AllocFailed<T>> for LineError {
+    ghost from_gives = { λ _ e. e ≡ error.Memory };
+
+    fn from(_error: AllocFailed<T>) -> LineError {
+        LineError::Memory
     }
 }
 
@@ -81,10 +103,12 @@ pub struct TranscriptFault {
     pub reason: Reason,
 }
 
-/// Why something is refused: when out of memory, or for this reason.
-pub(crate) fn reason_of(refusal: Refusal, otherwise: Reason) -> Reason {
+/// Why a line isn't read of which something is refused: when out of memory, or for this reason.
+pub(crate) fn error_of(refusal: Refusal, otherwise: Reason) -> LineError
+    ensures { result ≡ error_of refusal.code otherwise }
+{
     match refusal.code {
-        Code::OutOfMemory => Reason::Memory,
-        _ => otherwise,
+        Code::OutOfMemory => LineError::Memory,
+        _ => LineError::Faulty(otherwise),
     }
 }

@@ -11,4 +11,3 @@ mod said;
 mod session;
 pub mod traces;
 mod words;
-pub mod writing;

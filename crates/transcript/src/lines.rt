@@ -54,7 +54,7 @@ pub fn kind_of(line: &[u8]) -> Option<LineKind>
     }
 }
 
-/// What stands behind a line's mark.
+/// What follows a line's mark.
 pub fn behind_mark(line: &[u8]) -> &[u8]
     ensures { result.now ≡ spec.behind_mark line.now }
 {

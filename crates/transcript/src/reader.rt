@@ -1,18 +1,29 @@
 //! The reading of a transcript, line by line.
 
-use crate::ask::asked_in;
-use crate::fault::{Reason, reason_of};
+ghost use Rattle.std.specs.Prelude.{◌≡◌, ◌∷◌, [], ◌++◌, ◌-◌, Some, codes, map, replicate, slice_get, take, IfOk, IfErr, OnOk};
+ghost use Rattle.std.specs.List.{cons_option, filter_map};
+ghost use Rattle.std.specs.Option.{option_copied, option_map};
+ghost use Rattle.std.specs.Str.{bytes_eq};
+ghost use Rattle.transcript.specs.Outcomes.{Gives, Lacks};
+ghost use Rattle.transcript.specs.Reading as spec;
+ghost use Rattle.transcript.specs.Saying as say;
+ghost use Rattle.transcript.specs.Sessions as sessions;
+
+use crate::ask::{Asked, asked_in};
+use crate::fault::{LineError, Reason, error_of};
 use crate::lines::{LineKind, behind_mark, kind_of};
-use crate::said::said_of;
+use crate::said::{Said, said_of};
 use crate::session::{Draft, Outcome, Session};
-use crate::words::{begins_with_digit, cut, session_of};
+use crate::words::begins_with_digit;
 use copytext::read_row;
 use history::session_id::SessionId;
 use schema::catalog::{Catalog, Column};
+use script::words::{cut, session_of};
 use statement::reply::{Reply, RowList};
 use statement::statement::{Projection, Statement};
 use statement::values::Values;
 use std::alloc::Allocator;
+use std::marker::Model;
 use value::kind::Kind;
 
 /// A transaction that committed, or may have: what was recorded of it, and the line of the reply to its COMMIT.
@@ -24,13 +35,28 @@ pub(crate) struct Ended<A: Allocator> {
 
 // A SELECT whose rows follow.
 #[derive(Drop)]
-struct Due<A: Allocator> {
+pub(crate) struct Due<A: Allocator> {
     session: SessionId,
     statement: Statement<A>,
     line: u64,
     kinds: Vec<Kind, A>,
     rows: Vec<Values<A>, A>,
     left: u64,
+}
+
+impl<A: Allocator> Model for Due<A> {
+    ghost use Rattle.transcript.specs.Reading.{Awaited};
+
+    ghost Value = { Awaited A };
+
+    ghost view = { λ d. record {
+      session = d.session;
+      statement = d.statement;
+      line = d.line;
+      kinds = d.kinds.items;
+      rows = d.rows.items;
+      left = d.left;
+    } };
 }
 
 /// What was read so far.
@@ -45,27 +71,86 @@ pub(crate) struct Reader<A: Allocator> {
     ended: Vec<Ended<A>, A>,
 }
 
+impl<A: Allocator> Model for Reader<A> {
+    ghost use Rattle.transcript.specs.Reading.{Read};
+
+    ghost Value = { Read A };
+
+    ghost view = { λ r. record {
+      sessions = r.sessions.items;
+      checkpoints = r.checkpoints;
+      due = r.due;
+      begins = r.begins.items;
+      ended = r.ended.items;
+    } };
+}
+
+// The column at a place, where there is one.
+fn column_at<A: Allocator>(columns: &[Column<A>], place: u32) -> Option<&Column<A>>
+    ensures { option_copied result ≡ slice_get columns.now place }
+{
+    columns.get(place as usize)
+}
+
+// The kind of the column at a place, where there is one.
+fn kind_at<A: Allocator>(columns: &[Column<A>], place: u32) -> Option<Kind>
+    ensures { result ≡ spec.kind_at columns.now place }
+{
+    match column_at(columns, place) {
+        Some(column) => Some(column.kind()),
+        None => None,
+    }
+}
+
+// Adds a kind, where there is one.
+fn push_kind<A: Allocator>(kind: Option<Kind>, kinds: &mut Vec<Kind, A>) -> Result<(), LineError>
+    ensures ok { OnOk result (kinds.new.items ≡ kinds.old.items ++ cons_option kind []) }
+    ensures memory { IfErr result (λ e. e ≡ LineError.Memory) }
+{
+    match kind {
+        Some(kind) => {
+            kinds.push(kind)?;
+            Ok(())
+        }
+        None => Ok(()),
+    }
+}
+
 // The kinds of the columns that were named.
 fn kinds_named<A: Allocator>(
     alloc: A,
     columns: &[Column<A>],
     named: &[u32],
-) -> Result<Vec<Kind, A>, Reason> {
+) -> Result<Vec<Kind, A>, LineError>
+    ensures ok { IfOk result (λ kinds. kinds.items ≡ spec.kinds_named columns.now named.now) }
+    ensures memory { IfErr result (λ e. e ≡ LineError.Memory) }
+{
     let mut kinds = Vec::new(alloc);
     for place in named {
-        if let Some(column) = columns.get(*place as usize) {
-            kinds.push(column.kind())?;
-        }
+        push_kind(kind_at(columns, *place), &mut kinds)?;
     }
     Ok(kinds)
 }
 
 // The kinds of all columns.
-fn kinds_of_all<A: Allocator>(alloc: A, columns: &[Column<A>]) -> Result<Vec<Kind, A>, Reason> {
+fn kinds_of_all<A: Allocator>(alloc: A, columns: &[Column<A>]) -> Result<Vec<Kind, A>, LineError>
+    ensures ok { IfOk result (λ kinds. kinds.items ≡ map (λ c. c.kind) columns.now) }
+    ensures memory { IfErr result (λ e. e ≡ LineError.Memory) }
+{
     let mut kinds = Vec::new(alloc);
     for column in columns {
         kinds.push(column.kind())?;
     }
+    Ok(kinds)
+}
+
+// The kind of a number of rows.
+fn kind_of_count<A: Allocator>(alloc: A) -> Result<Vec<Kind, A>, LineError>
+    ensures ok { IfOk result (λ kinds. kinds.items ≡ Kind.Bigint ∷ []) }
+    ensures memory { IfErr result (λ e. e ≡ LineError.Memory) }
+{
+    let mut kinds = Vec::new(alloc);
+    kinds.push(Kind::Bigint)?;
     Ok(kinds)
 }
 
@@ -74,15 +159,14 @@ fn kinds_shown<A: Allocator>(
     alloc: A,
     columns: &[Column<A>],
     projection: &Projection<A>,
-) -> Result<Vec<Kind, A>, Reason> {
+) -> Result<Vec<Kind, A>, LineError>
+    ensures ok { IfOk result (λ kinds. kinds.items ≡ spec.kinds_shown columns.now projection.now) }
+    ensures memory { IfErr result (λ e. e ≡ LineError.Memory) }
+{
     match projection {
         Projection::All => kinds_of_all(alloc, columns),
         Projection::Columns(named) => kinds_named(alloc, columns, named.as_slice()),
-        Projection::Count => {
-            let mut kinds = Vec::new(alloc);
-            kinds.push(Kind::Bigint)?;
-            Ok(kinds)
-        }
+        Projection::Count => kind_of_count(alloc),
     }
 }
 
@@ -91,69 +175,184 @@ fn kinds_in<A: Allocator>(
     alloc: A,
     catalog: &Catalog<A>,
     statement: &Statement<A>,
-) -> Result<Vec<Kind, A>, Reason> {
+) -> Result<Vec<Kind, A>, LineError>
+    ensures { Gives (λ kinds. kinds.items) result (spec.kinds_in catalog.now statement.now) }
+{
     match statement {
         Statement::Select(table, projection, _) if catalog.has(*table) => {
-            kinds_shown(alloc, catalog.table(*table).columns(), projection)
+            let kinds = kinds_shown(alloc, catalog.table(*table).columns(), projection)?;
+            Ok(kinds)
         }
-        _ => Err(Reason::OtherReply),
+        _ => Err(LineError::Faulty(Reason::OtherReply)),
     }
 }
 
+// Whether a text begins with a bar and a space.
+fn begins_with_bar(text: &[u8]) -> bool
+    ensures { result ≡ bytes_eq (take 2 text.now) (codes "| ") }
+{
+    text[..text.len().min(2)] == b"| "[..]
+}
+
+// The session that a reply names, and what follows.
+#[tactic(auto, unfolding(crate::specs::Saying::session_and_text))]
+fn session_and_text(line: &[u8]) -> Option<(SessionId, &[u8])>
+    ensures { option_map (λ p. (p.0, p.1.now)) result ≡ say.session_and_text line.now }
+{
+    let (number, text) = cut(b' ', line)?;
+    let session = session_of(number)?;
+    Some((session, text))
+}
+
 // The text of a row of a session's SELECT, in a line.
-fn row_text(session: SessionId, line: &[u8]) -> Option<&[u8]> {
-    match session_and_text(line) {
-        Some((number, [b'|', b' ', row @ ..])) if number == session => Some(row),
-        _ => None,
+#[tactic(auto, unfolding(crate::specs::Saying::row_text))]
+fn row_text(session: SessionId, line: &[u8]) -> Option<&[u8]>
+    ensures { option_map (λ t. t.now) result ≡ say.row_text session line.now }
+{
+    let Some((named, text)) = session_and_text(line) else {
+        return None;
+    };
+    if named.number() == session.number() && begins_with_bar(text) {
+        Some(behind_mark(text))
+    } else {
+        None
+    }
+}
+
+// The values of a row.
+fn values_of<A: Allocator + Copy>(
+    alloc: A,
+    kinds: &[Kind],
+    text: &[u8],
+) -> Result<Values<A>, LineError>
+    ensures { Gives (λ values. values) result (spec.values_of kinds.now text.now) }
+{
+    match read_row(alloc, kinds, text) {
+        Ok(values) => Ok(Values::of(values)),
+        Err(refusal) => Err(error_of(refusal, Reason::NoRow)),
     }
 }
 
 impl<A: Allocator + Copy> Due<A> {
-    // One more row, of this line.
-    fn take_line(&mut self, alloc: A, line: &[u8]) -> Result<(), Reason> {
-        match row_text(self.session, line) {
-            Some(row) => self.take(alloc, row),
-            None => Err(Reason::NoRow),
-        }
+    // No row has come.
+    #[tactic(auto, unfolding(crate::specs::Reading::awaited))]
+    fn new(
+        alloc: A,
+        catalog: &Catalog<A>,
+        session: SessionId,
+        statement: Statement<A>,
+        left: u64,
+        line: u64,
+    ) -> Result<Due<A>, LineError>
+        ensures { Gives (λ d. d) result (spec.awaited catalog.now session statement left line) }
+    {
+        let kinds = kinds_in(alloc, catalog, &statement)?;
+        Ok(Due {
+            session,
+            statement,
+            line,
+            kinds,
+            rows: Vec::new(alloc),
+            left,
+        })
     }
 
-    // One more row, of this text.
-    fn take(&mut self, alloc: A, text: &[u8]) -> Result<(), Reason> {
-        match read_row(alloc, self.kinds.as_slice(), text) {
-            Ok(values) => {
-                self.rows.push(Values::of(values))?;
-                self.left = self.left.saturating_sub(1);
-                Ok(())
-            }
-            Err(refusal) => Err(reason_of(refusal, Reason::NoRow)),
-        }
+    // One more row, of this line.
+    #[tactic(auto, unfolding(crate::specs::Reading::one_more))]
+    fn take_line(&mut self, alloc: A, line: &[u8]) -> Result<(), LineError>
+        ensures ok { OnOk result (spec.one_more self.old line.now ≡ Some self.new) }
+        ensures err { IfErr result (λ e. Lacks e (spec.one_more self.old line.now)) }
+    {
+        let Some(text) = row_text(self.session, line) else {
+            return Err(LineError::Faulty(Reason::NoRow));
+        };
+        let values = values_of(alloc, self.kinds.as_slice(), text)?;
+        self.rows.push(values)?;
+        self.left = self.left.saturating_sub(1);
+        Ok(())
     }
 }
 
-// So many sessions that have asked nothing yet.
-fn sessions<A: Allocator>(alloc: A) -> Result<Vec<Session<A>, A>, Reason> {
+// All sessions: they have asked nothing yet.
+fn idle_sessions<A: Allocator>(alloc: A) -> Result<Vec<Session<A>, A>, LineError>
+    ensures ok { IfOk result (λ all. all.items ≡ replicate 64 sessions.idle) }
+    ensures memory { IfErr result (λ e. e ≡ LineError.Memory) }
+{
     let mut sessions = Vec::new(alloc);
-    for _ in 0..64 {
+    let mut count: u32 = 0;
+    while count < 64 {
         sessions.push(Session::new())?;
+        count += 1;
     }
     Ok(sessions)
 }
 
-// The session of a number.
-fn session_at<A: Allocator>(
-    sessions: &mut [Session<A>],
+// The place of a session.
+fn place_of(session: SessionId) -> usize
+    ensures { result ≡ session - 1 }
+{
+    (session.number() - 1) as usize
+}
+
+// A session asks for something in a line.
+#[tactic(auto, unfolding(crate::specs::Sessions::asked_of))]
+fn ask_of<A: Allocator>(
+    all: &mut Vec<Session<A>, A>,
     session: SessionId,
-) -> Result<&mut Session<A>, Reason> {
-    match sessions.get_mut((session.number() - 1) as usize) {
-        Some(session) => Ok(session),
-        None => Err(Reason::NoCommand),
+    line: u64,
+    asked: Asked<A>,
+) -> Result<(), LineError>
+    ensures ok { OnOk result (sessions.asked_of all.old.items session line asked ≡ Some all.new.items) }
+    ensures err { IfErr result (λ e. Lacks e (sessions.asked_of all.old.items session line asked)) }
+{
+    match all.get_mut(place_of(session)) {
+        Some(of_session) => of_session.ask(asked, line),
+        None => Err(LineError::Faulty(Reason::NoCommand)),
+    }
+}
+
+// A session is answered.
+#[tactic(auto, unfolding(crate::specs::Sessions::answered_of))]
+fn answer_of<A: Allocator + Copy>(
+    alloc: A,
+    all: &mut Vec<Session<A>, A>,
+    session: SessionId,
+    said: Said,
+) -> Result<Outcome<A>, LineError>
+    ensures ok { IfOk result (λ o. sessions.answered_of all.old.items session said ≡ Some (o, all.new.items)) }
+    ensures err { IfErr result (λ e. Lacks e (sessions.answered_of all.old.items session said)) }
+{
+    match all.get_mut(place_of(session)) {
+        Some(of_session) => of_session.answer(alloc, session, said),
+        None => Err(LineError::Faulty(Reason::NoCommand)),
+    }
+}
+
+// A statement of a session in a line is recorded.
+#[tactic(auto, unfolding(crate::specs::Sessions::recorded_in))]
+fn record_in<A: Allocator>(
+    all: &mut Vec<Session<A>, A>,
+    session: SessionId,
+    statement: Statement<A>,
+    reply: Reply<A>,
+    line: u64,
+) -> Result<(), LineError>
+    ensures ok { OnOk result (sessions.recorded_in all.old.items session statement reply line ≡ Some all.new.items) }
+    ensures err { IfErr result (λ e. Lacks e (sessions.recorded_in all.old.items session statement reply line)) }
+{
+    match all.get_mut(place_of(session)) {
+        Some(of_session) => of_session.record(statement, reply, line),
+        None => Err(LineError::Faulty(Reason::NoCommand)),
     }
 }
 
 impl<A: Allocator + Copy> Reader<A> {
     /// Nothing is read yet.
-    pub(crate) fn new(alloc: A) -> Result<Reader<A>, Reason> {
-        let sessions = sessions(alloc)?;
+    pub(crate) fn new(alloc: A) -> Result<Reader<A>, LineError>
+        ensures ok { IfOk result (λ r. r ≡ spec.start) }
+        ensures memory { IfErr result (λ e. e ≡ LineError.Memory) }
+    {
+        let sessions = idle_sessions(alloc)?;
         Ok(Reader {
             sessions,
             checkpoints: 0,
@@ -163,6 +362,36 @@ impl<A: Allocator + Copy> Reader<A> {
         })
     }
 
+    // A session's command.
+    #[tactic(auto, unfolding(crate::specs::Reading::session_asks))]
+    fn ask_session(
+        &mut self,
+        alloc: A,
+        catalog: &Catalog<A>,
+        number: u64,
+        line: &[u8],
+    ) -> Result<(), LineError>
+        ensures ok { OnOk result (spec.session_asks catalog.now self.old number line.now ≡ Some self.new) }
+        ensures err { IfErr result (λ e. Lacks e (spec.session_asks catalog.now self.old number line.now)) }
+    {
+        let (session, asked) = asked_in(alloc, catalog, line)?;
+        ask_of(&mut self.sessions, session, number, asked)
+    }
+
+    // A command without a session, which may be a checkpoint.
+    fn ask_checkpoint(&mut self, line: &[u8]) -> Result<(), LineError>
+        ensures ok { OnOk result (self.new ≡ spec.other_asked self.old line.now) }
+        ensures memory { IfErr result (λ e. e ≡ LineError.Memory) }
+    {
+        if line == b"CHECKPOINT;".as_slice() {
+            let Some(checkpoints) = self.checkpoints.checked_add(1) else {
+                return Err(LineError::Memory);
+            };
+            self.checkpoints = checkpoints;
+        }
+        Ok(())
+    }
+
     // A command. Tables that are created or opened were read elsewhere.
     fn ask(
         &mut self,
@@ -170,54 +399,81 @@ impl<A: Allocator + Copy> Reader<A> {
         catalog: &Catalog<A>,
         number: u64,
         line: &[u8],
-    ) -> Result<(), Reason> {
-        if !begins_with_digit(line) {
-            self.ask_checkpoint(line);
-            return Ok(());
-        }
-        let (session, asked) = asked_in(alloc, catalog, line)?;
-        session_at(self.sessions.as_mut_slice(), session)?.ask(asked, number)
-    }
-
-    // A command without a session, which may be a checkpoint.
-    fn ask_checkpoint(&mut self, line: &[u8]) {
-        if line == b"CHECKPOINT;".as_slice() {
-            self.checkpoints = self.checkpoints.saturating_add(1);
+    ) -> Result<(), LineError>
+        ensures ok { OnOk result (spec.commanded catalog.now self.old number line.now ≡ Some self.new) }
+        ensures err { IfErr result (λ e. Lacks e (spec.commanded catalog.now self.old number line.now)) }
+    {
+        if begins_with_digit(line) {
+            self.ask_session(alloc, catalog, number, line)
+        } else {
+            self.ask_checkpoint(line)
         }
     }
 
     // A checkpoint's reply, where one awaits it.
-    fn answer_checkpoint(&mut self) -> Result<(), Reason> {
+    fn answer_checkpoint(&mut self) -> Result<(), LineError>
+        ensures ok { OnOk result (spec.checkpoint_replied self.old ≡ Some self.new) }
+        ensures err { IfErr result (λ e. Lacks e (spec.checkpoint_replied self.old)) }
+    {
         if self.checkpoints == 0 {
-            return Err(Reason::Unasked);
+            return Err(LineError::Faulty(Reason::Unasked));
         }
         self.checkpoints -= 1;
         Ok(())
     }
 
-    // Whether more rows of a SELECT follow.
-    fn awaits_rows(&self) -> bool {
-        match &self.due {
-            Some(due) => due.left > 0,
-            None => false,
-        }
-    }
-
     // Records a SELECT whose rows have come.
-    fn record(&mut self, due: Due<A>) -> Result<(), Reason> {
-        let session = session_at(self.sessions.as_mut_slice(), due.session)?;
-        session.record(due.statement, Reply::Rows(RowList::of(due.rows)), due.line)
+    #[tactic(auto, unfolding(crate::specs::Reading::shown))]
+    fn record(&mut self, due: Due<A>) -> Result<(), LineError>
+        ensures ok { OnOk result (spec.shown self.old due ≡ Some self.new) }
+        ensures err { IfErr result (λ e. Lacks e (spec.shown self.old due)) }
+    {
+        let Due {
+            session,
+            statement,
+            line,
+            kinds: _,
+            rows,
+            left: _,
+        } = due;
+        record_in(
+            &mut self.sessions,
+            session,
+            statement,
+            Reply::Rows(RowList::of(rows)),
+            line,
+        )
     }
 
-    // Goes on behind a SELECT or a row of it: where no more follow it is recorded.
-    fn settle(&mut self) -> Result<(), Reason> {
-        if self.awaits_rows() {
-            return Ok(());
+    // Goes on with a SELECT: where no more rows follow it is recorded.
+    fn settle(&mut self, due: Due<A>) -> Result<(), LineError>
+        ensures ok { OnOk result (spec.settled self.old due ≡ Some self.new) }
+        ensures err { IfErr result (λ e. Lacks e (spec.settled self.old due)) }
+    {
+        if due.left > 0 {
+            self.due = Some(due);
+            Ok(())
+        } else {
+            self.record(due)
         }
-        match self.due.take() {
-            Some(due) => self.record(due),
-            None => Ok(()),
-        }
+    }
+
+    // The rows of a SELECT follow.
+    #[tactic(auto, unfolding(crate::specs::Reading::rows_follow))]
+    fn await_rows(
+        &mut self,
+        alloc: A,
+        catalog: &Catalog<A>,
+        session: SessionId,
+        statement: Statement<A>,
+        left: u64,
+        line: u64,
+    ) -> Result<(), LineError>
+        ensures ok { OnOk result (spec.rows_follow catalog.now self.old session statement left line ≡ Some self.new) }
+        ensures err { IfErr result (λ e. Lacks e (spec.rows_follow catalog.now self.old session statement left line)) }
+    {
+        let due = Due::new(alloc, catalog, session, statement, left, line)?;
+        self.settle(due)
     }
 
     // What comes of a session's reply in a line.
@@ -228,7 +484,10 @@ impl<A: Allocator + Copy> Reader<A> {
         session: SessionId,
         number: u64,
         outcome: Outcome<A>,
-    ) -> Result<(), Reason> {
+    ) -> Result<(), LineError>
+        ensures ok { OnOk result (spec.followed catalog.now self.old session number outcome ≡ Some self.new) }
+        ensures err { IfErr result (λ e. Lacks e (spec.followed catalog.now self.old session number outcome)) }
+    {
         match outcome {
             Outcome::Nothing => Ok(()),
             Outcome::Begun(line) => {
@@ -243,38 +502,59 @@ impl<A: Allocator + Copy> Reader<A> {
                 Ok(())
             }
             Outcome::Rows(statement, left, line) => {
-                let kinds = kinds_in(alloc, catalog, &statement)?;
-                self.due = Some(Due {
-                    session,
-                    statement,
-                    line,
-                    kinds,
-                    rows: Vec::new(alloc),
-                    left,
-                });
-                self.settle()
+                self.await_rows(alloc, catalog, session, statement, left, line)
             }
         }
     }
 
     // A session's reply.
+    #[tactic(auto, unfolding(crate::specs::Reading::replied))]
     fn answer(
         &mut self,
         alloc: A,
         catalog: &Catalog<A>,
         number: u64,
         line: &[u8],
-    ) -> Result<(), Reason> {
+    ) -> Result<(), LineError>
+        ensures ok { OnOk result (spec.replied catalog.now self.old number line.now ≡ Some self.new) }
+        ensures err { IfErr result (λ e. Lacks e (spec.replied catalog.now self.old number line.now)) }
+    {
         let Some((session, text)) = session_and_text(line) else {
-            return Err(Reason::NoReply);
+            return Err(LineError::Faulty(Reason::NoReply));
         };
         let Some(said) = said_of(text) else {
-            return Err(Reason::NoReply);
+            return Err(LineError::Faulty(Reason::NoReply));
         };
-        let outcome = session_at(self.sessions.as_mut_slice(), session)?.answer(
-            alloc, session, said,
-        )?;
+        let outcome = answer_of(alloc, &mut self.sessions, session, said)?;
         self.follow(alloc, catalog, session, number, outcome)
+    }
+
+    // A row of the SELECT whose rows follow.
+    #[tactic(auto, unfolding(crate::specs::Reading::row_shown))]
+    fn take_row(&mut self, alloc: A, mut due: Due<A>, line: &[u8]) -> Result<(), LineError>
+        ensures ok { OnOk result (spec.row_shown self.old due line.now ≡ Some self.new) }
+        ensures err { IfErr result (λ e. Lacks e (spec.row_shown self.old due line.now)) }
+    {
+        due.take_line(alloc, line)?;
+        self.settle(due)
+    }
+
+    // A reply, of which no rows are awaited.
+    fn reply_alone(
+        &mut self,
+        alloc: A,
+        catalog: &Catalog<A>,
+        number: u64,
+        line: &[u8],
+    ) -> Result<(), LineError>
+        ensures ok { OnOk result (spec.replied_alone catalog.now self.old number line.now ≡ Some self.new) }
+        ensures err { IfErr result (λ e. Lacks e (spec.replied_alone catalog.now self.old number line.now)) }
+    {
+        if is_of_checkpoint(line) {
+            self.answer_checkpoint()
+        } else {
+            self.answer(alloc, catalog, number, line)
+        }
     }
 
     // A reply, or a row of one.
@@ -284,15 +564,31 @@ impl<A: Allocator + Copy> Reader<A> {
         catalog: &Catalog<A>,
         number: u64,
         line: &[u8],
-    ) -> Result<(), Reason> {
-        if let Some(due) = &mut self.due {
-            due.take_line(alloc, line)?;
-            return self.settle();
+    ) -> Result<(), LineError>
+        ensures ok { OnOk result (spec.replied_by catalog.now self.old number line.now self.old.due ≡ Some self.new) }
+        ensures err { IfErr result (λ e. Lacks e (spec.replied_by catalog.now self.old number line.now self.old.due)) }
+    {
+        match self.due.take() {
+            Some(due) => self.take_row(alloc, due, line),
+            None => self.reply_alone(alloc, catalog, number, line),
         }
-        if is_of_checkpoint(line) {
-            return self.answer_checkpoint();
+    }
+
+    // A command: no rows may be missing before it.
+    fn command(
+        &mut self,
+        alloc: A,
+        catalog: &Catalog<A>,
+        number: u64,
+        line: &[u8],
+    ) -> Result<(), LineError>
+        ensures ok { OnOk result (spec.commanded_next catalog.now self.old number line.now ≡ Some self.new) }
+        ensures err { IfErr result (λ e. Lacks e (spec.commanded_next catalog.now self.old number line.now)) }
+    {
+        if self.due.is_some() {
+            return Err(LineError::Faulty(Reason::RowsMissing));
         }
-        self.answer(alloc, catalog, number, line)
+        self.ask(alloc, catalog, number, line)
     }
 
     /// One more line, of this number.
@@ -302,54 +598,69 @@ impl<A: Allocator + Copy> Reader<A> {
         catalog: &Catalog<A>,
         number: u64,
         line: &[u8],
-    ) -> Result<(), Reason> {
+    ) -> Result<(), LineError>
+        ensures ok { OnOk result (spec.with_line catalog.now self.old number line.now ≡ Some self.new) }
+        ensures err { IfErr result (λ e. Lacks e (spec.with_line catalog.now self.old number line.now)) }
+    {
         match kind_of(line) {
-            None => Err(Reason::NoMark),
+            None => Err(LineError::Faulty(Reason::NoMark)),
             Some(LineKind::Skipped) => Ok(()),
-            Some(LineKind::Command) if self.due.is_some() => Err(Reason::RowsMissing),
-            Some(LineKind::Command) => self.ask(alloc, catalog, number, behind_mark(line)),
+            Some(LineKind::Command) => self.command(alloc, catalog, number, behind_mark(line)),
             Some(LineKind::Reply) => self.reply(alloc, catalog, number, behind_mark(line)),
         }
     }
 
-    /// No line follows: those that may have committed have ended too.
-    pub(crate) fn end(&mut self) -> Result<(), Reason> {
-        if self.due.is_some() {
-            return Err(Reason::RowsMissing);
+    /// No line follows: all that have ended, with those that may have committed, and the lines of the BEGINs that were
+    /// answered BEGIN.
+    pub(crate) fn into_parts(self) -> Result<(Vec<Ended<A>, A>, Vec<u64, A>), LineError>
+        ensures { Gives (λ p. (p.0.items, p.1.items)) result (spec.parts self) }
+    {
+        let Reader {
+            sessions,
+            checkpoints: _,
+            due,
+            begins,
+            mut ended,
+        } = self;
+        if due.is_some() {
+            return Err(LineError::Faulty(Reason::RowsMissing));
         }
-        end_undetermined(self.sessions.as_mut_slice(), &mut self.ended)
+        end_undetermined(sessions, &mut ended)?;
+        Ok((ended, begins))
     }
+}
 
-    /// All that have ended, and the lines of the BEGINs that were answered so.
-    pub(crate) fn into_parts(self) -> (Vec<Ended<A>, A>, Vec<u64, A>) {
-        let Reader { begins, ended, .. } = self;
-        (ended, begins)
+// Ends the transaction of a session, where that may have committed.
+fn end_one<A: Allocator>(session: Session<A>, ended: &mut Vec<Ended<A>, A>) -> Result<(), LineError>
+    ensures ok { OnOk result (ended.new.items ≡ ended.old.items ++ cons_option (spec.unanswered session) []) }
+    ensures memory { IfErr result (λ e. e ≡ LineError.Memory) }
+{
+    match session.undetermined() {
+        Some(draft) => {
+            ended.push(Ended { draft, end: None })?;
+            Ok(())
+        }
+        None => Ok(()),
     }
 }
 
 // Ends the transactions of sessions that may have committed.
 fn end_undetermined<A: Allocator>(
-    sessions: &mut [Session<A>],
+    all: Vec<Session<A>, A>,
     ended: &mut Vec<Ended<A>, A>,
-) -> Result<(), Reason> {
-    for session in sessions {
-        if let Some(draft) = session.take_undetermined() {
-            ended.push(Ended { draft, end: None })?;
-        }
+) -> Result<(), LineError>
+    ensures ok { OnOk result (ended.new.items ≡ ended.old.items ++ filter_map spec.unanswered all.items) }
+    ensures memory { IfErr result (λ e. e ≡ LineError.Memory) }
+{
+    for session in all {
+        end_one(session, ended)?;
     }
     Ok(())
 }
 
 // Whether a reply is a checkpoint's, which names no session.
-fn is_of_checkpoint(line: &[u8]) -> bool {
-    line == b"CHECKPOINT".as_slice() || line.starts_with(b"ERROR ")
-}
-
-// The session that a reply names, and what stands behind.
-fn session_and_text(line: &[u8]) -> Option<(SessionId, &[u8])> {
-    let (number, text) = cut(b' ', line)?;
-    match session_of(number) {
-        Some(session) => Some((session, text)),
-        None => None,
-    }
+fn is_of_checkpoint(line: &[u8]) -> bool
+    ensures { result ≡ say.is_of_checkpoint line.now }
+{
+    line == b"CHECKPOINT".as_slice() || line[..line.len().min(6)] == b"ERROR "[..]
 }

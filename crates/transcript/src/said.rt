@@ -1,9 +1,13 @@
 //! What a reply says.
 
-use crate::words::{cut, number};
+ghost use Rattle.std.specs.Prelude.{◌≡◌};
+ghost use Rattle.transcript.specs.Saying as spec;
+
+use crate::words::number;
+use script::words::cut;
 
 /// What a reply says, without a SELECT's rows.
-#[derive(Clone, Copy, PartialEq, Eq)]
+#[derive(Clone, Copy)]
 pub(crate) enum Said {
     Begun,
     Committed,
@@ -24,7 +28,9 @@ pub(crate) enum Said {
 }
 
 // What a reply of one word says.
-fn said_in_a_word(text: &[u8]) -> Option<Said> {
+fn said_in_a_word(text: &[u8]) -> Option<Said>
+    ensures { result ≡ spec.in_a_word text.now }
+{
     if text == b"BEGIN".as_slice() {
         Some(Said::Begun)
     } else if text == b"COMMIT".as_slice() {
@@ -47,7 +53,9 @@ fn said_in_a_word(text: &[u8]) -> Option<Said> {
 }
 
 // What a word and a number say.
-fn said_with_number(word: &[u8], count: u64) -> Option<Said> {
+fn said_with_number(word: &[u8], count: u64) -> Option<Said>
+    ensures { result ≡ spec.with_number word.now count }
+{
     if word == b"UPDATE".as_slice() {
         Some(Said::Updated(count))
     } else if word == b"DELETE".as_slice() {
@@ -63,14 +71,26 @@ fn said_with_number(word: &[u8], count: u64) -> Option<Said> {
     }
 }
 
-/// What a reply says behind its session's number; none where it is no reply.
-pub(crate) fn said_of(text: &[u8]) -> Option<Said> {
+// What a word and what follows it say.
+fn said_in_two(word: &[u8], rest: &[u8]) -> Option<Said>
+    ensures { result ≡ spec.in_two word.now rest.now }
+{
+    if word == b"ERROR".as_slice() {
+        return Some(Said::Refused);
+    }
+    let count = number(rest)?;
+    said_with_number(word, count)
+}
+
+/// What a reply says after its session's number; none where it is no reply.
+pub(crate) fn said_of(text: &[u8]) -> Option<Said>
+    ensures { result ≡ spec.said text.now }
+{
     if text == b"INSERT 0 1".as_slice() {
         return Some(Said::Inserted);
     }
     match cut(b' ', text) {
         None => said_in_a_word(text),
-        Some((word, _)) if word == b"ERROR".as_slice() => Some(Said::Refused),
-        Some((word, rest)) => said_with_number(word, number(rest)?),
+        Some((word, rest)) => said_in_two(word, rest),
     }
 }

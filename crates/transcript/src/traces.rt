@@ -1,18 +1,21 @@
 //! What was recorded of a transcript's transactions.
 
-ghost use Rattle.std.specs.Prelude.{◌≡◌, ◌⊎◌, IfErr, IfOk, map, true};
-ghost use Rattle.std.specs.List.{list_all};
+ghost use Rattle.std.specs.Prelude.{◌≡◌, ◌⊎◌, ◌∷◌, [], ◌++◌, nat_le, IfErr, IfOk, OnOk, map, true};
+ghost use Rattle.std.specs.List.{count_by, list_all};
+ghost use Rattle.std.specs.List.Sorted.{IsNonDecreasing, IsPermutation};
 ghost use Rattle.orders.specs.Explains.{all_fit, are_fit};
 ghost use Rattle.statement.specs.Fits.{fits};
-ghost use Rattle.transcript.specs.Lines.{IsLineOf};
+ghost use Rattle.transcript.specs.Lines.{IsLineOf, read_text};
+ghost use Rattle.transcript.specs.Outcomes.{Gives, Reads};
+ghost use Rattle.transcript.specs.Reading as spec;
 
-use crate::fault::{Reason, TranscriptFault};
+use crate::fault::{LineError, Reason, TranscriptFault};
 use crate::reader::{Ended, Reader};
 use crate::session::Draft;
-use crate::words::cut;
 use history::session_id::SessionId;
 use orders::transaction::{Answered, Transaction};
 use schema::catalog::Catalog;
+use script::words::cut;
 use std::alloc::{Allocator, Global};
 
 /// How a transaction is named: its number, its session, and the lines in which its statements stand that were answered
@@ -70,18 +73,29 @@ fn all_fit<A: Allocator>(catalog: &Catalog<A>, transactions: &[Transaction<A>]) 
     true
 }
 
-// The number of the transaction whose BEGIN stands in a line: BEGINs are counted that were answered so, whose lines these
+// The number of the transaction whose BEGIN stands in a line: BEGINs are counted that were answered BEGIN, whose lines these
 // are, in order.
-fn number_of(begins: &[u64], line: u64) -> u64 {
-    match begins.binary_search(&line) {
-        Ok(before) => (before as u64).saturating_add(1),
-        Err(before) => before as u64,
-    }
+fn number_of(begins: &[u64], line: u64) -> usize
+    requires { IsNonDecreasing begins.now }
+    ensures { result ≡ count_by (λ b. nat_le b line) begins.now }
+{
+    begins.partition_point(
+        |begin: &u64| -> bool
+            ensures { result ≡ nat_le begin.now line }
+        { *begin <= line },
+    )
 }
 
 impl<A: Allocator> Traces<A> {
     // One more transaction.
-    fn push(&mut self, ended: Ended<A>, begins: &[u64], has_time: bool) -> Result<(), Reason> {
+    fn push(&mut self, ended: Ended<A>, begins: &[u64], has_time: bool) -> Result<(), LineError>
+        requires { IsNonDecreasing begins.now }
+        ensures transactions { OnOk result (self.new.transactions.items ≡
+            self.old.transactions.items ++ spec.trace_of has_time ended ∷ []) }
+        ensures names { OnOk result (map (λ n. spec.named n.number n.session n.lines.items) self.new.names.items ≡
+            map (λ n. spec.named n.number n.session n.lines.items) self.old.names.items ++ spec.name_of begins.now ended ∷ []) }
+        ensures memory { IfErr result (λ e. e ≡ LineError.Memory) }
+    {
         let Ended { draft, end } = ended;
         let Draft {
             session,
@@ -90,7 +104,7 @@ impl<A: Allocator> Traces<A> {
             statements,
             lines,
         } = draft;
-        let number = number_of(begins, begin);
+        let number = number_of(begins, begin) as u64;
         self.transactions.push(Transaction {
             begin,
             end,
@@ -106,43 +120,74 @@ impl<A: Allocator> Traces<A> {
     }
 }
 
-// The transactions of a transcript whose lines were read.
+// The transactions that ended, by the lines of all BEGINs.
 fn gathered<A: Allocator + Copy>(
     alloc: A,
-    reader: Reader<A>,
+    all: Vec<Ended<A>, A>,
+    begins: &[u64],
     has_time: bool,
-) -> Result<Traces<A>, Reason> {
-    let (all, mut begins) = reader.into_parts();
-    begins.sort()?;
+) -> Result<Traces<A>, LineError>
+    requires { IsNonDecreasing begins.now }
+    ensures transactions { IfOk result (λ t. t.transactions.items ≡ map (spec.trace_of has_time) all.items) }
+    ensures names { IfOk result (λ t. map (λ n. spec.named n.number n.session n.lines.items) t.names.items ≡ map (spec.name_of begins.now) all.items) }
+    ensures memory { IfErr result (λ e. e ≡ LineError.Memory) }
+{
     let mut traces = Traces {
         transactions: Vec::new(alloc),
         names: Vec::new(alloc),
     };
     for ended in all {
-        traces.push(ended, begins.as_slice(), has_time)?;
+        traces.push(ended, begins, has_time)?;
     }
     Ok(traces)
 }
 
-// The same, which fit the catalog.
+// The lines in order.
+fn sort<A: Allocator>(begins: &mut Vec<u64, A>) -> Result<(), LineError>
+    ensures ok { OnOk result (IsNonDecreasing begins.new.items) }
+    ensures same { OnOk result (IsPermutation begins.old.items begins.new.items) }
+    ensures memory { IfErr result (λ e. e ≡ LineError.Memory) }
+{
+    begins.sort()?;
+    Ok(())
+}
+
+// The transactions that ended, by the lines of all BEGINs in any order.
+fn numbered<A: Allocator + Copy>(
+    alloc: A,
+    all: Vec<Ended<A>, A>,
+    mut begins: Vec<u64, A>,
+    has_time: bool,
+) -> Result<Traces<A>, LineError>
+    ensures transactions { IfOk result (λ t. t.transactions.items ≡ map (spec.trace_of has_time) all.items) }
+    ensures names { IfOk result (λ t. map (λ n. spec.named n.number n.session n.lines.items) t.names.items ≡ map (spec.name_of begins.items) all.items) }
+    ensures memory { IfErr result (λ e. e ≡ LineError.Memory) }
+{
+    sort(&mut begins)?;
+    gathered(alloc, all, begins.as_slice(), has_time)
+}
+
+// The transactions of a transcript whose lines were read, which fit the catalog.
+#[tactic(auto, unfolding(crate::specs::Reading::traces_of))]
 fn fitting<A: Allocator + Copy>(
     alloc: A,
     catalog: &Catalog<A>,
-    mut reader: Reader<A>,
+    reader: Reader<A>,
     has_time: bool,
-) -> Result<Traces<A>, Reason>
+) -> Result<Traces<A>, LineError>
     ensures fit { IfOk result (λ t. all_fit catalog.now t.transactions.items ≡ true) }
+    ensures gives { Gives (λ t. (t.transactions.items, map (λ n. spec.named n.number n.session n.lines.items) t.names.items)) result (spec.traces_of catalog.now has_time reader) }
 {
-    reader.end()?;
-    let traces = gathered(alloc, reader, has_time)?;
+    let (all, begins) = reader.into_parts()?;
+    let traces = numbered(alloc, all, begins, has_time)?;
     if all_fit(catalog, traces.transactions.as_slice()) {
         Ok(traces)
     } else {
-        Err(Reason::NoStatement)
+        Err(LineError::Faulty(Reason::NoStatement))
     }
 }
 
-// Reads the lines of a transcript: the number of what stands behind the last one.
+// Reads the lines of a transcript: the number of what follows the last one.
 fn read_lines<A: Allocator + Copy>(
     alloc: A,
     catalog: &Catalog<A>,
@@ -151,12 +196,14 @@ fn read_lines<A: Allocator + Copy>(
 ) -> Result<u64, TranscriptFault>
     ensures end { IfOk result (λ number. IsLineOf text.now number) }
     ensures line { IfErr result (λ f. IsLineOf text.now f.line) }
+    ensures reads { Reads (λ number. (reader.new, number)) result
+        (read_text (spec.with_line catalog.now) reader.old text.now) }
 {
     let mut rest = text;
     let mut number = 1;
     while let Some((line, more)) = cut(b'\n', rest) {
-        if let Err(reason) = reader.read_line(alloc, catalog, number, line) {
-            return Err(at(number, reason));
+        if let Err(error) = reader.read_line(alloc, catalog, number, line) {
+            return Err(at(number, error.reason()));
         }
         rest = more;
         number += 1;
@@ -179,21 +226,23 @@ pub fn read_traces<A: Allocator + Copy>(
 ) -> Result<Traces<A>, TranscriptFault>
     ensures fit { IfOk result (λ t. all_fit catalog.now t.transactions.items ≡ true) }
     ensures line { IfErr result (λ f. IsLineOf text.now f.line) }
+    ensures reads { Reads (λ t. (t.transactions.items, map (λ n. spec.named n.number n.session n.lines.items) t.names.items)) result (spec.traces catalog.now has_time text.now) }
 {
     let mut reader = match Reader::new(alloc) {
         Ok(reader) => reader,
-        Err(reason) => return Err(at(1, reason)),
+        Err(error) => return Err(at(1, error.reason())),
     };
     let last = read_lines(alloc, catalog, &mut reader, text)?;
     match fitting(alloc, catalog, reader, has_time) {
         Ok(traces) => Ok(traces),
-        Err(reason) => Err(at(last, reason)),
+        Err(error) => Err(at(last, error.reason())),
     }
 }
 
 // A fault of a line.
 fn at(line: u64, reason: Reason) -> TranscriptFault
-    ensures { result.line ≡ line }
+    ensures line { result.line ≡ line }
+    ensures reason { result.reason ≡ reason }
 {
     TranscriptFault { line, reason }
 }
