@@ -2,3 +2,4 @@ mod DoomLemmas
 pub mod FindLemmas
 mod PastLemmas
 mod WalkLemmas
+mod DrawnLemmas

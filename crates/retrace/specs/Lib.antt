@@ -5,3 +5,7 @@ pub mod Edges
 pub mod Holds
 pub mod Items
 pub mod Trails
+pub mod Remarks
+pub mod Why
+pub mod Arrows
+pub mod Lives

@@ -4,6 +4,8 @@
 
 mod deed;
 mod doom;
+pub mod drawing;
+pub mod explain;
 pub mod past;
 pub mod run;
 pub mod witness;

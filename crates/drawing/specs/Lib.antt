@@ -1,2 +1,0 @@
-pub mod Arrows
-pub mod Lives

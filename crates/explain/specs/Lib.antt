@@ -1,2 +1,0 @@
-pub mod Remarks
-pub mod Why
