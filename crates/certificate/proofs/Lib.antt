@@ -12,3 +12,5 @@ pub mod StateLemmas
 pub mod SumLemmas
 pub mod ViewLemmas
 pub mod WriterLemmas
+pub mod LineLemmas
+pub mod WrittenNumberLemmas

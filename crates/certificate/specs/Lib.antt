@@ -9,3 +9,8 @@ pub mod Recorded
 pub mod Rules
 pub mod Views
 pub mod Sums
+pub mod Names
+pub mod Outcomes
+pub mod Reading
+pub mod Words
+pub mod Writing

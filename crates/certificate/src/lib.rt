@@ -12,3 +12,4 @@ mod rules;
 mod sources;
 mod standing;
 pub mod states;
+pub mod written;
