@@ -10,3 +10,6 @@ mod Once
 mod Shares
 pub mod Turns
 pub mod Drawn
+pub mod Lines
+pub mod Ranks
+pub mod Texts

@@ -4,6 +4,7 @@
 
 pub mod interleave;
 pub mod laws;
+pub mod listing;
 pub mod outcomes;
 pub mod runs;
 pub mod sample;
