@@ -14,3 +14,4 @@ pub mod CommitLemmas
 pub mod RunLemmas
 pub mod InstallLemmas
 pub mod StepLemmas
+mod Walks

@@ -7,6 +7,7 @@ pub mod answers;
 pub mod conflicts;
 pub mod ends;
 pub mod exports;
+mod ghost_list;
 pub mod kept;
 pub mod statements;
 pub mod step;

@@ -4,8 +4,8 @@ ghost use Rattle.std.specs.Prelude.{◌≡◌, ◌++◌, [], OnOk, OnErr, IfErr}
 ghost use Rattle.value.specs.Refusals.{out_of_memory};
 ghost use Rattle.statement.specs.Cover.{covers, covers_value};
 
+use crate::ghost_list::GhostList;
 use crate::statements::own::OwnChanges;
-use ghost_list::GhostList;
 use schema::catalog::TableNo;
 use schema::changes::Change;
 use siread::held::Held;

@@ -30,12 +30,12 @@ use denote.Triple.Spec.{Meets, triple_of}
 use denote.Triple.Table.{entered}
 use denote.Triple.Walked.{says, Stays, stay_dropped, walk_of, ends_at, walk_Meets, Goes-dropped}
 use Rattle.std.specs.contracts.marker.PhantomData as Mark
-use Rattle.ghost_list.proofs.Walks.{none, one, one_made}
-use Rattle.ghost_list.specs.contracts.list.GhostList as Listed
-use Rattle.ghost_list.specs.contracts.list.GhostList.and as F
-use Rattle.ghost_list.specs.contracts.list.GhostList.and.Key.{name as #self}
-use Rattle.ghost_list.proofs.list.GhostList.and.Statement as stated
-use Rattle.ghost_list.proofs.list.GhostList.and.Code as code
+use Rattle.transactions.proofs.Walks.{none, one, one_made}
+use Rattle.transactions.specs.contracts.ghost_list.GhostList as Listed
+use Rattle.transactions.specs.contracts.ghost_list.GhostList.and as F
+use Rattle.transactions.specs.contracts.ghost_list.GhostList.and.Key.{name as #self}
+use Rattle.transactions.proofs.ghost_list.GhostList.and.Statement as stated
+use Rattle.transactions.proofs.ghost_list.GhostList.and.Code as code
 
 module _ (T : RattleType) where
   abbrev args : Args

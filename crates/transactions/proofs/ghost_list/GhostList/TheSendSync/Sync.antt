@@ -2,7 +2,7 @@
 use denote.RattleType.{RattleType}
 use denote.Param.Send.{IsSync, cell_keyless}
 use denote.Memory.{part_of, raw_all}
-use Rattle.ghost_list.specs.contracts.list.GhostList.{the_row}
+use Rattle.transactions.specs.contracts.ghost_list.GhostList.{the_row}
 
 pub sync : (T : RattleType) → IsSync T → IsSync (the_row T)
 unfolding part_of

@@ -1,7 +1,0 @@
-//! Lists that only proofs read.
-
-#![tactic(auto)]
-
-mod list;
-
-pub use list::GhostList;
