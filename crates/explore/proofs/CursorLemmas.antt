@@ -12,7 +12,7 @@ use Rattle.explore.specs.declared.plan.Line.{Line}
 use Rattle.explore.specs.Cursors.{AreCursors, IsCursor}
 use Rattle.explore.specs.Explored.{after_turn, done, events_of, own_line, place_of, this_or_later}
 
-differs : (a b : ℕ) → (a ≡ b → ⊥) → (a == b) ≡ false
+pub differs : (a b : ℕ) → (a ≡ b → ⊥) → (a == b) ≡ false
 differs a b never = go (a == b) refl
   where
     go : (c : Bool) → (a == b) ≡ c → (a == b) ≡ false
@@ -33,7 +33,7 @@ module _ {A : Type 0} where
       ap (λ b. cond b (own_line p (suc k - 1) ls) (own_line p (suc k) ls)) own ∙ ap (λ n. own_line p n ls) less
 
   -- what is found is a line of the session
-  is_own : (p k : ℕ) (ls : List (Line A)) (l : Line A) → own_line p k ls ≡ Some l → place_of l.session ≡ p
+  pub is_own : (p k : ℕ) (ls : List (Line A)) (l : Line A) → own_line p k ls ≡ Some l → place_of l.session ≡ p
   is_own p k [] l e = cc
   is_own p k (x ∷ ls) l e = go (place_of x.session == p) refl k (λ n. is_own p n ls l) e
     where
@@ -58,7 +58,7 @@ module _ {A : Type 0} where
       one false = refl
 
   -- the event of a line that is done
-  abbrev event : Recorded A → Line A → Record A
+  abbrev pub event : Recorded A → Line A → Record A
   event h l = record { session = l.session; action = asked h.opening.catalog l.request; reply = answer h.opening h.records l.session (asked h.opening.catalog l.request) }
 
   -- a turn of one session adds no event of another

@@ -1,3 +1,4 @@
 pub mod Beginnings
 pub mod Counting
 mod CursorLemmas
+mod EachOnce

@@ -1,8 +1,9 @@
 -- What is explored: the lines of sessions, in every interleaving, each from the state that one setup leaves.
 -- Source: PostgreSQL's isolation tester (src/test/isolation/README), whose permutations are of its sessions' steps; the setup is done before each.
-use Rattle.std.specs.Prelude.{◌≡◌, ℕ, zero, suc, ◌-◌, ◌==◌, if◌then◌else◌, Option, Some, None, Result, Ok, Err, List, [], ◌∷◌, ◌++◌, length, sum}
+use Rattle.std.specs.Prelude.{◌≡◌, ℕ, zero, suc, ◌-◌, ◌==◌, ◌<◌, ◌≤◌, if◌then◌else◌, Option, Some, None, Result, Ok, Err, List, [], ◌∷◌, ◌++◌, length, map, sum}
 use Rattle.std.specs.List.{filter}
 use Rattle.value.specs.declared.refusal.Refusal.{Refusal}
+use Rattle.schema.specs.Definition.{Catalog}
 use Rattle.history.specs.declared.event.Action.{Action}
 use Rattle.history.specs.declared.event.Record.{Record}
 use Rattle.history.specs.Opening.{Recorded}
@@ -30,9 +31,13 @@ sessions = 64
 module _ {A : Type 0} where
   -- ---- the lines of a session
 
+  -- the lines of the session at a place, in its order
+  abbrev pub own_lines : ℕ → List (Line A) → List (Line A)
+  own_lines p lines = filter (λ l. place_of l.session == p) lines
+
   -- how many lines the session at a place has
   abbrev pub lines_of : ℕ → List (Line A) → ℕ
-  lines_of p lines = length (filter (λ l. place_of l.session == p) lines)
+  lines_of p lines = length (own_lines p lines)
 
   -- how many each of the first n has
   unfoldable pub line_counts : List (Line A) → ℕ → List ℕ
@@ -49,9 +54,13 @@ module _ {A : Type 0} where
   own_line p k [] = None
   own_line p k (l ∷ lines) = if place_of l.session == p then this_or_later k l (own_line p (k - 1) lines) else own_line p k lines
 
+  -- the events of the session at a place, in their order
+  abbrev pub own_events : ℕ → List (Record A) → List (Record A)
+  own_events p es = filter (λ e. place_of e.session == p) es
+
   -- how many of the events are of the session at a place
   abbrev pub events_of : ℕ → List (Record A) → ℕ
-  events_of p es = length (filter (λ e. place_of e.session == p) es)
+  events_of p es = length (own_events p es)
 
   -- ---- a run
 
@@ -103,6 +112,21 @@ module _ {A : Type 0} where
   -- the history that a schedule leads to
   abbrev pub RunsTo : Explored A → List ℕ → Recorded A → Type 0
   RunsTo e order k = (h : Recorded A) × (beginning e ≡ Ok h) × (k ≡ after_turns e.lines h order)
+
+  -- ---- that each line is done once
+
+  -- the session of an event, and its action
+  abbrev pub session_action : Record A → ℕ × Action A
+  session_action e = (e.session, e.action)
+
+  -- the session of a line, and the action that the line asks for, of this catalog's tables
+  abbrev pub line_action : Catalog → Line A → ℕ × Action A
+  line_action c l = (l.session, asked c l.request)
+
+  -- A history does each line of each of the 64 sessions once, in the session's order, and nothing else.
+  pub record DoesEachOnce (e : Explored A) (k : Recorded A) : Type 0 where
+    pub each : (p : ℕ) → p < sessions → map session_action (own_events p k.records) ≡ map (line_action e.setup.opening.catalog) (own_lines p e.lines)
+    pub only : (p : ℕ) → sessions ≤ p → own_events p k.records ≡ []
 
 -- A serial order explains the text: it is that of a history in which each reply is the answer, and which has one.
 abbrev pub IsExplained : Type 0 → List ℕ → Type 0

@@ -4,6 +4,7 @@
 
 pub mod exploring;
 mod gated;
+pub mod laws;
 pub mod plan;
 mod replies;
 mod running;
