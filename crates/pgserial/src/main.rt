@@ -4,8 +4,6 @@
 
 #![tactic(auto)]
 
-use command_run::manner::Manner;
-use command_run::words::told_words;
 use command_shell::prompt::words::prompt_words;
 use command_shell::words::shell_words;
 use commands::check::words::check_words;
@@ -168,10 +166,6 @@ fn do_words<R: Threads + Wait + Sync, W: Write, E: Write>(
         "draw" => draw_words(&machine, rest, out, err),
         "explore" => explore_words(&machine, rest, out, err),
         "shell" => shell(&machine, rest, out, err),
-        "run" if rest.contains(&"--why") => { told_words(&machine, Manner::Why, rest, out, err) },
-        "run" if rest.contains(&"--transcript") => {
-            told_words(&machine, Manner::Transcript, rest, out, err)
-        },
         _ => run_words(rt, alloc, alloc, words, files, out, err),
     }
 }

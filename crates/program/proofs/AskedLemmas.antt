@@ -4,9 +4,9 @@ use Rattle.std.specs.Str.Parse.{ParsesUnsigned}
 use Rattle.clap.specs.Kinds.{or_else}
 use Rattle.clap.specs.Words.{HasKind, Kinds, ReadsOne, Row, Text, fault_of, kind_of, subcommand_of}
 use Rattle.clap.specs.declared.error.Error.{Error}
-use Rattle.clap.specs.declared.error.ErrorKind.TheVariants.{MissingRequiredArgument}
-use Rattle.program.specs.CommandLine.{faults, faults_between, lacks_free, pgserial}
+use Rattle.program.specs.CommandLine.{clash_in, faults, faults_between, kind_of_clash, kinds_of_clash, pgserial}
 use Rattle.program.specs.Asked.{AsksFor, IsNumber, MayWork, Writes, command_of, number_of}
+use Rattle.program.specs.declared.task.Clash.{Clash}
 use Rattle.program.specs.declared.task.Task.{Task}
 
 -- what a number of 32 bits is read as
@@ -57,13 +57,10 @@ taken : (words : List (Bor Text)) (o : Option (Text × List Row)) → (length wo
 taken [] o some none is = absurd (true≢false some)
 taken (w ∷ ws) o some none is = ap (λ ks. or_else ks (faults_between (subcommand_of pgserial (map (λ w. w.now) (w ∷ ws))))) none ∙ ap faults_between (sym is)
 
-abbrev between : Bool → Kinds
-between b = if b then MissingRequiredArgument ∷ [] else []
-
 -- nothing is wrong with the words
-pub no_faults : (words : List (Bor Text)) (o : Option (Text × List Row)) → (length words == 0) ≡ false → fault_of pgserial (map (λ w. w.now) words) ≡ [] → o ≡ subcommand_of pgserial (map (λ w. w.now) words) → lacks_free o ≡ false → faults (map (λ w. w.now) words) ≡ []
-no_faults words o some none is lacks = taken words o some none is ∙ ap between lacks
+pub no_faults : (words : List (Bor Text)) (o : Option (Text × List Row)) → (length words == 0) ≡ false → fault_of pgserial (map (λ w. w.now) words) ≡ [] → o ≡ subcommand_of pgserial (map (λ w. w.now) words) → clash_in o ≡ None → faults (map (λ w. w.now) words) ≡ []
+no_faults words o some none is clash = taken words o some none is ∙ ap kinds_of_clash clash
 
--- a check is left out that isn't made
-pub free_lacks : (words : List (Bor Text)) (o : Option (Text × List Row)) (e : Error) → (length words == 0) ≡ false → fault_of pgserial (map (λ w. w.now) words) ≡ [] → o ≡ subcommand_of pgserial (map (λ w. w.now) words) → lacks_free o ≡ true → kind_of e ≡ MissingRequiredArgument → HasKind (faults (map (λ w. w.now) words)) e
-free_lacks words o e some none is lacks kind = subst (λ ks. HasKind ks e) (sym (taken words o some none is ∙ ap between lacks)) (inr (inl kind))
+-- flags stand together that may not
+pub clashing : (words : List (Bor Text)) (o : Option (Text × List Row)) (clash : Clash) (e : Error) → (length words == 0) ≡ false → fault_of pgserial (map (λ w. w.now) words) ≡ [] → o ≡ subcommand_of pgserial (map (λ w. w.now) words) → clash_in o ≡ Some clash → kind_of e ≡ kind_of_clash clash → HasKind (faults (map (λ w. w.now) words)) e
+clashing words o clash e some none is found kind = subst (λ ks. HasKind ks e) (sym (taken words o some none is ∙ ap kinds_of_clash found)) (inr (inl kind))

@@ -32,14 +32,14 @@ pub among : (ks : Kinds) (e : Error) → HasKind ks e → (kind_of e ≡ OutOfMe
 among ks e (inl memory) other = absurd (other memory)
 among ks e (inr here) other = here
 
-refused_is_not_done : Refused ≡ Done → ⊥
+pub refused_is_not_done : Refused ≡ Done → ⊥
 refused_is_not_done e = let n : 1 ≡ 0 = ap code e in absurd (omega (arith, n))
 
-refused_is_no_device : Refused ≡ Device → ⊥
+pub refused_is_no_device : Refused ≡ Device → ⊥
 refused_is_no_device e = let n : 1 ≡ 3 = ap code e in absurd (omega (arith, n))
 
 -- the words are a call for help, or for the version, by an error of this kind
-help_of : (ks : Kinds) (e : Error) → HasKind ks e → (kind_of e ≡ OutOfMemory → ⊥) → (kind_of e ≡ DisplayHelp) ⊎ (kind_of e ≡ DisplayVersion) → AreHelp ks
+pub help_of : (ks : Kinds) (e : Error) → HasKind ks e → (kind_of e ≡ OutOfMemory → ⊥) → (kind_of e ≡ DisplayHelp) ⊎ (kind_of e ≡ DisplayVersion) → AreHelp ks
 help_of ks e has other (inl is) = inl (subst (λ k. IsAmong k ks) is (among ks e has other))
 help_of ks e has other (inr is) = inr (subst (λ k. IsAmong k ks) is (among ks e has other))
 

@@ -1,12 +1,12 @@
 -- What a command line asks for. To clap a command's rows are its arguments, with their values.
-use Rattle.std.specs.Prelude.{◌≡◌, ◌≢◌, ◌⊎◌, ◌^◌, ◌<◌, ◌≤◌, ℕ, not, true, false, List, [], ◌∷◌, Option, Some, None, codes, unwrap_or}
+use Rattle.std.specs.Prelude.{◌≡◌, ◌≢◌, ◌⊎◌, ◌^◌, ◌<◌, ◌≤◌, ℕ, not, true, false, List, [], ◌∷◌, Option, Some, None, codes, unwrap_or, if◌then◌else◌}
 use Rattle.std.specs.Str.Parse.{IsNumeral, digits_value, without_leading_plus}
 use Rattle.clap.specs.Words.{Row, Text, first_of, one_of, subcommand_of}
 use Rattle.program.specs.CommandLine.{is_set, pgserial}
 use Rattle.program.specs.declared.task.Task.{Task}
 use Rattle.program.specs.declared.task.Task.TheVariants as task
-use Rattle.program.specs.declared.run.Shown.{Shown}
-use Rattle.program.specs.declared.run.Shown.TheVariants.{Replies, Order}
+use Rattle.program.specs.declared.manner.Manner.{Manner}
+use Rattle.program.specs.declared.manner.Manner.TheVariants.{Replies, Order, Why, Transcript}
 use Rattle.program.specs.declared.run.Way.{Way}
 
 -- the path that an argument gives; `-` where it isn't among the words
@@ -39,8 +39,12 @@ abbrev pub WritesJobs : List Row → ℕ → Type 0
 WritesJobs rows = Writes MayWork 1 (one_of (codes "jobs") rows)
 
 -- The lines of a script one after the other: its path, and for how many events there is room.
-abbrev pub IsInOrder : List Row → Shown → Text → Way → Type 0
-IsInOrder rows shown path way = (path ≡ path_of (codes "SCRIPT") rows) × (way.shown ≡ shown) × WritesEvents rows way.most_events
+abbrev pub IsInOrder : List Row → Manner → Text → Way → Type 0
+IsInOrder rows manner path way = (path ≡ path_of (codes "SCRIPT") rows) × (way.manner ≡ manner) × WritesEvents rows way.most_events
+
+-- what is printed of the lines of `run`: with `--why` each reply with why it refuses its transaction, with `--transcript` a transcript, else each reply
+abbrev pub manner_of : List Row → Manner
+manner_of rows = if is_set (codes "why") rows then Why else if is_set (codes "transcript") rows then Transcript else Replies
 
 -- `restore`: where the dump is read, by how many jobs, and where it is written
 abbrev pub AsksToRestore : List Row → Task → Type 0
@@ -52,15 +56,15 @@ abbrev pub AsksToAudit : List Row → Task → Type 0
 AsksToAudit rows (task.Run path way) = IsInOrder rows Order path.now way
 AsksToAudit rows _ = ⊥
 
--- `run`: each session's lines on a thread where `--free` is among the words, and then the check unless `--no-check` is; else the lines one after the other, with their replies
+-- `run`: each session's lines on a thread where `--free` is among the words, and then the check unless `--no-check` is; else the lines one after the other
 abbrev pub AsksToRun : List Row → Task → Type 0
-AsksToRun rows (task.Run path way) = IsInOrder rows Replies path.now way × (is_set (codes "free") rows ≡ false)
+AsksToRun rows (task.Run path way) = IsInOrder rows (manner_of rows) path.now way × (is_set (codes "free") rows ≡ false)
 AsksToRun rows (task.Free path way) = (path.now ≡ path_of (codes "SCRIPT") rows) × WritesEvents rows way.most_events × (is_set (codes "free") rows ≡ true) × (way.is_checked ≡ not (is_set (codes "no-check") rows))
 AsksToRun rows _ = ⊥
 
 -- the script on standard input, with its replies
 abbrev pub AsksForInput : Task → Type 0
-AsksForInput (task.Run path way) = (path.now ≡ codes "-") × (way ≡ record { shown = Replies; most_events = 100000 })
+AsksForInput (task.Run path way) = (path.now ≡ codes "-") × (way ≡ record { manner = Replies; most_events = 100000 })
 AsksForInput _ = ⊥
 
 -- What is asked for by a command of this name and these rows; or by no command.

@@ -1,5 +1,5 @@
--- The command line, in the words of clap: `run SCRIPT [--events N] [--free [--no-check]]`, `audit SCRIPT [--events N]`, `--version` and `restore DUMP [--jobs N] --out FILE`.
-use Rattle.std.specs.Prelude.{◌≡◌, ◌≢◌, ◌&&◌, Bool, not, true, false, List, [], ◌∷◌, Option, Some, None, pos, codes, if◌then◌else◌}
+-- The command line, in the words of clap: `run SCRIPT [--events N] [--free [--no-check]] [--why] [--transcript]`, `audit SCRIPT [--events N]`, `--version` and `restore DUMP [--jobs N] --out FILE`.
+use Rattle.std.specs.Prelude.{◌≡◌, ◌≢◌, ◌&&◌, ◌||◌, Bool, not, true, false, List, [], ◌∷◌, Option, Some, None, pos, codes, if◌then◌else◌}
 use Rattle.std.specs.Str.{bytes_eq}
 use Rattle.clap.specs.Kinds.{or_else}
 use Rattle.clap.specs.Words.{AddsSubcommand, App, IsAmong, Kinds, Row, Rule, Shape, Text, app_of, fault_of, first_of, new_app, new_rule, subcommand_of, with_rule, with_subcommand}
@@ -7,7 +7,9 @@ use Rattle.clap.specs.declared.builder.command.Command.{Command}
 use Rattle.clap.specs.declared.builder.ArgAction.TheVariants.{Set, SetTrue}
 use Rattle.clap.specs.declared.builder.ValueParser.TheVariants.{Signed}
 use Rattle.clap.specs.declared.error.ErrorKind.{ErrorKind}
-use Rattle.clap.specs.declared.error.ErrorKind.TheVariants.{DisplayHelp, DisplayVersion, MissingRequiredArgument, OutOfMemory}
+use Rattle.clap.specs.declared.error.ErrorKind.TheVariants.{ArgumentConflict, DisplayHelp, DisplayVersion, MissingRequiredArgument, OutOfMemory}
+use Rattle.program.specs.declared.task.Clash.{Clash}
+use Rattle.program.specs.declared.task.Clash.TheVariants as clash
 
 -- the file of a script
 abbrev pub script : Rule
@@ -24,6 +26,14 @@ free = record (new_rule (codes "free")) { long = Some (codes "free"); action = S
 -- `--no-check`
 abbrev pub no_check : Rule
 no_check = record (new_rule (codes "no-check")) { long = Some (codes "no-check"); action = Some SetTrue }
+
+-- `--why`
+abbrev pub why : Rule
+why = record (new_rule (codes "why")) { long = Some (codes "why"); action = Some SetTrue }
+
+-- `--transcript`
+abbrev pub transcript : Rule
+transcript = record (new_rule (codes "transcript")) { long = Some (codes "transcript"); action = Some SetTrue }
 
 -- the file of a dump
 abbrev pub dump : Rule
@@ -42,7 +52,7 @@ abbrev pub of_script : Text → App
 of_script name = with_rule (with_rule (new_app name) script) events
 
 abbrev pub run : App
-run = with_rule (with_rule (of_script (codes "run")) free) no_check
+run = with_rule (with_rule (with_rule (with_rule (of_script (codes "run")) free) no_check) why) transcript
 
 abbrev pub restore : App
 restore = with_rule (with_rule (with_rule (new_app (codes "restore")) dump) jobs) out
@@ -67,14 +77,30 @@ is_yes (Some text) = bytes_eq text (codes "true")
 abbrev pub is_set : Text → List Row → Bool
 is_set id rows = is_yes (first_of id rows)
 
--- a command has `--no-check`, which leaves out a check of `--free`, and has no `--free`
-abbrev pub lacks_free : Option (Text × List Row) → Bool
-lacks_free None = false
-lacks_free (Some command) = is_set (codes "no-check") command.1 && not (is_set (codes "free") command.1)
+-- which of a command's flags may not stand together: `--no-check` leaves out a check of `--free`; sessions that run freely aren't explained, and make no transcript; and a transcript has no reasons
+abbrev pub clash_of : List Row → Option Clash
+clash_of rows = if is_set (codes "no-check") rows && not (is_set (codes "free") rows) then Some clash.NoCheck
+    else if is_set (codes "free") rows && (is_set (codes "why") rows || is_set (codes "transcript") rows) then Some clash.Free
+    else if is_set (codes "why") rows && is_set (codes "transcript") rows then Some clash.Why
+    else None
+
+abbrev pub clash_in : Option (Text × List Row) → Option Clash
+clash_in None = None
+clash_in (Some command) = clash_of command.1
+
+-- its error, in the parser's kinds
+abbrev pub kind_of_clash : Clash → ErrorKind
+kind_of_clash clash.NoCheck = MissingRequiredArgument
+kind_of_clash clash.Free = ArgumentConflict
+kind_of_clash clash.Why = ArgumentConflict
+
+abbrev pub kinds_of_clash : Option Clash → Kinds
+kinds_of_clash None = []
+kinds_of_clash (Some c) = kind_of_clash c ∷ []
 
 -- what is wrong with a command whose arguments are right one by one
 abbrev pub faults_between : Option (Text × List Row) → Kinds
-faults_between command = if lacks_free command then MissingRequiredArgument ∷ [] else []
+faults_between command = kinds_of_clash (clash_in command)
 
 -- What may be wrong with some words, in the parser's kinds of errors; nothing where they are a command line. No word at all is one: `run -`.
 abbrev pub faults : List Text → Kinds

@@ -25,10 +25,12 @@ module _ {A : Type 0} where
   IsDumped h s (Err (Dump Memory)) = Unit {0}
   IsDumped h s (Err (Dump Device)) = ((written : List ℕ) × (failures : ℕ) × IsNone h s [] 0 (Dump Device) written failures) ⊎ ((written : List ℕ) × IsWhole h s [] written)
 
-  -- The result of a dump to the file of a path. If the dump is done, the whole of it was written there.
+  -- The result of a dump to the file of a path. If the dump is done, the whole of it was written there. If its file failed, that is the path's.
   abbrev pub IsDumpedAt : Writing → Recorded A → ℕ → List ℕ → Result (Unit {0}) BackupFault → Type 0
-  IsDumpedAt writes h s path (Ok done) = (written : List ℕ) × IsWhole h s [] written × writes path written
-  IsDumpedAt writes h s path (Err e) = IsDumped h s (Err e)
+  IsDumpedAt writes h s path (Ok done) = (written : List ℕ) × IsWhole h s [] written × writes.writes path written
+  IsDumpedAt writes h s path (Err (View e)) = IsDumped h s (Err (View e))
+  IsDumpedAt writes h s path (Err (Dump Memory)) = Unit {0}
+  IsDumpedAt writes h s path (Err (Dump Device)) = IsDumped h s (Err (Dump Device)) × writes.fails path
 
   -- The text is what is printed of a dump to the file of a path that session s asked for after the history h.
   abbrev pub TellsDumpAt : Writing → Recorded A → ℕ → List ℕ → List ℕ → Type 0

@@ -22,4 +22,4 @@ module _ {A : Type 0} where
 abbrev pub IsRestored : (A : Type 0) → Writing → (List ℕ → Option (List ℕ)) → Option (List ℕ) → List ℕ → List ℕ → Printed → Printed → Type 0
 IsRestored A writes held input path out p q = (bytes : List ℕ) × (c : Catalog) × (X : Tables A)
     × IsAllOf (read_of held input path) bytes × (read_dump bytes ≡ Ok (c, X))
-    × writes out (dump_text c X) × Adds p q (restored_text c X) × IsFlushed q
+    × writes.writes out (dump_text c X) × Adds p q (restored_text c X) × IsFlushed q

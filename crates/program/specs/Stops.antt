@@ -26,7 +26,7 @@ IsNoScript A way known path f = IsFileFault path f ⊎ (f ≡ fault.ScriptOutOfM
 -- No script was read of a path, and nothing was printed; or the script that it says has stopped.
 abbrev pub PathHasStopped : (A : Type 0) → Writing → (List ℕ → Option (List ℕ)) → Option (List ℕ) → Way → List ℕ → Fault → Printed → Printed → Type 0
 PathHasStopped A writes held input way path f p q = (IsNoScript A InOrder (read_of held input path) path f × (q ≡ p))
-    ⊎ ((bytes : List ℕ) × (s : Said A) × IsAllOf (read_of held input path) bytes × (said InOrder bytes ≡ Ok s) × ScriptHasStopped writes held way s f p q)
+    ⊎ ((bytes : List ℕ) × (s : Said A) × IsAllOf (read_of held input path) bytes × (said InOrder bytes ≡ Ok s) × ScriptHasStopped writes held way bytes s f p q)
 
 -- standard output has failed
 abbrev pub IsUnprinted : Fault → Printed → Type 0

@@ -3,7 +3,7 @@
 ghost use Rattle.std.specs.Prelude.{◌≡◌, ◌≢◌};
 ghost use Rattle.program.specs.Ends as spec;
 
-use crate::fault::{Fault, Status, end, tell};
+use crate::fault::{Fault, Status, tell};
 use history::event::Record;
 use history::key::SerialKey;
 use script::schedule::Schedule;
@@ -13,7 +13,7 @@ use std::io::Write;
 use value::refusal::TxnNo;
 
 /// Reports the first faulty line of a script, and why it is refused.
-pub(crate) fn tell_line<A: Allocator + Copy, E: Write>(
+pub fn tell_line<A: Allocator + Copy, E: Write>(
     alloc: A,
     schedule: Schedule,
     text: &[u8],
@@ -41,22 +41,44 @@ pub fn holds_events<A: Allocator + Copy>(alloc: A, most_events: u32) -> bool {
     records.is_ok() && keys.is_ok()
 }
 
-/// How a script that was read has ended, with a report of its fault where there is one. Where memory has no room for
-/// the most events that the history may have, an out-of-memory report says so.
-pub(crate) fn end_script<A: Allocator + Copy, E: Write>(
-    alloc: A,
-    most_events: u32,
+/// For how many events a history is to have room, and in what memory.
+#[derive(Clone, Copy)]
+pub struct Room<A: Allocator> {
+    pub alloc: A,
+    pub most_events: u32,
+}
+
+/// Reports a fault of a script that was read, and returns how its command ends. Where memory has no room for the most
+/// events that the history may have, an out-of-memory report says so.
+pub fn tell_in<A: Allocator + Copy, E: Write>(
+    room: Room<A>,
+    fault: &Fault<'_>,
+    err: &mut E,
+) -> Status
+    ensures kind { result ≡ spec.status fault.now }
+    ensures no_usage { result ≢ Status.Usage }
+{
+    let is_memory = matches!(fault, Fault::ScriptOutOfMemory);
+    if !is_memory || holds_events(room.alloc, room.most_events) {
+        return tell(fault, err);
+    }
+    let most_events = room.most_events;
+    let _ = writeln!(err, "{}", Fault::ScriptOutOfMemory);
+    let _ = writeln!(err, "no room for {most_events} events (--events)");
+    Status::Refused
+}
+
+/// How a script that was read has ended, with a report of its fault where there is one.
+pub fn end_script<A: Allocator + Copy, E: Write>(
+    room: Room<A>,
     done: Result<(), Fault<'_>>,
     err: &mut E,
 ) -> Status
     ensures kind { result ≡ spec.end done.entry }
     ensures no_usage { result ≢ Status.Usage }
 {
-    let is_memory = matches!(done, Err(Fault::ScriptOutOfMemory));
-    if !is_memory || holds_events(alloc, most_events) {
-        return end(done, err);
+    match done {
+        Ok(()) => Status::Done,
+        Err(fault) => tell_in(room, &fault, err),
     }
-    let _ = writeln!(err, "{}", Fault::ScriptOutOfMemory);
-    let _ = writeln!(err, "no room for {most_events} events (--events)");
-    Status::Refused
 }

@@ -11,7 +11,7 @@ use thiserror::Error;
 use value::refusal::Code;
 
 /// Why the program ends before its time, as standard error reports it.
-#[derive(Debug, Drop, Error)]
+#[derive(Clone, Copy, Debug, PartialEq, Eq, Error)]
 pub enum Fault<'p> {
     /// A line of the script.
     #[error("script line {line}")]
@@ -101,7 +101,7 @@ impl<'p> Fault<'p> {
 
 /// Reports a fault in a line, and in another that it is out of memory or what is wrong in a dump; and returns how the
 /// program ends for it.
-pub(crate) fn tell<E: Write>(fault: &Fault<'_>, err: &mut E) -> Status
+pub fn tell<E: Write>(fault: &Fault<'_>, err: &mut E) -> Status
     ensures kind { result ≡ spec.status fault.now }
     ensures no_usage { result ≢ Status.Usage }
 {

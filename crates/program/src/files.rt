@@ -1,6 +1,6 @@
 //! The files that the program reads and writes.
 
-ghost use Rattle.std.specs.Prelude.{◌≡◌, [], IfOk, OnOk};
+ghost use Rattle.std.specs.Prelude.{◌≡◌, ◌+◌, [], IfOk, OnOk, OnErr};
 ghost use Rattle.program.specs.Files.{IsAllOf};
 
 use crate::progress::{Progress, Stage};
@@ -30,7 +30,8 @@ pub trait Placed: Device {
     /// has failed before has not taken all that it was given, and isn't kept.
     fn keep(&mut self) -> Result<(), DeviceError>
         requires sound { Self.failures self.old ≡ 0 }
-        ensures kept { OnOk result (kept self.new ≡ Self.taken self.old) };
+        ensures kept { OnOk result (kept self.new ≡ Self.taken self.old) }
+        ensures failed { OnErr result (Self.failures self.new ≡ Self.failures self.old + 1) };
 }
 
 /// A file that is written. Dropped before it is kept, it leaves its path as it was.

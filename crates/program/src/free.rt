@@ -3,7 +3,7 @@
 ghost use Rattle.std.specs.Prelude.{◌≡◌, ◌≢◌, [], IfErr, OnErr, OnOk};
 ghost use Rattle.std.specs.Option.{option_copied};
 ghost use Rattle.program.specs.Ends.{EndsFor};
-ghost use Rattle.program.specs.Files.{IsWritten};
+ghost use Rattle.program.specs.Files.{writing_of};
 ghost use Rattle.program.specs.Freely.{PathHasRunFreely, ScriptHasRunFreely};
 ghost use Rattle.program.specs.Printed.{Prints};
 ghost use Rattle.program.specs.Stops.{PathEndsFreely, ScriptEndsFreely};
@@ -13,7 +13,7 @@ mod seat;
 mod serving;
 mod sinks;
 
-use crate::explaining::{end_script, tell_line};
+use crate::explaining::{Room, end_script, tell_line};
 use crate::fault::{Fault, Status, tell};
 use crate::files::Files;
 use crate::machine::Machine;
@@ -53,7 +53,7 @@ where
         way: FreeWay,
         printer: &mut Printer<'_, W, A>,
     ) -> Result<(), Fault<'p>>
-        ensures done { OnOk result (ScriptHasRunFreely (IsWritten F.Out.path F.Out.kept) (F.held self.now.files.now) way
+        ensures done { OnOk result (ScriptHasRunFreely (writing_of F.Out.path F.Out.kept F.Out.failures) (F.held self.now.files.now) way
             (record { catalog = catalog; opens = option_copied opens.entry; lines = lines.entry.now }) printer.old
             printer.new) }
         ensures stopped { OnErr result (Prints printer.old printer.new []) }
@@ -83,14 +83,18 @@ where
     ) -> Status
         ensures usage { result ≢ Status.Usage }
         ensures done { result ≡ Status.Done →
-            ScriptHasRunFreely (IsWritten F.Out.path F.Out.kept) (F.held self.now.files.now) way script printer.old
+            ScriptHasRunFreely (writing_of F.Out.path F.Out.kept F.Out.failures) (F.held self.now.files.now) way script printer.old
             printer.new }
         ensures stopped { result ≢ Status.Done → EndsFor result (λ f.
             ScriptEndsFreely (F.held self.now.files.now) way script f printer.new × Prints printer.old printer.new []) }
     {
         let (catalog, opens, lines) = script.into_parts();
         let done = self.do_sessions(catalog, opens.as_ref(), lines.as_slice(), way, printer);
-        end_script(self.alloc, way.most_events, done, err)
+        let room = Room {
+            alloc: self.alloc,
+            most_events: way.most_events,
+        };
+        end_script(room, done, err)
     }
 
     /// Does the script of a path, or of standard input, with each session on a thread of its own. Prints the replies,
@@ -103,7 +107,7 @@ where
         err: &mut E,
     ) -> Status
         ensures usage { result ≢ Status.Usage }
-        ensures done { result ≡ Status.Done → PathHasRunFreely Global (IsWritten F.Out.path F.Out.kept)
+        ensures done { result ≡ Status.Done → PathHasRunFreely Global (writing_of F.Out.path F.Out.kept F.Out.failures)
             (F.held self.now.files.now) (F.input self.now.files.now) way path.now printer.old printer.new }
         ensures stopped { result ≢ Status.Done → EndsFor result (λ f. PathEndsFreely Global (F.held self.now.files.now)
             (F.input self.now.files.now) way path.now f printer.new × Prints printer.old printer.new []) }

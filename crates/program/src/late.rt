@@ -78,7 +78,10 @@ impl<O: Opener> Placed for LateFile<O> {
         self.open();
         match &mut self.file {
             Some(file) => file.keep(),
-            None => Err(DeviceError),
+            None => {
+                self.failed = self.failed.and(&(), &());
+                Err(DeviceError)
+            }
         }
     }
 }

@@ -3,24 +3,26 @@
 #![tactic(auto)]
 
 pub mod arguments;
-mod dumping;
+mod course;
+pub mod dumping;
 pub mod explaining;
-mod fault;
+pub mod fault;
 pub mod faulty;
 pub mod files;
 mod free;
 pub mod host;
-mod keeping;
+pub mod keeping;
 pub mod late;
 pub mod machine;
+mod manner;
 pub mod naming;
+pub mod opening;
 mod output;
 pub mod progress;
 pub mod reasons;
 pub mod replacing;
 mod restoring;
 mod run;
-mod sessions;
 pub mod shown;
 mod steps;
 mod task;

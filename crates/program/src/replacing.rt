@@ -244,6 +244,7 @@ impl<'r, R: Files> NewFile<'r, R> {
     // Makes the new file durable, and gives it its target's name.
     fn settle(&mut self) -> io::Result<()>
         ensures taken { self.new.taken ≡ self.old.taken }
+        ensures failed { self.new.failed ≡ self.old.failed }
     {
         if let Some(part) = &self.part {
             self.file.sync_all()?;
@@ -284,6 +285,7 @@ impl<'r, R: Files> Placed for NewFile<'r, R> {
             }
             Err(error) => {
                 self.tell(&error);
+                self.fail();
                 Err(DeviceError)
             }
         }

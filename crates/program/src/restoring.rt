@@ -3,7 +3,7 @@
 ghost use Rattle.std.specs.Prelude.{◌≡◌, ◌⊎◌, ◌++◌, [], Err, IfErr, IfOk, OnErr, OnOk, length, true};
 ghost use Rattle.std.specs.Fmt.{decimal};
 ghost use Rattle.dumpplan.specs.Lines.{dump_text};
-ghost use Rattle.program.specs.Files.{IsFileFault, IsWritten, read_of};
+ghost use Rattle.program.specs.Files.{IsFileFault, IsWritten, read_of, writing_of};
 ghost use Rattle.program.specs.Printed.{Adds, IsFlushed, Prints};
 ghost use Rattle.program.specs.Restored.{IsRestored, restored_text, rows_in};
 ghost use Rattle.schema.specs.Plain.{is_sound};
@@ -21,7 +21,7 @@ use crate::progress::Stage;
 use dumpplan::{Gate, Jobs, PieceRows};
 use dumpworker::{DumpFault, dump};
 use itoa::Buffer;
-use restore::restore;
+use restore::{restore, restore_one};
 use schema::catalog::{Catalog, TableNo};
 use schema::tables::Tables;
 use std::alloc::Allocator;
@@ -105,6 +105,20 @@ where
     ensures sound { IfOk result (λ x. is_sound x.0 x.1 ≡ true) }
 {
     match restore(rt, alloc, dump, jobs, gate) {
+        Ok(found) => Ok(found),
+        Err(fault) => Err(Fault::of_dump(fault)),
+    }
+}
+
+/// The catalog and the tables that a dump reads as, or the dump's first faulty line, read by the calling thread alone.
+pub(crate) fn read_dump_alone<'p, A: Allocator + Copy>(
+    alloc: A,
+    dump: &[u8],
+) -> Result<(Catalog<A>, Tables<A>), Fault<'p>>
+    ensures read { (result ≡ loaded (read_dump dump.now)) ⊎ (result ≡ loaded (Err no_memory)) }
+    ensures sound { IfOk result (λ x. is_sound x.0 x.1 ≡ true) }
+{
+    match restore_one(alloc, dump) {
         Ok(found) => Ok(found),
         Err(fault) => Err(Fault::of_dump(fault)),
     }
@@ -198,7 +212,7 @@ where
         out: &'p str,
         printer: &mut Printer<'_, W, A>,
     ) -> Result<(), Fault<'p>>
-        ensures done { OnOk result (IsRestored A (IsWritten F.Out.path F.Out.kept)
+        ensures done { OnOk result (IsRestored A (writing_of F.Out.path F.Out.kept F.Out.failures)
             (F.held self.now.files.now) (F.input self.now.files.now) path.entry.now out.entry.now printer.old
             printer.new) }
         ensures stopped { OnErr result (Prints printer.old printer.new []) }

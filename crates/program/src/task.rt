@@ -7,7 +7,8 @@ ghost use Rattle.program.specs.CommandLine as spec;
 
 use crate::arguments::{MOST_EVENTS, events, most_events_of, path_of, script};
 use crate::free::FreeWay;
-use crate::run::{Shown, Way};
+use crate::manner::Manner;
+use crate::run::Way;
 use crate::workers::{one_job, so_many};
 use clap::builder::ValueParser;
 use clap::error::ErrorKind;
@@ -22,9 +23,7 @@ const OTHER_COMMANDS: &str = "Commands with a help of their own (pgserial COMMAN
   shell    Answer lines at once: of a person at a terminal, or of a program through pipes
   explore  Do a script in every interleaving of its sessions, and count what comes of it
   check    Tell whether some serial order explains a recorded transcript
-  draw     Draw a script's run as a picture
-  run SCRIPT --why         Tell behind each serialization failure which rows met
-  run SCRIPT --transcript  Print each line and its reply as a transcript, which check reads";
+  draw     Draw a script's run as a picture";
 
 /// What the command line asks for.
 #[derive(Drop)]
@@ -47,6 +46,17 @@ pub(crate) enum Task<'w> {
     },
 }
 
+/// Flags of `run` that may not stand together.
+#[derive(Clone, Copy, Debug, PartialEq, Eq)]
+pub(crate) enum Clash {
+    /// `--no-check`, and no `--free`.
+    NoCheck,
+    /// `--free`, and `--why` or `--transcript`.
+    Free,
+    /// `--why` and `--transcript`.
+    Why,
+}
+
 // The flag by which sessions run freely.
 fn free<'w>(alloc: Global) -> Arg<'w>
     ensures rule { rule_of result ≡ spec.free }
@@ -67,6 +77,28 @@ fn no_check<'w>(alloc: Global) -> Arg<'w>
         .long("no-check")
         .action(ArgAction::SetTrue)
         .help("With --free: leave out the check at the end, which does each transaction once more")
+}
+
+// The flag by which refusals are explained.
+fn why<'w>(alloc: Global) -> Arg<'w>
+    ensures rule { rule_of result ≡ spec.why }
+    ensures local { result.global ≡ false }
+{
+    Arg::new(alloc, "why")
+        .long("why")
+        .action(ArgAction::SetTrue)
+        .help("Tell after each serialization failure which rows met; not with --free")
+}
+
+// The flag by which a transcript is printed.
+fn transcript<'w>(alloc: Global) -> Arg<'w>
+    ensures rule { rule_of result ≡ spec.transcript }
+    ensures local { result.global ≡ false }
+{
+    Arg::new(alloc, "transcript")
+        .long("transcript")
+        .action(ArgAction::SetTrue)
+        .help("Print each line and its reply as check reads them; not with --free or --why")
 }
 
 // The file of a dump.
@@ -116,7 +148,9 @@ fn run<'w>(alloc: Global) -> Result<Command<'w>, AllocError>
         .arg(script(alloc))?
         .arg(events(alloc))?
         .arg(free(alloc))?
-        .arg(no_check(alloc))?;
+        .arg(no_check(alloc))?
+        .arg(why(alloc))?
+        .arg(transcript(alloc))?;
     Ok(run_command)
 }
 
@@ -213,20 +247,26 @@ fn free_way(run: &ArgMatches<'_>) -> FreeWay
     }
 }
 
-// The lines of a command's script, one after the other, of which this is shown.
-fn in_order<'w>(command: &ArgMatches<'w>, shown: Shown) -> (&'w str, Way)
-    ensures { asked.IsInOrder (rows_of (found_of command.now)) shown result.0.now result.1 }
+// The lines of a command's script, one after the other, of which this is printed.
+fn in_order<'w>(command: &ArgMatches<'w>, manner: Manner) -> (&'w str, Way)
+    ensures { asked.IsInOrder (rows_of (found_of command.now)) manner result.0.now result.1 }
 {
     let script = path_of(command, "SCRIPT");
     let most_events = most_events_of(command);
-    (script, Way { shown, most_events })
+    (
+        script,
+        Way {
+            manner,
+            most_events,
+        },
+    )
 }
 
 // A script that is audited.
 fn audit_of<'w>(audit: &ArgMatches<'w>) -> Task<'w>
     ensures { asked.AsksToAudit (rows_of (found_of audit.now)) result }
 {
-    let (script, way) = in_order(audit, Shown::Order);
+    let (script, way) = in_order(audit, Manner::Order);
     Task::Run { script, way }
 }
 
@@ -241,6 +281,19 @@ fn restore_of<'w>(restore: &ArgMatches<'w>) -> Task<'w>
     }
 }
 
+// What is printed of a script that is run, its lines one after the other.
+fn manner_of(run: &ArgMatches<'_>) -> Manner
+    ensures { result ≡ asked.manner_of (rows_of (found_of run.now)) }
+{
+    if is_set(run, "why") {
+        Manner::Why
+    } else if is_set(run, "transcript") {
+        Manner::Transcript
+    } else {
+        Manner::Replies
+    }
+}
+
 // A script that is run: freely, or its lines one after the other.
 fn run_of<'w>(run: &ArgMatches<'w>) -> Task<'w>
     ensures { asked.AsksToRun (rows_of (found_of run.now)) result }
@@ -251,7 +304,7 @@ fn run_of<'w>(run: &ArgMatches<'w>) -> Task<'w>
             way: free_way(run),
         };
     }
-    let (script, way) = in_order(run, Shown::Replies);
+    let (script, way) = in_order(run, manner_of(run));
     Task::Run { script, way }
 }
 
@@ -262,7 +315,7 @@ fn from_input<'w>() -> Task<'w>
     Task::Run {
         script: "-",
         way: Way {
-            shown: Shown::Replies,
+            manner: Manner::Replies,
             most_events: MOST_EVENTS,
         },
     }
@@ -280,29 +333,52 @@ fn task_of<'w>(matches: &ArgMatches<'w>) -> Task<'w>
     }
 }
 
-// Whether a command leaves out the check of sessions that run freely, and doesn't run them so.
-fn lacks_free(matches: &ArgMatches<'_>) -> bool
-    ensures { result ≡ spec.lacks_free (subcommand_rows_of matches.now) }
+// What is wrong between the flags of a command.
+fn clash_of(command: &ArgMatches<'_>) -> Option<Clash>
+    ensures { result ≡ spec.clash_of (rows_of (found_of command.now)) }
 {
-    match matches.subcommand() {
-        Some((_, command)) => is_set(command, "no-check") && !is_set(command, "free"),
-        None => false,
+    let (is_free, is_why) = (is_set(command, "free"), is_set(command, "why"));
+    let is_transcript = is_set(command, "transcript");
+    if is_set(command, "no-check") && !is_free {
+        Some(Clash::NoCheck)
+    } else if is_free && (is_why || is_transcript) {
+        Some(Clash::Free)
+    } else if is_why && is_transcript {
+        Some(Clash::Why)
+    } else {
+        None
     }
 }
 
-// The error for words that leave out that check, and don't run sessions freely.
-fn free_is_lacking(alloc: Global) -> Result<Error, AllocError>
-    ensures { IfOk result (λ e. kind_of e ≡ ErrorKind.MissingRequiredArgument) }
+// What is wrong between the flags of the command that is among the words.
+fn clash_in(matches: &ArgMatches<'_>) -> Option<Clash>
+    ensures { result ≡ spec.clash_in (subcommand_rows_of matches.now) }
 {
-    let mut run = Command::new(alloc, "run")
-        .bin_name("pgserial run")?
-        .arg(script(alloc))?
-        .arg(free(alloc))?
-        .arg(no_check(alloc))?;
-    run.error(
-        ErrorKind::MissingRequiredArgument,
-        "--no-check stands beside --free alone",
-    )
+    match matches.subcommand() {
+        Some((_, command)) => clash_of(command),
+        None => None,
+    }
+}
+
+// The error for flags that may not stand together.
+fn error_of(alloc: Global, clash: Clash) -> Result<Error, AllocError>
+    ensures { IfOk result (λ e. kind_of e ≡ spec.kind_of_clash clash) }
+{
+    let mut run = run(alloc)?.bin_name("pgserial run")?;
+    match clash {
+        Clash::NoCheck => run.error(
+            ErrorKind::MissingRequiredArgument,
+            "--no-check stands beside --free alone",
+        ),
+        Clash::Free => run.error(
+            ErrorKind::ArgumentConflict,
+            "--free stands beside neither --why nor --transcript",
+        ),
+        Clash::Why => run.error(
+            ErrorKind::ArgumentConflict,
+            "--why doesn't stand beside --transcript",
+        ),
+    }
 }
 
 /// What the words after the program's name ask for. No word at all asks for the script on standard input. The error is
@@ -315,8 +391,8 @@ pub(crate) fn read_words<'w>(alloc: Global, words: &'w [&'w str]) -> Result<Task
         return Ok(from_input());
     }
     let matches = matches_of(alloc, words)?;
-    if lacks_free(&matches) {
-        return Err(free_is_lacking(alloc)?);
+    if let Some(clash) = clash_in(&matches) {
+        return Err(error_of(alloc, clash)?);
     }
     Ok(task_of(&matches))
 }

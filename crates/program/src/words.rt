@@ -3,7 +3,7 @@
 ghost use Rattle.std.specs.Prelude.{◌≡◌, ◌≢◌, ◌⊎◌, ◌≤◌, map};
 ghost use Rattle.clap.specs.Words.{kind_of};
 ghost use Rattle.program.specs.CommandLine.{AreMistaken, IsMistake, MayBeMistaken, faults};
-ghost use Rattle.program.specs.Files.{IsWritten};
+ghost use Rattle.program.specs.Files.{writing_of};
 ghost use Rattle.program.specs.Ends.{EndsFor};
 ghost use Rattle.program.specs.Outcomes.{EndsAs, HasDone, HasEnded, IsDoneOn, IsStoppedOn};
 
@@ -35,10 +35,10 @@ where
     T: Threads + Wait + Sync,
     ensures usage { result ≢ Status.Usage }
     ensures done { result ≡ Status.Done →
-        IsDoneOn A Global (IsWritten F.Out.path F.Out.kept) (F.held machine.now.files.now)
+        IsDoneOn A Global (writing_of F.Out.path F.Out.kept F.Out.failures) (F.held machine.now.files.now)
         (F.input machine.now.files.now) task.entry (W.contents out.old) (W.contents out.new) }
     ensures stopped { result ≢ Status.Done → EndsFor result (λ f.
-        IsStoppedOn A Global (IsWritten F.Out.path F.Out.kept) (F.held machine.now.files.now)
+        IsStoppedOn A Global (writing_of F.Out.path F.Out.kept F.Out.failures) (F.held machine.now.files.now)
         (F.input machine.now.files.now) task.entry f (W.contents out.old) (W.contents out.new)) }
 {
     let most_held = machine.files.most_held();
@@ -70,8 +70,9 @@ fn show_help<W: Write, E: Write>(help: &Error, out: &mut W, err: &mut E) -> Stat
     }
 }
 
-// Reports a mistake in the words, or that there was no memory for them; or shows the help that they ask for.
-fn tell_words<W: Write, E: Write>(error: &Error, out: &mut W, err: &mut E) -> Status
+/// Reports a mistake in the words of a command line, or that there was no memory for them; or shows the help that they
+/// ask for. Returns how the command ends.
+pub fn tell_words<W: Write, E: Write>(error: &Error, out: &mut W, err: &mut E) -> Status
     ensures mistake { IsMistake (kind_of error.now) → result ≡ Status.Usage }
     ensures usage { result ≡ Status.Usage → IsMistake (kind_of error.now) }
     ensures memory { kind_of error.now ≡ ErrorKind.OutOfMemory → result ≡ Status.Refused }
@@ -107,10 +108,10 @@ where
     ensures mistake { AreMistaken (faults (map (λ w. w.now) words.entry.now)) → (result ≡ Status.Usage) ⊎
         (result ≡ Status.Refused) }
     ensures did { result ≡ Status.Done →
-        HasDone A Global (IsWritten F.Out.path F.Out.kept) (F.held machine.now.files.now)
+        HasDone A Global (writing_of F.Out.path F.Out.kept F.Out.failures) (F.held machine.now.files.now)
         (F.input machine.now.files.now) (map (λ w. w.now) words.entry.now) (W.contents out.old) (W.contents out.new) }
     ensures stopped { result ≢ Status.Done →
-        EndsAs A Global (IsWritten F.Out.path F.Out.kept) (F.held machine.now.files.now)
+        EndsAs A Global (writing_of F.Out.path F.Out.kept F.Out.failures) (F.held machine.now.files.now)
         (F.input machine.now.files.now) (map (λ w. w.now) words.entry.now) result (W.contents out.old)
         (W.contents out.new) }
 {
@@ -120,8 +121,8 @@ where
     }
 }
 
-// Reports why a file has failed, where that is known.
-fn tell_reason<E: Write>(status: Status, reason: Option<&str>, err: &mut E) {
+/// Reports why a file has failed, where a command ends for that and the reason is known.
+pub fn tell_reason<E: Write>(status: Status, reason: Option<&str>, err: &mut E) {
     if let (Status::Device, Some(reason)) = (status, reason) {
         let _ = writeln!(err, "{reason}");
     }
@@ -152,10 +153,10 @@ where
     ensures usage { result ≡ 2 → MayBeMistaken (faults (map (λ w. w.now) words.entry.now)) }
     ensures mistake { AreMistaken (faults (map (λ w. w.now) words.entry.now)) → (result ≡ 2) ⊎ (result ≡ 1) }
     ensures did { result ≡ 0 →
-        HasDone A Global (IsWritten F.Out.path F.Out.kept) (F.held files.now)
+        HasDone A Global (writing_of F.Out.path F.Out.kept F.Out.failures) (F.held files.now)
         (F.input files.now) (map (λ w. w.now) words.entry.now) (W.contents out.old) (W.contents out.new) }
     ensures stopped { result ≢ 0 →
-        HasEnded A Global (IsWritten F.Out.path F.Out.kept) (F.held files.now)
+        HasEnded A Global (writing_of F.Out.path F.Out.kept F.Out.failures) (F.held files.now)
         (F.input files.now) (map (λ w. w.now) words.entry.now) result (W.contents out.old)
         (W.contents out.new) }
 {

@@ -1,18 +1,18 @@
 //! What a session's line does, on its thread.
 
-ghost use Rattle.std.specs.Prelude.{◌≡◌, ◌⊎◌, ◌++◌, [], Err, IfErr, IfOk, OnOk};
+ghost use Rattle.std.specs.Prelude.{◌≡◌, ◌≢◌, ◌⊎◌, ◌++◌, [], Err, IfErr, IfOk, OnOk};
 ghost use Rattle.backup.specs.Backed.{seen_by};
 ghost use Rattle.backup.specs.Backed.{IsWhole};
 ghost use Rattle.program.specs.Dumps.{IsDumped, IsDumpedAt};
-ghost use Rattle.program.specs.Files.{IsFileFault, IsWritten};
+ghost use Rattle.program.specs.Files.{IsFileFault, writing_of};
 ghost use Rattle.program.specs.Freely.{AreTold, IsAtLine, IsCallTold, IsDumpTold, IsTold, IsWaitTold, SessionsEnd};
 ghost use Rattle.program.specs.Runs.{EndsBy, Stops};
+ghost use Rattle.script.specs.Printing.{reply_text};
 
 use crate::dumping::dump_text;
 use crate::fault::Fault;
 use crate::free::sinks::Sinks;
 use crate::keeping::keep_dumped;
-use crate::sessions::printed_reply;
 use backup::{BackupFault, dump_safe};
 use dumpplan::NoGate;
 use dumpworker::DumpFault;
@@ -21,11 +21,28 @@ use pass::token::Pass;
 use pass::word::Naming;
 use request::request::Request;
 use script::command::{Command, DumpRequest};
+use script::printing::reply_text;
 use script::script::{Line, Step};
 use server::shared::Server;
+use statement::reply::Reply;
 use std::alloc::Global;
 use std::sync::Wait;
 use std::thread::Threads;
+
+// What is printed of a session's reply.
+fn printed_reply(
+    alloc: Global,
+    session: SessionId,
+    reply: &Reply,
+) -> Result<Vec<u8>, Fault<'static>>
+    ensures text { IfOk result (λ text. text.items ≡ reply_text session reply.now) }
+    ensures fault { IfErr result (λ f. f ≡ Fault.ScriptOutOfMemory) }
+{
+    match reply_text(alloc, session, reply) {
+        Ok(text) => Ok(text),
+        Err(_) => Err(Fault::ScriptOutOfMemory),
+    }
+}
 
 /// Appends a text.
 pub(crate) fn append(more: &[u8], text: &mut Vec<u8>) -> Result<(), Fault<'static>>
@@ -93,6 +110,7 @@ where
         ensures whole { OnOk result (IsWhole (seen_by J.opening J.most pass.new) pass.new.session []
             (S.Out.taken file.new)) }
         ensures sound { OnOk result (S.Out.failures file.new ≡ 0) }
+        ensures failed { result ≡ Err (BackupFault.Dump DumpFault.Device) → S.Out.failures file.new ≢ 0 }
         ensures session { pass.new.session ≡ pass.old.session }
         ensures mine { pass.new.mine ≡ pass.old.mine }
     {
@@ -111,7 +129,7 @@ where
 
     // Dumps the safe snapshot of a pass's session to a path's file, which is kept where it is whole.
     fn dump_to_file(&self, pass: &mut Pass<'w, J>, request: &DumpRequest) -> Result<(), BackupFault>
-        ensures dumped { IsDumpedAt (IsWritten S.Out.path S.Out.kept) (seen_by J.opening J.most pass.new)
+        ensures dumped { IsDumpedAt (writing_of S.Out.path S.Out.kept S.Out.failures) (seen_by J.opening J.most pass.new)
             pass.new.session request.now.path result }
         ensures session { pass.new.session ≡ pass.old.session }
         ensures mine { pass.new.mine ≡ pass.old.mine }
@@ -129,7 +147,7 @@ where
         pass: &mut Pass<'w, J>,
         request: &'p DumpRequest,
     ) -> Result<Vec<u8>, Fault<'p>>
-        ensures told { IfOk result (λ text. IsDumpTold (IsWritten S.Out.path S.Out.kept) J.opening J.most pass.old
+        ensures told { IfOk result (λ text. IsDumpTold (writing_of S.Out.path S.Out.kept S.Out.failures) J.opening J.most pass.old
             request.entry.now.path text.items pass.new) }
         ensures fault { IfErr result (λ f. (f ≡ Fault.ScriptOutOfMemory) ⊎ (IsFileFault request.entry.now.path f ×
             IsDumped (seen_by J.opening J.most pass.new) pass.old.session
@@ -146,7 +164,7 @@ where
         pass: &mut Pass<'w, J>,
         command: &'p Command,
     ) -> Result<Vec<u8>, Fault<'p>>
-        ensures told { IfOk result (λ text. IsTold (IsWritten S.Out.path S.Out.kept) J.opening J.most pass.old
+        ensures told { IfOk result (λ text. IsTold (writing_of S.Out.path S.Out.kept S.Out.failures) J.opening J.most pass.old
             command.entry.now text.items pass.new) }
         ensures fault { IfErr result (λ f. EndsBy (seen_by J.opening J.most pass.new) pass.old.session
             command.entry.now f) }
@@ -165,7 +183,7 @@ where
         session: SessionId,
         command: &'p Command,
     ) -> Result<Vec<u8>, Fault<'p>>
-        ensures told { IfOk result (λ text. IsAtLine (IsWritten S.Out.path S.Out.kept) J.opening J.most
+        ensures told { IfOk result (λ text. IsAtLine (writing_of S.Out.path S.Out.kept S.Out.failures) J.opening J.most
             (Step.Session session command.entry.now) pass.old text.items pass.new) }
         ensures fault { IfErr result (λ f. Stops (seen_by J.opening J.most pass.new)
             (Step.Session session command.entry.now) f) }
@@ -179,7 +197,7 @@ where
 
     // Does a line, where it is of the pass's session, and returns what is printed of it.
     fn tell_line<'p>(&self, pass: &mut Pass<'w, J>, line: &'p Line) -> Result<Vec<u8>, Fault<'p>>
-        ensures told { IfOk result (λ text. IsAtLine (IsWritten S.Out.path S.Out.kept) J.opening J.most
+        ensures told { IfOk result (λ text. IsAtLine (writing_of S.Out.path S.Out.kept S.Out.failures) J.opening J.most
             line.entry.now.step pass.old text.items pass.new) }
         ensures fault { IfErr result (λ f. Stops (seen_by J.opening J.most pass.new) line.entry.now.step f) }
     {
@@ -196,7 +214,7 @@ where
         pass: &mut Pass<'w, J>,
         lines: &'p [Line],
     ) -> Result<Vec<u8>, Fault<'p>>
-        ensures told { IfOk result (λ text. AreTold (IsWritten S.Out.path S.Out.kept) J.opening J.most
+        ensures told { IfOk result (λ text. AreTold (writing_of S.Out.path S.Out.kept S.Out.failures) J.opening J.most
             lines.entry.now pass.old text.items pass.new) }
         ensures fault { IfErr result (λ f. SessionsEnd J.opening J.most lines.entry.now f) }
     {

@@ -1,7 +1,7 @@
 //! A session on its thread.
 
 ghost use Rattle.std.specs.Prelude.{◌≡◌, ◌⊎◌, ◌∷◌, ◌++◌, [], Err, OnOk, IfOk, IfErr, IsOkAnd};
-ghost use Rattle.program.specs.Files.{IsWritten};
+ghost use Rattle.program.specs.Files.{writing_of};
 ghost use Rattle.program.specs.Freely.{HasPlayed, SessionsEnd};
 
 use crate::fault::Fault;
@@ -51,7 +51,7 @@ impl<'p, 's, 'w, J: Naming<Global>, S: Sinks> Seat<'p, 's, 'w, J, S> {
     /// lines were done: it leaves no open transaction for which others would wait.
     #[tactic(auto, unfolding(crate::specs::Freely::HasPlayed))]
     pub(crate) fn play<T: Threads + Wait + Sync>(&mut self, rt: &T, alloc: Global)
-        ensures told { IfOk self.new.told (λ text. HasPlayed (IsWritten S.Out.path S.Out.kept) J.opening J.most
+        ensures told { IfOk self.new.told (λ text. HasPlayed (writing_of S.Out.path S.Out.kept S.Out.failures) J.opening J.most
             self.old.lines.now self.old.pass text.items self.new.pass) }
         ensures fault { IfErr self.new.told (λ f. SessionsEnd J.opening J.most self.old.lines.now f) }
     {

@@ -6,7 +6,7 @@ ghost use Rattle.std.specs.Fork.{AcceptsEach, ChangesEach};
 ghost use Rattle.schema.specs.Plain.{is_sound};
 ghost use Rattle.history.specs.Opening.{zero_base};
 ghost use Rattle.server.specs.Calls.{AreFresh};
-ghost use Rattle.program.specs.Files.{IsWritten};
+ghost use Rattle.program.specs.Files.{writing_of};
 ghost use Rattle.program.specs.Freely.{AreJoined, ArePrinted, AreServed, HasPlayed, IsAmong, IsFaultOf, SessionsEnd, check_text};
 
 use crate::fault::Fault;
@@ -137,7 +137,7 @@ where
     ensures count { length result.items ≡ length seats.entry.items }
     ensures each { (i : ℕ) (d : _) → i < length seats.entry.items →
         IfOk (slice_index_or result.items i d).told
-        (λ v. HasPlayed (IsWritten S.Out.path S.Out.kept) J.opening J.most
+        (λ v. HasPlayed (writing_of S.Out.path S.Out.kept S.Out.failures) J.opening J.most
         (slice_index_or seats.entry.items i d).lines.now
         (slice_index_or seats.entry.items i d).pass v.items (slice_index_or result.items i d).pass) }
     ensures faults { (i : ℕ) (d : _) → i < length seats.entry.items →
@@ -167,7 +167,7 @@ where
     S: Sinks,
     T: Threads + Wait + Sync,
     requires { AreFresh passes.items }
-    ensures text { IfOk result (λ r. ArePrinted (IsWritten S.Out.path S.Out.kept) J.opening J.most
+    ensures text { IfOk result (λ r. ArePrinted (writing_of S.Out.path S.Out.kept S.Out.failures) J.opening J.most
         lines.entry.now 1 r.0.items r.1.items) }
     ensures count { IfOk result (λ r. length r.0.items ≡ length passes.entry.items) }
     ensures fault { IfErr result (λ f. SessionsEnd J.opening J.most lines.entry.now f) }
@@ -215,7 +215,7 @@ where
     requires first { first ≡ J.table }
     requires opening { J.opening ≡ record { catalog = beginning.catalog; tables = beginning.tables; base = zero_base } }
     requires most { J.most ≡ beginning.most_events }
-    ensures served { IfOk result (λ text. AreServed (IsWritten S.Out.path S.Out.kept) J.opening J.most
+    ensures served { IfOk result (λ text. AreServed (writing_of S.Out.path S.Out.kept S.Out.failures) J.opening J.most
         beginning.entry.is_checked beginning.entry.lines.now text.items) }
     ensures fault { IfErr result (λ f. SessionsEnd J.opening J.most beginning.entry.lines.now f) }
 {
@@ -251,7 +251,7 @@ pub(crate) fn serve<'p, S, T>(
 where
     S: Sinks,
     T: Threads + Wait + Sync,
-    ensures served { IfOk result (λ text. AreServed (IsWritten S.Out.path S.Out.kept)
+    ensures served { IfOk result (λ text. AreServed (writing_of S.Out.path S.Out.kept S.Out.failures)
         (record { catalog = beginning.entry.catalog; tables = beginning.entry.tables; base = zero_base })
         beginning.entry.most_events beginning.entry.is_checked beginning.entry.lines.now text.items) }
     ensures fault { IfErr result (λ f. SessionsEnd

@@ -1,6 +1,6 @@
 use Rattle.std.proofs.Common.{inl, inr}
 use Rattle.clap.specs.Words.{kind_of}
-use Rattle.program.specs.Files.{IsWritten}
+use Rattle.program.specs.Files.{writing_of}
 use Rattle.program.specs.Outcomes.Ending.{Fails}
 use Rattle.program.proofs.EndLemmas.{among, are_help, without_task}
 use Rattle.program.proofs.words.done.Goals as goal
@@ -29,7 +29,7 @@ pub returns-in-Ok-clause-did : goal.returns-in-Ok-clause-did
 returns-in-Ok-clause-did g c told = inr (c.in-Ok.task, c.in-Ok.ensures.asked, c.do_task.ensures.done told)
 
 pub returns-in-Err-clause-stopped : goal.returns-in-Err-clause-stopped
-returns-in-Err-clause-stopped g c other = without_task _ _ (IsWritten g.F.Out.OutFile.path g.F.Out.Placed.kept) _ _ _ c.in-Err.error c.tell_words.result _ _ c.in-Err.ensures.fails c.tell_words.ensures.usage c.tell_words.ensures.memory c.tell_words.ensures.help c.tell_words.ensures.silent other
+returns-in-Err-clause-stopped g c other = without_task _ _ (writing_of g.F.Out.OutFile.path g.F.Out.Placed.kept g.F.Out.Device.failures) _ _ _ c.in-Err.error c.tell_words.result _ _ c.in-Err.ensures.fails c.tell_words.ensures.usage c.tell_words.ensures.memory c.tell_words.ensures.help c.tell_words.ensures.silent other
 
 pub returns-in-Ok-clause-stopped : goal.returns-in-Ok-clause-stopped
 returns-in-Ok-clause-stopped g c other =

@@ -1,4 +1,4 @@
-use Rattle.program.specs.Files.{IsWritten}
+use Rattle.program.specs.Files.{writing_of}
 use Rattle.std.proofs.Common.{inl, inr}
 use Rattle.std.proofs.lemmas.Result.{IfErr-weaker, err_from_is_err_and}
 use Rattle.program.proofs.FreelyLemmas.{sessions_have_run}
@@ -6,7 +6,7 @@ use Rattle.program.proofs.StopLemmas.{printing_ends}
 use Rattle.program.proofs.free.Machine+F+T+Global.do_sessions.Goals as goal
 
 pub returns-clause-done : goal.returns-clause-done
-returns-clause-done g c = sessions_have_run c.print_whole.result (IsWritten g.F.Out.OutFile.path g.F.Out.Placed.kept) _ c.args.way _ c.in_ok-catalog.catalog c.in_ok-catalog.tables c.in_ok-text.text.items c.as_slice.result.now _ _ c.in_ok-catalog.ensures.begins c.in_ok-text.ensures.served c.as_slice.ensures.value c.print_whole.ensures.printed c.print_whole.ensures.flushed
+returns-clause-done g c = sessions_have_run c.print_whole.result (writing_of g.F.Out.OutFile.path g.F.Out.Placed.kept g.F.Out.Device.failures) _ c.args.way _ c.in_ok-catalog.catalog c.in_ok-catalog.tables c.in_ok-text.text.items c.as_slice.result.now _ _ c.in_ok-catalog.ensures.begins c.in_ok-text.ensures.served c.as_slice.ensures.value c.print_whole.ensures.printed c.print_whole.ensures.flushed
 
 pub returns-in_err-catalog-clause-fault : goal.returns-in_err-catalog-clause-fault
 returns-in_err-catalog-clause-fault g c =

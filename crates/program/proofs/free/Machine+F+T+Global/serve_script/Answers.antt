@@ -1,5 +1,5 @@
 use Rattle.std.proofs.Common.{◌∙◌}
-use Rattle.program.specs.Files.{IsWritten}
+use Rattle.program.specs.Files.{writing_of}
 use Rattle.program.proofs.EndLemmas.{of_both_errors, was_done, was_stopped}
 use Rattle.program.proofs.FreelyLemmas.{script_has_run_freely}
 use Rattle.program.proofs.StopLemmas.{script_ends_freely}
@@ -7,7 +7,7 @@ use Rattle.program.proofs.free.Machine+F+T+Global.serve_script.Goals as goal
 
 pub returns-clause-done : goal.returns-clause-done
 returns-clause-done g c told =
-    script_has_run_freely (IsWritten g.F.Out.OutFile.path g.F.Out.Placed.kept) _ c.args.way c.args.script _ _ c.as_slice.result.now c.args.printer.now c.do_sessions-done.new.printer
+    script_has_run_freely (writing_of g.F.Out.OutFile.path g.F.Out.Placed.kept g.F.Out.Device.failures) _ c.args.way c.args.script _ _ c.as_slice.result.now c.args.printer.now c.do_sessions-done.new.printer
     c.into_parts-catalog.ensures.catalog (c.as_ref.ensures.value ∙ c.into_parts-catalog.ensures.opens) (c.as_slice.ensures.value ∙ c.into_parts-catalog.ensures.lines)
     (was_done c.do_sessions-done.result c.end_script.result _ c.end_script.ensures.kind c.do_sessions-done.ensures.done told)
 

@@ -1,6 +1,6 @@
 use Rattle.std.proofs.Common.{◌≡◌, ◌∙◌, Some, length, slice_get, sym, ap, subst, arith}
 use Rattle.std.proofs.lemmas.List.{length-map}
-use Rattle.program.specs.Files.{IsWritten}
+use Rattle.program.specs.Files.{writing_of}
 use Rattle.program.specs.Freely.{ArePrinted, fresh}
 use Rattle.std.proofs.lemmas.Result.{IfErr-weaker, IfOk-weaker}
 use Rattle.program.proofs.FreelyLemmas.{all_printed, of_both, these_end}
@@ -8,7 +8,7 @@ use Rattle.program.proofs.free.serving.play_all.Goals as goal
 
 pub returns-clause-text : goal.returns-clause-text
 returns-clause-text g c =
-    let writes = IsWritten g.S.Out.OutFile.path g.S.Out.Placed.kept in
+    let writes = writing_of g.S.Out.OutFile.path g.S.Out.Placed.kept g.S.Out.Device.failures in
     let o = g.J.Naming.opening in
     let most = g.J.Naming.most in
     let lines = c.args.lines.now in

@@ -1,5 +1,5 @@
 use Rattle.std.proofs.Common.{inl, ◌≡◌, ◌∙◌, ◌++◌, ◌+◌, take, sym, ap, subst, arith}
-use Rattle.program.specs.Files.{IsWritten}
+use Rattle.program.specs.Files.{writing_of}
 use Rattle.program.specs.Freely.{AreTold}
 use Rattle.std.proofs.lemmas.Result.{err_from_is_err_and}
 use Rattle.program.proofs.FreelyLemmas.{line_ends, told_next}
@@ -7,7 +7,7 @@ use Rattle.program.proofs.free.commands.Client.tell_lines.Goals as goal
 
 pub loop-line-preserved : goal.loop-line-preserved
 loop-line-preserved g c =
-    let writes = IsWritten g.S.Out.OutFile.path g.S.Out.Placed.kept in
+    let writes = writing_of g.S.Out.OutFile.path g.S.Out.Placed.kept g.S.Out.Device.failures in
     let o = g.J.Naming.opening in
     let most = g.J.Naming.most in
     let so_far = c.loop-line.text.items in

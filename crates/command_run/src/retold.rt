@@ -1,3 +1,0 @@
-//! Sessions' lines of a script, done one after the other, each with why it was refused.
-
-pub mod course;

@@ -1,7 +1,0 @@
-use Rattle.program.proofs.machine.Machine.do_step.Goals as goal
-
-pub returns-in-Session-clause-done : goal.returns-in-Session-clause-done
-returns-in-Session-clause-done g c = rw c.in-Session.is c.pass_command.ensures.done
-
-pub returns-in-Session-clause-fault : goal.returns-in-Session-clause-fault
-returns-in-Session-clause-fault g c = rw c.in-Session.is c.pass_command.ensures.fault

@@ -1,2 +1,0 @@
-pub mod DumpLemmas
-pub mod EndLemmas

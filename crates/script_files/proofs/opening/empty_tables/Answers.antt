@@ -1,7 +1,0 @@
-use Rattle.std.proofs.Common.{◌≡◌, true, subst, sym}
-use Rattle.schema.specs.Plain.{is_sound}
-use Rattle.restore.proofs.stepwise.Reading.{empty_is_sound}
-use Rattle.script_files.proofs.opening.empty_tables.Goals as goal
-
-pub returns-in-Ok-clause-sound : goal.returns-in-Ok-clause-sound
-returns-in-Ok-clause-sound g c = subst (λ X. is_sound c.args.catalog X ≡ true) (sym (rw c.in-Ok.is at c.new.ensures.ok)) (empty_is_sound _ c.args.catalog)
