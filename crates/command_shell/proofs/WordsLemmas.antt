@@ -1,34 +1,32 @@
 -- Words that ask for no shell.
-use Rattle.std.proofs.Common.{◌≡◌, ◌⊎◌, ℕ, ◌≤◌, List, Option, Result, Ok, Err, IfErr, IfOk, arith, inl, inr, subst}
-use Rattle.clap.specs.Words.{HasKind, IsAmong, Kinds, Text, kind_of}
+use Rattle.std.proofs.Common.{◌≡◌, ◌⊎◌, ℕ, ◌≤◌, List, Option, Result, Ok, Err, IfErr, IfOk, arith, inl, inr, refl, sym}
+use Rattle.clap.specs.Words.{HasKind, Kinds, Text, kind_of}
 use Rattle.clap.specs.declared.error.Error.{Error}
 use Rattle.clap.specs.declared.error.ErrorKind.TheVariants.{DisplayHelp, DisplayVersion, OutOfMemory}
 use Rattle.program.specs.CommandLine.{IsMistake, MayBeMistaken}
-use Rattle.program.specs.Outcomes.{AreHelp}
-use Rattle.program.proofs.EndLemmas.{among}
-use Rattle.script_files.specs.Faults.{status}
-use Rattle.script_files.specs.declared.fault.Fault.{Fault}
-use Rattle.script_files.specs.declared.fault.Fault.TheVariants as fault
+use Rattle.program.proofs.EndLemmas.{among, help_of, refused_is_no_device, refused_is_not_done}
+use Rattle.program.specs.Ends.{code, status}
+use Rattle.program.specs.declared.fault.Status.{Status}
+use Rattle.program.specs.declared.fault.Status.TheVariants.{Done, Refused, Usage, Device}
+use Rattle.program.specs.declared.fault.Fault.{Fault}
+use Rattle.program.specs.declared.fault.Fault.TheVariants as fault
 use Rattle.command_shell.specs.Serves.{Over}
 use Rattle.command_shell.specs.Words.{AsksFor, Begins, EndsUnbegun, HasBegun, IsUnbegunBy, IsWithoutTask}
 
--- the words are a call for help, by an error of this kind
-help_of : (ks : Kinds) (e : Error) → HasKind ks e → (kind_of e ≡ OutOfMemory → ⊥) → (kind_of e ≡ DisplayHelp) ⊎ (kind_of e ≡ DisplayVersion) → AreHelp ks
-help_of ks e has other (inl is) = inl (subst (λ k. IsAmong k ks) is (among ks e has other))
-help_of ks e has other (inr is) = inr (subst (λ k. IsAmong k ks) is (among ks e has other))
-
 -- how the command ends where its words have a fault
-pub without : (ks : Kinds) (e : Error) (n : ℕ) → HasKind ks e → (n ≡ 2 → IsMistake (kind_of e)) → (kind_of e ≡ OutOfMemory → n ≡ 1) → ((n ≡ 0) ⊎ (n ≡ 3) → (kind_of e ≡ DisplayHelp) ⊎ (kind_of e ≡ DisplayVersion)) → (n ≡ 0) ⊎ (n ≡ 1) ⊎ (n ≡ 2) ⊎ (n ≡ 3) → IsWithoutTask ks n
-without ks e n has mistake memory help (inl zero) = inr (inr (help_of ks e has (λ m. let one : n ≡ 1 = memory m in absurd (omega (arith, one, zero))) (help (inl zero)), inl zero))
-without ks e n has mistake memory help (inr (inl one)) = inr (inl one)
-without ks e n has mistake memory help (inr (inr (inl two))) = inl ((kind_of e, among ks e has (mistake two).0, mistake two), two)
-without ks e n has mistake memory help (inr (inr (inr three))) = inr (inr (help_of ks e has (λ m. let one : n ≡ 1 = memory m in absurd (omega (arith, one, three))) (help (inr three)), inr three))
+pub without : (ks : Kinds) (e : Error) (s : Status) (n : ℕ) → n ≡ code s → HasKind ks e → (s ≡ Usage → IsMistake (kind_of e)) → (kind_of e ≡ OutOfMemory → s ≡ Refused) → ((s ≡ Done) ⊎ (s ≡ Device) → (kind_of e ≡ DisplayHelp) ⊎ (kind_of e ≡ DisplayVersion)) → IsWithoutTask ks n
+without ks e Done n is has mistake memory help = inr (inr (help_of ks e has (λ m. refused_is_not_done (sym (memory m))) (help (inl refl)), inl is))
+without ks e Refused n is has mistake memory help = inr (inl is)
+without ks e Usage n is has mistake memory help = inl ((kind_of e, among ks e has (mistake refl).0, mistake refl), is)
+without ks e Device n is has mistake memory help = inr (inr (help_of ks e has (λ m. refused_is_no_device (sym (memory m))) (help (inr refl)), inr is))
 
 -- an exit status that no mistaken words have
-of_fault : (f : Fault) (n : ℕ) → n ≡ status f → (n ≡ 1) ⊎ (n ≡ 3)
+of_fault : (f : Fault) (n : ℕ) → n ≡ code (status f) → (n ≡ 1) ⊎ (n ≡ 3)
 of_fault (fault.Script line) n is = inl is
 of_fault (fault.Dump line c) n is = inl is
 of_fault (fault.Device path) n is = inr is
+of_fault fault.ScriptOutOfMemory n is = inl is
+of_fault fault.DumpOutOfMemory n is = inl is
 
 -- a shell has begun as the words ask for it
 pub begun_of : {F A : Type 0} (held : F → List ℕ → Option (List ℕ)) (files : F) (words : List Text) (path : Option Text) (most : ℕ) (r : Result (Over F A) ℕ) → AsksFor words path most → IfOk r (λ p. p.files ≡ files) → IfOk r (λ p. Begins (held files) most path p.shell) → IfOk r (λ p. HasBegun held files words p)

@@ -2,8 +2,8 @@
 use Rattle.std.specs.Prelude.{◌≡◌, ◌⊎◌, ℕ, ◌==◌, Bool, true, false, List, [], ◌++◌, Option, Some, None, IfSome, length, codes, if◌then◌else◌}
 use Rattle.std.specs.List.{last_or}
 use Rattle.history.specs.declared.event.Record.{Record}
-use Rattle.drawing.specs.Lives.{is_serialization_failure}
-use Rattle.explain.specs.Remarks.{AreRemarks}
+use Rattle.retrace.specs.Lives.{is_serialization_failure}
+use Rattle.retrace.specs.Remarks.{AreRemarks}
 use Rattle.history.specs.Opening.{Recorded}
 use Rattle.program.specs.Files.{IsWritten, Writing}
 use Rattle.terminal.specs.Drawn.{shown}

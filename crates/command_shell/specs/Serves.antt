@@ -13,13 +13,12 @@ use Rattle.backup.specs.declared.fault.BackupFault.TheVariants.{Dump}
 use Rattle.dumpworker.specs.declared.fault.DumpFault.TheVariants.{Device}
 use Rattle.script.specs.Scripts.{is_passed_over, said}
 use Rattle.script.specs.declared.schedule.Schedule.TheVariants.{InOrder}
-use Rattle.program.specs.Beginnings.{BeginsWith}
-use Rattle.program.specs.Dumps.{IsDumped, TellsDumpAt}
+use Rattle.program.specs.Beginnings.{BeginsWith, IsUnbegun}
+use Rattle.program.specs.Dumps.{IsDumpedAt, TellsDumpAt}
 use Rattle.program.specs.Files.{Writing}
 use Rattle.program.specs.Runs.{begun}
-use Rattle.script_files.specs.Faults.{IsUnbegun}
-use Rattle.script_files.specs.declared.fault.Fault.{Fault}
-use Rattle.script_files.specs.declared.fault.Fault.TheVariants as fault
+use Rattle.program.specs.declared.fault.Fault.{Fault}
+use Rattle.program.specs.declared.fault.Fault.TheVariants as fault
 use Rattle.audit.specs.Orders.{check_line, order_lines}
 use Rattle.shell.specs.Asked.{catalog_of, dump_of, opens_by, tables_text}
 use Rattle.shell.specs.Shells.{Answers, Held, ended, running}
@@ -48,6 +47,8 @@ abbrev pub fault_text : Fault → List ℕ
 fault_text (fault.Script line) = dump_fault_text 0 OutOfMemory
 fault_text (fault.Dump line c) = dump_fault_text line c
 fault_text (fault.Device path) = device_text path.now
+fault_text fault.ScriptOutOfMemory = dump_fault_text 0 OutOfMemory
+fault_text fault.DumpOutOfMemory = dump_fault_text 0 OutOfMemory
 
 module _ {A : Type 0} where
   -- the committed transactions in the serial order, and its check; there is none before the server runs
@@ -66,7 +67,7 @@ module _ {A : Type 0} where
 
   -- The dump isn't opened, for this fault, and nothing has changed.
   abbrev pub IsUnopened : (List ℕ → Option (List ℕ)) → List ℕ → Held A → Held A → List ℕ → Type 0
-  IsUnopened held path p q text = (q ≡ p) × ((f : Fault) × IsUnbegun A held (Some path) f × (text ≡ fault_text f))
+  IsUnopened held path p q text = (q ≡ p) × ((f : Fault) × IsUnbegun A held (Some path) [] f × (text ≡ fault_text f))
 
   -- A line was answered that opens the dump of a path.
   abbrev pub OpensPath : (List ℕ → Option (List ℕ)) → List ℕ → Held A → Held A → List ℕ → Type 0
@@ -76,7 +77,7 @@ module _ {A : Type 0} where
 module _ {A : Type 0} (writes : Writing) where
   -- The answer to a dump to its path that a session asks for after the history h: its result, or that its file has failed.
   abbrev pub TellsSessionDump : Recorded A → SessionDump A → List ℕ → Type 0
-  TellsSessionDump h d text = TellsDumpAt writes h d.session d.request.path text ⊎ ((text ≡ dump_device_text d.session d.request.path) × IsDumped h d.session (Err (Dump Device)))
+  TellsSessionDump h d text = TellsDumpAt writes h d.session d.request.path text ⊎ ((text ≡ dump_device_text d.session d.request.path) × IsDumpedAt writes h d.session d.request.path (Err (Dump Device)))
 
   -- The answer to a line for which a shell alone has returned a text: where the line asks for a dump and the server runs, the result of the dump; else that text.
   abbrev pub IsTold : Option (SessionDump A) → Option (Recorded A) → List ℕ → List ℕ → Type 0

@@ -1,7 +1,7 @@
 -- The result of `shell` at a terminal.
 use Rattle.std.specs.Prelude.{◌≡◌, ◌⊎◌, ℕ, true, false, List, [], ◌∷◌, ◌++◌, Option}
 use Rattle.clap.specs.Words.{Text}
-use Rattle.program.specs.Files.{IsWritten}
+use Rattle.program.specs.Files.{writing_of}
 use Rattle.shell.specs.Turns.{Converses, Turn}
 use Rattle.shell.specs.Turns.Turn.{Told}
 use Rattle.shell.specs.declared.conversation.conversing.End.{End}
@@ -26,10 +26,10 @@ HasTalked answers p n before after = (e : End) × Converses answers p before e a
 abbrev pub greeting : {F A : Type 0} → At (Seen F A) → List ℕ
 greeting p = behind (λ k. k.over.shell) true p
 
-module _ {F A Out : Type 0} (held : F → List ℕ → Option (List ℕ)) (path_of kept : Out → List ℕ) where
+module _ {F A Out : Type 0} (held : F → List ℕ → Option (List ℕ)) (path_of kept : Out → List ℕ) (failures : Out → ℕ) where
   -- What is typed at a terminal over such files, is answered so.
   abbrev pub TypesOver : At (Seen F A) → List ℕ → At (Seen F A) → List ℕ → Type 0
-  TypesOver = Types (Replies (IsWritten path_of kept) held) (λ p. p.over.shell) (Tells path_of kept) (λ p path. held p.files path)
+  TypesOver = Types (Replies (writing_of path_of kept failures) held) (λ p. p.over.shell) (Tells path_of kept) (λ p path. held p.files path)
 
   -- From p on, the prompt was shown, and then what is shown of all lines that were typed, each before the next, until the conversation has ended in the way that this exit status says.
   abbrev pub HasTypedOn : At (Seen F A) → ℕ → List Turn → List Turn → Type 0
@@ -40,5 +40,5 @@ module _ {F A Out : Type 0} (held : F → List ℕ → Option (List ℕ)) (path_
   HasTyped files p n before after = IsMute n before after ⊎ HasTypedOn (at_first files p) n before after
 
 -- No shell has begun, and nothing was heard; or what was typed was answered from its beginning on.
-abbrev pub HasDone : (A : Type 0) → {F Out : Type 0} → (F → List ℕ → Option (List ℕ)) → (Out → List ℕ) → (Out → List ℕ) → F → List Text → ℕ → List Turn → List Turn → Type 0
-HasDone A {F} held path_of kept files words n before after = (IsUnbegunBy A (held files) words n × (after ≡ before)) ⊎ ((p : Over F A) × HasBegun held files words p × HasTyped held path_of kept files p n before after)
+abbrev pub HasDone : (A : Type 0) → {F Out : Type 0} → (F → List ℕ → Option (List ℕ)) → (Out → List ℕ) → (Out → List ℕ) → (Out → ℕ) → F → List Text → ℕ → List Turn → List Turn → Type 0
+HasDone A {F} held path_of kept failures files words n before after = (IsUnbegunBy A (held files) words n × (after ≡ before)) ⊎ ((p : Over F A) × HasBegun held files words p × HasTyped held path_of kept failures files p n before after)

@@ -5,14 +5,15 @@ use Rattle.clap.specs.declared.builder.ArgAction.TheVariants.{Set}
 use Rattle.schema.specs.Definition.{Catalog}
 use Rattle.schema.specs.declared.tables.Tables.{Tables}
 use Rattle.program.specs.Asked.{WritesEvents}
+use Rattle.program.specs.Beginnings as beginnings
 use Rattle.program.specs.Beginnings.{BeginsWith}
 use Rattle.program.specs.CommandLine.{MayBeMistaken, events}
+use Rattle.program.specs.Ends.{code, status}
 use Rattle.program.specs.Files.{Writing}
 use Rattle.program.specs.Outcomes.{AreHelp}
 use Rattle.program.specs.Runs.{begun}
-use Rattle.script_files.specs.Faults as faults
-use Rattle.script_files.specs.Faults.{out_of_memory, status}
-use Rattle.script_files.specs.declared.fault.Fault.{Fault}
+use Rattle.program.specs.declared.fault.Fault.{Fault}
+use Rattle.program.specs.declared.fault.Fault.TheVariants.{ScriptOutOfMemory}
 use Rattle.shell.specs.Turns.{Converses, Turn}
 use Rattle.shell.specs.declared.conversation.conversing.End.{End}
 use Rattle.shell.specs.declared.conversation.conversing.End.TheVariants.{Input, Quit, Reader, Writer, Memory}
@@ -47,7 +48,7 @@ end_status Memory = 1
 
 -- why the dump isn't opened that a shell is to begin with
 abbrev pub IsUnbegun : (A : Type 0) → (List ℕ → Option (List ℕ)) → Option (List ℕ) → Fault → Type 0
-IsUnbegun = faults.IsUnbegun
+IsUnbegun A held path = beginnings.IsUnbegun A held path []
 
 module _ {A : Type 0} where
   -- What a shell holds at first: nothing, with room for `most` events; or the tables that the dump of a path reads as.
@@ -66,11 +67,11 @@ module _ {F A : Type 0} where
 
 -- No shell is asked for: the words are mistaken, or a call for help, or out of memory for them.
 abbrev pub IsWithoutTask : Kinds → ℕ → Type 0
-IsWithoutTask ks n = (MayBeMistaken ks × (n ≡ 2)) ⊎ (n ≡ status out_of_memory) ⊎ (AreHelp ks × ((n ≡ 0) ⊎ (n ≡ 3)))
+IsWithoutTask ks n = (MayBeMistaken ks × (n ≡ 2)) ⊎ (n ≡ code (status ScriptOutOfMemory)) ⊎ (AreHelp ks × ((n ≡ 0) ⊎ (n ≡ 3)))
 
 -- The shell hasn't begun that is asked for: out of memory for the path of its dump, or that wasn't opened.
 abbrev pub EndsUnbegun : (A : Type 0) → (List ℕ → Option (List ℕ)) → Option (List ℕ) → ℕ → Type 0
-EndsUnbegun A held path n = (n ≡ status out_of_memory) ⊎ ((f : Fault) × IsUnbegun A held path f × (n ≡ status f))
+EndsUnbegun A held path n = (n ≡ code (status ScriptOutOfMemory)) ⊎ ((f : Fault) × IsUnbegun A held path f × (n ≡ code (status f)))
 
 -- No shell has begun: none is asked for, or that one hasn't.
 abbrev pub IsUnbegunBy : (A : Type 0) → (List ℕ → Option (List ℕ)) → List Text → ℕ → Type 0

@@ -3,7 +3,7 @@
 ghost use Rattle.std.specs.Prelude.{◌≡◌, [], IfOk, IfErr};
 ghost use Rattle.std.specs.Option.{option_copied};
 ghost use Rattle.value.specs.Refusals.{out_of_memory};
-ghost use Rattle.program.specs.Files.{IsWritten};
+ghost use Rattle.program.specs.Files.{writing_of};
 ghost use Rattle.shell.specs.Asked.{catalog_of, tables_text as text_of_tables};
 ghost use Rattle.command_shell.specs.Serves as spec;
 ghost use Rattle.command_shell.specs.Serves.{AnswersLine, IsTold, OpensPath, TellsSessionDump};
@@ -11,12 +11,9 @@ ghost use Rattle.command_shell.specs.Serves.{AnswersLine, IsTold, OpensPath, Tel
 use audit::ordering::order_text;
 use history::session_id::SessionId;
 use itoa::Buffer;
+use program::fault::Fault;
 use program::files::Files;
 use program::machine::Machine;
-use schema::catalog::Catalog;
-use script_files::dumping::tell_dump;
-use script_files::fault::Fault;
-use script_files::opening::open_core;
 use session::sessions::Core;
 use shell::shell::Shell;
 use shell::tables::tables_text;
@@ -119,24 +116,29 @@ fn fault_text<A: Allocator>(alloc: A, fault: &Fault<'_>) -> Result<Vec<u8, A>, R
     ensures memory { IfErr result (λ e. e ≡ out_of_memory) }
 {
     match fault {
-        Fault::Script(_) => dump_fault_text(alloc, 0, Code::OutOfMemory),
-        Fault::Dump(line, code) => dump_fault_text(alloc, *line, *code),
-        Fault::Device(path) => device_text(alloc, path),
+        Fault::Script { .. } | Fault::ScriptOutOfMemory | Fault::DumpOutOfMemory => {
+            dump_fault_text(alloc, 0, Code::OutOfMemory)
+        }
+        Fault::Dump { line, code } => dump_fault_text(alloc, *line, *code),
+        Fault::Device { path } => device_text(alloc, path),
     }
 }
 
 /// Lets the server run on the dump of a path, or answers why it can't.
-pub(crate) fn open_path<A: Allocator + Copy, F: Files<A>>(
-    alloc: A,
-    files: &F,
+pub(crate) fn open_path<A, F, T>(
+    machine: &Machine<'_, F, T, A>,
     shell: Shell<A>,
     path: &Text<A>,
 ) -> Result<(Shell<A>, Vec<u8, A>), Refusal>
-    ensures told { IfOk result (λ x. OpensPath (F.held files.now) path.now shell x.0 x.1.items) }
+where
+    A: Allocator + Copy,
+    F: Files<A>,
+    ensures told { IfOk result (λ x. OpensPath (F.held machine.now.files.now) path.now shell x.0 x.1.items) }
     ensures memory { IfErr result (λ e. e ≡ out_of_memory) }
 {
+    let alloc = machine.alloc;
     let most_events = shell.most_events();
-    match open_core(alloc, files, Some(path), Catalog::new(alloc), most_events) {
+    match machine.open_alone(path, most_events) {
         Ok(core) => {
             let text = Vec::from_slice(alloc, b"OPEN\n")?;
             Ok((Shell::on(alloc, core, most_events), text))
@@ -175,12 +177,12 @@ where
     A: Allocator + Copy,
     F: Files<A>,
     ensures told { IfOk result (λ text.
-        TellsSessionDump (IsWritten F.Out.path F.Out.kept) core.now dump.now text.items) }
+        TellsSessionDump (writing_of F.Out.path F.Out.kept F.Out.failures) core.now dump.now text.items) }
     ensures memory { IfErr result (λ e. e ≡ out_of_memory) }
 {
-    match tell_dump(machine, core, dump.session, &dump.request) {
+    match machine.tell_dump_alone(core, dump.session, &dump.request) {
         Ok(text) => Ok(text),
-        Err(Fault::Device(path)) => dump_device_text(machine.alloc, dump.session, path),
+        Err(Fault::Device { path }) => dump_device_text(machine.alloc, dump.session, path),
         Err(_) => Err(Refusal::of_code(Code::OutOfMemory)),
     }
 }
@@ -197,7 +199,7 @@ where
     A: Allocator + Copy,
     F: Files<A>,
     ensures told { IfOk result (λ text.
-        IsTold (IsWritten F.Out.path F.Out.kept) dump (option_copied core.entry) told.items text.items) }
+        IsTold (writing_of F.Out.path F.Out.kept F.Out.failures) dump (option_copied core.entry) told.items text.items) }
     ensures memory { IfErr result (λ e. e ≡ out_of_memory) }
 {
     let Some(dump) = dump else {
@@ -219,7 +221,7 @@ where
     A: Allocator + Copy,
     F: Files<A>,
     ensures told { IfOk result (λ x.
-        AnswersLine (IsWritten F.Out.path F.Out.kept) shell line.now x.0 x.1.items) }
+        AnswersLine (writing_of F.Out.path F.Out.kept F.Out.failures) shell line.now x.0 x.1.items) }
     ensures memory { IfErr result (λ e. e ≡ out_of_memory) }
 {
     let dump = dump_in(machine.alloc, line)?;

@@ -8,5 +8,4 @@ pub mod prompt;
 pub mod served;
 mod serving;
 mod task;
-mod unopened;
 pub mod words;

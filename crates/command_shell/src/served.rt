@@ -3,9 +3,9 @@
 ghost use Rattle.std.specs.Prelude.{◌≡◌};
 
 use crate::serving::serve;
+use program::explaining::Room;
 use program::files::Files;
 use program::machine::Machine;
-use script_files::room::Room;
 use shell::conversation::handler::Handler;
 use shell::shell::Shell;
 use std::alloc::Allocator;
@@ -54,9 +54,9 @@ where
     F: Files<A>,
 {
     ghost use Rattle.command_shell.specs.Serves.{ServesOver};
-    ghost use Rattle.program.specs.Files.{IsWritten};
+    ghost use Rattle.program.specs.Files.{writing_of};
 
-    ghost answers = { ServesOver (IsWritten F.Out.path F.Out.kept) F.held };
+    ghost answers = { ServesOver (writing_of F.Out.path F.Out.kept F.Out.failures) F.held };
 
     fn answer(
         self,

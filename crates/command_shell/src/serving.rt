@@ -2,7 +2,7 @@
 
 ghost use Rattle.std.specs.Prelude.{◌≡◌, IfOk, IfErr};
 ghost use Rattle.value.specs.Refusals.{out_of_memory};
-ghost use Rattle.program.specs.Files.{IsWritten};
+ghost use Rattle.program.specs.Files.{writing_of};
 ghost use Rattle.command_shell.specs.Serves.{Serves, ServesLine, ServesWord, word_of as spec_word_of};
 
 use crate::asked::{answer_line, open_path, tell_word, word_of};
@@ -21,12 +21,12 @@ fn serve_line<A, F, T>(
 where
     A: Allocator + Copy,
     F: Files<A>,
-    ensures told { IfOk result (λ x. ServesLine (IsWritten F.Out.path F.Out.kept) (F.held machine.now.files.now) shell
+    ensures told { IfOk result (λ x. ServesLine (writing_of F.Out.path F.Out.kept F.Out.failures) (F.held machine.now.files.now) shell
         line.now x.0 x.1.items) }
     ensures memory { IfErr result (λ e. e ≡ out_of_memory) }
 {
     match shell.opened_by(machine.alloc, line)? {
-        Some(path) => open_path(machine.alloc, machine.files, shell, &path),
+        Some(path) => open_path(machine, shell, &path),
         None => answer_line(machine, shell, line),
     }
 }
@@ -40,7 +40,7 @@ fn serve_asked<A, F, T>(
 where
     A: Allocator + Copy,
     F: Files<A>,
-    ensures told { IfOk result (λ x. ServesWord (IsWritten F.Out.path F.Out.kept) (spec_word_of line.now)
+    ensures told { IfOk result (λ x. ServesWord (writing_of F.Out.path F.Out.kept F.Out.failures) (spec_word_of line.now)
         (F.held machine.now.files.now) shell line.now x.0 x.1.items) }
     ensures memory { IfErr result (λ e. e ≡ out_of_memory) }
 {
@@ -62,7 +62,7 @@ pub(crate) fn serve<A, F, T>(
 where
     A: Allocator + Copy,
     F: Files<A>,
-    ensures told { IfOk result (λ x. Serves (IsWritten F.Out.path F.Out.kept) (F.held machine.now.files.now) shell
+    ensures told { IfOk result (λ x. Serves (writing_of F.Out.path F.Out.kept F.Out.failures) (F.held machine.now.files.now) shell
         line.now x.0 x.1.items) }
     ensures memory { IfErr result (λ e. e ≡ out_of_memory) }
 {

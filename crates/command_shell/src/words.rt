@@ -4,19 +4,18 @@ ghost use Rattle.std.specs.Prelude.{◌≡◌, ◌≢◌, ◌⊎◌, ◌≤◌, 
 ghost use Rattle.std.specs.Option.{option_map};
 ghost use Rattle.clap.specs.Words.{fault_of};
 ghost use Rattle.program.specs.CommandLine.{AreMistaken, MayBeMistaken};
-ghost use Rattle.program.specs.Files.{IsWritten};
+ghost use Rattle.program.specs.Files.{writing_of};
 ghost use Rattle.command_shell.specs.Words as spec;
 ghost use Rattle.command_shell.specs.Words.{Begins, EndsUnbegun, HasBegun, HasDone, IsUnbegunBy};
 
 use crate::beginning::{begin, path_text};
 use crate::served::Served;
 use crate::task::{Task, read_words};
-use crate::unopened::tell_unopened;
+use program::explaining::{Room, tell_in};
+use program::fault::{Fault, tell};
 use program::files::Files;
 use program::machine::Machine;
-use script_files::fault::{Fault, tell};
-use script_files::mistake::tell_words;
-use script_files::room::{Room, tell_in};
+use program::words::{tell_reason, tell_words};
 use shell::conversation::conversing::{End, converse};
 use shell::conversation::heard::Conversation;
 use std::alloc::Allocator;
@@ -31,8 +30,8 @@ pub fn end<A: Allocator + Copy, E: Write>(room: Room<A>, end: End, err: &mut E) 
 {
     match end {
         End::Input | End::Quit => 0,
-        End::Reader | End::Writer => tell(&Fault::Device("-"), None, err),
-        End::Memory => tell_in(room, &Fault::Script(0), None, err),
+        End::Reader | End::Writer => tell(&Fault::Device { path: "-" }, err).code(),
+        End::Memory => tell_in(room, &Fault::ScriptOutOfMemory, err).code(),
     }
 }
 
@@ -54,21 +53,18 @@ where
         EndsUnbegun A (F.held machine.now.files.now) (option_map (λ s. s.now) task.entry.dump) n) }
 {
     let Ok(path) = path_text(machine.alloc, task.dump) else {
-        return Err(tell(&Fault::Script(0), None, err));
+        return Err(tell(&Fault::ScriptOutOfMemory, err).code());
     };
-    match begin(
-        machine.alloc,
-        machine.files,
-        path.as_ref(),
-        task.most_events,
-    ) {
+    match begin(machine, path.as_ref(), task.most_events) {
         Ok(shell) => Ok(Served { machine, shell }),
         Err(fault) => {
             let room = Room {
                 alloc: machine.alloc,
                 most_events: task.most_events,
             };
-            Err(tell_unopened(room, &fault, machine.files.reason(), err))
+            let status = tell_in(room, &fault, err);
+            tell_reason(status, machine.files.reason(), err);
+            Err(status.code())
         }
     }
 }
@@ -96,7 +92,7 @@ where
         IsErrAnd result (λ n. (n ≡ 2) ⊎ (n ≡ 1)) }
 {
     match read_words(machine.words_memory, words) {
-        Err(error) => Err(tell_words(&error, out, err)),
+        Err(error) => Err(tell_words(&error, out, err).code()),
         Ok(task) => begin_task(machine, task, err),
     }
 }
@@ -121,7 +117,7 @@ where
     ensures usage { result ≡ 2 → MayBeMistaken (fault_of spec.shell (map (λ w. w.now) words.entry.now)) }
     ensures mistake { AreMistaken (fault_of spec.shell (map (λ w. w.now) words.entry.now)) →
         (result ≡ 2) ⊎ (result ≡ 1) }
-    ensures did { HasDone A (IsWritten F.Out.path F.Out.kept) F.held machine.now.files.now
+    ensures did { HasDone A (writing_of F.Out.path F.Out.kept F.Out.failures) F.held machine.now.files.now
         (map (λ w. w.now) words.entry.now) result (C.turns conversation.old) (C.turns conversation.new) }
 {
     match begin_words(machine, words, out, err) {

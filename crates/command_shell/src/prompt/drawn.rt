@@ -8,11 +8,12 @@ ghost use Rattle.command_shell.specs.Asides.{TellsDrawing};
 
 use crate::prompt::recalled::Recalled;
 use audit::keys::serial_order;
-use collector::write_all;
-use drawing::arrow::picture_of;
-use drawing::subject::Subject;
-use drawing::svg::svg_text;
-use program::files::{Files, Placed};
+use program::fault::Fault;
+use program::files::Files;
+use program::keeping::write_file;
+use retrace::drawing::arrow::picture_of;
+use retrace::drawing::subject::Subject;
+use retrace::drawing::svg::svg_text;
 use session::sessions::Core;
 use shell::shell::Shell;
 use std::alloc::Allocator;
@@ -46,16 +47,8 @@ fn picture_text<A: Allocator + Copy>(
     svg_text(alloc, &subject, &picture)
 }
 
-// Keeps a file to which all was written, and returns whether that went well.
-fn keep_file<O: Placed>(file: &mut O) -> bool
-    requires sound { O.failures file.old ≡ 0 }
-    ensures { result ≡ true → O.kept file.new ≡ O.taken file.old }
-{
-    file.keep().is_ok()
-}
-
 // Writes a text to the file of a path: whole, or not at all. Returns whether it was written.
-fn write_file<A: Allocator, F: Files<A>>(
+fn is_written<A: Allocator, F: Files<A>>(
     alloc: A,
     files: &F,
     path: &str,
@@ -64,11 +57,9 @@ fn write_file<A: Allocator, F: Files<A>>(
     ensures written { IfOk result (λ b. b ≡ true → IsWritten F.Out.path F.Out.kept path.now text.now) }
     ensures memory { IfErr result (λ e. e ≡ out_of_memory) }
 {
-    let Ok(mut file) = files.create(alloc, path) else {
-        return Err(Refusal::of_code(Code::OutOfMemory));
-    };
-    match write_all(&mut file, text) {
-        Ok(()) => Ok(keep_file(&mut file)),
+    match write_file(alloc, files, path, text) {
+        Ok(()) => Ok(true),
+        Err(Fault::ScriptOutOfMemory) => Err(Refusal::of_code(Code::OutOfMemory)),
         Err(_) => Ok(false),
     }
 }
@@ -86,7 +77,7 @@ fn write_at<A: Allocator, F: Files<A>>(
     let Ok(path) = std::str::from_utf8(path) else {
         return Ok(false);
     };
-    write_file(alloc, files, path, text)
+    is_written(alloc, files, path, text)
 }
 
 // A path between two words.

@@ -133,9 +133,9 @@ where
     K: Clock,
 {
     ghost use Rattle.command_shell.specs.Asides.{Replies};
-    ghost use Rattle.program.specs.Files.{IsWritten};
+    ghost use Rattle.program.specs.Files.{writing_of};
 
-    ghost answers = { Replies (IsWritten F.Out.path F.Out.kept) F.held };
+    ghost answers = { Replies (writing_of F.Out.path F.Out.kept F.Out.failures) F.held };
 
     fn answer(
         self,

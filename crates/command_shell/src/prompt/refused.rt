@@ -5,10 +5,10 @@ ghost use Rattle.value.specs.Refusals.{out_of_memory};
 ghost use Rattle.command_shell.specs.Asides.{IsWhy, TellsIt, TellsWhy, refused_after, refused_in, untold, why_text};
 
 use crate::prompt::recalled::numbers;
-use explain::account::Account;
 use history::event::Record;
 use history::list::History;
 use history::session_id::SessionId;
+use retrace::explain::account::Account;
 use retrace::past::Past;
 use shell::shell::Shell;
 use statement::reply::Reply;

@@ -12,9 +12,9 @@ use crate::prompt::prompted::Prompted;
 use crate::served::Served;
 use crate::words::{begin_words, end};
 use history::session_id::SessionId;
+use program::explaining::Room;
 use program::files::Files;
 use program::machine::Machine;
-use script_files::room::Room;
 use shell::conversation::conversing::{End, converse};
 use shell::conversation::handler::Handler;
 use shell::conversation::heard::Conversation;
@@ -106,7 +106,7 @@ where
     K: Clock,
     C: Conversation<A>,
     E: Write,
-    ensures typed { HasTyped F.held F.Out.path F.Out.kept machine.now.files.now served.entry result
+    ensures typed { HasTyped F.held F.Out.path F.Out.kept F.Out.failures machine.now.files.now served.entry result
         (C.turns conversation.old) (C.turns conversation.new) }
     ensures within { result ≤ 3 }
     ensures no_usage { result ≢ 2 }
@@ -140,7 +140,7 @@ where
     ensures within { result ≤ 3 }
     ensures usage { result ≡ 2 → MayBeMistaken (fault_of command (map (λ w. w.now) words.entry.now)) }
     ensures mistake { AreMistaken (fault_of command (map (λ w. w.now) words.entry.now)) → (result ≡ 2) ⊎ (result ≡ 1) }
-    ensures did { HasDone A F.held F.Out.path F.Out.kept machine.now.files.now (map (λ w. w.now) words.entry.now) result
+    ensures did { HasDone A F.held F.Out.path F.Out.kept F.Out.failures machine.now.files.now (map (λ w. w.now) words.entry.now) result
         (C.turns conversation.old) (C.turns conversation.new) }
 {
     match begin_words(machine, words, out, err) {

@@ -1,27 +1,24 @@
-use Rattle.std.proofs.Common.{inl, inr, map}
+use Rattle.std.proofs.Common.{◌∙◌, ap, inl, inr, map, sym}
 use Rattle.std.specs.Option.{option_map}
 use Rattle.clap.specs.Words.{fault_of, kind_of}
-use Rattle.program.proofs.EndLemmas.{among}
-use Rattle.script_files.proofs.EndLemmas.{four_within}
+use Rattle.program.specs.Ends.{code}
+use Rattle.program.proofs.EndLemmas.{among, only_usage}
 use Rattle.command_shell.proofs.WordsLemmas.{all_within, begun_of, none_mistaken, unbegun_by, without}
 use Rattle.command_shell.specs.Words.{shell}
 use Rattle.command_shell.proofs.words.begin_words.Goals as goal
 
 pub returns-in-Err-clause-unbegun : goal.returns-in-Err-clause-unbegun
-returns-in-Err-clause-unbegun g c = inl (without _ c.in-Err.error c.tell_words.result c.in-Err.ensures.fails c.tell_words.ensures.usage c.tell_words.ensures.memory c.tell_words.ensures.help c.tell_words.ensures.within)
-
-pub returns-in-Err-clause-within : goal.returns-in-Err-clause-within
-returns-in-Err-clause-within g c = four_within c.tell_words.result c.tell_words.ensures.within
+returns-in-Err-clause-unbegun g c = inl (without _ c.in-Err.error c.tell_words.result c.code.result c.code.ensures c.in-Err.ensures.fails c.tell_words.ensures.usage c.tell_words.ensures.memory c.tell_words.ensures.help)
 
 pub returns-in-Err-clause-usage : goal.returns-in-Err-clause-usage
 returns-in-Err-clause-usage g c two =
-    let mistake = c.tell_words.ensures.usage two in
+    let mistake = c.tell_words.ensures.usage (only_usage c.tell_words.result (sym c.code.ensures ∙ two)) in
     (kind_of c.in-Err.error, among _ c.in-Err.error c.in-Err.ensures.fails mistake.0, mistake)
 
 pub returns-in-Err-clause-mistake : goal.returns-in-Err-clause-mistake
 returns-in-Err-clause-mistake g c mistaken = elim c.in-Err.ensures.fails [
-  | inl memory ↦ inr (c.tell_words.ensures.memory memory)
-  | inr here ↦ inl (c.tell_words.ensures.mistake (mistaken.1 _ here))
+  | inl memory ↦ inr (c.code.ensures ∙ ap code (c.tell_words.ensures.memory memory))
+  | inr here ↦ inl (c.code.ensures ∙ ap code (c.tell_words.ensures.mistake (mistaken.1 _ here)))
 ]
 
 pub returns-in-Ok-clause-begun : goal.returns-in-Ok-clause-begun
