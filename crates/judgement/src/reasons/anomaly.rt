@@ -3,8 +3,8 @@
 //! of ANSI SQL Isolation Levels" (SIGMOD 1995); Fekete, O'Neil and O'Neil, "A read-only transaction anomaly under snapshot
 //! isolation" (SIGMOD Record 2004).
 
-use crate::account::Account;
-use crate::cycle::{Step, Why};
+use crate::reasons::account::Account;
+use crate::reasons::cycle::{Step, Why};
 use certificate::certificate::Line;
 use certificate::known::Cell;
 use orders::transaction::Transaction;

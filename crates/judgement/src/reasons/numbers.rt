@@ -3,8 +3,8 @@
 ghost use Rattle.std.specs.Prelude.{◌≡◌, IfErr};
 ghost use Rattle.value.specs.Refusals.{out_of_memory};
 
-use crate::account::Account;
-use crate::phrases::{append_line, append_number, append_word};
+use crate::reasons::account::Account;
+use crate::reasons::phrases::{append_line, append_number, append_word};
 use certificate::certificate::Line;
 use certificate::known::Spot;
 use copytext::write_field;

@@ -3,7 +3,7 @@
 ghost use Rattle.std.specs.Prelude.{◌≡◌, IfErr};
 ghost use Rattle.value.specs.Refusals.{out_of_memory};
 
-use crate::account::Account;
+use crate::reasons::account::Account;
 use certificate::certificate::{Assumption, Line};
 use orders::transaction::Transaction;
 use std::alloc::Allocator;

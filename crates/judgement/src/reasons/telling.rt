@@ -3,9 +3,9 @@
 ghost use Rattle.std.specs.Prelude.{◌≡◌, IfErr};
 ghost use Rattle.value.specs.Refusals.{out_of_memory};
 
-use crate::account::Account;
-use crate::cycle::{Step, Why, is_contradiction};
-use crate::phrases::{append_line, append_word};
+use crate::reasons::account::Account;
+use crate::reasons::cycle::{Step, Why, is_contradiction};
+use crate::reasons::phrases::{append_line, append_word};
 use certificate::certificate::{Assumption, Line};
 use certificate::known::{Cell, Spot};
 use std::alloc::Allocator;

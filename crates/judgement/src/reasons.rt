@@ -1,7 +1,5 @@
 //! Certificates in words: why no order of transactions explains what their clients were answered.
 
-#![tactic(auto)]
-
 pub mod account;
 mod anomaly;
 mod cycle;

@@ -3,7 +3,7 @@
 ghost use Rattle.std.specs.Prelude.{◌≡◌, IfErr};
 ghost use Rattle.value.specs.Refusals.{out_of_memory};
 
-use crate::account::Account;
+use crate::reasons::account::Account;
 use certificate::known::{Cell, Spot};
 use copytext::write_field;
 use itoa::Buffer;
