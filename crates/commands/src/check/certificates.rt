@@ -5,15 +5,17 @@ ghost use Rattle.orders.specs.Explains.{all_fit, Unexplained};
 ghost use Rattle.schema.specs.Plain.{is_sound};
 ghost use Rattle.program.specs.Files.{IsWritten};
 
-use crate::check::fault::{Fault, fault_of_read};
-use crate::check::judge::Judgement;
+use crate::check::fault::Fault;
 use crate::check::places::Places;
 use certificate::certificate::Line;
 use certificate::checking::{Verdict, check};
 use certificate::recording::Recording;
-use certificate_file::{Naming, ReadError, read, write};
-use collector::write_all;
-use program::files::{Files, Placed};
+use certificate::written::{Naming, ReadError, read, write};
+use judgement::judging::Judgement;
+use program::fault;
+use program::files::Files;
+use program::keeping::write_file;
+use program::opening::fault_of_read;
 use schema::catalog::Catalog;
 use schema::tables::Tables;
 use std::alloc::Allocator;
@@ -23,6 +25,9 @@ use value::refusal::Refusal;
 // What is wrong with a line that isn't read.
 const MALFORMED: &str =
     "it isn't in its form, or names a transaction, a table or a column that isn't there";
+
+// Out of memory for a file.
+const MEMORY: fault::Fault<'static> = fault::Fault::ScriptOutOfMemory;
 
 // The numbers of transactions.
 fn numbers_of<A: Allocator>(alloc: A, names: &[Name<A>]) -> Result<Vec<u64, A>, Refusal> {
@@ -99,38 +104,9 @@ pub(crate) fn read_file<'p, A: Allocator, F: Files<A> + Places>(
     match path {
         Some(path) if files.has(path) => match files.read(alloc, path) {
             Ok(bytes) => Ok(Some(bytes)),
-            Err(error) => Err(fault_of_read(error, path)),
+            Err(error) => Err(Fault::of(fault_of_read(error, path, MEMORY))),
         },
         _ => Ok(None),
-    }
-}
-
-// Keeps the file of a path to which all was written.
-fn keep_file<'p, O: Placed>(file: &mut O, path: &'p str) -> Result<(), Fault<'p>>
-    requires sound { O.failures file.old ≡ 0 }
-    ensures kept { OnOk result (O.kept file.new ≡ O.taken file.old) }
-{
-    match file.keep() {
-        Ok(()) => Ok(()),
-        Err(_) => Err(Fault::Device(path)),
-    }
-}
-
-// Writes a text to the file of a path: whole, or not at all.
-fn write_file<'p, A: Allocator, F: Files<A>>(
-    alloc: A,
-    files: &F,
-    path: &'p str,
-    text: &[u8],
-) -> Result<(), Fault<'p>>
-    ensures written { OnOk result (IsWritten F.Out.path F.Out.kept path.entry.now text.now) }
-{
-    let Ok(mut file) = files.create(alloc, path) else {
-        return Err(Fault::Memory);
-    };
-    match write_all(&mut file, text) {
-        Ok(()) => keep_file(&mut file, path),
-        Err(_) => Err(Fault::Device(path)),
     }
 }
 
@@ -148,6 +124,21 @@ fn text_of<A: Allocator + Copy>(
     write(alloc, &naming, lines)
 }
 
+// Writes a text to the file of a path: whole, or not at all.
+fn written<'p, A: Allocator, F: Files<A>>(
+    alloc: A,
+    files: &F,
+    path: &'p str,
+    text: &[u8],
+) -> Result<(), Fault<'p>>
+    ensures { OnOk result (IsWritten F.Out.path F.Out.kept path.entry.now text.now) }
+{
+    match write_file(alloc, files, path, text) {
+        Ok(()) => Ok(()),
+        Err(fault) => Err(Fault::of(fault)),
+    }
+}
+
 /// Writes the certificate of a judgement to the file of a path, where it has one and a path is given.
 pub(crate) fn keep<'p, A: Allocator + Copy, F: Files<A>>(
     alloc: A,
@@ -159,7 +150,7 @@ pub(crate) fn keep<'p, A: Allocator + Copy, F: Files<A>>(
         return Ok(());
     };
     match text_of(alloc, judgement, lines.as_slice()) {
-        Ok(text) => write_file(alloc, files, path, text.as_slice()),
+        Ok(text) => written(alloc, files, path, text.as_slice()),
         Err(_) => Err(Fault::Memory),
     }
 }

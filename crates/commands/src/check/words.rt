@@ -5,15 +5,18 @@ ghost use Rattle.commands.specs.Statuses as spec;
 
 use crate::check::certificates::{keep, read_file};
 use crate::check::fault::{Fault, tell};
-use crate::check::judge::{Judgement, judge, read_path};
+use crate::check::judge::judge;
 use crate::check::places::Places;
 use crate::check::task::{Task, read_words};
-use crate::check::telling::{judgement_text, write_all};
+use crate::check::telling::write_all;
 use clap::Error;
 use clap::error::ErrorKind;
+use judgement::judging::Judgement;
+use judgement::printing::judgement_text;
 use orders::search::Answer;
 use program::files::Files;
 use program::machine::Machine;
+use program::{fault, words};
 use std::alloc::Allocator;
 use std::io::Write;
 use std::thread::Threads;
@@ -136,27 +139,13 @@ where
     }
 }
 
-// Prints the help that the words ask for.
-fn show_help<W: Write, E: Write>(help: &Error, out: &mut W, err: &mut E) -> u8
-    ensures { result ≤ 5 }
-{
-    match write!(out, "{help}") {
-        Ok(()) => 0,
-        Err(_) => tell(Fault::Device("-"), None, err),
-    }
-}
-
 // Reports a mistake in the words, or that there was no memory for them; or shows the help that they ask for.
 fn tell_words<W: Write, E: Write>(error: &Error, out: &mut W, err: &mut E) -> u8
     ensures { result ≤ 5 }
 {
     match error.kind() {
         ErrorKind::OutOfMemory => tell(Fault::Memory, None, err),
-        ErrorKind::DisplayHelp | ErrorKind::DisplayVersion => show_help(error, out, err),
-        _ => {
-            let _ = write!(err, "{error}");
-            2
-        }
+        _ => words::tell_words(error, out, err).code(),
     }
 }
 
@@ -182,8 +171,8 @@ where
         Ok(task) => task,
         Err(error) => return tell_words(&error, out, err),
     };
-    match read_path(machine.alloc, machine.files, task.transcript) {
+    match machine.read_path(task.transcript, fault::Fault::ScriptOutOfMemory) {
         Ok(text) => check_both(machine, text.as_slice(), task, out, err),
-        Err(fault) => tell(fault, machine.files.reason(), err),
+        Err(fault) => tell(Fault::of(fault), machine.files.reason(), err),
     }
 }

@@ -1,12 +1,12 @@
 //! A script's lines, done one after the other, without what is printed of them.
 
-use drawing::subject::Dump;
 use history::event::Event;
 use history::session_id::SessionId;
+use program::fault::Fault;
 use request::request::Request;
+use retrace::drawing::subject::Dump;
 use script::command::Command;
 use script::script::{Line, Step};
-use script_files::fault::Fault;
 use session::sessions::Core;
 use std::alloc::Allocator;
 use value::refusal::Code;
@@ -38,13 +38,13 @@ impl<A: Allocator + Copy> Done<A> {
         request: &Request<A>,
     ) -> Result<(), Fault<'p>> {
         let Ok(action) = request.action(alloc, self.core.history().catalog()) else {
-            return Err(Fault::Script(0));
+            return Err(Fault::ScriptOutOfMemory);
         };
         let _reply = self.core.step(alloc, Event { session, action });
         if self.lines.len() < self.core.history().records().len()
             && self.lines.push(line).is_err()
         {
-            return Err(Fault::Script(0));
+            return Err(Fault::ScriptOutOfMemory);
         }
         Ok(())
     }
@@ -62,7 +62,7 @@ impl<A: Allocator + Copy> Done<A> {
         };
         match self.dumps.push(dump) {
             Ok(()) => Ok(()),
-            Err(_) => Err(Fault::Script(0)),
+            Err(_) => Err(Fault::ScriptOutOfMemory),
         }
     }
 
@@ -73,7 +73,7 @@ impl<A: Allocator + Copy> Done<A> {
                 *self = Done::nothing(alloc, core);
                 Ok(())
             }
-            Err(refusal) if refusal.code == Code::OutOfMemory => Err(Fault::Script(0)),
+            Err(refusal) if refusal.code == Code::OutOfMemory => Err(Fault::ScriptOutOfMemory),
             Err(_) => Ok(()),
         }
     }

@@ -1,28 +1,26 @@
 //! The command, over any files.
 
-ghost use Rattle.std.specs.Prelude.{◌≡◌, ◌⊎◌, ◌≤◌, IfErr, OnOk};
-ghost use Rattle.program.specs.Files.{IsWritten};
-ghost use Rattle.script_files.specs.Faults.{IsFileFault};
+ghost use Rattle.std.specs.Prelude.{◌≢◌, ◌≤◌};
 
 use crate::draw::doing::Done;
 use crate::draw::task::{Task, read_words};
 use audit::keys::serial_order;
-use collector::write_all;
-use drawing::arrow::picture_of;
-use drawing::dot::dot_text;
-use drawing::subject::Subject;
-use drawing::svg::svg_text;
-use program::files::{Files, Placed};
+use program::explaining::{Room, end_script, tell_line};
+use program::fault::{Fault, Status, tell};
+use program::files::Files;
+use program::keeping::write_file;
 use program::machine::Machine;
+use program::words::{tell_reason, tell_words};
+use retrace::drawing::arrow::picture_of;
+use retrace::drawing::dot::dot_text;
+use retrace::drawing::subject::Subject;
+use retrace::drawing::svg::svg_text;
 use schema::catalog::Catalog;
 use script::schedule::Schedule;
 use script::script::{Line, Script, read_script};
-use script_files::fault::{Fault, tell, tell_line};
-use script_files::mistake::tell_words;
-use script_files::opening::{open_core, read_path};
-use script_files::room::{Room, tell_in};
 use std::alloc::Allocator;
 use std::io::Write;
+use std::thread::Threads;
 use value::refusal::Refusal;
 use value::text::Text;
 
@@ -58,119 +56,85 @@ fn text_of<A: Allocator + Copy>(
     }
 }
 
-// Keeps the file of a path to which all was written.
-fn keep_file<'p, O: Placed>(file: &mut O, path: &'p str) -> Result<(), Fault<'p>>
-    requires sound { O.failures file.old ≡ 0 }
-    ensures kept { OnOk result (O.kept file.new ≡ O.taken file.old) }
-    ensures fault { IfErr result (λ f. IsFileFault path.entry.now f) }
-{
-    match file.keep() {
-        Ok(()) => Ok(()),
-        Err(_) => Err(Fault::Device(path)),
-    }
-}
-
-// Writes a text to the file of a path: whole, or not at all.
-fn write_file<'p, A: Allocator, F: Files<A>>(
-    alloc: A,
-    files: &F,
-    path: &'p str,
-    text: &[u8],
-) -> Result<(), Fault<'p>>
-    ensures written { OnOk result (IsWritten F.Out.path F.Out.kept path.entry.now text.now) }
-    ensures fault { IfErr result (λ f. (f ≡ Fault.Script 0) ⊎ IsFileFault path.entry.now f) }
-{
-    let Ok(mut file) = files.create(alloc, path) else {
-        return Err(Fault::Script(0));
-    };
-    match write_all(&mut file, text) {
-        Ok(()) => keep_file(&mut file, path),
-        Err(_) => Err(Fault::Device(path)),
-    }
-}
-
 // Does the lines of a script that was read, and returns the text of its picture.
-fn drawn_text<'p, A: Allocator + Copy, F: Files<A>>(
-    alloc: A,
-    files: &F,
+fn drawn_text<'p, A, F, T>(
+    machine: &Machine<'_, F, T, A>,
     text: &[u8],
     (catalog, opens, lines): (Catalog<A>, Option<&'p Text<A>>, &'p [Line<A>]),
     task: Task<'p>,
-) -> Result<Vec<u8, A>, Fault<'p>> {
-    let core = open_core(alloc, files, opens, catalog, task.most_events)?;
-    let mut done = Done::nothing(alloc, core);
-    done.take_all(alloc, lines, task.most_events)?;
-    match text_of(alloc, text, &done, task.is_dot) {
+) -> Result<Vec<u8, A>, Fault<'p>>
+where
+    A: Allocator + Copy + Send + Sync,
+    F: Files<A>,
+    T: Threads + Sync,
+{
+    let core = machine.open_core(opens, catalog, task.most_events)?;
+    let mut done = Done::nothing(machine.alloc, core);
+    done.take_all(machine.alloc, lines, task.most_events)?;
+    match text_of(machine.alloc, text, &done, task.is_dot) {
         Ok(text) => Ok(text),
-        Err(_) => Err(Fault::Script(0)),
+        Err(_) => Err(Fault::ScriptOutOfMemory),
     }
 }
 
 // Draws a script that was read, of these parts, into a file.
-fn draw_parts<'p, A: Allocator + Copy, F: Files<A>>(
-    alloc: A,
-    files: &F,
+fn draw_parts<'p, A, F, T>(
+    machine: &Machine<'_, F, T, A>,
     text: &[u8],
     parts: (Catalog<A>, Option<&'p Text<A>>, &'p [Line<A>]),
     task: Task<'p>,
-) -> Result<(), Fault<'p>> {
-    let drawn = drawn_text(alloc, files, text, parts, task)?;
-    write_file(alloc, files, task.out, drawn.as_slice())
-}
-
-// How the command ends; reports why where it hasn't drawn.
-fn end<A: Allocator + Copy, E: Write>(
-    room: Room<A>,
-    done: Result<(), Fault<'_>>,
-    reason: Option<&str>,
-    err: &mut E,
-) -> u8
-    ensures { result ≤ 3 }
+) -> Result<(), Fault<'p>>
+where
+    A: Allocator + Copy + Send + Sync,
+    F: Files<A>,
+    T: Threads + Sync,
 {
-    match done {
-        Ok(()) => 0,
-        Err(fault) => tell_in(room, &fault, reason, err),
-    }
+    let drawn = drawn_text(machine, text, parts, task)?;
+    write_file(machine.alloc, machine.files, task.out, drawn.as_slice())
 }
 
 // Draws a script that was read; reports why where it isn't drawn.
-fn draw_script<A: Allocator + Copy, F: Files<A>, E: Write>(
-    alloc: A,
-    files: &F,
+fn draw_script<A, F, T, E>(
+    machine: &Machine<'_, F, T, A>,
     text: &[u8],
     script: Script<A>,
     task: Task<'_>,
     err: &mut E,
-) -> u8
-    ensures { result ≤ 3 }
+) -> Status
+where
+    A: Allocator + Copy + Send + Sync,
+    F: Files<A>,
+    T: Threads + Sync,
+    E: Write,
+    ensures no_usage { result ≢ Status.Usage }
 {
     let (catalog, opens, lines) = script.into_parts();
     let parts = (catalog, opens.as_ref(), lines.as_slice());
-    let done = draw_parts(alloc, files, text, parts, task);
+    let done = draw_parts(machine, text, parts, task);
     let room = Room {
-        alloc,
+        alloc: machine.alloc,
         most_events: task.most_events,
     };
-    end(room, done, files.reason(), err)
+    end_script(room, done, err)
 }
 
 // Draws the script of a path, or of standard input; reports why where it isn't drawn.
-fn draw_file<A: Allocator + Copy, F: Files<A>, E: Write>(
-    alloc: A,
-    files: &F,
-    task: Task<'_>,
-    err: &mut E,
-) -> u8
-    ensures { result ≤ 3 }
+fn draw_file<A, F, T, E>(machine: &Machine<'_, F, T, A>, task: Task<'_>, err: &mut E) -> Status
+where
+    A: Allocator + Copy + Send + Sync,
+    F: Files<A>,
+    T: Threads + Sync,
+    E: Write,
+    ensures no_usage { result ≢ Status.Usage }
 {
-    let bytes = match read_path(alloc, files, task.script) {
+    let bytes = match machine.read_path(task.script, Fault::ScriptOutOfMemory) {
         Ok(bytes) => bytes,
-        Err(fault) => return tell(&fault, files.reason(), err),
+        Err(fault) => return tell(&fault, err),
     };
     let text = bytes.as_slice();
-    match read_script(alloc, Schedule::InOrder, text) {
-        Ok(script) => draw_script(alloc, files, text, script, task, err),
-        Err(fault) => tell_line(alloc, text, fault.line, err),
+    match read_script(machine.alloc, Schedule::InOrder, text) {
+        Ok(script) => draw_script(machine, text, script, task, err),
+        Err(fault) => tell_line(machine.alloc, Schedule::InOrder, text, fault.line, err),
     }
 }
 
@@ -184,14 +148,17 @@ pub fn draw_words<A, F, W, E, T>(
     err: &mut E,
 ) -> u8
 where
-    A: Allocator + Copy,
+    A: Allocator + Copy + Send + Sync,
     F: Files<A>,
     W: Write,
     E: Write,
+    T: Threads + Sync,
     ensures within { result ≤ 3 }
 {
-    match read_words(machine.words_memory, words) {
-        Ok(task) => draw_file(machine.alloc, machine.files, task, err),
+    let status = match read_words(machine.words_memory, words) {
+        Ok(task) => draw_file(machine, task, err),
         Err(error) => tell_words(&error, out, err),
-    }
+    };
+    tell_reason(status, machine.files.reason(), err);
+    status.code()
 }

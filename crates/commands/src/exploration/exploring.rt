@@ -5,14 +5,14 @@ use crate::exploration::setup::Setup;
 use crate::exploration::task::{Draw, Task};
 use explore::exploring::{explore, explore_sample};
 use explore::plan::Plan;
-use listing::heading::Heading;
-use listing::listing::listing_text;
 use program::files::Files;
 use program::machine::Machine;
 use program::progress::Stage;
 use std::alloc::Allocator;
 use std::sync::Wait;
 use std::thread::Threads;
+use tally::listing::heading::Heading;
+use tally::listing::text::listing_text;
 use tally::runs::Schedules;
 
 // What is printed of all schedules.

@@ -1,9 +1,7 @@
 //! Why a script isn't explored.
 
-ghost use Rattle.std.specs.Prelude.{◌≡◌, ◌≤◌};
-
-use script_files::fault;
-use script_files::room::{Room, tell_in};
+use program::explaining::{Room, tell_in};
+use program::fault::{self, Status};
 use std::alloc::Allocator;
 use std::io::Write;
 use value::refusal::Code;
@@ -28,7 +26,7 @@ pub(crate) enum Fault<'p> {
 impl<'p> Fault<'p> {
     /// Out of memory.
     pub(crate) fn memory() -> Fault<'p> {
-        Fault::File(fault::Fault::Script(0))
+        Fault::File(fault::Fault::ScriptOutOfMemory)
     }
 }
 
@@ -64,39 +62,36 @@ fn tell_too_many<E: Write>(all: Option<u64>, most: u64, err: &mut E) {
     let _ = told;
 }
 
-/// Reports a fault, and returns the exit status. `room` says how many events a history was to have room for.
+/// Reports a fault, and returns how the command ends. `room` says how many events a history was to have room for.
 pub(crate) fn tell<A: Allocator + Copy, E: Write>(
     room: Room<A>,
     fault: &Fault<'_>,
-    reason: Option<&str>,
     err: &mut E,
-) -> u8
-    ensures { result ≤ 3 }
-{
+) -> Status {
     match fault {
-        Fault::File(fault) => tell_in(room, fault, reason, err),
+        Fault::File(fault) => tell_in(room, fault, err),
         Fault::Setup(line, code) => {
             tell_setup(*line, *code, err);
-            1
+            Status::Refused
         }
         Fault::NoTurn(line) => {
             tell_no_turn(*line, err);
-            1
+            Status::Refused
         }
         Fault::NoLines => {
             let _ = writeln!(err, "explore: no session has a line behind the setup");
-            1
+            Status::Refused
         }
         Fault::TooMany(all, most) => {
             tell_too_many(*all, *most, err);
-            1
+            Status::Refused
         }
         Fault::NoOrder => {
             let _ = writeln!(
                 err,
                 "error: --order has each session as often as it has lines behind the setup"
             );
-            2
+            Status::Usage
         }
     }
 }

@@ -6,14 +6,15 @@ use explore::plan::Plan;
 use history::event::Event;
 use history::session_id::SessionId;
 use program::files::Files;
+use program::machine::Machine;
 use request::request::Request;
 use schema::catalog::Catalog;
 use script::command::Command;
 use script::script::{Line, Step};
-use script_files::opening::open_core;
 use session::sessions::Core;
 use statement::reply::Reply;
 use std::alloc::Allocator;
+use std::thread::Threads;
 use value::refusal::{Code, Refusal};
 use value::text::Text;
 
@@ -217,15 +218,20 @@ fn last_before<A: Allocator>(lines: &[Line<A>]) -> u64 {
 
 /// Does the setup of a script that was read: the lines up to and with the first CHECKPOINT, or no session's line where
 /// there is none.
-pub(crate) fn set_up<'p, A: Allocator + Copy, F: Files<A>>(
-    alloc: A,
-    files: &F,
+pub(crate) fn set_up<'p, A, F, T>(
+    machine: &Machine<'_, F, T, A>,
     catalog: Catalog<A>,
     opens: Option<&'p Text<A>>,
     lines: Vec<Line<A>, A>,
     events: u32,
-) -> Result<Setup<A>, Fault<'p>> {
-    let core = match open_core(alloc, files, opens, catalog, events) {
+) -> Result<Setup<A>, Fault<'p>>
+where
+    A: Allocator + Copy + Send + Sync,
+    F: Files<A>,
+    T: Threads + Sync,
+{
+    let alloc = machine.alloc;
+    let core = match machine.open_core(opens, catalog, events) {
         Ok(core) => core,
         Err(fault) => return Err(Fault::File(fault)),
     };

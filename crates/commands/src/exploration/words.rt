@@ -1,22 +1,20 @@
 //! The command, over any files.
 
-ghost use Rattle.std.specs.Prelude.{◌≡◌, ◌≤◌};
+ghost use Rattle.std.specs.Prelude.{◌≤◌};
 
 use crate::exploration::exploring::explored_text;
 use crate::exploration::fault::{Fault, tell};
 use crate::exploration::one_schedule::ordered_text;
 use crate::exploration::setup::{lines_like_a_setup, set_up};
 use crate::exploration::task::{Task, read_words};
+use program::explaining::{Room, tell_line};
+use program::fault::{self, Status};
 use program::files::Files;
 use program::machine::Machine;
+use program::words::{tell_reason, tell_words};
 use schema::catalog::Catalog;
 use script::schedule::Schedule;
 use script::script::{Line, Script, read_script};
-use script_files::fault;
-use script_files::fault::tell_line;
-use script_files::mistake::tell_words;
-use script_files::opening::read_path;
-use script_files::room::Room;
 use std::alloc::Allocator;
 use std::io::Write;
 use std::sync::Wait;
@@ -38,7 +36,7 @@ where
     T: Threads + Wait + Sync,
 {
     let alloc = machine.alloc;
-    let setup = set_up(alloc, machine.files, catalog, opens, lines, task.events)?;
+    let setup = set_up(machine, catalog, opens, lines, task.events)?;
     match task.order {
         Some(order) => ordered_text(alloc, text, &setup, order),
         None => explored_text(machine, &setup, task),
@@ -46,13 +44,11 @@ where
 }
 
 // Prints a text.
-fn print<W: Write, E: Write>(text: &[u8], out: &mut W, err: &mut E) -> u8
-    ensures { result ≤ 3 }
-{
+fn print<W: Write, E: Write>(text: &[u8], out: &mut W, err: &mut E) -> Status {
     if out.write_all(text).is_err() || out.flush().is_err() {
-        return fault::tell(&fault::Fault::Device("-"), None, err);
+        return fault::tell(&fault::Fault::Device { path: "-" }, err);
     }
-    0
+    Status::Done
 }
 
 // Whether schedules were run, or were too many: then lines that were interleaved too may have been meant as the setup.
@@ -67,13 +63,12 @@ fn end<A, F, T, W, E>(
     done: Result<Vec<u8, A>, Fault<'_>>,
     out: &mut W,
     err: &mut E,
-) -> u8
+) -> Status
 where
     A: Allocator + Copy,
     F: Files<A>,
     W: Write,
     E: Write,
-    ensures { result ≤ 3 }
 {
     let room = Room {
         alloc: machine.alloc,
@@ -81,7 +76,7 @@ where
     };
     match done {
         Ok(told) => print(told.as_slice(), out, err),
-        Err(fault) => tell(room, &fault, machine.files.reason(), err),
+        Err(fault) => tell(room, &fault, err),
     }
 }
 
@@ -103,14 +98,13 @@ fn explore_script<A, F, T, W, E>(
     task: Task<'_>,
     out: &mut W,
     err: &mut E,
-) -> u8
+) -> Status
 where
     A: Allocator + Copy + Send + Sync,
     F: Files<A>,
     T: Threads + Wait + Sync,
     W: Write,
     E: Write,
-    ensures { result ≤ 3 }
 {
     let (catalog, opens, lines) = script.into_parts();
     let count = if task.order.is_none() {
@@ -121,7 +115,7 @@ where
     let done = text_of(machine, text, catalog, opens.as_ref(), lines, task);
     let may_warn = may_be_setup(&done);
     let status = end(machine, task, done, out, err);
-    if may_warn && status != 3 {
+    if may_warn && status != Status::Device {
         warn(count, err);
     }
     status
@@ -133,23 +127,22 @@ fn explore_file<A, F, T, W, E>(
     task: Task<'_>,
     out: &mut W,
     err: &mut E,
-) -> u8
+) -> Status
 where
     A: Allocator + Copy + Send + Sync,
     F: Files<A>,
     T: Threads + Wait + Sync,
     W: Write,
     E: Write,
-    ensures { result ≤ 3 }
 {
-    let bytes = match read_path(machine.alloc, machine.files, task.script) {
+    let bytes = match machine.read_path(task.script, fault::Fault::ScriptOutOfMemory) {
         Ok(bytes) => bytes,
-        Err(fault) => return fault::tell(&fault, machine.files.reason(), err),
+        Err(fault) => return fault::tell(&fault, err),
     };
     let text = bytes.as_slice();
     match read_script(machine.alloc, Schedule::InOrder, text) {
         Ok(script) => explore_script(machine, text, script, task, out, err),
-        Err(fault) => tell_line(machine.alloc, text, fault.line, err),
+        Err(fault) => tell_line(machine.alloc, Schedule::InOrder, text, fault.line, err),
     }
 }
 
@@ -170,8 +163,10 @@ where
     T: Threads + Wait + Sync,
     ensures within { result ≤ 3 }
 {
-    match read_words(machine.words_memory, words) {
+    let status = match read_words(machine.words_memory, words) {
         Ok(task) => explore_file(machine, task, out, err),
         Err(error) => tell_words(&error, out, err),
-    }
+    };
+    tell_reason(status, machine.files.reason(), err);
+    status.code()
 }
