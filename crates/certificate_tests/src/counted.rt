@@ -4,7 +4,7 @@ use crate::recorded::judge;
 use value::refusal::Refusal;
 
 // Both count the rows and put one in: each comes before the other, which found a row less.
-const SKEW_OF_COUNTS: &str = "\
+pub(crate) const SKEW_OF_COUNTS: &str = "\
 > CREATE TABLE t (id bigint PRIMARY KEY, v bigint);
 > 1 BEGIN;
   1 BEGIN
@@ -55,7 +55,7 @@ lacking 2 0: 0
 }
 
 // There were two rows, and one is counted.
-const TOO_MANY_ROWS: &str = "\
+pub(crate) const TOO_MANY_ROWS: &str = "\
 > CREATE TABLE t (id bigint PRIMARY KEY, v bigint);
 > 1 BEGIN;
   1 BEGIN
@@ -90,7 +90,7 @@ needless 1 1.1 0; needless 1 1.1 2; overfull 1 0: 2
 }
 
 // There were two rows at most, and three are counted.
-const TOO_FEW_ROWS: &str = "\
+pub(crate) const TOO_FEW_ROWS: &str = "\
 > CREATE TABLE t (id bigint PRIMARY KEY, v bigint);
 > 1 BEGIN;
   1 BEGIN
@@ -126,7 +126,7 @@ suppose absent 1; lacking 1 0; lacking 1 0: taken
 }
 
 // The first counts the row that the second puts in, and finds another as it was before the second changed it.
-const READ_SKEW_OF_COUNTS: &str = "\
+pub(crate) const READ_SKEW_OF_COUNTS: &str = "\
 > CREATE TABLE t (id bigint PRIMARY KEY, v bigint);
 > 1 BEGIN;
   1 BEGIN

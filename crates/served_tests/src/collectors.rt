@@ -4,7 +4,7 @@ ghost use Rattle.std.specs.Prelude.{◌≡◌, ◌-◌, ◌<◌, ◌≤◌, ◌�
 ghost use Rattle.dumpplan.specs.Parts.{head_text, end_text};
 ghost use Rattle.dumpplan.specs.declared.piece.Piece.TheVariants.{Head, End};
 
-use crate::fixture::{check, cut, not_a_case};
+use crate::dumped::{check, cut, not_a_case};
 use collector::{Collector, Device, DeviceError, Finish, OfferFault, write_all};
 use dumpplan::text::{end_text, head_text};
 use dumpplan::{PieceRows, Plan, plan};

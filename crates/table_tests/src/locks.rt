@@ -1,6 +1,7 @@
 //! Locks: what a transaction's reads cover, few and many, taken back and released.
 
-use crate::words::{check, cut, not_a_case, txn};
+use crate::cases::{check, not_a_case};
+use crate::numbers::{cut, txn};
 use schema::catalog::TableNo;
 use siread::locks::Locks;
 use statement::reading::{End, Extent, Footprint, Reading};

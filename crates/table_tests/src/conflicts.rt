@@ -1,6 +1,7 @@
 //! The tracker of conflicts, with and without forgetting after each step.
 
-use crate::words::{check, cut, not_a_case, number, txn};
+use crate::cases::{check, not_a_case};
+use crate::numbers::{cut, number, txn};
 use conflict::conflicts::Conflicts;
 use std::alloc::{Allocator, Global};
 use value::refusal::{Cause, Mode, Refusal, TxnNo};

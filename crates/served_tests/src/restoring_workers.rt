@@ -1,7 +1,7 @@
 //! Tests of reading by workers: how many pieces they read, and that they read side by side.
 
+use crate::dumped::{check, not_a_case};
 use crate::dumping_workers::writes;
-use crate::fixture::{check, not_a_case};
 use crate::gates::{Counting, Meeting};
 use dumpplan::{Gate, Jobs, NoGate};
 use restore::restore;

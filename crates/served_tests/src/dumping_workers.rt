@@ -1,6 +1,6 @@
 //! Tests of dumps: by how many workers, with which pieces held back, to devices that fail; and by the calling thread alone.
 
-use crate::fixture::{
+use crate::dumped::{
     EXAMPLE, NOTHING, SEVEN_KEYS, SEVEN_KEYS_AND_NONE, SIX_KEYS, check, tables_of,
 };
 use crate::flaky::Flaky;

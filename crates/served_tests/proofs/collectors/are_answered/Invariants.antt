@@ -1,5 +1,5 @@
 use Rattle.std.proofs.Common.{◌≡◌}
-use Rattle.dump_tests.proofs.collectors.are_answered.Given as goal
+use Rattle.served_tests.proofs.collectors.are_answered.Given as goal
 
 -- the pieces stay what they were
 abbrev pub invariant-loop-offer : goal.invariant-loop-offer

@@ -1,6 +1,7 @@
 //! What makes a snapshot safe, and what spoils it.
 
-use crate::words::{check, cut, not_a_case, number, txn};
+use crate::cases::{check, not_a_case};
+use crate::numbers::{cut, number, txn};
 use safesnap::waiting::{State, Waiting};
 use value::refusal::{Refusal, TxnNo};
 

@@ -1,6 +1,6 @@
 //! A dump of what gives rows one by one alone.
 
-use crate::fixture::{EXAMPLE, SEVEN_KEYS, check, tables_of};
+use crate::dumped::{EXAMPLE, SEVEN_KEYS, check, tables_of};
 use crate::flaky::Flaky;
 use dumpplan::PieceRows;
 use dumpworker::dump_one;
