@@ -26,7 +26,7 @@ pub record Writing : Type 1 where
 abbrev pub IsWritten : {Out : Type 0} → (Out → List ℕ) → (Out → List ℕ) → List ℕ → List ℕ → Type 0
 IsWritten {Out} path_of kept path bytes = (made : Out) × (path_of made ≡ path) × (kept made ≡ []) × (file : Out) × (kept file ≡ bytes)
 
--- A file of this path was made, and has failed since.
+-- A file of this path was made, and one has failed since.
 abbrev pub HasFailed : {Out : Type 0} → (Out → List ℕ) → (Out → ℕ) → List ℕ → Type 0
 HasFailed {Out} path_of failures path = (made : Out) × (path_of made ≡ path) × (failures made ≡ 0) × (file : Out) × (failures file ≢ 0)
 

@@ -21,7 +21,7 @@ pub(crate) enum Fault<'p> {
 }
 
 impl<'p> Fault<'p> {
-    /// The fault of a file; what has no memory but a dump's is the transcript.
+    /// Why a file or a dump wasn't read or written. Out of memory that isn't a dump's is the transcript's.
     pub(crate) fn of(fault: fault::Fault<'p>) -> Fault<'p> {
         match fault {
             fault::Fault::ScriptOutOfMemory => Fault::Memory,

@@ -1,4 +1,4 @@
-//! Standard output.
+//! What is printed on standard output.
 
 use crate::check::fault::Fault;
 use program::fault;
