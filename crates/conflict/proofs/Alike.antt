@@ -10,7 +10,8 @@ use Rattle.value.proofs.IsolationLemmas.{In}
 use Rattle.value.proofs.Basics.{filter-In, any-In, In-any, find-In, filter-map, In-map}
 use Rattle.conflict.specs.Tracked.{Party, Tracked, Each, IsNumbered, IsProper, node, reads, edge, opened, after_forget, cause_of, dooms_of, dooms_from, first_out, out_from, party_of, is_active, is_needed, is_recent, is_writer, forgetful, with_edge, with_snapshot, with_commit, without_active}
 use Rattle.conflict.specs.Later.{Told, Begins, Reads, Moves, Commits, Drops, told, all_told, has_committed, CanTell, CanTellAll, IsFrom, is_recent_from, AnswersAlike, Alike, IsOldest}
-use Rattle.conflict.proofs.Lists.{clash, Each-In, Each-all, In-filter, In-append, filter_alike, filter-kept, filter-filter, find-kept, find-alike, fold-kept, fold-alike}
+use Rattle.value.proofs.Lists.{clash, In-filter, In-append, filter_alike, filter-kept, filter-filter, find-kept, find-alike, fold-kept, fold-alike}
+use Rattle.conflict.proofs.EachOf.{Each-In, Each-all}
 use Rattle.conflict.proofs.Proper.{edge_still, one_of_number, proper_drop, proper_begin, proper_edge, proper_move, proper_commit}
 use Rattle.conflict.proofs.Thinned.{Thinned, active_recent, commit_recent, commit_step, edge_step, move_recent, move_step, moved_snapshot, needed_by, needed_cases, needed_recent, same_cause, thinned_needed}
 

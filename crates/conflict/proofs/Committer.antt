@@ -7,8 +7,9 @@ use Rattle.value.proofs.IsolationLemmas.{In}
 use Rattle.value.proofs.Basics.{filter_none, first_some-none}
 use Rattle.conflict.specs.Tracked.{Party, Tracked, Each, IsNumbered, IsProper, Rising, cause_of, edge, is_active, is_writer, node, node_after, reads, with_commit}
 use Rattle.conflict.specs.Through.{IsThrough, through}
-use Rattle.conflict.proofs.Lists.{clash, Each-In, Each-all}
-use Rattle.conflict.proofs.Structures.{parts, no_danger, no_cause, cause-map}
+use Rattle.value.proofs.Lists.{clash}
+use Rattle.conflict.proofs.EachOf.{Each-In, Each-all}
+use Rattle.value.proofs.Structures.{parts, no_danger, no_cause, cause-map}
 use Rattle.conflict.proofs.Thinned.{above, commit_stays, one_more}
 
 -- of the one of a number alone it gives something

@@ -11,7 +11,8 @@ use Rattle.conflict.specs.Tracked.{Each, IsSorted, Party, Rising, edge, is_among
 use Rattle.conflict.specs.Undo.{AreSound}
 use Rattle.conflict.specs.Walks.{KnowsReaders, found, is_holding, is_unseen}
 use Rattle.conflict.proofs.Found.{found_is, passes_one}
-use Rattle.conflict.proofs.Lists.{clash, Each-In, Each-all}
+use Rattle.value.proofs.Lists.{clash}
+use Rattle.conflict.proofs.EachOf.{Each-In, Each-all}
 use Rattle.conflict.proofs.Places.{get-In}
 use Rattle.conflict.proofs.Proper.{edges_filter, rising_filter}
 use Rattle.conflict.proofs.Thinned.{needed_recent}

@@ -14,7 +14,8 @@ use Rattle.conflict.specs.Earliest.{first_of}
 use Rattle.conflict.specs.Tracked.{Ascending, Each, Party, Rising, is_among}
 use Rattle.conflict.specs.Walks.{first_with, folded, found, given, passing}
 use Rattle.conflict.proofs.CauseLemmas.{earliest-push}
-use Rattle.conflict.proofs.Lists.{Each-In, filter_alike}
+use Rattle.value.proofs.Lists.{filter_alike}
+use Rattle.conflict.proofs.EachOf.{Each-In}
 
 abbrev pub one_of : ℕ → List Party → Option Party
 one_of n ps = find (λ (p : Party). eqb p.number n) ps

@@ -12,7 +12,8 @@ use Rattle.value.proofs.IsolationLemmas.{In}
 use Rattle.value.proofs.Basics.{find-In}
 use Rattle.conflict.specs.Tracked.{AreEdges, Ascending, IsSorted, Party, Rising, Tracked, Each, IsProper, after_commit, after_edge, after_edges, after_forget, cause_of, is_needed, is_rival, is_writer, lesser, next_commit, node, opened, reads, rivals, with_commit, with_edge, with_edges, with_snapshot, without_active}
 use Rattle.conflict.specs.Later.{Alike, CanTellEdges, IsOldest, has_committed}
-use Rattle.conflict.proofs.Lists.{Each-In, Each-all, clash}
+use Rattle.value.proofs.Lists.{clash}
+use Rattle.conflict.proofs.EachOf.{Each-In, Each-all}
 use Rattle.conflict.proofs.Proper.{proper_begin, proper_commit, proper_drop, proper_edge, proper_filter, proper_move}
 use Rattle.conflict.specs.Through.{IsThrough}
 use Rattle.conflict.specs.Undo.{AreSorted}

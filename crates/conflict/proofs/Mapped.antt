@@ -5,8 +5,9 @@ use Rattle.value.specs.Isolation.{Node, caused, earliest, first_cause, first_som
 use Rattle.value.proofs.IsolationLemmas.{In}
 use Rattle.value.proofs.Basics.{first_some-same_in}
 use Rattle.conflict.specs.Tracked.{Each, Party, edge, node}
-use Rattle.conflict.proofs.Lists.{Each-In, filter_alike}
-use Rattle.conflict.proofs.Structures.{cause-map}
+use Rattle.value.proofs.Lists.{filter_alike}
+use Rattle.conflict.proofs.EachOf.{Each-In}
+use Rattle.value.proofs.Structures.{cause-map}
 
 -- the same structures by two kinds of edges
 cause-alike : {T : Type 0} (n : T → Node) (e d : T → T → Bool) (ts : List T) → ((a b c : T) → In a ts → In b ts → In c ts → is_dangerous n e a b c ≡ is_dangerous n d a b c) → first_cause n e ts ≡ first_cause n d ts

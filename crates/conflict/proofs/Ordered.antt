@@ -10,7 +10,7 @@ use Rattle.value.proofs.Basics.{eqb-self, gt-eqb}
 use Rattle.conflict.specs.Tracked.{Ascending, Each, Party, Rising, is_among, put_in}
 use Rattle.conflict.specs.Undo.{IsGap, IsPlace}
 use Rattle.conflict.specs.Tracked.{without}
-use Rattle.conflict.proofs.Lists.{clash}
+use Rattle.value.proofs.Lists.{clash}
 
 -- ---- comparisons
 

@@ -13,7 +13,8 @@ use Rattle.conflict.specs.Tracked.{AreEdges, Ascending, IsSorted, Party, Rising,
 use Rattle.conflict.specs.Undo.{AreSorted, IsActiveAt, changed_at, is_tracked, taken_back, unread_by, unreading, without_in, without_note, without_out}
 use Rattle.conflict.specs.Tracked.{without}
 use Rattle.conflict.specs.Walks.{IsAt}
-use Rattle.conflict.proofs.Lists.{Each-In, Each-all, In-filter}
+use Rattle.value.proofs.Lists.{In-filter}
+use Rattle.conflict.proofs.EachOf.{Each-In, Each-all}
 use Rattle.conflict.proofs.Ordered.{ascending_filter, ascending_put, none_there, rising_pairs, stands_at, stands_not, stands_within, without_none, without_twice}
 use Rattle.conflict.proofs.Proper.{each_map, rising_map}
 use Rattle.value.proofs.IsolationLemmas.{In}

@@ -9,9 +9,10 @@ use Rattle.value.proofs.IsolationLemmas.{In}
 use Rattle.value.proofs.Basics.{any-In, In-any, eqb_comm, In-map}
 use Rattle.conflict.specs.Tracked.{AreEdges, Ascending, IsSorted, Party, Tracked, Each, IsNumbered, IsProper, Rising, is_among, put_in, node, reads, edge, opened, after_begin, after_drop, after_edge, after_move, after_commit, cause_of, is_active, is_writer, forgetful, with_edge, with_snapshot, with_commit, without}
 use Rattle.conflict.specs.Later.{has_committed}
-use Rattle.conflict.proofs.Lists.{clash, Each-In, Each-all, In-filter, In-append}
+use Rattle.value.proofs.Lists.{clash, In-filter, In-append}
+use Rattle.conflict.proofs.EachOf.{Each-In, Each-all}
 use Rattle.conflict.proofs.Ordered.{among_other, among_put, among_still, ascending_filter, ascending_put, each_put, each_without}
-use Rattle.conflict.proofs.Structures.{parts, whole, no_danger, no_cause}
+use Rattle.value.proofs.Structures.{parts, whole, no_danger, no_cause}
 
 -- ---- the order of numbers
 

@@ -7,8 +7,9 @@ use Rattle.value.proofs.IsolationLemmas.{In}
 use Rattle.value.proofs.Basics.{any-In, In-any, filter-map, In-map}
 use Rattle.conflict.specs.Tracked.{Party, Tracked, IsNumbered, IsProper, node, reads, edge, is_active, is_needed, is_recent, is_writer, with_edge, with_snapshot, with_commit}
 use Rattle.conflict.specs.Later.{has_committed, IsOldest}
-use Rattle.conflict.proofs.Lists.{clash, Each-In}
-use Rattle.conflict.proofs.Structures.{Danger, parts, whole, no_danger, cause-kept}
+use Rattle.value.proofs.Lists.{clash}
+use Rattle.conflict.proofs.EachOf.{Each-In}
+use Rattle.value.proofs.Structures.{Danger, parts, whole, no_danger, cause-kept}
 use Rattle.conflict.proofs.Proper.{one_active, reads_otherwise, snapshot_stays}
 
 -- s is r without some transactions: those whose numbers pass the test are there.

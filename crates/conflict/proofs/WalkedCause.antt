@@ -13,7 +13,8 @@ use Rattle.conflict.specs.Through.{IsThrough, from_first, through}
 use Rattle.conflict.specs.Walks.{IsCommitter, closed_by, found, from_other, from_own, is_last, is_pair, is_unseen, last_of, sooner, walked_cause}
 use Rattle.conflict.proofs.CauseLemmas.{caused-none}
 use Rattle.conflict.proofs.Found.{found_is}
-use Rattle.conflict.proofs.Lists.{Each-In, In-filter, filter_alike, first_some-kept}
+use Rattle.value.proofs.Lists.{In-filter, filter_alike, first_some-kept}
+use Rattle.conflict.proofs.EachOf.{Each-In}
 
 abbrev none_at_all : Option Cause
 none_at_all = None

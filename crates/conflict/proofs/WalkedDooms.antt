@@ -11,7 +11,8 @@ use Rattle.value.proofs.Basics.{fold-same_in, find-same_in, find-In}
 use Rattle.conflict.specs.Tracked.{Ascending, Each, IsSorted, Party, is_among, node, reads}
 use Rattle.conflict.specs.Walks.{IsAmong, folded, found, may_be_first, with_walked}
 use Rattle.conflict.proofs.Found.{found_is, found_next, found_split, one_of}
-use Rattle.conflict.proofs.Lists.{Each-In, In-filter, fold-kept}
+use Rattle.value.proofs.Lists.{In-filter, fold-kept}
+use Rattle.conflict.proofs.EachOf.{Each-In}
 
 -- ---- lists
 

@@ -10,8 +10,9 @@ use Rattle.value.proofs.IsolationLemmas.{In}
 use Rattle.value.proofs.Basics.{fold-same_in, find-map, find-same_in, filter-map}
 use Rattle.conflict.specs.Tracked.{Each, Party, edge, least_out, node, reads}
 use Rattle.conflict.specs.World.{AreIdle, AreSpared, IsSafeReader, first_commit_out, least_of, shows}
-use Rattle.conflict.proofs.Lists.{clash, Each-In, filter_alike, filter-kept, find-alike, fold-alike, fold-kept}
-use Rattle.conflict.proofs.Structures.{cause-kept, earliest-map, parts}
+use Rattle.value.proofs.Lists.{clash, filter_alike, filter-kept, find-alike, fold-alike, fold-kept}
+use Rattle.conflict.proofs.EachOf.{Each-In}
+use Rattle.value.proofs.Structures.{cause-kept, earliest-map, parts}
 
 -- ---- lists
 

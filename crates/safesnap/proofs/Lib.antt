@@ -1,3 +1,1 @@
 mod WatchLemmas
-pub mod UnspoiltLemmas
-pub mod Spoilt

@@ -1,2 +1,1 @@
 pub mod Watch
-pub mod Unspoilt

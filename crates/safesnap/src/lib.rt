@@ -1,7 +1,5 @@
-//! Whether snapshots are safe: by how those end that were active at one, or by the serial keys of commits.
+//! Whether a snapshot is safe, by how those end that were active at it.
 
 #![tactic(auto)]
 
-pub mod laws;
-pub mod unspoilt;
 pub mod waiting;

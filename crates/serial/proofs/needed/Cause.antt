@@ -5,8 +5,8 @@ use Rattle.value.specs.Isolation.{bound, first_cause, is_dangerous}
 use Rattle.value.proofs.IsolationLemmas.{In}
 use Rattle.value.proofs.SerialLemmas.{NumberedFrom}
 use Rattle.value.proofs.Basics.{In-any}
-use Rattle.conflict.proofs.Lists.{clash}
-use Rattle.conflict.proofs.Structures.{Danger, parts, cause-kept}
+use Rattle.value.proofs.Lists.{clash}
+use Rattle.value.proofs.Structures.{Danger, parts, cause-kept}
 use Rattle.history.specs.declared.event.Record.{Record}
 use Rattle.history.specs.Opening.{Opening}
 use Rattle.history.specs.Transactions.{Open, Done, Txn, World, node, edge, commits, is_open, is_done, is_owed, is_read_write}

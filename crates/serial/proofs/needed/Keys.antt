@@ -5,7 +5,7 @@ use Rattle.std.specs.List.{filter}
 use Rattle.value.specs.Isolation.{first_part, serial_key, write_key}
 use Rattle.value.proofs.IsolationLemmas.{In}
 use Rattle.value.proofs.SerialLemmas.{In-append}
-use Rattle.conflict.proofs.Lists.{In-filter, clash, filter-filter}
+use Rattle.value.proofs.Lists.{In-filter, clash, filter-filter}
 use Rattle.history.specs.declared.event.Action.{Action}
 use Rattle.history.specs.declared.event.Action.TheVariants.{Begin}
 use Rattle.history.specs.declared.event.Record.{Record}

@@ -6,7 +6,7 @@ use Rattle.value.specs.declared.refusal.Cause.{Cause}
 use Rattle.value.proofs.IsolationLemmas.{In}
 use Rattle.value.proofs.SerialLemmas.{In-append}
 use Rattle.value.proofs.Basics.{any-In, In-any}
-use Rattle.conflict.proofs.Lists.{clash, filter-kept, filter_alike}
+use Rattle.value.proofs.Lists.{clash, filter-kept, filter_alike}
 use Rattle.history.specs.declared.event.Action.{Action}
 use Rattle.history.specs.declared.event.Action.TheVariants.{Begin}
 use Rattle.history.specs.declared.event.Record.{Record}

@@ -6,7 +6,7 @@ use Rattle.value.specs.declared.refusal.Mode.TheVariants.{ReadWrite, ReadOnly, D
 use Rattle.value.proofs.IsolationLemmas.{In}
 use Rattle.value.proofs.SerialLemmas.{In-append}
 use Rattle.value.proofs.Basics.{any-In, find-In}
-use Rattle.conflict.proofs.Lists.{clash}
+use Rattle.value.proofs.Lists.{clash}
 use Rattle.history.specs.Transactions.{Done, Txn, World, Exported_snapshot, commits, is_living, is_open, is_read_only, is_read_write, must_wait}
 use Rattle.history.specs.Events.{begun, ended}
 use Rattle.history.specs.Needed.{is_safe_reader}

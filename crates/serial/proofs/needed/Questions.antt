@@ -5,7 +5,7 @@ use Rattle.std.specs.List.{filter, list_any}
 use Rattle.value.specs.Isolation.{Node, first_part, serial_key, write_key}
 use Rattle.value.proofs.IsolationLemmas.{In}
 use Rattle.value.proofs.Basics.{any-same_in, filter-In, any-In, In-any}
-use Rattle.conflict.proofs.Lists.{In-filter, clash, filter-filter}
+use Rattle.value.proofs.Lists.{In-filter, clash, filter-filter}
 use Rattle.history.specs.declared.event.Record.{Record}
 use Rattle.history.specs.Opening.{Opening}
 use Rattle.history.specs.Transactions.{Standing, Txn, World, node, edge, is_open, is_done, is_pending, is_read_write, is_spoilt, spoils, was_active}

@@ -6,7 +6,7 @@ use Rattle.std.specs.Cmp.{both_ways}
 use Rattle.std.specs.List.{filter, list_any}
 use Rattle.value.proofs.IsolationLemmas.{In}
 use Rattle.value.proofs.Basics.{any-In, In-any}
-use Rattle.conflict.proofs.Lists.{filter_alike}
+use Rattle.value.proofs.Lists.{filter_alike}
 use Rattle.history.specs.declared.event.Record.{Record}
 use Rattle.history.specs.Opening.{Opening}
 use Rattle.history.specs.Transactions.{Txn, World, edge, is_done, is_owed, is_read_write}

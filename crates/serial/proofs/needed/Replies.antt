@@ -8,7 +8,7 @@ use Rattle.value.specs.declared.refusal.Cause.{Cause}
 use Rattle.value.specs.Isolation.{cause_from, dooms, is_doomed, is_first, is_live, is_other, with_doom}
 use Rattle.value.proofs.IsolationLemmas.{In}
 use Rattle.value.proofs.Basics.{any-same_in}
-use Rattle.conflict.proofs.Lists.{clash, find-alike, fold-alike, fold-kept}
+use Rattle.value.proofs.Lists.{clash, find-alike, fold-alike, fold-kept}
 use Rattle.schema.specs.declared.changes.Change.{Change}
 use Rattle.history.specs.declared.event.Record.{Record}
 use Rattle.history.specs.Opening.{Opening}

@@ -4,7 +4,7 @@ use Rattle.std.proofs.lemmas.Bool.{leb-true}
 use Rattle.std.specs.List.{filter}
 use Rattle.value.specs.Isolation.{Node, bound, first_cause, is_dangerous}
 use Rattle.value.proofs.IsolationLemmas.{In}
-use Rattle.conflict.proofs.Structures.{Danger, parts, cause-kept}
+use Rattle.value.proofs.Structures.{Danger, parts, cause-kept}
 
 module _ {T : Type 0} (node : T → Node) (edge : T → T → Bool) where
   -- x commits among ts; k says which are kept, and n is a number at most x's snapshot.
@@ -52,6 +52,6 @@ module _ {T : Type 0} (node : T → Node) (edge : T → T → Bool) where
         go (inl p) = first p
         go (inr p) = middle p
 
-    -- The same structure is named of those that are kept.
+    -- Of those that are kept the structure is named that is named of all.
     pub cause_of_kept : first_cause node edge (filter k ts) ≡ first_cause node edge ts
     cause_of_kept = cause-kept node edge k ts all_kept

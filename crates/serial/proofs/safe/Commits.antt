@@ -6,7 +6,7 @@ use Rattle.value.specs.Isolation.{first_cause}
 use Rattle.value.proofs.IsolationLemmas.{In}
 use Rattle.value.proofs.SerialLemmas.{In-append}
 use Rattle.value.proofs.Basics.{filter_none, any-In}
-use Rattle.conflict.proofs.Structures.{cause-kept}
+use Rattle.value.proofs.Structures.{cause-kept}
 use Rattle.history.specs.declared.event.Record.{Record}
 use Rattle.history.specs.Opening.{Opening}
 use Rattle.history.specs.Transactions.{Txn, World, edge, is_open, is_pending, is_read_write, is_spoilt, node, spoils, was_active}

@@ -4,7 +4,7 @@ use Rattle.std.proofs.lemmas.Bool.{not-true, leb-true, ltb-true, and_parts, and_
 use Rattle.std.specs.List.{list_any}
 use Rattle.value.proofs.IsolationLemmas.{In}
 use Rattle.value.proofs.Basics.{cases_le, any-In}
-use Rattle.conflict.proofs.Lists.{clash}
+use Rattle.value.proofs.Lists.{clash}
 use Rattle.history.specs.Transactions.{Txn, World, edge, is_open, is_done, is_pending, is_read_write, is_spoilt, spoils, was_active}
 use Rattle.history.specs.Needed.{is_safe_reader, is_settled}
 use Rattle.serial.proofs.legal.EndsSeen.{EndsSeen}

@@ -2,7 +2,7 @@ use Rattle.std.proofs.Common.{◌∙◌, ap, sym, ◌+◌}
 use Rattle.value.specs.Isolation.{edge_of, first_cause}
 use Rattle.conflict.specs.Tracked.{after_commit, edge, node, node_after, reads, with_commit}
 use Rattle.conflict.proofs.Kept.{committer_found, nobody_makes}
-use Rattle.conflict.proofs.Structures.{cause-map}
+use Rattle.value.proofs.Structures.{cause-map}
 use Rattle.conflict.proofs.conflicts.Conflicts.check.Goals as goal
 
 pub first_cause-requires : goal.first_cause-requires
