@@ -1,6 +1,7 @@
 mod AddingLemmas
 pub mod BatchLemmas
 pub mod ChangingLemmas
+pub mod ComingLemmas
 pub mod FindLemmas
 pub mod InsertingLemmas
 mod KeyedLemmas

@@ -1,6 +1,7 @@
 pub mod Adding
 pub mod Changed
 pub mod Changing
+pub mod Coming
 pub mod Definition
 pub mod Inserting
 pub mod Keyed

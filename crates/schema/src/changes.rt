@@ -4,15 +4,18 @@ ghost use Rattle.std.specs.Prelude.{◌≡◌, [], OnOk, OnErr, IfOk, IfErr, IfS
 ghost use Rattle.std.specs.Option.{option_map, option_copied};
 ghost use Rattle.value.specs.Refusals.{out_of_memory};
 ghost use Rattle.schema.specs.Changing.{put_change, change_of, next_change, new_row, AreOfTable, IsByKey};
+ghost use Rattle.schema.specs.Coming.{coming};
 ghost use Rattle.schema.specs.Said.{said_key, said_fields};
 
 mod listed;
 mod table;
 mod trees;
+pub mod walk;
 
 use crate::catalog::TableNo;
 use crate::changes::listed::Listed;
 use crate::changes::trees::Trees;
+use crate::changes::walk::ChangeWalk;
 use crate::paged::Keyed;
 use crate::reader::Bound;
 use crate::row::Row;
@@ -209,6 +212,16 @@ impl<A: Allocator> Changes<A> {
         match &self.kept {
             Kept::ByTable(trees) => trees.next(table, after),
             Kept::OfOne(listed) => listed.next(table, after),
+        }
+    }
+
+    /// A walk over the changes of a table within a bound.
+    pub fn walk(&self, table: TableNo, after: Bound<&Key<A>>) -> ChangeWalk<'_, A>
+        ensures { result ≡ coming self.now table after.entry }
+    {
+        match &self.kept {
+            Kept::ByTable(trees) => ChangeWalk::of_map(trees.walk(table, after)),
+            Kept::OfOne(listed) => ChangeWalk::of_list(listed.walk(table, after)),
         }
     }
 

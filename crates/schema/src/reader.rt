@@ -1,6 +1,6 @@
 //! What gives the rows of tables, and walks over them.
 
-ghost use Rattle.std.specs.Prelude.{◌≡◌, ◌≤◌, ◌<◌, List, length, take, IfOk, IfErr};
+ghost use Rattle.std.specs.Prelude.{◌≡◌, ◌≤◌, ◌<◌, List, length, take, IfOk, IfErr, IfSome};
 ghost use Rattle.std.specs.Option.{option_copied};
 ghost use Rattle.value.specs.Refusals.{out_of_memory};
 ghost use Rattle.schema.specs.Keyed.{start_of, shown_bound};
@@ -95,6 +95,14 @@ pub trait SnapshotReader<A: Allocator> {
             next = self.next_row(table, Bound::After(row.key()));
         }
         Ok(rows)
+    }
+
+    /// How many rows a table has, where the reader knows it without looking at each. Here it doesn't.
+    fn known_count(&self, table: TableNo) -> Option<usize>
+        requires { HasTable (tables self.now) table }
+        ensures { IfSome result (λ count. count ≡ length (rows_of (tables self.now) table)) }
+    {
+        None
     }
 }
 

@@ -175,4 +175,8 @@ impl<A: Allocator> SnapshotReader<A> for Tables<A> {
     ) -> Result<Vec<&Row<A>, A>, Refusal> {
         self.tables[table.place() as usize].next_rows(alloc, after, most)
     }
+
+    fn known_count(&self, table: TableNo) -> Option<usize> {
+        Some(self.len(table))
+    }
 }

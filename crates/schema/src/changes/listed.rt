@@ -1,9 +1,10 @@
 //! The changes of one table as a list.
 
-ghost use Rattle.std.specs.Prelude.{◌≡◌, ◌<◌, ◌≤◌, ◌^◌, [], OnOk, OnErr, IfOk, IfErr};
+ghost use Rattle.std.specs.Prelude.{◌≡◌, ◌<◌, ◌≤◌, ◌^◌, [], None, map, OnOk, OnErr, IfOk, IfErr};
 ghost use Rattle.std.specs.List.{AllByRecursion};
 ghost use Rattle.std.specs.Option.{option_map, option_copied};
 ghost use Rattle.value.specs.Refusals.{out_of_memory};
+ghost use Rattle.schema.specs.Coming.{coming, left, said_of};
 ghost use Rattle.schema.specs.Changing.{change_of, next_change, new_row, put_change, AreOfTable, IsByKey};
 
 use super::Change;
@@ -109,6 +110,19 @@ fn next_within<'c, A: Allocator>(
     }
 }
 
+// The changes of a table within a bound.
+fn walk_within<'c, A: Allocator>(
+    table: TableNo,
+    list: &'c [Change<A>],
+    after: Bound<&Key<A>>,
+) -> &'c [Change<A>]
+    requires { AreOfTable table list.now }
+    ensures { map said_of result.now ≡ coming list.now table after.entry }
+{
+    let (_, rest) = list.split_at(start(list, after.of_values()));
+    rest
+}
+
 impl<A: Allocator> Listed<A> {
     /// These changes of a table.
     pub fn of(table: TableNo, list: Vec<Change<A>, A>) -> Listed<A>
@@ -135,6 +149,17 @@ impl<A: Allocator> Listed<A> {
     {
         if table == self.table {
             next_within(table, self.list.as_slice(), after)
+        } else {
+            None
+        }
+    }
+
+    /// The changes of a table within a bound, where they are of that table.
+    pub fn walk(&self, table: TableNo, after: Bound<&Key<A>>) -> Option<&[Change<A>]>
+        ensures { left None result ≡ coming self.now table after.entry }
+    {
+        if table == self.table {
+            Some(walk_within(table, self.list.as_slice(), after))
         } else {
             None
         }

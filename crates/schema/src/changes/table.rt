@@ -6,6 +6,7 @@ ghost use Rattle.std.specs.List.Sorted.{IsStrictlySortedBy};
 ghost use Rattle.value.specs.Order.{value_cmp};
 ghost use Rattle.value.specs.Refusals.{out_of_memory};
 ghost use Rattle.schema.specs.Changing.{put_keyed, keyed_change, next_keyed, changes_in};
+ghost use Rattle.schema.specs.Coming.{keyed_coming};
 
 use super::Change;
 use crate::catalog::TableNo;
@@ -13,6 +14,7 @@ use crate::reader::Bound;
 use crate::row::Row;
 use std::alloc::{Allocator, Global};
 use std::collections::BTreeMap;
+use std::collections::btree_map::Range;
 use std::marker::Model;
 use std::ops;
 use value::key::Key;
@@ -65,6 +67,14 @@ impl<A: Allocator> ChangedTable<A> {
             Some((key, row)) => Some((key, row.as_ref())),
             None => None,
         }
+    }
+
+    /// The changes within a bound, one after another.
+    pub fn walk(&self, after: Bound<&Key<A>>) -> Range<'_, Key<A>, Option<Row<A>>>
+        ensures { result ≡ keyed_coming self.now after.entry }
+    {
+        let range = (after.start_key(), ops::Bound::Unbounded);
+        self.rows.range(range)
     }
 
     /// The keys rise. Nothing is done.

@@ -1,8 +1,9 @@
 //! The changes of all tables, each table's by their keys.
 
-ghost use Rattle.std.specs.Prelude.{◌≡◌, ◌<◌, ◌≤◌, ◌^◌, [], vec_len, slice_index_or, OnOk, OnErr, IfOk, IfErr, IfSome};
+ghost use Rattle.std.specs.Prelude.{◌≡◌, ◌<◌, ◌≤◌, ◌^◌, [], vec_len, slice_index_or, unwrap_or, OnOk, OnErr, IfOk, IfErr, IfSome};
 ghost use Rattle.std.specs.Option.{option_map, option_copied};
 ghost use Rattle.value.specs.Refusals.{out_of_memory};
+ghost use Rattle.schema.specs.Coming.{coming, keyed_coming};
 ghost use Rattle.schema.specs.Changing.{changes_from, put_change, change_of, next_change, IsByKey, keyed_change, next_keyed};
 
 use super::Change;
@@ -11,6 +12,7 @@ use crate::changes::table::ChangedTable;
 use crate::reader::Bound;
 use crate::row::Row;
 use std::alloc::{Allocator, Global};
+use std::collections::btree_map::Range;
 use std::marker::Model;
 use value::key::Key;
 use value::refusal::Refusal;
@@ -103,6 +105,20 @@ fn next<'c, A: Allocator>(
     }
 }
 
+// The changes of a table within a bound, one after another, where there are any of the table.
+fn walk<'c, A: Allocator>(
+    tables: &'c [ChangedTable<A>],
+    place: usize,
+    after: Bound<&Key<A>>,
+) -> Option<Range<'c, Key<A>, Option<Row<A>>>>
+    ensures { unwrap_or result [] ≡ keyed_coming (slice_index_or tables.now place []) after.entry }
+{
+    match tables.get(place) {
+        Some(changes) => Some(changes.walk(after)),
+        None => None,
+    }
+}
+
 // The keys of a table's changes rise. Nothing is done.
 fn in_key_order<A: Allocator>(tables: &[ChangedTable<A>], table: TableNo)
     ensures { IsByKey (changes_from 0 tables.now) table }
@@ -135,6 +151,17 @@ impl<A: Allocator> Trees<A> {
         ensures { option_map (λ p. (p.0.now, option_copied p.1)) result ≡ next_change self.now table after.entry }
     {
         next(self.tables.as_slice(), table.place() as usize, after)
+    }
+
+    /// The changes of a table within a bound, one after another, where there are any of the table.
+    pub fn walk(
+        &self,
+        table: TableNo,
+        after: Bound<&Key<A>>,
+    ) -> Option<Range<'_, Key<A>, Option<Row<A>>>>
+        ensures { unwrap_or result [] ≡ coming self.now table after.entry }
+    {
+        walk(self.tables.as_slice(), table.place() as usize, after)
     }
 
     /// The keys of a table's changes rise. Nothing is done.
