@@ -18,3 +18,4 @@ pub mod WritingLemmas
 pub mod UpdatingLemmas
 pub mod DeleteLemmas
 pub mod InsertLemmas
+pub mod CountLemmas
