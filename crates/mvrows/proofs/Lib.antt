@@ -16,3 +16,4 @@ pub mod SharedLemmas
 pub mod ThinningLemmas
 pub mod VersionLemmas
 pub mod ViewLemmas
+pub mod WholeLemmas

@@ -13,3 +13,4 @@ pub mod SharedTable
 pub mod Stored
 pub mod TakenBack
 pub mod Versions
+pub mod Whole

@@ -62,4 +62,8 @@ impl<A: Allocator> SnapshotReader<A> for At<'_, A> {
     ) -> Result<Vec<&Row<A>, A>, Refusal> {
         next_rows(alloc, self.table(table), self.snapshot, after, most)
     }
+
+    fn known_count(&self, table: TableNo) -> Option<usize> {
+        self.table(table).count(self.snapshot)
+    }
 }

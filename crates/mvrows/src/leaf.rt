@@ -1,17 +1,20 @@
 //! A page of a table, which views may share.
 
-ghost use Rattle.std.specs.Prelude.{◌≡◌, ◌≤◌, ◌++◌, ◌⊎◌, length, true, OnOk, OnErr, IfOk, IfErr};
+ghost use Rattle.std.specs.Prelude.{◌≡◌, ◌≤◌, ◌++◌, ◌⊎◌, length, true, is_some, OnOk, OnErr, IfOk, IfErr, IfSome, IsTrue};
 ghost use Rattle.value.specs.Refusals.{out_of_memory};
+ghost use Rattle.mvrows.specs.Versions.{VersionedRows, shown_rows};
 ghost use Rattle.mvrows.specs.Installing.{put_version};
 ghost use Rattle.mvrows.specs.Pruning.{pruned_rows};
 ghost use Rattle.mvrows.specs.Held.{held};
+ghost use Rattle.mvrows.specs.Owned.{value_in};
 ghost use Rattle.mvrows.specs.HeldRows.{undone, IsUndoable, own_pruned, has_keys, AllVersioned};
 ghost use Rattle.mvrows.specs.Settling.{settle_key};
 ghost use Rattle.mvrows.specs.Fresh.{IsOwnKey};
+ghost use Rattle.mvrows.specs.Whole.{IsWhole};
 
 use crate::chain::Chain;
 use crate::owned::Owned;
-use crate::page::Page;
+use crate::page::{Page, greater};
 use schema::changes::Change;
 use schema::paged::Paged;
 use std::alloc::{Allocator, Global};
@@ -24,15 +27,20 @@ use value::refusal::Refusal;
 #[derive_where(Debug)]
 pub(crate) struct Leaf<A: Allocator = Global> {
     page: Owned<Page<A>, A>,
+    // From which snapshot on each of its keys shows a row, where that is known.
+    whole: Option<u64>,
 }
 
 impl<A: Allocator> Model for Leaf<A> {
     ghost use Rattle.mvrows.specs.HeldRows.{Held};
     ghost use Rattle.mvrows.specs.Held.{held};
+    ghost use Rattle.mvrows.specs.Whole.{IsWhole};
 
     ghost Value = { Held A };
 
     ghost view = { λ t. held t.page };
+
+    ghost invariant = { λ t. IsWhole t.whole (held t.page).rows };
 }
 
 impl<A: Allocator> Paged<A> for Leaf<A> {
@@ -42,6 +50,61 @@ impl<A: Allocator> Paged<A> for Leaf<A> {
 
     fn items(&self) -> &[Chain<A>] {
         self.page().chains()
+    }
+}
+
+// A number that is at least one that is known, and that of a commit.
+fn raised(whole: Option<u64>, commit: u64) -> Option<u64>
+    ensures from { IfSome result (λ to. IfSome whole (λ from. from ≤ to)) }
+    ensures known { IfSome result (λ to. is_some whole ≡ true) }
+    ensures commit { IfSome result (λ to. commit ≤ to) }
+{
+    match whole {
+        Some(from) => Some(greater(from, commit)),
+        None => None,
+    }
+}
+
+// From which snapshot on each key of a page shows a row, once a commit has changed one, or could not.
+fn whole_with<A: Allocator>(whole: Option<u64>, commit: u64, change: &Change<A>) -> Option<u64>
+    ensures put { (rows : VersionedRows A) → IsWhole whole rows → IsWhole result
+        (put_version change.now.key (record { number = commit; fields = change.now.fields }) rows) }
+    ensures same { (rows : VersionedRows A) → IsWhole whole rows → IsWhole result rows }
+{
+    match change.fields() {
+        Some(_) => raised(whole, commit),
+        None => None,
+    }
+}
+
+// From which snapshot on each key of a page shows a row, where it isn't shared: a shared one has been looked at.
+fn seen<A: Allocator>(page: &Owned<Page<A>, A>) -> Option<u64>
+    ensures { IsWhole result (value_in page.now) }
+{
+    match page {
+        Owned::Own(page) => page.whole(),
+        Owned::Shared(_) => None,
+    }
+}
+
+// What is known of a page, else what a look at it shows.
+fn known_or_seen<A: Allocator>(whole: Option<u64>, page: &Owned<Page<A>, A>) -> Option<u64>
+    ensures { IsWhole whole (value_in page.now) → IsWhole result (value_in page.now) }
+{
+    match whole {
+        Some(_) => whole,
+        None => seen(page),
+    }
+}
+
+// Whether each key of a page is known to show a row to a snapshot.
+fn is_whole_at(whole: Option<u64>, snapshot: u64) -> bool
+    ensures from { IsTrue result → IfSome whole (λ from. from ≤ snapshot) }
+    ensures known { IsTrue result → is_some whole ≡ true }
+{
+    match whole {
+        Some(from) => from <= snapshot,
+        None => false,
     }
 }
 
@@ -64,6 +127,7 @@ impl<A: Allocator> Leaf<A> {
     {
         Leaf {
             page: Owned::Own(page),
+            whole: None,
         }
     }
 
@@ -89,6 +153,7 @@ impl<A: Allocator> Leaf<A> {
         let mut page = self.page.take(alloc)?;
         let put = page.put(alloc, commit, change);
         self.page = Owned::Own(page);
+        self.whole = whole_with(self.whole, commit, change);
         put
     }
 
@@ -96,6 +161,7 @@ impl<A: Allocator> Leaf<A> {
     pub fn take_back(&mut self, commit: u64)
         ensures { self.new.rows ≡ undone commit self.old }
     {
+        self.whole = None;
         match &mut self.page {
             Owned::Own(page) => page.take_back(commit),
             Owned::Shared(_) => {}
@@ -121,6 +187,7 @@ impl<A: Allocator> Leaf<A> {
     pub fn prune(&mut self, oldest: u64)
         ensures { self.new.rows ≡ own_pruned oldest self.old }
     {
+        self.whole = None;
         match &mut self.page {
             Owned::Own(page) => page.prune(oldest),
             Owned::Shared(_) => {}
@@ -146,7 +213,19 @@ impl<A: Allocator> Leaf<A> {
         A: Copy,
         ensures { self.new.rows ≡ self.old.rows }
     {
+        self.whole = known_or_seen(self.whole, &self.page);
         self.page.share(alloc);
+    }
+
+    /// How many rows of the page a snapshot shows.
+    pub fn count(&self, snapshot: u64) -> usize
+        ensures { result ≡ length (shown_rows snapshot self.now.rows) }
+    {
+        if is_whole_at(self.whole, snapshot) {
+            self.page().len()
+        } else {
+            self.page().count(snapshot)
+        }
     }
 
     /// Whether the page isn't shared.
@@ -177,6 +256,7 @@ impl<A: Allocator> Leaf<A> {
         let mut page = self.page.take(alloc)?;
         let upper = cut(&mut page);
         self.page = Owned::Own(page);
+        self.whole = None;
         upper
     }
 
@@ -188,6 +268,9 @@ impl<A: Allocator> Leaf<A> {
         ensures err { IfErr result (λ e. e ≡ out_of_memory) }
     {
         let page = self.page.lend(alloc)?;
-        Ok(Leaf { page })
+        Ok(Leaf {
+            page,
+            whole: self.whole,
+        })
     }
 }

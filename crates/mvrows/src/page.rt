@@ -1,6 +1,6 @@
 //! Keys with their versions, side by side: what views share of a table.
 
-ghost use Rattle.std.specs.Prelude.{◌≡◌, ◌≤◌, ◌++◌, ◌∷◌, [], true, false, length, take, drop, slice_get, map, filter, find, OnOk, OnErr, IfOk, IfErr, IsTrue};
+ghost use Rattle.std.specs.Prelude.{◌≡◌, ◌≤◌, ◌++◌, ◌∷◌, [], true, false, is_some, if◌then◌else◌, length, take, drop, slice_get, map, filter, find, OnOk, OnErr, IfOk, IfErr, IfSome, IsTrue};
 ghost use Rattle.std.specs.List.{AllByRecursion};
 ghost use Rattle.std.specs.Option.{option_copied};
 ghost use Rattle.std.specs.Ordering.{is_le};
@@ -9,13 +9,14 @@ ghost use Rattle.value.specs.Refusals.{out_of_memory};
 ghost use Rattle.schema.specs.Plain.{same};
 ghost use Rattle.schema.specs.Rows.{HasTable, next_row, rows_within};
 ghost use Rattle.schema.specs.Walking.{lent};
-ghost use Rattle.mvrows.specs.Versions.{IsInOrder, shown_rows};
+ghost use Rattle.mvrows.specs.Versions.{IsInOrder, shown_row, shown_rows};
 ghost use Rattle.mvrows.specs.Installing.{put_version, opened_row, first_version};
 ghost use Rattle.mvrows.specs.Pruning.{pruned_key, has_version, pruned_rows};
 ghost use Rattle.mvrows.specs.Settling.{settle_key};
 ghost use Rattle.mvrows.specs.TakenBack.{was_there, taken_back, rows_before};
 ghost use Rattle.mvrows.specs.HeldRows.{has_keys};
 ghost use Rattle.mvrows.specs.Copied.{with_rows};
+ghost use Rattle.mvrows.specs.Whole.{IsNewestRow, IsWhole};
 
 use crate::chain::Chain;
 use crate::owned::Copied;
@@ -101,6 +102,59 @@ fn push_shown<'c, A: Allocator>(
         }
     }
     Ok(())
+}
+
+// How many rows of a key a snapshot shows.
+fn count_of<A: Allocator>(chain: &Chain<A>, snapshot: u64) -> usize
+    ensures rows { result ≡ (if is_some (shown_row snapshot chain.now) then 1 else 0) }
+    ensures most { result ≤ 1 }
+{
+    match chain.row_at(snapshot) {
+        Some(_) => 1,
+        None => 0,
+    }
+}
+
+// How many rows a snapshot shows.
+fn count_shown<A: Allocator>(chains: &[Chain<A>], snapshot: u64) -> usize
+    ensures { result ≡ length (shown_rows snapshot chains.now) }
+{
+    let mut count: usize = 0;
+    for chain in chains {
+        count += count_of(chain, snapshot);
+    }
+    count
+}
+
+/// The greater of two numbers.
+pub(crate) fn greater(one: u64, other: u64) -> u64
+    ensures one { one ≤ result }
+    ensures other { other ≤ result }
+{
+    if one < other { other } else { one }
+}
+
+// The number of a key's newest version, where that is a row.
+fn newest_row<A: Allocator>(chain: &Chain<A>) -> Option<u64>
+    ensures { IfSome result (λ number. IsNewestRow number chain.now.versions) }
+{
+    let number = chain.newest()?;
+    match chain.row_at(number) {
+        Some(_) => Some(number),
+        None => None,
+    }
+}
+
+// From which snapshot on each of these keys shows a row, unless the newest version of one is an absence.
+fn whole<A: Allocator>(chains: &[Chain<A>]) -> Option<u64>
+    ensures { IsWhole result chains.now }
+{
+    let mut from: u64 = 0;
+    for chain in chains {
+        let number = newest_row(chain)?;
+        from = greater(from, number);
+    }
+    Some(from)
 }
 
 // Prunes the versions of each key.
@@ -222,6 +276,27 @@ impl<A: Allocator> Page<A> {
         let chains = self.chains.as_slice();
         let (_, within) = chains.split_at(start(chains, bound));
         push_shown(within, snapshot, most, rows)
+    }
+
+    /// How many keys it has.
+    pub fn len(&self) -> usize
+        ensures { result ≡ length self.now }
+    {
+        self.chains.len()
+    }
+
+    /// How many rows a snapshot shows.
+    pub fn count(&self, snapshot: u64) -> usize
+        ensures { result ≡ length (shown_rows snapshot self.now) }
+    {
+        count_shown(self.chains.as_slice(), snapshot)
+    }
+
+    /// From which snapshot on each key shows a row, unless the newest version of one is an absence.
+    pub fn whole(&self) -> Option<u64>
+        ensures { IsWhole result self.now }
+    {
+        whole(self.chains.as_slice())
     }
 
     /// A key with its versions.

@@ -1,6 +1,6 @@
 //! The pages of a table, in key order.
 
-ghost use Rattle.std.specs.Prelude.{ℕ, ◌≡◌, ◌≤◌, ◌<◌, ◌+◌, ◌++◌, [], true, false, length, take, map, filter, find, slice_index_or, slice_set, OnOk, OnErr, IfOk, IfErr, IsTrue};
+ghost use Rattle.std.specs.Prelude.{ℕ, ◌≡◌, ◌≤◌, ◌<◌, ◌+◌, ◌++◌, [], true, false, length, take, map, filter, find, slice_index_or, slice_set, OnOk, OnErr, IfOk, IfErr, IfSome, IsTrue};
 ghost use Rattle.std.specs.List.{AllByRecursion};
 ghost use Rattle.std.specs.Option.{option_copied};
 ghost use Rattle.value.specs.Refusals.{out_of_memory};
@@ -109,6 +109,17 @@ fn push_rows_in<'l, A: Allocator>(
         leaf.page().push_rows(snapshot, bound, most, rows)?;
     }
     Ok(())
+}
+
+// How many rows a snapshot shows of some pages, unless that is more than can be counted.
+fn count_in<A: Allocator>(leaves: &[Leaf<A>], snapshot: u64) -> Option<usize>
+    ensures { IfSome result (λ count. count ≡ length (shown_rows snapshot (rows_in leaves.now))) }
+{
+    let mut count: usize = 0;
+    for leaf in leaves {
+        count = count.checked_add(leaf.count(snapshot))?;
+    }
+    Some(count)
 }
 
 // Puts a copy of each row that a snapshot shows of some pages into a table.
@@ -505,6 +516,13 @@ impl<A: Allocator> Table<A> {
         let mut rows = Vec::new(alloc);
         push_rows_in(within, snapshot, bound, most, &mut rows)?;
         Ok(rows)
+    }
+
+    /// How many rows a snapshot shows, unless that is more than can be counted.
+    pub fn count(&self, snapshot: u64) -> Option<usize>
+        ensures { IfSome result (λ count. count ≡ length (shown_rows snapshot (rows_in self.now))) }
+    {
+        count_in(self.leaves.as_slice(), snapshot)
     }
 
     /// A key with its versions.

@@ -150,4 +150,9 @@ impl<A: Allocator> SnapshotReader<A> for View<A> {
         let versions = &self.versions;
         next_rows(alloc, versions.table(table), versions.snapshot, after, most)
     }
+
+    fn known_count(&self, table: TableNo) -> Option<usize> {
+        let versions = &self.versions;
+        versions.table(table).count(versions.snapshot)
+    }
 }
