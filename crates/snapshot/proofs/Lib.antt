@@ -1,3 +1,4 @@
+mod ComingLemmas
 mod FirstLemmas
 mod OverlayLemmas
 mod UnchangedLemmas

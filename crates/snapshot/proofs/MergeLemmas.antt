@@ -152,7 +152,7 @@ module _ {A : Type 0} where
   to_come xs t ahead (Some p) = length ahead + suc (length (changes_after xs t p.0))
 
   -- what is first
-  own_is_first : (lent : Option (Row A)) (change : Option (Value A × Option (Row A))) (p : Value A × Option (Row A)) → unless_before lent change ≡ Some p → (change ≡ Some p) × (is_before lent p.0 ≡ false)
+  pub own_is_first : (lent : Option (Row A)) (change : Option (Value A × Option (Row A))) (p : Value A × Option (Row A)) → unless_before lent change ≡ Some p → (change ≡ Some p) × (is_before lent p.0 ≡ false)
   own_is_first lent None p is = cc
   own_is_first lent (Some c) p is = by_test (is_before lent c.0) refl is
     where

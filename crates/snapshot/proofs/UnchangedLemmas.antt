@@ -1,17 +1,21 @@
 -- Where no change is within a bound, the rows within it are the lent reader's.
-use Rattle.std.proofs.Common.{◌≡◌, ℕ, zero, suc, true, ◌<◌, ◌≤◌, List, ◌∷◌, length, Option, Some, None, Bor, refl, sym, ap, ◌∙◌, arith, unwrap_or}
+use Rattle.std.proofs.Common.{◌≡◌, ℕ, zero, suc, ◌==◌, ◌&&◌, Bool, true, false, cond, ◌<◌, ◌≤◌, List, [], ◌∷◌, length, Option, Some, None, Bor, refl, sym, ap, ◌∙◌, arith, unwrap_or}
+use Rattle.std.proofs.lemmas.Bool.{eqb-false}
+use Rattle.std.proofs.lemmas.List.{get_or-set_other}
 use Rattle.std.specs.FinMap.{find}
+use Rattle.std.specs.List.{find as find_change}
+use Rattle.std.specs.Option.{option_map}
 use Rattle.value.specs.Order.{value_cmp}
 use Rattle.value.specs.declared.key.Key.{Key}
 use Rattle.value.specs.declared.value.Value.{Value}
 use Rattle.value.proofs.Basics.{Less-from_lt}
 use Rattle.schema.specs.declared.changes.Change.{Change}
 use Rattle.schema.specs.declared.reader.Bound.{Bound}
-use Rattle.schema.specs.declared.reader.Bound.TheVariants.{After}
+use Rattle.schema.specs.declared.reader.Bound.TheVariants.{Start, After}
 use Rattle.schema.specs.declared.row.Row.{Row}
 use Rattle.schema.specs.declared.tables.Tables.{Tables}
-use Rattle.schema.specs.Changing.{next_change}
-use Rattle.schema.specs.Plain.{rows_of, row_at, put_all}
+use Rattle.schema.specs.Changing.{new_row, next_change}
+use Rattle.schema.specs.Plain.{rows_of, row_at, changed, put_in, put_all}
 use Rattle.schema.specs.Rows.{Rows, IsInKeyOrder, is_within, next_row, rows_within}
 use Rattle.schema.proofs.PlainLemmas.{row_at-put_all}
 use Rattle.schema.proofs.RowsInOrder.{later_within, next_row-rest, next_row-none}
@@ -54,3 +58,21 @@ module _ {A : Type 0} where
   unchanged_within xs X t bound within sorted none =
       same_within (rows_of (put_all xs X) t) (rows_of X t) (put_all-in_order xs X t within sorted) sorted (length (rows_within (rows_of X t) bound)) bound (omega arith)
       (λ q inside. row_at-put_all xs X t q within ∙ ap (λ o. unwrap_or o (row_at X t q)) (unsaid xs t bound none q inside))
+
+  -- ---- a table that no change speaks of
+
+  none_of_table : (xs : List (Change A)) (X : Tables A) (t : ℕ) → find_change (λ y. y.table == t && is_within Start y.key) xs ≡ None → rows_of (put_all xs X) t ≡ rows_of X t
+  none_of_table [] X t none = refl
+  none_of_table (y ∷ ys) X t none = by_table (y.table == t) refl none (λ Y. none_of_table ys Y t)
+    where
+      by_table : (b : Bool) → (y.table == t) ≡ b → cond (b && is_within Start y.key) (Some y) (find_change (λ z. z.table == t && is_within Start z.key) ys) ≡ None
+          → ((Y : Tables A) → find_change (λ z. z.table == t && is_within Start z.key) ys ≡ None → rows_of (put_all ys Y) t ≡ rows_of Y t) → rows_of (put_all (y ∷ ys) X) t ≡ rows_of X t
+      by_table true table is rest = cc
+      by_table false table is rest = rest (put_in y X) is ∙ get_or-set_other X y.table t (changed y.key y.fields (rows_of X y.table)) [] (λ p. eqb-false y.table t table (sym p))
+
+  pub untouched_rows : (xs : List (Change A)) (X : Tables A) (t : ℕ) → next_change xs t Start ≡ None → rows_of (put_all xs X) t ≡ rows_of X t
+  untouched_rows xs X t none = go (find_change (λ y. y.table == t && is_within Start y.key) xs) refl none
+    where
+      go : (o : Option (Change A)) → find_change (λ y. y.table == t && is_within Start y.key) xs ≡ o → option_map {T = Change A} {U = Value A × Option (Row A)} (λ x. (x.key, new_row x)) o ≡ None → rows_of (put_all xs X) t ≡ rows_of X t
+      go None found e = none_of_table xs X t found
+      go (Some x) found e = cc

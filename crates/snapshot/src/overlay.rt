@@ -192,6 +192,20 @@ impl<'a, R: SnapshotReader<A>, A: Allocator> Overlay<'a, R, A> {
         }
     }
 
+    // The lent reader, where none of the changes is of a table: it has the same rows there.
+    fn untouched(&self, table: TableNo) -> Option<&'a R>
+        requires { HasTable (put_all self.now.changes.now (R.tables self.now.reader.now)) table }
+        ensures has { IfSome result (λ reader. HasTable (R.tables reader.now) table) }
+        ensures same { IfSome result (λ reader. rows_of (R.tables reader.now) table ≡
+            rows_with self.now.changes.now (R.tables self.now.reader.now) table) }
+    {
+        let start: Bound<&'a Key<A>> = Bound::Start;
+        match self.changes.next(table, start) {
+            Some(_) => None,
+            None => Some(self.reader),
+        }
+    }
+
     /// `get`, whose row is lent as long as the reader and the changes are.
     pub fn lend(&self, table: TableNo, key: &Key<A>) -> Option<&'a Row<A>>
         requires { HasTable (put_all self.now.changes.now (R.tables self.now.reader.now)) table }
@@ -235,12 +249,13 @@ impl<'a, R: SnapshotReader<A>, A: Allocator + Copy> Overlay<'a, R, A> {
         self.changes.in_key_order(table);
         let mut rows = Vec::new(alloc);
         let mut ahead = Ahead::within(alloc, self.reader, table, after)?;
-        let mut change = self.changes.next(table, after);
+        let mut coming = self.changes.walk(table, after);
+        let mut change = coming.next();
         'both: while rows.len() < most {
             match unless_before(ahead.first(), change) {
                 Some((key, own)) => {
                     take_own(key, own, &mut ahead, &mut rows)?;
-                    change = self.changes.next(table, Bound::After(key));
+                    change = coming.next();
                 }
                 None => {
                     let Some(row) = ahead.first() else {
@@ -297,6 +312,20 @@ impl<'a, R: SnapshotReader<A>, A: Allocator + Copy> Overlay<'a, R, A> {
     }
 }
 
+impl<'a, R: SnapshotReader<A>, A: Allocator> Overlay<'a, R, A> {
+    /// How many rows a table has, where the lent reader knows it and the changes don't speak of the table.
+    pub fn lend_count(&self, table: TableNo) -> Option<usize>
+        requires { HasTable (put_all self.now.changes.now (R.tables self.now.reader.now)) table }
+        ensures { IfSome result (λ count. count ≡
+            length (rows_with self.now.changes.now (R.tables self.now.reader.now) table)) }
+    {
+        match self.untouched(table) {
+            Some(reader) => reader.known_count(table),
+            None => None,
+        }
+    }
+}
+
 impl<R: SnapshotReader<A>, A: Allocator + Copy> SnapshotReader<A> for Overlay<'_, R, A> {
     ghost tables = { λ o. put_all o.changes.now (R.tables o.reader.now) };
 
@@ -316,5 +345,9 @@ impl<R: SnapshotReader<A>, A: Allocator + Copy> SnapshotReader<A> for Overlay<'_
         most: usize,
     ) -> Result<Vec<&Row<A>, A>, Refusal> {
         self.lend_rows(alloc, table, after, most)
+    }
+
+    fn known_count(&self, table: TableNo) -> Option<usize> {
+        self.lend_count(table)
     }
 }
