@@ -102,8 +102,8 @@ pub fn least_snapshot<A: Allocator>(
     least
 }
 
-/// The same of transactions that their sessions have still to end, where stretches of those that are
-/// over are passed over.
+/// The least snapshot of those that are looked at among the transactions that their sessions have still to end, where no
+/// commit has spoilt these snapshots; a number where none is below it. It passes over stretches of those that are over.
 pub fn least_owed<A: Allocator>(
     transactions: &[Transaction<A>],
     past: &[Stretch],

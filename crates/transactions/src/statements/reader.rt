@@ -81,6 +81,10 @@ impl<A: Allocator + Copy> SnapshotReader<A> for SessionReader<A> {
     ) -> Result<Vec<&Row<A>, A>, Refusal> {
         Overlay::new(&self.view, &self.own).lend_rows(alloc, table, after, most)
     }
+
+    fn known_count(&self, table: TableNo) -> Option<usize> {
+        Overlay::new(&self.view, &self.own).lend_count(table)
+    }
 }
 
 impl<A: Allocator> Transaction<A> {
