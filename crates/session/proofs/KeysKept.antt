@@ -6,7 +6,7 @@ use Rattle.std.specs.Option.{option_map}
 use Rattle.value.specs.Isolation.{first_part, serial_key, write_key}
 use Rattle.value.proofs.IsolationLemmas.{In}
 use Rattle.value.proofs.Basics.{find-In}
-use Rattle.conflict.proofs.Lists.{clash, find-alike}
+use Rattle.value.proofs.Lists.{clash, find-alike}
 use Rattle.history.specs.Transactions.{Txn, World, edge, is_done, is_read_write, node}
 use Rattle.history.specs.Needed.{Keeps, kept_of}
 use Rattle.serial.proofs.order.SerialTheorem.{IsGood}

@@ -2,7 +2,7 @@
 use Rattle.std.proofs.Common.{◌≡◌, refl, ap, ◌∙◌, ℕ, ◌≤◌, Bool, true, false, cond, min, inl, inr, ◌⊎◌, List, [], ◌∷◌, arith}
 use Rattle.std.proofs.Math.Nat.{min-le_left, min-le_right}
 use Rattle.value.proofs.IsolationLemmas.{In}
-use Rattle.conflict.proofs.Lists.{clash}
+use Rattle.value.proofs.Lists.{clash}
 use Rattle.history.specs.Transactions.{Txn}
 use Rattle.transactions.specs.Versions.{least_snapshot}
 

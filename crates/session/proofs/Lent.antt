@@ -9,7 +9,7 @@ use Rattle.value.specs.Refusals.{AnswersOrNoMemory, of_code}
 use Rattle.value.specs.Isolation.{is_dangerous}
 use Rattle.value.proofs.IsolationLemmas.{In}
 use Rattle.value.proofs.Basics.{filter-In, In-mapped, In-map}
-use Rattle.conflict.proofs.Lists.{In-filter, find-alike}
+use Rattle.value.proofs.Lists.{In-filter, find-alike}
 use Rattle.schema.specs.Definition.{Catalog}
 use Rattle.schema.specs.declared.tables.Tables.{Tables}
 use Rattle.schema.specs.Plain.{put_all}

@@ -12,3 +12,5 @@ pub mod CommitAlone
 pub mod CoreLemmas
 pub mod RowsKept
 pub mod OpenLemmas
+pub mod UnspoiltLemmas
+pub mod Spoilt

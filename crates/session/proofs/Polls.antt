@@ -20,9 +20,9 @@ use Rattle.transactions.specs.Keys.{keyed}
 use Rattle.transactions.specs.Ledger.{Ledger, kept, kept_current}
 use Rattle.transactions.specs.Polls.{AreToldSpoilt, IsToldSpoilt}
 use Rattle.transactions.specs.Views.{snapshot_of}
-use Rattle.safesnap.specs.Unspoilt.{AreUnspoilt, is_spoilt_by}
-use Rattle.safesnap.proofs.Spoilt.{none_above, spoilt_is}
-use Rattle.safesnap.proofs.UnspoiltLemmas.{one_more, one_unspoilt, unspoilt_set}
+use Rattle.session.specs.Unspoilt.{AreUnspoilt, is_spoilt_by}
+use Rattle.session.proofs.Spoilt.{none_above, spoilt_is}
+use Rattle.session.proofs.UnspoiltLemmas.{one_more, one_unspoilt, unspoilt_set}
 use Rattle.session.specs.Core.{HoldsKeys, IsKept}
 use Rattle.session.specs.Polling.{after_commit, polls_spoilt, put_snapshot}
 use Rattle.session.proofs.Kept.{spoilt_kept}

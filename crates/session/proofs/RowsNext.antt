@@ -5,7 +5,7 @@ use Rattle.std.proofs.lemmas.List.{append-nil, take-append-le, take_all}
 use Rattle.std.specs.Option.{option_map}
 use Rattle.value.proofs.IsolationLemmas.{In}
 use Rattle.value.proofs.Basics.{In-map}
-use Rattle.conflict.proofs.Lists.{In-filter}
+use Rattle.value.proofs.Lists.{In-filter}
 use Rattle.schema.specs.Definition.{Catalog}
 use Rattle.schema.specs.declared.changes.Change.{Change}
 use Rattle.schema.specs.declared.tables.Tables.{Tables}

@@ -7,7 +7,7 @@ use Rattle.std.specs.Cmp.{both_ways}
 use Rattle.value.specs.declared.refusal.TxnNo.{TxnNo}
 use Rattle.value.proofs.IsolationLemmas.{In}
 use Rattle.value.proofs.Basics.{filter-In, any-In, In-any, filter-map}
-use Rattle.conflict.proofs.Lists.{In-filter, clash, filter-kept, filter_alike}
+use Rattle.value.proofs.Lists.{In-filter, clash, filter-kept, filter_alike}
 use Rattle.history.specs.declared.key.SerialKey.{SerialKey}
 use Rattle.history.specs.Opening.{Recorded}
 use Rattle.history.specs.Transactions.{Txn, World, Exported_snapshot, edge, is_done, is_living, is_open, is_owed, is_pending, is_read_write, is_spoilt}
@@ -25,8 +25,8 @@ use Rattle.transactions.specs.Ledger.{Ledger, is_awaited, is_pending_at, kept}
 use Rattle.transactions.specs.Versions.{is_owed_at, may_be_read}
 use Rattle.transactions.proofs.ActiveLemmas.{none_pending}
 use Rattle.transactions.proofs.InstallLemmas.{owed-is_read, read-is_owed}
-use Rattle.safesnap.specs.Unspoilt.{AreUnspoilt}
-use Rattle.safesnap.proofs.UnspoiltLemmas.{one_unspoilt}
+use Rattle.session.specs.Unspoilt.{AreUnspoilt}
+use Rattle.session.proofs.UnspoiltLemmas.{one_unspoilt}
 use Rattle.session.specs.Core.{HoldsKeys, HoldsRows, IsKept}
 use Rattle.session.specs.Kept.{Represents}
 use Rattle.session.proofs.Kept.{any_map}

@@ -1,3 +1,4 @@
 pub mod Core
 pub mod Kept
 pub mod Polling
+pub mod Unspoilt

@@ -4,7 +4,7 @@ use Rattle.std.specs.Prelude.{ℕ, ◌-◌, ◌==◌, Bool, true, false, ◌||�
 use Rattle.std.specs.List.{list_any}
 use Rattle.history.specs.declared.event.Action.{Action}
 use Rattle.history.specs.declared.event.Action.TheVariants.{Begin, Poll, Import}
-use Rattle.safesnap.specs.Unspoilt.{is_spoilt_by, unspoilt_after}
+use Rattle.session.specs.Unspoilt.{is_spoilt_by, unspoilt_after}
 
 -- one of these commits, by their numbers and keys, has spoilt a snapshot, if there is one
 abbrev pub is_spoilt_at : List (ℕ × (ℕ × ℕ × ℕ)) → Option ℕ → Bool

@@ -2,5 +2,7 @@
 
 #![tactic(auto)]
 
+pub mod laws;
 pub mod reader;
 pub mod sessions;
+pub mod unspoilt;

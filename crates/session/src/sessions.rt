@@ -18,6 +18,7 @@ mod polling;
 mod reading;
 
 use crate::sessions::polling::{keep_snapshot, polls_spoilt};
+use crate::unspoilt::Unspoilt;
 use history::base::Base;
 use history::event::{Action, Event, Record};
 use history::key::SerialKey;
@@ -25,7 +26,6 @@ use history::list::History;
 use history::session_id::SessionId;
 use mvrows::rows::Rows;
 use mvrows::view::View;
-use safesnap::unspoilt::Unspoilt;
 use schema::catalog::Catalog;
 use schema::tables::Tables;
 use statement::reply::Reply;
@@ -68,7 +68,7 @@ impl<A: Allocator> Model for Core<A> {
 
     ghost use Rattle.std.specs.Prelude.{map, vec_capacity};
     ghost use Rattle.transactions.specs.Keys.{keyed};
-    ghost use Rattle.safesnap.specs.Unspoilt.{AreUnspoilt};
+    ghost use Rattle.session.specs.Unspoilt.{AreUnspoilt};
     ghost use Rattle.session.specs.Core.{HoldsKeys, HoldsRows, IsKept};
 
     ghost view = { λ c. c.history };

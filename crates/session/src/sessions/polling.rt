@@ -4,13 +4,13 @@ ghost use Rattle.std.specs.Prelude.{◌≡◌, find, if◌then◌else◌, map};
 ghost use Rattle.history.specs.Transactions.{is_of};
 ghost use Rattle.transactions.specs.Keys.{keyed};
 ghost use Rattle.transactions.specs.Views.{snapshot_of};
-ghost use Rattle.safesnap.specs.Unspoilt.{AreUnspoilt};
+ghost use Rattle.session.specs.Unspoilt.{AreUnspoilt};
 ghost use Rattle.session.specs.Polling as spec;
 
+use crate::unspoilt::Unspoilt;
 use history::event::Action;
 use history::key::SerialKey;
 use history::session_id::SessionId;
-use safesnap::unspoilt::Unspoilt;
 use std::alloc::Allocator;
 use transactions::world::World;
 use value::refusal::TxnNo;

@@ -3,8 +3,8 @@ use Rattle.std.specs.Prelude.{vec_capacity}
 use Rattle.history.specs.declared.base.Base.{Base}
 use Rattle.history.specs.Opening.{Recorded}
 use Rattle.transactions.specs.Keys.{keyed}
-use Rattle.safesnap.specs.Unspoilt.{AreUnspoilt}
-use Rattle.safesnap.proofs.UnspoiltLemmas.{none_spoilt}
+use Rattle.session.specs.Unspoilt.{AreUnspoilt}
+use Rattle.session.proofs.UnspoiltLemmas.{none_spoilt}
 use Rattle.session.proofs.CoreLemmas.{holds_none, kept_on}
 use Rattle.session.proofs.RowsKept.{rows_opened}
 use Rattle.session.proofs.sessions.open_history.Goals as goal

@@ -5,7 +5,7 @@ use Rattle.history.specs.Answer.{Allowed, answer}
 use Rattle.history.specs.Transactions.{is_of}
 use Rattle.transactions.specs.Keys.{committed_at, keyed}
 use Rattle.transactions.specs.Views.{snapshot_of}
-use Rattle.safesnap.specs.Unspoilt.{AreUnspoilt}
+use Rattle.session.specs.Unspoilt.{AreUnspoilt}
 use Rattle.session.specs.Core.{HasRoom, HoldsKeys, IsKept, is_commit, recorded}
 use Rattle.session.specs.Polling.{polls_spoilt, takes_snapshot}
 use Rattle.session.proofs.CoreLemmas.{kept_now, keys_now, keys_room, recorded_so, replied, rows_now, step_room}
