@@ -1,3 +1,4 @@
 pub mod Calls
 pub mod Doings
 pub mod Holds
+pub mod Naps

@@ -1,5 +1,9 @@
 //! How a session comes by the lock where another has it.
 
+ghost use Rattle.std.specs.Prelude.{◌≡◌, ◌*◌, ◌<◌, ◌≤◌, IfSome, IfNone};
+ghost use Rattle.std.specs.Duration.{as_nanos};
+ghost use Rattle.server.specs.Naps.{nap_micros};
+
 use std::hint::spin_loop;
 use std::sync::atomic::{AtomicU64, Ordering};
 use std::sync::{Mutex, MutexGuard, Wait};
@@ -47,30 +51,35 @@ impl Entrance {
         }
     }
 
-    // How long the next nap is; none at first, so that the sessions of a short script meet.
-    fn nap(&self) -> Option<Duration> {
-        let crowded = self.crowded.fetch_add(1, Ordering::Relaxed);
-        if crowded < MOST_CROWDED {
-            return None;
-        }
-        let longest = (LONGEST * u64::from(self.sessions)).min(LONGEST_OF_ALL);
-        let nap = (crowded - MOST_CROWDED).saturating_mul(LONGER);
-        Some(Duration::from_micros(nap.min(longest)))
-    }
-
     /// The lock, for a session that begins a transaction.
     pub(crate) fn enter<'b, R: Wait, T>(&self, rt: &R, lock: &'b Mutex<T>) -> MutexGuard<'b, T> {
         for _ in 0..MOST_NAPS {
             if let Some(guard) = lock.try_lock() {
                 return guard;
             }
-            let Some(nap) = self.nap() else {
+            let crowded = self.crowded.fetch_add(1, Ordering::Relaxed);
+            let Some(nap) = nap_after(self.sessions, crowded) else {
                 return go_on(rt, lock);
             };
             self.still.park_timeout(rt, 0, nap);
         }
         go_on(rt, lock)
     }
+}
+
+// How long a session naps that finds the lock taken, as happened so often before; not at all at first, so that the sessions
+// of a short script meet.
+fn nap_after(sessions: u32, crowded: u64) -> Option<Duration>
+    ensures none { IfNone result (crowded < 256) }
+    ensures some { IfSome result (λ d. 256 ≤ crowded) }
+    ensures nap { IfSome result (λ d. as_nanos d ≡ nap_micros sessions crowded * 1_000) }
+{
+    if crowded < MOST_CROWDED {
+        return None;
+    }
+    let longest = (LONGEST * u64::from(sessions)).min(LONGEST_OF_ALL);
+    let nap = (crowded - MOST_CROWDED).saturating_mul(LONGER);
+    Some(Duration::from_micros(nap.min(longest)))
 }
 
 /// The lock, for a session in a transaction.

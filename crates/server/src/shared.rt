@@ -92,6 +92,29 @@ fn is_wait<A: Allocator>(reply: &Reply<A>) -> bool
     matches!(reply, Reply::Wait)
 }
 
+// Polls until the answer isn't to wait, and sleeps between two polls until a transaction may have ended. Here the lock is
+// only lent: nothing can free it between a poll and the sleep, so no end is missed.
+#[tactic(auto, using(pass::proofs::Prefixes::prefix_trans))]
+fn poll_on<'b, 'w, R: Wait, J: Naming<A>, A: Allocator + Copy>(
+    rt: &R,
+    alloc: A,
+    ended: &Condvar,
+    mut locked: MutexGuard<'b, Locked<'w, J, A>>,
+    pass: &mut Pass<'w, J, A>,
+) -> Reply<A>
+    ensures seen { HasSeen J.opening pass.old pass.new }
+    ensures polls { HasPolled J.most pass.old result pass.new }
+{
+    for _ in rt.forever() {
+        let reply = locked.call(alloc, pass, Action::Poll);
+        if !is_wait(&reply) {
+            return reply;
+        }
+        locked = ended.wait(rt, locked);
+    }
+    unreachable!()
+}
+
 impl<'w, J: Naming<A>, A: Allocator> Server<'w, J, A> {
     /// A server that begins with these tables and has room for `max_events` events, and the passes of sessions 1, 2,
     /// ..; refused with 54000 for no events, or sessions outside 1 to 64. The word is made of the same catalog and
@@ -247,24 +270,13 @@ impl<'w, J: Naming<A>, A: Allocator> Server<'w, J, A> {
 
     /// Polls until the answer isn't to wait. Between two polls it sleeps until a reply that may have
     /// ended a transaction. It may never return.
-    #[tactic(auto, using(pass::proofs::Prefixes::prefix_trans))]
     pub fn wait_safe<R: Wait>(&self, rt: &R, alloc: A, pass: &mut Pass<'w, J, A>) -> Reply<A>
     where
         A: Copy,
         ensures seen { HasSeen J.opening pass.old pass.new }
         ensures polls { HasPolled J.most pass.old result pass.new }
     {
-        // The lock is held from poll to poll, except for the sleep between, so that no event is missed. A call of the
-        // server in this loop would wait for the lock for ever: the polls go to what lies under it.
-        let mut locked = self.locked.lock(rt);
-        for _ in rt.forever() {
-            let reply = locked.call(alloc, pass, Action::Poll);
-            if !is_wait(&reply) {
-                return reply;
-            }
-            locked = self.ended.wait(rt, locked);
-        }
-        unreachable!()
+        poll_on(rt, alloc, &self.ended, self.locked.lock(rt), pass)
     }
 
     /// Rolls the transaction of the pass's session back, where it has one, as the end of its connection does, and wakes

@@ -2,7 +2,7 @@ use Rattle.std.proofs.Common.{rules, ◌≡◌, true, subst, suc}
 use Rattle.history.specs.declared.event.Action.TheVariants.{Poll}
 use Rattle.server.specs.Calls.{IsCall}
 use Rattle.server.proofs.Grows.{waited_more}
-use Rattle.server.proofs.shared.Server.wait_safe.Goals as goal
+use Rattle.server.proofs.shared.poll_on.Goals as goal
 
 pub loop-preserved : goal.loop-preserved
 loop-preserved g c =

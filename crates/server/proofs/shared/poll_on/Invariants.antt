@@ -1,6 +1,6 @@
 use Rattle.std.proofs.Common.{ℕ}
 use Rattle.server.specs.Calls.{HasWaited}
-use Rattle.server.proofs.shared.Server.wait_safe.Given as goal
+use Rattle.server.proofs.shared.poll_on.Given as goal
 
 abbrev pub invariant-loop : goal.invariant-loop
 invariant-loop g l =
