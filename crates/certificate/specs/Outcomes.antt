@@ -30,7 +30,7 @@ abbrev pub Fails : {Y : Type 0} → ReadError → Result Y ℕ → Type 0
 Fails read.Memory answer = Unit {0}
 Fails (read.Malformed number) answer = answer ≡ Err number
 
--- the same of a text, whose answer is else the number of a line
+-- a text is read as the definition has it; else the number of the line at fault is answered
 abbrev pub Reads : {X Y : Type 0} → (X → Y) → Result X ReadError → Result Y ℕ → Type 0
 Reads view (Ok x) answer = answer ≡ Ok (view x)
 Reads view (Err e) answer = Fails e answer

@@ -345,7 +345,7 @@ impl<A: Allocator> Known<A> {
         found_in(self.findings.as_slice(), place, spot, column)
     }
 
-    /// The same is known, in memory of its own. Refused only for want of it (53200).
+    /// A copy of what is known. Refused only for want of it (53200).
     pub fn copy(&self, alloc: A) -> Result<Known<A>, Refusal>
     where
         A: Copy,

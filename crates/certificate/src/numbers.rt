@@ -387,7 +387,7 @@ impl<'r, A: Allocator + Copy> Recording<'r, A> {
         }
     }
 
-    // The same of the statement's own table.
+    // Whether a statement shows more rows of its own table than there can be.
     fn is_over_there(
         &self,
         alloc: A,
@@ -460,7 +460,7 @@ impl<'r, A: Allocator + Copy> Recording<'r, A> {
         }
     }
 
-    // The same of the statement's own table.
+    // Whether a statement shows fewer rows of its own table than there must be.
     fn is_under_there(
         &self,
         alloc: A,

@@ -60,7 +60,7 @@ fn precedes<A: Allocator>(earlier: &Transaction<A>, later: &Transaction<A>) -> b
     ended_before(earlier.end, later.begin) && !later.imported
 }
 
-// The same of one that may not be there.
+// Whether a transaction had ended before another began, where there is that one.
 fn precedes_one<A: Allocator>(earlier: &Transaction<A>, later: Option<&Transaction<A>>) -> bool
     ensures { result ≡ precedes_so (Some earlier.now) (option_copied later.entry) }
 {
@@ -70,7 +70,7 @@ fn precedes_one<A: Allocator>(earlier: &Transaction<A>, later: Option<&Transacti
     }
 }
 
-// The same of two that may not be there.
+// Whether a transaction had ended before another began, where there are both.
 fn precedes_so<A: Allocator>(
     earlier: Option<&Transaction<A>>,
     later: Option<&Transaction<A>>,

@@ -316,7 +316,7 @@ impl<'r, A: Allocator + Copy> Recording<'r, A> {
         Ok(origin.is_none())
     }
 
-    // The same of one way.
+    // Whether nobody leaves in a cell what a way needs.
     fn is_way_needless(
         &self,
         alloc: A,

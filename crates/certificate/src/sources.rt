@@ -259,7 +259,7 @@ impl<'v, 'r, A: Allocator + Copy> CellView<'v, 'r, A> {
         !self.way_passes(asked, place, way) || self.way_is_left(state, place, way)
     }
 
-    // The same, or it is out of the question.
+    // Whether a way is out of the question, or leaves this state where it leaves what one of those asked allows.
     fn leaves(
         &self,
         asked: &[Way<A>],

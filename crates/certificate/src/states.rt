@@ -178,7 +178,7 @@ fn allows_sum<A: Allocator>(ways: &[Way<A>], column: u32, before: i64, number: i
     }
 }
 
-// The same of a value, to which nothing is added unless it is a number.
+// Whether a value and a number is what one of some ways may begin with. Nothing is added to a value that is no number.
 fn allows_added<A: Allocator>(ways: &[Way<A>], column: u32, value: &Value<A>, number: i64) -> bool
     ensures { result ≡ passes_sum ways.now column number (Some (Some value.now)) }
 {
@@ -236,7 +236,7 @@ fn passes_field<A: Allocator>(
     }
 }
 
-// The same of a column of a row that wasn't there.
+// Whether what a column of a row that wasn't there has now may be what one of some ways begins with.
 fn passes_new<A: Allocator>(asked: &[Way<A>], column: u32, field: Option<&Field<A>>) -> bool
     ensures { result ≡ passes asked.now column (λ n. None) (effect_of (effect_of_field (option_copied field.entry))) }
 {
@@ -246,7 +246,7 @@ fn passes_new<A: Allocator>(asked: &[Way<A>], column: u32, field: Option<&Field<
     }
 }
 
-// The same of a column of a row, by whether there was one before.
+// Whether what a column of a row has now, which was there or wasn't, may be what one of some ways begins with.
 fn passes_row<A: Allocator>(
     asked: &[Way<A>],
     cell: &Cell<A>,
@@ -311,7 +311,7 @@ fn is_sum_of<A: Allocator>(state: &Option<Value<A>>, before: i64, number: i64) -
     }
 }
 
-// The same of a value, to which nothing is added unless it is a number.
+// Whether a value and a number is this state. Nothing is added to a value that is no number.
 fn is_added<A: Allocator>(state: &Option<Value<A>>, value: &Value<A>, number: i64) -> bool
     ensures { result ≡ is_sum state.now number (Some (Some value.now)) }
 {
@@ -361,7 +361,7 @@ fn is_field<A: Allocator>(
     }
 }
 
-// The same of a row that wasn't there.
+// Whether a field of a row that wasn't there is left in this state.
 fn is_new_field<A: Allocator>(state: &Option<Value<A>>, field: Option<&Field<A>>) -> bool
     ensures { result ≡ leaves_same state.now (λ n. None) (effect_of (effect_of_field (option_copied field.entry))) }
 {

@@ -234,7 +234,7 @@ impl<A: Allocator> Clocks<A> {
         at(self.before.as_slice(), entry, 0) > self.chains.index(first)
     }
 
-    // The same, by the other clocks.
+    // Whether the second is known to come after the first, by the clocks of what comes after.
     fn has_after(&self, first: usize, second: usize) -> bool {
         let entry = self.entry(first, self.chains.chain(second));
         at(self.after.as_slice(), entry, usize::MAX) <= self.chains.index(second)

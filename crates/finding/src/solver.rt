@@ -211,7 +211,7 @@ impl<A: Allocator> Solver<A> {
         Ok(())
     }
 
-    // The same, also where they seemed settled, and its sums.
+    // All needs that hang on a transaction are looked at again, also where they seemed settled, and its sums.
     fn stir(&mut self, history: &History<A>, place: usize) -> Result<(), Refusal>
         ensures { IfErr result (λ e. e ≡ out_of_memory) }
     {

@@ -29,7 +29,7 @@ module _ {A : Type 0} where
     pub left : slice_get done i ≡ Some false
     pub in_time : (j : ℕ) (a : Trace A) → slice_get ts j ≡ Some a → slice_get done j ≡ Some false → precedes a t ≡ false
 
-  -- The same, found out.
+  -- Whether the transaction at a place may come next, by a test.
   abbrev pub comes_so : List (Trace A) → List Bool → Option (Trace A) → Option Bool → Bool
   comes_so ts done (Some t) (Some is_done) = not is_done && list_all (λ p. p.1 || not (precedes p.0 t)) (zip ts done)
   comes_so ts done _ _ = false

@@ -114,7 +114,7 @@ module _ {A : Type 0} where
     pub unfinished : AllDone ts w.done → ⊥
     pub count : length w.done ≡ length ts
 
-  -- The same where all may be done.
+  -- What a search knows after a step: all may be done.
   pub record IsStep (c : Catalog) (X : Tables A) (ts : List (Trace A)) (w : Standing A) : Type 0 where
     pub comes : Comes c ts (IsTried c ts) (none_done ts) X w.path w.done w.tables
     pub tried : AreTried c ts w.done w.tables w.from

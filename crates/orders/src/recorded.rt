@@ -76,7 +76,7 @@ fn begin_of<A: Allocator>(transaction: &Transaction<A>) -> u64
     }
 }
 
-// The same of the transaction at a place, or the last place that there is.
+// Where the transaction at a place begins, as far as time counts; the last place that there is where there is none.
 fn begin_at<A: Allocator>(transactions: &[Transaction<A>], place: usize) -> u64
     ensures { result ≡ begin_at (slice_get transactions.now place) }
 {

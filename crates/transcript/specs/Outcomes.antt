@@ -27,7 +27,7 @@ abbrev pub Gives : {X Y : Type 0} → (X → Y) → Result X LineError → Optio
 Gives view (Ok x) answer = answer ≡ Some (view x)
 Gives view (Err e) answer = Lacks e answer
 
--- the same of a text, whose answer is else the number of its first line that may not stand where it stands
+-- a text is read as the definition has it; else the number of its first line that may not stand where it stands is answered
 abbrev pub Reads : {X Y : Type 0} → (X → Y) → Result X TranscriptFault → Result Y ℕ → Type 0
 Reads view (Ok x) answer = answer ≡ Ok (view x)
 Reads view (Err f) answer = (f.reason ≡ reason.Memory) ⊎ (answer ≡ Err f.line)

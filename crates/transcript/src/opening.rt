@@ -112,7 +112,7 @@ impl<A: Allocator + Copy> Opening<A> {
         Ok(())
     }
 
-    // The same, which stands before all tables.
+    // An OPEN of what follows the word, which stands before all tables.
     fn open_first(&mut self, alloc: A, rest: &[u8]) -> Result<(), LineError>
         ensures ok { OnOk result (spec.opened_first self.old rest.now ≡ Some self.new) }
         ensures err { IfErr result (λ e. Lacks e (spec.opened_first self.old rest.now)) }

@@ -52,14 +52,14 @@ fn each_fits<A: Allocator>(catalog: &Catalog<A>, statements: &[Answered<A>]) -> 
         .all(|answered| answered.statement.fits(catalog))
 }
 
-// The same, of what was recorded.
+// Whether the statements that a transaction recorded fit the catalog.
 fn are_fit<A: Allocator>(catalog: &Catalog<A>, statements: &[Answered<A>]) -> bool
     ensures { result ≡ are_fit catalog.now (map (λ a. (a.statement, a.reply)) statements.now) }
 {
     each_fits(catalog, statements)
 }
 
-// The same of all transactions.
+// Whether the statements of all transactions fit the catalog.
 fn all_fit<A: Allocator>(catalog: &Catalog<A>, transactions: &[Transaction<A>]) -> bool
     ensures { result ≡ all_fit catalog.now transactions.now }
 {

@@ -105,7 +105,7 @@ module _ {A : Type 0} where
   number_told t (Delete u cs) (Deleted n) = of_table t u n
   number_told t q r = None
 
-  -- the same of statement j, counted from 0
+  -- how many rows of table t statement j chose, counted from 0
   abbrev pub number_at : ℕ → List (Statement A × Reply A) → ℕ → Option ℕ
   number_at t [] j = None
   number_at t (q ∷ qs) zero = number_told t q.0 q.1
@@ -118,6 +118,6 @@ module _ {A : Type 0} where
   table_of (Update t more cs) = t
   table_of (Delete t cs) = t
 
-  -- the same of statement j
+  -- the table of statement j, counted from 0
   abbrev pub table_at : List (Statement A × Reply A) → ℕ → Option ℕ
   table_at qs j = option_map (λ q. table_of q.0) (slice_get qs j)

@@ -323,7 +323,7 @@ fn changed<A: Allocator + Copy>(
     }
 }
 
-// The same, where there is a way.
+// The way as an UPDATE or DELETE leaves it, where there is a way.
 fn changed_way<A: Allocator + Copy>(
     alloc: A,
     key: &Value<A>,

@@ -50,7 +50,7 @@ impl<T: Drop> From<AllocFailed<T>> for ReadError {
 }
 
 impl LineError {
-    /// The same of the line with a number.
+    /// Why a text isn't read whose line of this number is at fault.
     pub(crate) fn at(self, number: u64) -> ReadError
         ensures { result ≡ read_error number self }
     {
