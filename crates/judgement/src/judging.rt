@@ -313,7 +313,7 @@ pub fn judge<A: Allocator + Copy>(
     requires fit { all_fit catalog traces.transactions.items ≡ true }
     requires sound { is_sound catalog tables ≡ true }
     ensures kept { IfOk result (λ j. (j.catalog ≡ catalog) × (j.tables ≡ tables) ×
-        (j.traces.transactions.items ≡ traces.transactions.items)) }
+        (j.traces ≡ traces)) }
     ensures tells { IfOk result (λ j. Tells catalog tables traces.transactions.items j.answer) }
 {
     let Judged {

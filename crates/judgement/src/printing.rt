@@ -1,8 +1,12 @@
 //! What is printed of a judgement.
 
-ghost use Rattle.std.specs.Prelude.{◌≡◌, IfOk};
-ghost use Rattle.judgement.specs.Lines as spec;
+ghost use Rattle.std.specs.Prelude.{◌≡◌, ◌++◌, map, IfOk, OnOk, slice_get};
+ghost use Rattle.std.specs.Fmt.{decimal};
+ghost use Rattle.std.specs.List.{flat_map};
+ghost use Rattle.judgement.specs.Lines as lines;
 ghost use Rattle.judgement.specs.Lines.{EndsWith};
+ghost use Rattle.judgement.specs.Telling as spec;
+ghost use Rattle.judgement.specs.Telling.{TellsOf, TellsReasons, TellsWhy, name_of, names_of};
 
 use crate::judging::Judgement;
 use crate::reasons::account::Account;
@@ -10,6 +14,7 @@ use certificate::certificate::Line;
 use itoa::Buffer;
 use orders::search::Answer;
 use orders::stop::{Hindered, Hindrance, Stop};
+use orders::transaction::Answered;
 use script::printing::reply_text;
 use statement::reply::Reply;
 use std::alloc::{AllocError, AllocFailed, Allocator};
@@ -39,10 +44,41 @@ impl From<Refusal> for NoMemory {
 }
 
 // Appends a word and a number.
-fn append<A: Allocator>(word: &str, number: u64, text: &mut Vec<u8, A>) -> Result<(), NoMemory> {
+fn append<A: Allocator>(word: &str, number: u64, text: &mut Vec<u8, A>) -> Result<(), NoMemory>
+    ensures { OnOk result (text.new.items ≡ text.old.items ++ (word.now ++ decimal number)) }
+{
     let mut buffer = Buffer::new();
     text.extend_from_slice(word.as_bytes())?;
     text.extend_from_slice(buffer.format(number).as_bytes())?;
+    Ok(())
+}
+
+// Appends the number of the transaction at a place, where there is one.
+fn append_number<A: Allocator>(
+    names: &[Name<A>],
+    place: usize,
+    text: &mut Vec<u8, A>,
+) -> Result<(), NoMemory>
+    ensures { OnOk result (text.new.items ≡ text.old.items ++ spec.number_text (slice_get (names_of names.now) place)) }
+{
+    match names.get(place) {
+        Some(name) => append(" ", name.number, text),
+        None => Ok(()),
+    }
+}
+
+// Appends the numbers of transactions.
+fn append_numbers<A: Allocator>(
+    names: &[Name<A>],
+    places: &[usize],
+    text: &mut Vec<u8, A>,
+) -> Result<(), NoMemory>
+    ensures { OnOk result (text.new.items ≡ text.old.items ++
+        flat_map (λ place. spec.number_text (slice_get (names_of names.now) place)) places.now) }
+{
+    for place in places {
+        append_number(names, *place, text)?;
+    }
     Ok(())
 }
 
@@ -51,27 +87,29 @@ fn order_text<A: Allocator>(
     alloc: A,
     names: &[Name<A>],
     order: &[usize],
-) -> Result<Vec<u8, A>, NoMemory> {
+) -> Result<Vec<u8, A>, NoMemory>
+    ensures { IfOk result (λ text. text.items ≡ spec.order_text (names_of names.now) order.now) }
+{
     let mut text = Vec::new(alloc);
     text.extend_from_slice(b"order")?;
-    for place in order {
-        if let Some(name) = names.get(*place) {
-            append(" ", name.number, &mut text)?;
-        }
-    }
+    append_numbers(names, order, &mut text)?;
     text.extend_from_slice(b"\n")?;
     Ok(text)
 }
 
-// Appends a statement's answer, after the numbers of its transaction and line, and the word that says whether it was
-// recorded or is the answer alone.
+// Appends a statement's reply, after the numbers of its transaction and line, and the word that says whether it was
+// recorded or is the reply alone.
 fn append_reply<A: Allocator + Copy>(
     alloc: A,
     name: &Name<A>,
-    (line, word): (u64, &str),
+    line: u64,
+    word: &str,
     reply: &Reply<A>,
     text: &mut Vec<u8, A>,
-) -> Result<(), NoMemory> {
+) -> Result<(), NoMemory>
+    ensures { OnOk result (text.new.items ≡ text.old.items ++
+        spec.reply_lines (name_of name.now) line word.now reply.now) }
+{
     append("txn ", name.number, text)?;
     append(" line ", line, text)?;
     text.extend_from_slice(word.as_bytes())?;
@@ -80,49 +118,72 @@ fn append_reply<A: Allocator + Copy>(
     Ok(())
 }
 
-// Appends why a transaction can't come next: its statement at a place gets another answer alone.
+// Appends that a transaction's statement at a place gets another reply alone.
+fn append_difference<A: Allocator + Copy>(
+    alloc: A,
+    name: &Name<A>,
+    statements: &[Answered<A>],
+    at: usize,
+    alone: &Reply<A>,
+    text: &mut Vec<u8, A>,
+) -> Result<(), NoMemory>
+    ensures { OnOk result (text.new.items ≡ text.old.items ++
+        spec.differing_lines (name_of name.now)
+        (slice_get name.now.lines.items at) (slice_get (map (λ a. (a.statement, a.reply)) statements.now) at) alone.now) }
+{
+    let Some(line) = name.lines.get(at) else {
+        return Ok(());
+    };
+    let Some(answered) = statements.get(at) else {
+        return Ok(());
+    };
+    append_reply(alloc, name, *line, " recorded\n", &answered.reply, text)?;
+    append_reply(alloc, name, *line, " alone\n", alone, text)
+}
+
+// Appends why the transaction at a place can't come next: its statement at a place gets another reply alone.
 fn append_answer<A: Allocator + Copy>(
     alloc: A,
     traces: &Traces<A>,
-    (place, at): (usize, usize),
+    place: usize,
+    at: usize,
     alone: &Reply<A>,
     text: &mut Vec<u8, A>,
-) -> Result<(), NoMemory> {
-    let (Some(name), Some(transaction)) = (traces.names.get(place), traces.transactions.get(place))
-    else {
+) -> Result<(), NoMemory>
+    ensures { OnOk result (text.new.items ≡ text.old.items ++
+        spec.differing_text (slice_get (names_of traces.now.names.items) place)
+        (slice_get traces.now.transactions.items place) at alone.now) }
+{
+    let Some(name) = traces.names.get(place) else {
         return Ok(());
     };
-    let (Some(line), Some(answered)) = (name.lines.get(at), transaction.statements.get(at)) else {
+    let Some(transaction) = traces.transactions.get(place) else {
         return Ok(());
     };
-    append_reply(alloc, name, (*line, " recorded\n"), &answered.reply, text)?;
-    append_reply(alloc, name, (*line, " alone\n"), alone, text)
-}
-
-// Appends why a transaction can't come next.
-fn append_hindered<A: Allocator + Copy>(
-    alloc: A,
-    traces: &Traces<A>,
-    hindered: &Hindered<A>,
-    text: &mut Vec<u8, A>,
-) -> Result<(), NoMemory> {
-    match &hindered.hindrance {
-        Hindrance::Answer(at, alone) => {
-            append_answer(alloc, traces, (hindered.place, *at), alone, text)
-        }
-        Hindrance::Time(earlier) => append_time(traces, hindered.place, *earlier, text),
-        Hindrance::Nothing => Ok(()),
-    }
+    append_difference(
+        alloc,
+        name,
+        transaction.statements.as_slice(),
+        at,
+        alone,
+        text,
+    )
 }
 
 // Appends that a transaction comes after another, which had ended before it began.
 fn append_time<A: Allocator>(
-    traces: &Traces<A>,
+    names: &[Name<A>],
     place: usize,
     earlier: usize,
     text: &mut Vec<u8, A>,
-) -> Result<(), NoMemory> {
-    let (Some(name), Some(earlier)) = (traces.names.get(place), traces.names.get(earlier)) else {
+) -> Result<(), NoMemory>
+    ensures { OnOk result (text.new.items ≡ text.old.items ++
+        spec.time_text (slice_get (names_of names.now) place) (slice_get (names_of names.now) earlier)) }
+{
+    let Some(name) = names.get(place) else {
+        return Ok(());
+    };
+    let Some(earlier) = names.get(earlier) else {
         return Ok(());
     };
     append("txn ", name.number, text)?;
@@ -131,16 +192,54 @@ fn append_time<A: Allocator>(
     Ok(())
 }
 
+// Appends why a transaction can't come next.
+fn append_hindered<A: Allocator + Copy>(
+    alloc: A,
+    traces: &Traces<A>,
+    hindered: &Hindered<A>,
+    text: &mut Vec<u8, A>,
+) -> Result<(), NoMemory>
+    ensures { OnOk result (text.new.items ≡ text.old.items ++
+        spec.hindered_text (names_of traces.now.names.items) traces.now.transactions.items hindered.now) }
+{
+    match &hindered.hindrance {
+        Hindrance::Answer(at, alone) => {
+            append_answer(alloc, traces, hindered.place, *at, alone, text)
+        }
+        Hindrance::Time(earlier) => {
+            append_time(traces.names.as_slice(), hindered.place, *earlier, text)
+        }
+        Hindrance::Nothing => Ok(()),
+    }
+}
+
+// Appends why transactions can't come next.
+fn append_each<A: Allocator + Copy>(
+    alloc: A,
+    traces: &Traces<A>,
+    each: &[Hindered<A>],
+    text: &mut Vec<u8, A>,
+) -> Result<(), NoMemory>
+    ensures { OnOk result (text.new.items ≡ text.old.items ++
+        flat_map (spec.hindered_text (names_of traces.now.names.items) traces.now.transactions.items) each.now) }
+{
+    for hindered in each {
+        append_hindered(alloc, traces, hindered, text)?;
+    }
+    Ok(())
+}
+
 // The longest order, and why none goes on.
 fn stop_text<A: Allocator + Copy>(
     alloc: A,
     traces: &Traces<A>,
     stop: &Stop<A>,
-) -> Result<Vec<u8, A>, NoMemory> {
+) -> Result<Vec<u8, A>, NoMemory>
+    ensures { IfOk result (λ text. text.items ≡
+        spec.stop_text (names_of traces.now.names.items) traces.now.transactions.items stop.now) }
+{
     let mut text = order_text(alloc, traces.names.as_slice(), stop.order.as_slice())?;
-    for hindered in &stop.hindered {
-        append_hindered(alloc, traces, hindered, &mut text)?;
-    }
+    append_each(alloc, traces, stop.hindered.as_slice(), &mut text)?;
     Ok(text)
 }
 
@@ -164,7 +263,10 @@ fn certificate_text<A: Allocator + Copy>(
 fn refutation_text<A: Allocator + Copy>(
     alloc: A,
     judgement: &Judgement<A>,
-) -> Result<Vec<u8, A>, NoMemory> {
+) -> Result<Vec<u8, A>, NoMemory>
+    ensures { IfOk result (λ text. TellsWhy (names_of judgement.now.traces.names.items)
+        judgement.now.traces.transactions.items judgement.now.certificate judgement.now.stop text.items) }
+{
     match (&judgement.certificate, &judgement.stop) {
         (Some(lines), _) => certificate_text(alloc, judgement, lines.as_slice()),
         (None, Some(stop)) => stop_text(alloc, &judgement.traces, stop),
@@ -176,7 +278,11 @@ fn refutation_text<A: Allocator + Copy>(
 fn reasons_text<A: Allocator + Copy>(
     alloc: A,
     judgement: &Judgement<A>,
-) -> Result<Vec<u8, A>, NoMemory> {
+) -> Result<Vec<u8, A>, NoMemory>
+    ensures { IfOk result (λ text. TellsReasons (names_of judgement.now.traces.names.items)
+        judgement.now.traces.transactions.items judgement.now.answer judgement.now.certificate judgement.now.stop
+        text.items) }
+{
     match &judgement.answer {
         Answer::Yes(order) => order_text(
             alloc,
@@ -190,7 +296,7 @@ fn reasons_text<A: Allocator + Copy>(
 
 // The line of an answer.
 fn answer_line<A: Allocator>(answer: &Answer<A>) -> &'static str
-    ensures { result.now ≡ spec.answer_line answer.now }
+    ensures { result.now ≡ lines.answer_line answer.now }
 {
     match answer {
         Answer::Yes(_) => "check yes\n",
@@ -204,7 +310,8 @@ pub fn judgement_text<A: Allocator + Copy>(
     alloc: A,
     judgement: &Judgement<A>,
 ) -> Result<Vec<u8, A>, NoMemory>
-    ensures { IfOk result (λ text. EndsWith judgement.now.answer text.items) }
+    ensures ends { IfOk result (λ text. EndsWith judgement.now.answer text.items) }
+    ensures tells { IfOk result (λ text. TellsOf judgement.now text.items) }
 {
     let mut text = reasons_text(alloc, judgement)?;
     text.extend_from_slice(answer_line(&judgement.answer).as_bytes())?;
