@@ -3,3 +3,5 @@ pub mod FindLemmas
 mod PastLemmas
 mod WalkLemmas
 mod DrawnLemmas
+mod WordLemmas
+pub mod told

@@ -9,3 +9,7 @@ pub mod Remarks
 pub mod Why
 pub mod Arrows
 pub mod Lives
+pub mod Words
+pub mod Explained
+pub mod Told
+pub mod Reasons

@@ -1,5 +1,5 @@
 -- Which transactions met, and where. Transactions have their numbers, counted with those before the base.
-use Rattle.std.specs.Prelude.{ℕ, ◌-◌, nat_lt, ◌==◌, Bool, true, false, not, ◌&&◌, ◌||◌, Option, Some, None, List}
+use Rattle.std.specs.Prelude.{ℕ, ◌-◌, nat_lt, ◌==◌, Bool, not, ◌&&◌, ◌||◌, Option, Some, None, List}
 use Rattle.std.specs.List.{find, list_any}
 use Rattle.value.specs.declared.refusal.Cause.{Cause}
 use Rattle.schema.specs.declared.changes.Change.{Change}

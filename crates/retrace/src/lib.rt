@@ -6,6 +6,7 @@ mod deed;
 mod doom;
 pub mod drawing;
 pub mod explain;
+pub mod laws;
 pub mod past;
 pub mod run;
 pub mod witness;

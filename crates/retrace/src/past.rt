@@ -5,6 +5,9 @@ ghost use Rattle.std.specs.Option.{option_copied};
 ghost use Rattle.value.specs.Refusals.{out_of_memory};
 ghost use Rattle.retrace.specs.Past.{after_all, all_turned, asked_for, at_place, commits_after, followed, followed_to, joined, lent_after, owned, retraced, snapshot_of, tables_after, turned_at, unbegun, when};
 ghost use Rattle.retrace.specs.Runs.{is_its, turned};
+ghost use Rattle.retrace.specs.Told.{TellAll};
+ghost use Rattle.history.specs.Answer.{IsLegal};
+ghost use Rattle.history.specs.Events.{world};
 
 use crate::doom::{causes_of, doom_all, installs};
 use crate::run::{Run, When};
@@ -387,6 +390,7 @@ pub fn retrace<A: Allocator + Copy>(
     history: &History<A>,
 ) -> Result<Vec<Run<A>, A>, Refusal>
     ensures ok { IfOk result (λ runs. runs.items ≡ retraced history.now.opening history.now.records) }
+    ensures told { IfOk result (λ runs. IsLegal history.now → TellAll history.now.opening.base runs.items (world history.now).txns) }
     ensures memory { IfErr result (λ e. e ≡ out_of_memory) }
 {
     let mut past = Past::of(alloc, history)?;

@@ -1,7 +1,10 @@
 //! What was read or written, in words.
 
-ghost use Rattle.std.specs.Prelude.{◌≡◌, IfErr};
+ghost use Rattle.std.specs.Prelude.{◌≡◌, ◌++◌, codes, IfErr, OnOk};
+ghost use Rattle.std.specs.Option.{option_copied};
 ghost use Rattle.value.specs.Refusals.{out_of_memory};
+ghost use Rattle.copytext.specs.Writing.{field_text};
+ghost use Rattle.retrace.specs.Words as words;
 
 use crate::explain::account::Account;
 use crate::explain::remark::{append_number, append_word};
@@ -17,6 +20,7 @@ use value::refusal::Refusal;
 
 // Appends a key, as COPY text.
 fn append_key<A: Allocator>(key: &Key<A>, text: &mut Vec<u8, A>) -> Result<(), Refusal>
+    ensures done { OnOk result (text.new.items ≡ text.old.items ++ field_text key.now) }
     ensures memory { IfErr result (λ e. e ≡ out_of_memory) }
 {
     write_field(key.value(), text)
@@ -24,6 +28,7 @@ fn append_key<A: Allocator>(key: &Key<A>, text: &mut Vec<u8, A>) -> Result<(), R
 
 // Appends one end of the range that single keys count as.
 fn append_end<A: Allocator>(key: Option<&Key<A>>, text: &mut Vec<u8, A>) -> Result<(), Refusal>
+    ensures done { OnOk result (text.new.items ≡ text.old.items ++ words.end_told (option_copied key.entry)) }
     ensures memory { IfErr result (λ e. e ≡ out_of_memory) }
 {
     match key {
@@ -32,8 +37,41 @@ fn append_end<A: Allocator>(key: Option<&Key<A>>, text: &mut Vec<u8, A>) -> Resu
     }
 }
 
+// Appends both ends of the range that single keys count as.
+fn append_ends<A: Allocator>(
+    least: Option<&Key<A>>,
+    greatest: Option<&Key<A>>,
+    text: &mut Vec<u8, A>,
+) -> Result<(), Refusal>
+    ensures done { OnOk result (text.new.items ≡ text.old.items ++ words.ends_told (option_copied least.entry) (option_copied greatest.entry)) }
+    ensures memory { IfErr result (λ e. e ≡ out_of_memory) }
+{
+    append_end(least, text)?;
+    append_word(" to ", text)?;
+    append_end(greatest, text)
+}
+
+// Appends the range that single keys of a table count as.
+fn append_span<A: Allocator>(
+    table: TableNo,
+    readings: &[Reading<A>],
+    text: &mut Vec<u8, A>,
+) -> Result<(), Refusal>
+    ensures done { OnOk result (text.new.items ≡ text.old.items ++ words.span_told table readings.now) }
+    ensures memory { IfErr result (λ e. e ≡ out_of_memory) }
+{
+    append_word(", which count as the range ", text)?;
+    append_ends(
+        least_key(table, readings),
+        greatest_key(table, readings),
+        text,
+    )
+}
+
 // What stands between the ends of a range, where it has both.
-fn between<A: Allocator>(lower: &End<A>, upper: &End<A>) -> &'static str {
+fn between<A: Allocator>(lower: &End<A>, upper: &End<A>) -> &'static str
+    ensures { result.now ≡ words.between lower.now upper.now }
+{
     if matches!(lower, End::Open) || matches!(upper, End::Open) {
         ""
     } else {
@@ -51,6 +89,7 @@ impl<'h, A: Allocator> Account<'h, A> {
         key: &Key<A>,
         text: &mut Vec<u8, A>,
     ) -> Result<(), Refusal>
+        ensures done { OnOk result (text.new.items ≡ text.old.items ++ words.compared self.now.catalog table column sign.now key.now) }
         ensures memory { IfErr result (λ e. e ≡ out_of_memory) }
     {
         append_word(self.column(table, column), text)?;
@@ -66,6 +105,7 @@ impl<'h, A: Allocator> Account<'h, A> {
         key: &Key<A>,
         text: &mut Vec<u8, A>,
     ) -> Result<(), Refusal>
+        ensures done { OnOk result (text.new.items ≡ text.old.items ++ words.rows_told self.now.catalog table column key.now) }
         ensures memory { IfErr result (λ e. e ≡ out_of_memory) }
     {
         append_word("rows of ", text)?;
@@ -76,6 +116,7 @@ impl<'h, A: Allocator> Account<'h, A> {
 
     // Appends what a key of a table is called.
     fn append_one(&self, table: TableNo, key: &Key<A>, text: &mut Vec<u8, A>) -> Result<(), Refusal>
+        ensures done { OnOk result (text.new.items ≡ text.old.items ++ words.key_told self.now.catalog table key.now) }
         ensures memory { IfErr result (λ e. e ≡ out_of_memory) }
     {
         append_word(self.table(table), text)?;
@@ -90,6 +131,7 @@ impl<'h, A: Allocator> Account<'h, A> {
         end: &End<A>,
         text: &mut Vec<u8, A>,
     ) -> Result<(), Refusal>
+        ensures done { OnOk result (text.new.items ≡ text.old.items ++ words.lower_told self.now.catalog table end.now) }
         ensures memory { IfErr result (λ e. e ≡ out_of_memory) }
     {
         match end {
@@ -106,6 +148,7 @@ impl<'h, A: Allocator> Account<'h, A> {
         end: &End<A>,
         text: &mut Vec<u8, A>,
     ) -> Result<(), Refusal>
+        ensures done { OnOk result (text.new.items ≡ text.old.items ++ words.upper_told self.now.catalog table end.now) }
         ensures memory { IfErr result (λ e. e ≡ out_of_memory) }
     {
         match end {
@@ -123,6 +166,7 @@ impl<'h, A: Allocator> Account<'h, A> {
         upper: &End<A>,
         text: &mut Vec<u8, A>,
     ) -> Result<(), Refusal>
+        ensures done { OnOk result (text.new.items ≡ text.old.items ++ words.range_told self.now.catalog table lower.now upper.now) }
         ensures memory { IfErr result (λ e. e ≡ out_of_memory) }
     {
         append_word(self.table(table), text)?;
@@ -134,6 +178,7 @@ impl<'h, A: Allocator> Account<'h, A> {
 
     // Appends what a reading has read.
     fn append_reading(&self, reading: &Reading<A>, text: &mut Vec<u8, A>) -> Result<(), Refusal>
+        ensures done { OnOk result (text.new.items ≡ text.old.items ++ words.extent_told self.now.catalog reading.now.table reading.now.extent) }
         ensures memory { IfErr result (λ e. e ≡ out_of_memory) }
     {
         let table = reading.table;
@@ -148,6 +193,21 @@ impl<'h, A: Allocator> Account<'h, A> {
         }
     }
 
+    // Appends how many single keys of a table were read.
+    fn append_count(
+        &self,
+        table: TableNo,
+        count: usize,
+        text: &mut Vec<u8, A>,
+    ) -> Result<(), Refusal>
+        ensures done { OnOk result (text.new.items ≡ text.old.items ++ words.count_told self.now.catalog table count) }
+        ensures memory { IfErr result (λ e. e ≡ out_of_memory) }
+    {
+        append_number(count as u64, text)?;
+        append_word(" single keys of ", text)?;
+        append_word(self.table(table), text)
+    }
+
     // Appends that single keys count as a range.
     fn append_keys(
         &self,
@@ -156,19 +216,16 @@ impl<'h, A: Allocator> Account<'h, A> {
         readings: &[Reading<A>],
         text: &mut Vec<u8, A>,
     ) -> Result<(), Refusal>
+        ensures done { OnOk result (text.new.items ≡ text.old.items ++ words.keys_told self.now.catalog table count readings.now) }
         ensures memory { IfErr result (λ e. e ≡ out_of_memory) }
     {
-        append_number(count as u64, text)?;
-        append_word(" single keys of ", text)?;
-        append_word(self.table(table), text)?;
-        append_word(", which count as the range ", text)?;
-        append_end(least_key(table, readings), text)?;
-        append_word(" to ", text)?;
-        append_end(greatest_key(table, readings), text)
+        self.append_count(table, count, text)?;
+        append_span(table, readings, text)
     }
 
     // Appends that a table counts as read whole.
     fn append_table(&self, table: TableNo, text: &mut Vec<u8, A>) -> Result<(), Refusal>
+        ensures done { OnOk result (text.new.items ≡ text.old.items ++ words.table_told self.now.catalog table) }
         ensures memory { IfErr result (λ e. e ≡ out_of_memory) }
     {
         append_word("so many ranges or references of ", text)?;
@@ -183,6 +240,7 @@ impl<'h, A: Allocator> Account<'h, A> {
         readings: &[Reading<A>],
         text: &mut Vec<u8, A>,
     ) -> Result<(), Refusal>
+        ensures done { OnOk result (text.new.items ≡ text.old.items ++ words.hold_told self.now.catalog edge.now.item.table readings.now edge.now.hold) }
         ensures memory { IfErr result (λ e. e ≡ out_of_memory) }
     {
         let table = edge.item.table;
@@ -198,6 +256,7 @@ impl<'h, A: Allocator> Account<'h, A> {
 
     /// Appends what was written.
     pub(crate) fn append_item(&self, item: &Item<A>, text: &mut Vec<u8, A>) -> Result<(), Refusal>
+        ensures done { OnOk result (text.new.items ≡ text.old.items ++ words.item_told self.now.catalog item.now) }
         ensures memory { IfErr result (λ e. e ≡ out_of_memory) }
     {
         match item.column {
@@ -213,6 +272,7 @@ impl<'h, A: Allocator> Account<'h, A> {
         key: &Key<A>,
         text: &mut Vec<u8, A>,
     ) -> Result<(), Refusal>
+        ensures done { OnOk result (text.new.items ≡ text.old.items ++ words.key_told self.now.catalog table key.now) }
         ensures memory { IfErr result (λ e. e ≡ out_of_memory) }
     {
         self.append_one(table, key, text)

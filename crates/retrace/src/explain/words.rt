@@ -1,7 +1,9 @@
 //! Remarks on a refusal.
 
-ghost use Rattle.std.specs.Prelude.{◌≡◌, IfOk, IfErr};
+ghost use Rattle.std.specs.Prelude.{◌≡◌, ◌++◌, ◌∷◌, [], map, IfOk, IfErr, OnOk};
 ghost use Rattle.value.specs.Refusals.{out_of_memory};
+ghost use Rattle.retrace.specs.Explained as told;
+ghost use Rattle.retrace.specs.Why as why;
 
 use crate::explain::account::Account;
 use crate::explain::danger::{Danger, danger_of, numbered};
@@ -10,23 +12,68 @@ use crate::explain::rival::{rival, taken};
 use crate::run::Run;
 use crate::witness::edge::Edge;
 use crate::witness::meeting::read_by;
-use crate::witness::trace::Moment;
+use crate::witness::trace::{Moment, Trace};
 use history::session_id::SessionId;
 use schema::changes::Change;
 use std::alloc::Allocator;
 use value::refusal::{Cause, Refusal, TxnNo};
 
 /// Which of a conflict's transactions are introduced, with their session and the line of their BEGIN.
-#[derive(Clone, Copy, PartialEq, Eq)]
-enum Introduced {
-    Both,
-    Writer,
-    Neither,
+#[derive(Clone, Copy)]
+struct Introduced {
+    reader: bool,
+    writer: bool,
+}
+
+// Appends a transaction, a word and another transaction.
+fn append_before<A: Allocator>(
+    first: TxnNo,
+    word: &str,
+    second: TxnNo,
+    text: &mut Vec<u8, A>,
+) -> Result<(), Refusal>
+    ensures done { OnOk result (text.new.items ≡ text.old.items ++ told.before_told first.0 word.now second.0) }
+    ensures memory { IfErr result (λ e. e ≡ out_of_memory) }
+{
+    append_number(first.0, text)?;
+    append_word(word, text)?;
+    append_number(second.0, text)
+}
+
+// Appends in which order the transactions of a structure would have to come, where its first isn't its last.
+fn append_chain<A: Allocator>(cause: Cause, text: &mut Vec<u8, A>) -> Result<(), Refusal>
+    ensures done { OnOk result (text.new.items ≡ text.old.items ++ told.chain_told cause) }
+    ensures memory { IfErr result (λ e. e ≡ out_of_memory) }
+{
+    append_word("so ", text)?;
+    append_before(cause.a, " comes before ", cause.b, text)?;
+    append_word(" and ", text)?;
+    append_before(cause.b, " before ", cause.c, text)?;
+    append_word(", but ", text)
+}
+
+// Appends a transaction's snapshot.
+fn append_snapshot<A: Allocator>(number: TxnNo, text: &mut Vec<u8, A>) -> Result<(), Refusal>
+    ensures done { OnOk result (text.new.items ≡ text.old.items ++ told.snapshot_told number.0) }
+    ensures memory { IfErr result (λ e. e ≡ out_of_memory) }
+{
+    append_number(number.0, text)?;
+    append_word("'s snapshot.", text)
+}
+
+// Appends that a structure's last transaction had committed before its first took its snapshot.
+fn append_seen<A: Allocator>(cause: Cause, text: &mut Vec<u8, A>) -> Result<(), Refusal>
+    ensures done { OnOk result (text.new.items ≡ text.old.items ++ told.seen_told cause) }
+    ensures memory { IfErr result (λ e. e ≡ out_of_memory) }
+{
+    append_word(" had committed before ", text)?;
+    append_snapshot(cause.a, text)
 }
 
 impl<'h, A: Allocator> Account<'h, A> {
     // Appends the line of an event.
     fn append_line(&self, place: u64, text: &mut Vec<u8, A>) -> Result<(), Refusal>
+        ensures done { OnOk result (text.new.items ≡ text.old.items ++ told.line_told self.now place) }
         ensures memory { IfErr result (λ e. e ≡ out_of_memory) }
     {
         append_word("line ", text)?;
@@ -35,6 +82,7 @@ impl<'h, A: Allocator> Account<'h, A> {
 
     // Appends the line of an event, in brackets.
     fn append_at(&self, moment: Moment, text: &mut Vec<u8, A>) -> Result<(), Refusal>
+        ensures done { OnOk result (text.new.items ≡ text.old.items ++ told.at_told self.now moment) }
         ensures memory { IfErr result (λ e. e ≡ out_of_memory) }
     {
         append_word(" (", text)?;
@@ -44,22 +92,40 @@ impl<'h, A: Allocator> Account<'h, A> {
 
     // Appends a transaction.
     fn append_number(&self, run: &Run<A>, text: &mut Vec<u8, A>) -> Result<(), Refusal>
+        ensures done { OnOk result (text.new.items ≡ text.old.items ++ told.transaction_told self.now run.now) }
         ensures memory { IfErr result (λ e. e ≡ out_of_memory) }
     {
         append_word("transaction ", text)?;
         append_number(self.number(run), text)
     }
 
-    // Appends a transaction, its session, and the line of its BEGIN.
-    fn append_introduced(&self, run: &Run<A>, text: &mut Vec<u8, A>) -> Result<(), Refusal>
+    // Appends the line of a transaction's BEGIN.
+    fn append_begin(&self, run: &Run<A>, text: &mut Vec<u8, A>) -> Result<(), Refusal>
+        ensures done { OnOk result (text.new.items ≡ text.old.items ++ told.begin_told self.now run.now) }
         ensures memory { IfErr result (λ e. e ≡ out_of_memory) }
     {
-        self.append_number(run, text)?;
-        append_word(" (session ", text)?;
-        append_number(u64::from(run.trace.session.number()), text)?;
         append_word(", ", text)?;
         self.append_line(run.trace.begin, text)?;
         append_word(")", text)
+    }
+
+    // Appends a transaction's session, and the line of its BEGIN.
+    fn append_session(&self, run: &Run<A>, text: &mut Vec<u8, A>) -> Result<(), Refusal>
+        ensures done { OnOk result (text.new.items ≡ text.old.items ++ told.session_told self.now run.now) }
+        ensures memory { IfErr result (λ e. e ≡ out_of_memory) }
+    {
+        append_word(" (session ", text)?;
+        append_number(u64::from(run.trace.session.number()), text)?;
+        self.append_begin(run, text)
+    }
+
+    // Appends a transaction, its session, and the line of its BEGIN.
+    fn append_introduced(&self, run: &Run<A>, text: &mut Vec<u8, A>) -> Result<(), Refusal>
+        ensures done { OnOk result (text.new.items ≡ text.old.items ++ told.introduced_told self.now run.now) }
+        ensures memory { IfErr result (λ e. e ≡ out_of_memory) }
+    {
+        self.append_number(run, text)?;
+        self.append_session(run, text)
     }
 
     // Appends a transaction, introduced or not.
@@ -69,6 +135,7 @@ impl<'h, A: Allocator> Account<'h, A> {
         is_introduced: bool,
         text: &mut Vec<u8, A>,
     ) -> Result<(), Refusal>
+        ensures done { OnOk result (text.new.items ≡ text.old.items ++ told.party_told self.now is_introduced run.now) }
         ensures memory { IfErr result (λ e. e ≡ out_of_memory) }
     {
         if is_introduced {
@@ -76,6 +143,21 @@ impl<'h, A: Allocator> Account<'h, A> {
         } else {
             self.append_number(run, text)
         }
+    }
+
+    // Appends what a transaction read.
+    fn append_read(
+        &self,
+        trace: &Trace<A>,
+        edge: &Edge<A>,
+        text: &mut Vec<u8, A>,
+    ) -> Result<(), Refusal>
+        ensures done { OnOk result (text.new.items ≡ text.old.items ++ told.read_told self.now trace.now edge.now) }
+        ensures memory { IfErr result (λ e. e ≡ out_of_memory) }
+    {
+        append_word(" read ", text)?;
+        self.append_hold(edge, read_by(trace, edge.read), text)?;
+        self.append_at(edge.read, text)
     }
 
     // Appends which transaction read what.
@@ -86,12 +168,21 @@ impl<'h, A: Allocator> Account<'h, A> {
         is_introduced: bool,
         text: &mut Vec<u8, A>,
     ) -> Result<(), Refusal>
+        ensures done { OnOk result (text.new.items ≡ text.old.items ++ told.reader_told self.now is_introduced reader.now edge.now) }
         ensures memory { IfErr result (λ e. e ≡ out_of_memory) }
     {
         self.append_party(reader, is_introduced, text)?;
-        append_word(" read ", text)?;
-        self.append_hold(edge, read_by(&reader.trace, edge.read), text)?;
-        self.append_at(edge.read, text)
+        self.append_read(&reader.trace, edge, text)
+    }
+
+    // Appends what a transaction wrote.
+    fn append_written(&self, edge: &Edge<A>, text: &mut Vec<u8, A>) -> Result<(), Refusal>
+        ensures done { OnOk result (text.new.items ≡ text.old.items ++ told.written_told self.now edge.now) }
+        ensures memory { IfErr result (λ e. e ≡ out_of_memory) }
+    {
+        append_word(" wrote ", text)?;
+        self.append_item(&edge.item, text)?;
+        self.append_at(edge.written, text)
     }
 
     // Appends which transaction wrote what.
@@ -102,12 +193,11 @@ impl<'h, A: Allocator> Account<'h, A> {
         is_introduced: bool,
         text: &mut Vec<u8, A>,
     ) -> Result<(), Refusal>
+        ensures done { OnOk result (text.new.items ≡ text.old.items ++ told.writer_told self.now is_introduced writer.now edge.now) }
         ensures memory { IfErr result (λ e. e ≡ out_of_memory) }
     {
         self.append_party(writer, is_introduced, text)?;
-        append_word(" wrote ", text)?;
-        self.append_item(&edge.item, text)?;
-        self.append_at(edge.written, text)
+        self.append_written(edge, text)
     }
 
     // Which transaction read what, and which wrote it.
@@ -119,14 +209,13 @@ impl<'h, A: Allocator> Account<'h, A> {
         edge: &Edge<A>,
         introduced: Introduced,
     ) -> Result<Vec<u8, A>, Refusal>
+        ensures done { IfOk result (λ text. text.items ≡ told.conflict_told self.now introduced.reader introduced.writer reader.now writer.now edge.now) }
         ensures memory { IfErr result (λ e. e ≡ out_of_memory) }
     {
         let mut text = Vec::new(alloc);
-        let is_reader_new = introduced == Introduced::Both;
-        let is_writer_new = introduced != Introduced::Neither;
-        self.append_reader(reader, edge, is_reader_new, &mut text)?;
+        self.append_reader(reader, edge, introduced.reader, &mut text)?;
         append_word("; ", &mut text)?;
-        self.append_writer(writer, edge, is_writer_new, &mut text)?;
+        self.append_writer(writer, edge, introduced.writer, &mut text)?;
         Ok(text)
     }
 
@@ -139,6 +228,7 @@ impl<'h, A: Allocator> Account<'h, A> {
         introduced: Introduced,
         remarks: &mut Vec<Vec<u8, A>, A>,
     ) -> Result<(), Refusal>
+        ensures done { OnOk result (map (λ r. r.items) remarks.new.items ≡ map (λ r. r.items) remarks.old.items ++ told.conflict_remarks self.now introduced.reader introduced.writer parties.0.0 parties.1.0 edge.now) }
         ensures memory { IfErr result (λ e. e ≡ out_of_memory) }
     {
         let (from, to) = parties;
@@ -156,7 +246,9 @@ impl<'h, A: Allocator> Account<'h, A> {
     }
 
     // Whether a structure's last transaction had committed when its first took its snapshot.
-    fn is_seen(&self, cause: Cause) -> bool {
+    fn is_seen(&self, cause: Cause) -> bool
+        ensures { result ≡ told.is_seen self.now cause }
+    {
         let base = self.history.base().transactions;
         let Some(first) = numbered(self.runs, base, cause.a) else {
             return false;
@@ -169,6 +261,7 @@ impl<'h, A: Allocator> Account<'h, A> {
 
     // Appends which transaction is to be run again.
     fn append_again(&self, session: SessionId, text: &mut Vec<u8, A>) -> Result<(), Refusal>
+        ensures done { OnOk result (text.new.items ≡ text.old.items ++ told.again_told self.now session) }
         ensures memory { IfErr result (λ e. e ≡ out_of_memory) }
     {
         if let Some(run) = self.last_of(session) {
@@ -181,37 +274,40 @@ impl<'h, A: Allocator> Account<'h, A> {
 
     // Appends in which order the transactions of a structure would have to come.
     fn append_order(&self, cause: Cause, text: &mut Vec<u8, A>) -> Result<(), Refusal>
+        ensures done { OnOk result (text.new.items ≡ text.old.items ++ told.order_told cause) }
         ensures memory { IfErr result (λ e. e ≡ out_of_memory) }
     {
         if cause.a == cause.c {
-            return append_word("so each would have to come before the other; ", text);
+            append_word("so each would have to come before the other; ", text)
+        } else {
+            append_chain(cause, text)
         }
-        append_word("so ", text)?;
-        append_number(cause.a.0, text)?;
-        append_word(" comes before ", text)?;
-        append_number(cause.b.0, text)?;
-        append_word(" and ", text)?;
-        append_number(cause.b.0, text)?;
-        append_word(" before ", text)?;
-        append_number(cause.c.0, text)?;
-        append_word(", but ", text)
+    }
+
+    // Appends when a structure's last transaction committed.
+    fn append_committed(&self, cause: Cause, text: &mut Vec<u8, A>) -> Result<(), Refusal>
+        ensures done { OnOk result (text.new.items ≡ text.old.items ++ told.committed_told self.now cause) }
+        ensures memory { IfErr result (λ e. e ≡ out_of_memory) }
+    {
+        if cause.a == cause.c || !self.is_seen(cause) {
+            append_word(" committed first.", text)
+        } else {
+            append_seen(cause, text)
+        }
     }
 
     // Appends which transaction committed first.
     fn append_first(&self, cause: Cause, text: &mut Vec<u8, A>) -> Result<(), Refusal>
+        ensures done { OnOk result (text.new.items ≡ text.old.items ++ told.first_told self.now cause) }
         ensures memory { IfErr result (λ e. e ≡ out_of_memory) }
     {
         append_number(cause.c.0, text)?;
-        if cause.a == cause.c || !self.is_seen(cause) {
-            return append_word(" committed first.", text);
-        }
-        append_word(" had committed before ", text)?;
-        append_number(cause.a.0, text)?;
-        append_word("'s snapshot.", text)
+        self.append_committed(cause, text)
     }
 
     // What follows from a structure.
     fn consequence(&self, alloc: A, session: SessionId, cause: Cause) -> Result<Vec<u8, A>, Refusal>
+        ensures done { IfOk result (λ text. text.items ≡ told.consequence_told self.now session cause) }
         ensures memory { IfErr result (λ e. e ≡ out_of_memory) }
     {
         let mut text = Vec::new(alloc);
@@ -219,16 +315,6 @@ impl<'h, A: Allocator> Account<'h, A> {
         self.append_first(cause, &mut text)?;
         self.append_again(session, &mut text)?;
         Ok(text)
-    }
-
-    // Which of the second conflict's transactions are introduced: the first has both others where `a` is
-    // `c`.
-    fn introduced(&self, cause: Cause) -> Introduced {
-        if cause.a == cause.c {
-            Introduced::Neither
-        } else {
-            Introduced::Writer
-        }
     }
 
     // Adds the remarks on a structure's conflicts.
@@ -240,18 +326,22 @@ impl<'h, A: Allocator> Account<'h, A> {
     ) -> Result<(), Refusal>
     where
         A: Copy,
+        ensures done { OnOk result (map (λ r. r.items) remarks.new.items ≡ map (λ r. r.items) remarks.old.items ++ told.danger_remarks self.now danger.now) }
         ensures memory { IfErr result (λ e. e ≡ out_of_memory) }
     {
         let cause = danger.cause;
         let (first, second) = ((cause.a, cause.b), (cause.b, cause.c));
-        self.push_conflict(alloc, first, &danger.first, Introduced::Both, remarks)?;
-        self.push_conflict(
-            alloc,
-            second,
-            &danger.second,
-            self.introduced(cause),
-            remarks,
-        )
+        let both = Introduced {
+            reader: true,
+            writer: true,
+        };
+        self.push_conflict(alloc, first, &danger.first, both, remarks)?;
+        // The first conflict has introduced both others where `a` is `c`.
+        let last = Introduced {
+            reader: false,
+            writer: cause.a != cause.c,
+        };
+        self.push_conflict(alloc, second, &danger.second, last, remarks)
     }
 
     // Adds the remarks on a dangerous structure.
@@ -263,6 +353,7 @@ impl<'h, A: Allocator> Account<'h, A> {
     ) -> Result<(), Refusal>
     where
         A: Copy,
+        ensures done { OnOk result (map (λ r. r.items) remarks.new.items ≡ map (λ r. r.items) remarks.old.items ++ told.danger_remarks self.now (why.danger_of self.now.base self.now.runs cause)) }
         ensures memory { IfErr result (λ e. e ≡ out_of_memory) }
     {
         let base = self.history.base().transactions;
@@ -278,6 +369,7 @@ impl<'h, A: Allocator> Account<'h, A> {
         cause: Cause,
         remarks: &mut Vec<Vec<u8, A>, A>,
     ) -> Result<(), Refusal>
+        ensures done { OnOk result (map (λ r. r.items) remarks.new.items ≡ map (λ r. r.items) remarks.old.items ++ (told.consequence_told self.now session cause ∷ [])) }
         ensures memory { IfErr result (λ e. e ≡ out_of_memory) }
     {
         let consequence = self.consequence(alloc, session, cause)?;
@@ -294,12 +386,22 @@ impl<'h, A: Allocator> Account<'h, A> {
     ) -> Result<Vec<Vec<u8, A>, A>, Refusal>
     where
         A: Copy,
+        ensures done { IfOk result (λ rs. map (λ r. r.items) rs.items ≡ told.cause_remarks self.now session cause) }
         ensures memory { IfErr result (λ e. e ≡ out_of_memory) }
     {
         let mut remarks = Vec::new(alloc);
         self.push_structure(alloc, cause, &mut remarks)?;
         self.push_consequence(alloc, session, cause, &mut remarks)?;
         Ok(remarks)
+    }
+
+    // Appends whose snapshot doesn't show a commit.
+    fn append_since(&self, run: &Run<A>, text: &mut Vec<u8, A>) -> Result<(), Refusal>
+        ensures done { OnOk result (text.new.items ≡ text.old.items ++ told.since_told self.now run.now) }
+        ensures memory { IfErr result (λ e. e ≡ out_of_memory) }
+    {
+        append_word(" and has committed since the snapshot of ", text)?;
+        self.append_introduced(run, text)
     }
 
     // Appends whether the transaction that has a row has ended.
@@ -309,13 +411,14 @@ impl<'h, A: Allocator> Account<'h, A> {
         rival: &Run<A>,
         text: &mut Vec<u8, A>,
     ) -> Result<(), Refusal>
+        ensures done { OnOk result (text.new.items ≡ text.old.items ++ told.state_told self.now run.now rival.now) }
         ensures memory { IfErr result (λ e. e ≡ out_of_memory) }
     {
         if rival.trace.commit == 0 {
-            return append_word(" and hasn't ended", text);
+            append_word(" and hasn't ended", text)
+        } else {
+            self.append_since(run, text)
         }
-        append_word(" and has committed since the snapshot of ", text)?;
-        self.append_introduced(run, text)
     }
 
     // Which transaction has a row.
@@ -326,6 +429,7 @@ impl<'h, A: Allocator> Account<'h, A> {
         rival: &Run<A>,
         change: &Change<A>,
     ) -> Result<Vec<u8, A>, Refusal>
+        ensures done { IfOk result (λ text. text.items ≡ told.holder_told self.now run.now rival.now change.now) }
         ensures memory { IfErr result (λ e. e ≡ out_of_memory) }
     {
         let mut text = Vec::new(alloc);
@@ -338,6 +442,7 @@ impl<'h, A: Allocator> Account<'h, A> {
 
     // What follows where another transaction has the row.
     fn first_updater(&self, alloc: A, session: SessionId) -> Result<Vec<u8, A>, Refusal>
+        ensures done { IfOk result (λ text. text.items ≡ told.first_updater_told self.now session) }
         ensures memory { IfErr result (λ e. e ≡ out_of_memory) }
     {
         let mut text = Vec::new(alloc);
@@ -353,6 +458,7 @@ impl<'h, A: Allocator> Account<'h, A> {
         run: &Run<A>,
         remarks: &mut Vec<Vec<u8, A>, A>,
     ) -> Result<(), Refusal>
+        ensures done { OnOk result (map (λ r. r.items) remarks.new.items ≡ map (λ r. r.items) remarks.old.items ++ told.change_remarks self.now run.now (why.taken self.now.runs run.now)) }
         ensures memory { IfErr result (λ e. e ≡ out_of_memory) }
     {
         let Some(change) = taken(self.runs, run) else {
@@ -368,6 +474,7 @@ impl<'h, A: Allocator> Account<'h, A> {
     pub(crate) fn on_row(&self, alloc: A, session: SessionId) -> Result<Vec<Vec<u8, A>, A>, Refusal>
     where
         A: Copy,
+        ensures done { IfOk result (λ rs. map (λ r. r.items) rs.items ≡ told.row_remarks self.now session) }
         ensures memory { IfErr result (λ e. e ≡ out_of_memory) }
     {
         let mut remarks = Vec::new(alloc);

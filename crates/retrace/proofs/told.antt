@@ -1,0 +1,10 @@
+pub mod Places
+pub mod Turns
+pub mod Dooms
+pub mod Events
+pub mod Histories
+pub mod Shown
+pub mod Conflicts
+pub mod Grown
+pub mod Causes
+pub mod Explained
