@@ -1,4 +1,4 @@
-//! Tests alone: values, references between tables, versions of rows, and the tracker of conflicts.
+//! Tests alone: values, references between tables, versions of rows, the tracker of conflicts, and drawn interleavings.
 
 #![tactic(auto)]
 
@@ -6,6 +6,8 @@
 mod cases;
 #[cfg(test)]
 mod conflicts;
+#[cfg(test)]
+mod draws;
 #[cfg(test)]
 mod locks;
 #[cfg(test)]

@@ -2,5 +2,3 @@
 
 pub mod laws;
 pub mod sampling;
-#[cfg(test)]
-mod tests;
