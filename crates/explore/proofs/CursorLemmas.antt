@@ -2,7 +2,7 @@
 use Rattle.std.proofs.Common.{◌≡◌, ◌==◌, refl, sym, ap, ◌∙◌, subst, ℕ, zero, suc, ◌+◌, ◌-◌, ◌≤◌, ◌<◌, Bool, true, false, cond, drop, get_or, replicate, set, List, [], ◌∷◌, ◌++◌, length, Option, Some, None, arith}
 use Rattle.std.specs.List.{filter}
 use Rattle.std.proofs.lemmas.Bool.{eqb-false, eqb-true}
-use Rattle.std.proofs.lemmas.List.{drop_more, get_or-replicate, get_or-set_other, get_or-set_same, length-append, length-replicate, length-set}
+use Rattle.std.proofs.lemmas.List.{drop_more, get_or-replicate, get_or_default, get_or-set_other, get_or-set_same, length-append, length-replicate, length-set}
 use Rattle.std.proofs.lemmas.List.Elements.{filter-append}
 use Rattle.history.specs.Answer.{answer}
 use Rattle.history.specs.Opening.{Recorded}
@@ -109,6 +109,10 @@ module _ {A : Type 0} where
           sym (behind p j l (drop (at + 1) lines) own) ∙ sym (ap (own_line p (suc j)) (drop_more lines at d lt)) ∙ same (suc j) ∙ is.1 (suc j) ∙ ap (λ m. own_line p m lines) more
 
   -- ---- all cursors
+
+  -- the one at this place
+  pub cursor_at : (lines : List (Line A)) (es : List (Record A)) (cs : List ℕ) (p c : ℕ) → AreCursors lines es cs → p < length cs → c ≡ get_or cs p c → IsCursor lines p (events_of p es) c
+  cursor_at lines es cs p c are lt at = subst (IsCursor lines p (events_of p es)) (get_or_default cs p 0 c lt ∙ sym at) (are p lt)
 
   -- one of them moves on by a turn of its session
   pub moved : (lines : List (Line A)) (h k : Recorded A) (cs : List ℕ) (p c : ℕ) → p < length cs → AreCursors lines h.records cs → k ≡ after_turn lines h p → IsCursor lines p (events_of p k.records) c

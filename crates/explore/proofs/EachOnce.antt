@@ -83,7 +83,7 @@ module _ {A : Type 0} where
   own_events_push : (p : ℕ) (es : List (Record A)) (e : Record A) → own_events p (es ++ e ∷ []) ≡ own_events p es ++ cond (place_of e.session == p) (e ∷ []) []
   own_events_push p es e = filter-append (λ x. place_of x.session == p) es (e ∷ [])
 
-  catalog_kept : (c : Catalog) (lines : List (Line A)) (h : Recorded A) (q : ℕ) → h.opening.catalog ≡ c → (after_turn lines h q).opening.catalog ≡ c
+  pub catalog_kept : (c : Catalog) (lines : List (Line A)) (h : Recorded A) (q : ℕ) → h.opening.catalog ≡ c → (after_turn lines h q).opening.catalog ≡ c
   catalog_kept c lines h q is = go (own_line q (events_of q h.records) lines)
     where
       go : (o : Option (Line A)) → (done h o).opening.catalog ≡ c
@@ -202,7 +202,7 @@ module _ {A : Type 0} where
   from_checkpoint w n o e =
       checkpointed (not (is_quiet w)) (n == 0 || nat_le (2 ^ 64) (w.place + n)) (of_code ObjectNotInPrerequisiteState) (of_code ProgramLimitExceeded) (opening_after w) o e
 
-  same_catalog : (e : Explored A) (h : Recorded A) → beginning e ≡ Ok h → h.opening.catalog ≡ e.setup.opening.catalog
+  pub same_catalog : (e : Explored A) (h : Recorded A) → beginning e ≡ Ok h → h.opening.catalog ≡ e.setup.opening.catalog
   same_catalog e h b =
       let w : World A = world_of e.setup.opening e.setup.records in
       let n : ℕ = turns_of e in

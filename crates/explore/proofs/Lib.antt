@@ -2,3 +2,6 @@ pub mod Beginnings
 pub mod Counting
 mod CursorLemmas
 mod EachOnce
+mod Gathering
+mod OrderedLemmas
+mod SetupLemmas

@@ -28,21 +28,28 @@ use tally::workers::count_outcomes;
 use value::refusal::Refusal;
 
 // Appends the committed tables of a core.
-fn append_state<A: Allocator + Copy>(core: &Core<A>, text: &mut Vec<u8, A>) -> Result<(), Refusal>
+fn append_state<A: Allocator + Copy>(
+    alloc: A,
+    core: &Core<A>,
+    text: &mut Vec<u8, A>,
+) -> Result<(), Refusal>
     ensures { OnOk result (text.new.items ≡ text.old.items ++ state_text core.now) }
 {
     let committed = core.committed();
-    append_tables(&committed, core.history().catalog(), text)?;
+    append_tables(alloc, &committed, core.history().catalog(), text)?;
     Ok(())
 }
+
+// So many bytes are taken at first for the text of an outcome, which mostly has fewer.
+const ROOM: usize = 512;
 
 // The text of the outcome of a core's history.
 fn outcome_text<A: Allocator + Copy>(alloc: A, core: &Core<A>) -> Result<Vec<u8, A>, Refusal>
     ensures { IfOk result (λ text. text.items ≡ outcome_text core.now) }
 {
-    let mut text = Vec::new(alloc);
+    let mut text = Vec::with_capacity(alloc, ROOM)?;
     append_replies(alloc, core.history().records(), &mut text)?;
-    append_state(core, &mut text)?;
+    append_state(alloc, core, &mut text)?;
     Ok(text)
 }
 
@@ -54,7 +61,7 @@ impl<A: Allocator + Copy> Plan<A> {
         ensures legal { IfOk result (λ core. IsLegal core) }
     {
         let mut core = self.begin(alloc)?;
-        do_turns(alloc, &mut core, self.lines(), order)?;
+        do_turns(alloc, &mut core, self.lines(), self.events(), order)?;
         core.is_legal();
         Ok(core)
     }

@@ -2,10 +2,13 @@
 
 #![tactic(auto)]
 
+mod asked;
 pub mod exploring;
 mod gated;
 pub mod laws;
+pub mod ordered;
 pub mod plan;
 mod replies;
 mod running;
+pub mod setup;
 mod states;

@@ -1,10 +1,14 @@
 //! What is explored: the lines of sessions, and the state that they start from.
 
-ghost use Rattle.std.specs.Prelude.{◌≡◌, ◌<◌, ◌^◌, ◌+◌, ◌++◌, ◌∷◌, List, [], Ok, length, sum, ◌≤◌, IfOk, IfSome, IfNone};
+ghost use Rattle.std.specs.Prelude.{◌≡◌, ◌<◌, ◌^◌, ◌+◌, ◌++◌, ◌∷◌, List, [], Ok, length, sum, ◌≤◌, IfErr, IfOk, IfSome, IfNone};
 ghost use Rattle.value.specs.Refusals.{of_code, out_of_memory};
 ghost use Rattle.tally.specs.Interleavings.{interleavings};
 ghost use Rattle.explore.specs.Explored.{CanBegin, beginning, line_counts, lines_of, schedules, sessions};
+ghost use Rattle.explore.specs.Prepared.{ArePrepared};
+ghost use Rattle.explore.specs.Few.{IsUnexplored};
 
+use crate::asked::events_of;
+use history::event::Event;
 use history::session_id::SessionId;
 use request::request::Request;
 use session::sessions::Core;
@@ -26,6 +30,8 @@ pub struct Line<A: Allocator = Global> {
 pub struct Plan<A: Allocator = Global> {
     setup: Core<A>,
     lines: Vec<Line<A>, A>,
+    // What each line asks for.
+    events: Vec<Event<A>, A>,
     // How many lines each session has.
     counts: Vec<u32, A>,
     // How many there are in all.
@@ -37,6 +43,7 @@ impl<A: Allocator> Drop for Plan<A> {
         let Plan {
             setup: _,
             lines: _,
+            events: _,
             counts: _,
             turns: _,
         } = self;
@@ -46,12 +53,23 @@ impl<A: Allocator> Drop for Plan<A> {
 impl<A: Allocator> Model for Plan<A> {
     ghost use Rattle.std.specs.Prelude.{◌≡◌, sum};
     ghost use Rattle.explore.specs.Explored.{Explored, line_counts, sessions};
+    ghost use Rattle.explore.specs.Prepared.{ArePrepared};
 
     ghost Value = { Explored A };
 
     ghost view = { λ p. record { setup = p.setup; lines = p.lines.items } };
 
-    ghost invariant = { λ p. (p.counts.items ≡ line_counts p.lines.items sessions) × (p.turns ≡ sum p.counts.items) };
+    ghost invariant = { λ p. (p.counts.items ≡ line_counts p.lines.items sessions) × (p.turns ≡ sum p.counts.items) ×
+        ArePrepared p.setup.opening.catalog p.lines.items p.events.items };
+}
+
+/// Why a plan's schedules aren't all run.
+#[derive(Clone, Copy, Debug, PartialEq, Eq)]
+pub enum Unexplored {
+    /// Out of memory.
+    Memory,
+    /// There are more than may be run: so many, or more than the greatest u64 can count.
+    TooMany(Option<u64>),
 }
 
 // How many lines the session at a place has.
@@ -122,9 +140,11 @@ impl<A: Allocator> Plan<A> {
         let Some(turns) = sum_of(counts.as_slice()) else {
             return Err(too_many());
         };
+        let events = events_of(alloc, setup.history().catalog(), lines.as_slice())?;
         Ok(Plan {
             setup,
             lines,
+            events,
             counts,
             turns,
         })
@@ -164,6 +184,13 @@ impl<A: Allocator> Plan<A> {
         self.lines.as_slice()
     }
 
+    /// What the lines ask for.
+    pub(crate) fn events(&self) -> &[Event<A>]
+        ensures { ArePrepared self.now.setup.opening.catalog self.now.lines result.now }
+    {
+        self.events.as_slice()
+    }
+
     /// The schedules of its lines; none where there are more than the greatest u64 can count.
     pub fn schedules(&self, alloc: A) -> Result<Option<Interleavings<A>>, AllocError>
         ensures some { IfOk result (λ made. IfSome made (λ i. interleavings i ≡ schedules self.now)) }
@@ -173,6 +200,20 @@ impl<A: Allocator> Plan<A> {
         let counts = copied(alloc, self.counts.as_slice())?;
         let _turns = self.turns;
         Ok(Interleavings::of(counts))
+    }
+
+    /// The schedules of its lines, where there are `most` of them at most.
+    pub fn few_schedules(&self, alloc: A, most: u64) -> Result<Interleavings<A>, Unexplored>
+        ensures all { IfOk result (λ all. interleavings all ≡ schedules self.now) }
+        ensures few { IfOk result (λ _. length (schedules self.now) ≤ most) }
+        ensures more { IfErr result (IsUnexplored most (length (schedules self.now))) }
+    {
+        match self.schedules(alloc) {
+            Ok(Some(all)) if all.len() <= most => Ok(all),
+            Ok(Some(all)) => Err(Unexplored::TooMany(Some(all.len()))),
+            Ok(None) => Err(Unexplored::TooMany(None)),
+            Err(_) => Err(Unexplored::Memory),
+        }
     }
 
     /// `count` schedules of its lines, drawn at random.

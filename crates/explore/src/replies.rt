@@ -1,10 +1,13 @@
 //! The replies of a history, session by session.
 
-ghost use Rattle.std.specs.Prelude.{◌≡◌, ◌++◌, codes, OnOk};
+ghost use Rattle.std.specs.Prelude.{◌≡◌, ◌<◌, ◌≤◌, ◌++◌, ◌∷◌, [], List, ℕ, codes, get_or, length, IfOk, OnOk};
 ghost use Rattle.std.specs.Fmt.{decimal};
 ghost use Rattle.value.specs.Codes.{sqlstate};
 ghost use Rattle.script.specs.Printing.{reply_text};
-ghost use Rattle.explore.specs.Texts.{replies_at, replies_of, told, told_at, told_refusal, word_line};
+ghost use Rattle.history.specs.declared.event.Record.{Record as AnyRecord};
+ghost use Rattle.explore.specs.Explored.{place_of, sessions};
+ghost use Rattle.explore.specs.Replies.{AreReplies};
+ghost use Rattle.explore.specs.Texts.{replies_of, told, told_refusal, word_line};
 
 use history::event::Record;
 use history::session_id::SessionId;
@@ -12,6 +15,7 @@ use itoa::Buffer;
 use script::printing::reply_text;
 use statement::reply::Reply;
 use std::alloc::Allocator;
+use std::marker::Model;
 use value::refusal::{Place, Refusal};
 
 // Appends a session's number and a space.
@@ -97,49 +101,110 @@ fn append_told<A: Allocator + Copy>(
     ensures ok { OnOk result (text.new.items ≡ text.old.items ++ told session reply.now) }
 {
     match reply {
+        Reply::Begun => append_word(session, "BEGIN", text),
+        Reply::Committed => append_word(session, "COMMIT", text),
+        Reply::RolledBack => append_word(session, "ROLLBACK", text),
+        Reply::Pruned => append_word(session, "PRUNE", text),
+        Reply::Imported => append_word(session, "IMPORT", text),
+        Reply::Inserted => append_word(session, "INSERT 0 1", text),
+        Reply::Wait => append_word(session, "WAIT", text),
         Reply::Safe(_) => append_word(session, "SAFE", text),
         Reply::Exported(_) => append_word(session, "EXPORT", text),
         Reply::Refused(refusal) => append_refusal(alloc, session, reply, *refusal, text),
-        Reply::Begun
-        | Reply::Committed
-        | Reply::RolledBack
-        | Reply::Pruned
-        | Reply::Imported
-        | Reply::Inserted
-        | Reply::Updated(_)
-        | Reply::Deleted(_)
-        | Reply::Rows(_)
-        | Reply::Wait => append_printed(alloc, session, reply, text),
+        Reply::Updated(_) | Reply::Deleted(_) | Reply::Rows(_) => {
+            append_printed(alloc, session, reply, text)
+        }
     }
 }
 
-// Appends the reply of an event, where that is of the session at a place.
-fn append_told_at<A: Allocator + Copy>(
+// What the replies to a session say.
+#[derive(Drop)]
+struct Replies<A: Allocator> {
+    text: Vec<u8, A>,
+}
+
+impl<A: Allocator> Model for Replies<A> {
+    ghost use Rattle.std.specs.Prelude.{List, ℕ};
+
+    ghost Value = { List ℕ };
+
+    ghost view = { λ r. r.text.items };
+}
+
+// So many bytes are taken at first for the replies to a session, which are mostly fewer.
+const ROOM: usize = 128;
+
+// Gives the session at a place its replies, and those before it: nothing, where they had none yet.
+fn reach<A: Allocator + Copy>(
     alloc: A,
-    place: u32,
+    place: usize,
+    texts: &mut Vec<Replies<A>, A>,
+) -> Result<(), Refusal>
+    requires place { place < sessions }
+    requires few { length texts.old.items ≤ sessions }
+    ensures within { OnOk result (place < length texts.new.items) }
+    ensures few { OnOk result (length texts.new.items ≤ sessions) }
+    ensures same { OnOk result ((p : ℕ) → get_or texts.new.items p [] ≡ get_or texts.old.items p []) }
+{
+    while texts.len() <= place {
+        texts.push(Replies {
+            text: Vec::with_capacity(alloc, ROOM)?,
+        })?;
+    }
+    Ok(())
+}
+
+// Appends the reply of an event to those of its session, which stand at a place.
+fn append_at<A: Allocator + Copy>(
+    alloc: A,
     entry: &Record<A>,
-    text: &mut Vec<u8, A>,
+    place: usize,
+    texts: &mut Vec<Replies<A>, A>,
 ) -> Result<(), Refusal>
-    ensures ok { OnOk result (text.new.items ≡ text.old.items ++ told_at place entry.now) }
+    requires place { place ≡ place_of entry.now.session }
+    requires within { place < length texts.old.items }
+    ensures { OnOk result ((es : List (AnyRecord A)) → AreReplies es texts.old.items →
+        AreReplies (es ++ entry.now ∷ []) texts.new.items) }
 {
-    if entry.session.number() - 1 == place {
-        append_told(alloc, entry.session, &entry.reply, text)
-    } else {
-        Ok(())
-    }
+    let own = &mut texts[place];
+    append_told(alloc, entry.session, &entry.reply, &mut own.text)
 }
 
-// Appends the replies to the session at a place.
-fn append_replies_at<A: Allocator + Copy>(
+// Appends the reply of an event to those of its session.
+fn append_own<A: Allocator + Copy>(
     alloc: A,
-    place: u32,
-    entries: &[Record<A>],
-    text: &mut Vec<u8, A>,
+    entry: &Record<A>,
+    texts: &mut Vec<Replies<A>, A>,
 ) -> Result<(), Refusal>
-    ensures ok { OnOk result (text.new.items ≡ text.old.items ++ replies_at place entries.now) }
+    requires { length texts.old.items ≤ sessions }
+    ensures { OnOk result ((es : List (AnyRecord A)) → AreReplies es texts.old.items →
+        AreReplies (es ++ entry.now ∷ []) texts.new.items) }
 {
+    let place = entry.session.number() as usize - 1;
+    reach(alloc, place, texts)?;
+    append_at(alloc, entry, place, texts)
+}
+
+// The replies to each session.
+fn replies_of<A: Allocator + Copy>(
+    alloc: A,
+    entries: &[Record<A>],
+) -> Result<Vec<Replies<A>, A>, Refusal>
+    ensures { IfOk result (λ texts. AreReplies entries.now texts.items) }
+{
+    let mut texts = Vec::new(alloc);
     for entry in entries {
-        append_told_at(alloc, place, entry, text)?;
+        append_own(alloc, entry, &mut texts)?;
+    }
+    Ok(texts)
+}
+
+// Appends the replies to a session.
+fn append_all<A: Allocator>(replies: &Replies<A>, text: &mut Vec<u8, A>) -> Result<(), Refusal>
+    ensures { OnOk result (text.new.items ≡ text.old.items ++ replies.now) }
+{
+    if !replies.text.is_empty() {
+        text.extend_from_slice(replies.text.as_slice())?;
     }
     Ok(())
 }
@@ -152,8 +217,9 @@ pub(crate) fn append_replies<A: Allocator + Copy>(
 ) -> Result<(), Refusal>
     ensures ok { OnOk result (text.new.items ≡ text.old.items ++ replies_of 64 entries.now) }
 {
-    for place in 0..64 {
-        append_replies_at(alloc, place, entries, text)?;
+    let texts = replies_of(alloc, entries)?;
+    for replies in &texts {
+        append_all(replies, text)?;
     }
     Ok(())
 }

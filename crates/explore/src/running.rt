@@ -1,23 +1,25 @@
 //! The run of one schedule.
 
-ghost use Rattle.std.specs.Prelude.{◌≡◌, ◌≢◌, ◌==◌, if◌then◌else◌, ◌≤◌, ◌+◌, ◌<◌, Some, None, Ok, [], ℕ, drop, length, false, replicate, slice_index_or, true, IfNone, IfOk, IfSome, OnOk, MatchOption};
+ghost use Rattle.std.specs.Prelude.{◌≡◌, ◌≢◌, ◌==◌, if◌then◌else◌, ◌≤◌, ◌+◌, ◌<◌, Some, None, Ok, [], ℕ, drop, length, false, slice_index_or, true, IfNone, IfOk, IfSome, OnOk, MatchOption};
 ghost use Rattle.std.specs.Option.{option_copied};
 ghost use Rattle.value.specs.Refusals.{out_of_memory};
 ghost use Rattle.statement.specs.declared.reply.Reply.{Reply as AnyReply};
-ghost use Rattle.history.specs.Answer.{IsLegal};
 ghost use Rattle.session.specs.Core.{HasRoom};
 ghost use Rattle.request.specs.Requests.{asked};
 ghost use Rattle.explore.specs.Cursors.{AreCursors, IsCursor};
+ghost use Rattle.history.specs.Answer.{Allowed};
 ghost use Rattle.explore.specs.Explored as spec;
 ghost use Rattle.explore.specs.Explored.{after_turn, after_turns, answered, events_of, place_of, sessions};
+ghost use Rattle.explore.specs.Prepared.{ArePrepared, event_of};
 ghost use Rattle.explore.specs.declared.plan.Line.{Line as AnyLine};
 
+use crate::asked::copy_action;
 use crate::plan::Line;
-use history::event::{Event, Record};
+use history::event::{Action, Event, Record};
 use history::session_id::SessionId;
 use session::sessions::Core;
 use statement::reply::Reply;
-use std::alloc::{AllocError, Allocator};
+use std::alloc::Allocator;
 use value::refusal::{Code, Refusal};
 
 // One for a session at a place, and nothing for another.
@@ -71,8 +73,25 @@ fn want_of_memory<A: Allocator>(reply: &Reply<A>) -> Result<(), Refusal>
     }
 }
 
-// Does a session's line.
+// Does an action of a session.
 #[tactic(auto, using(crate::proofs::Counting::one_more_recorded))]
+fn do_action<A: Allocator + Copy>(
+    alloc: A,
+    core: &mut Core<A>,
+    session: SessionId,
+    action: Action<A>,
+) -> Result<(), Refusal>
+    requires room { HasRoom core.old }
+    requires allowed { Allowed core.old.opening.catalog action }
+    ensures done { OnOk result (core.new ≡ answered core.old session action) }
+    ensures few { OnOk result (length core.new.records ≤ length core.old.records + 1) }
+    ensures most { OnOk result (core.new.most ≡ core.old.most) }
+{
+    let reply = core.step(alloc, Event { session, action });
+    want_of_memory(&reply)
+}
+
+// Does a session's line.
 fn do_line<A: Allocator + Copy>(alloc: A, core: &mut Core<A>, line: &Line<A>) -> Result<(), Refusal>
     requires { HasRoom core.old }
     ensures done { OnOk result (core.new ≡
@@ -81,9 +100,26 @@ fn do_line<A: Allocator + Copy>(alloc: A, core: &mut Core<A>, line: &Line<A>) ->
     ensures most { OnOk result (core.new.most ≡ core.old.most) }
 {
     let action = line.request.action(alloc, core.history().catalog())?;
-    let session = line.session;
-    let reply = core.step(alloc, Event { session, action });
-    want_of_memory(&reply)
+    do_action(alloc, core, line.session, action)
+}
+
+// Does a session's line, of which this is the event that it asks for.
+fn do_prepared<A: Allocator + Copy>(
+    alloc: A,
+    core: &mut Core<A>,
+    line: &Line<A>,
+    event: &Event<A>,
+) -> Result<(), Refusal>
+    requires room { HasRoom core.old }
+    requires event { event.now ≡ event_of core.old.opening.catalog line.now }
+    requires allowed { Allowed core.old.opening.catalog event.now.action }
+    ensures done { OnOk result (core.new ≡
+        answered core.old line.now.session (asked core.old.opening.catalog line.now.request)) }
+    ensures few { OnOk result (length core.new.records ≤ length core.old.records + 1) }
+    ensures most { OnOk result (core.new.most ≡ core.old.most) }
+{
+    let action = copy_action(alloc, &event.action)?;
+    do_action(alloc, core, event.session, action)
 }
 
 // Does the next line of the session at a place, where it has one. It is found by counting.
@@ -153,10 +189,12 @@ fn do_next<A: Allocator + Copy>(
     alloc: A,
     core: &mut Core<A>,
     lines: &[Line<A>],
+    events: &[Event<A>],
     place: usize,
     cursor: usize,
 ) -> Result<usize, Refusal>
     requires room { HasRoom core.old }
+    requires prepared { ArePrepared core.old.opening.catalog lines.now events.now }
     requires before { IsCursor lines.now place (events_of place core.old.records) cursor }
     ensures done { OnOk result (core.new ≡ after_turn lines.now core.old place) }
     ensures after { IfOk result (λ c. IsCursor lines.now place (events_of place core.new.records) c) }
@@ -166,19 +204,22 @@ fn do_next<A: Allocator + Copy>(
     let Some(at) = next_line(lines, place, cursor) else {
         return Ok(cursor);
     };
-    do_line(alloc, core, &lines[at])?;
+    do_prepared(alloc, core, &lines[at], &events[at])?;
     Ok(at + 1)
 }
 
 // Does the next line of the session at a place that has its cursor among these.
+#[tactic(auto, using(crate::proofs::CursorLemmas::cursor_at))]
 fn do_within<A: Allocator + Copy>(
     alloc: A,
     core: &mut Core<A>,
     lines: &[Line<A>],
+    events: &[Event<A>],
     cursors: &mut [usize],
     place: usize,
 ) -> Result<(), Refusal>
     requires room { HasRoom core.old }
+    requires prepared { ArePrepared core.old.opening.catalog lines.now events.now }
     requires before { AreCursors lines.now core.old.records cursors.old }
     requires within { place < length cursors.old }
     ensures done { OnOk result (core.new ≡ after_turn lines.now core.old place) }
@@ -186,7 +227,7 @@ fn do_within<A: Allocator + Copy>(
     ensures few { OnOk result (length core.new.records ≤ length core.old.records + 1) }
     ensures most { OnOk result (core.new.most ≡ core.old.most) }
 {
-    let after = do_next(alloc, core, lines, place, cursors[place])?;
+    let after = do_next(alloc, core, lines, events, place, cursors[place])?;
     cursors[place] = after;
     Ok(())
 }
@@ -196,10 +237,12 @@ fn do_turn<A: Allocator + Copy>(
     alloc: A,
     core: &mut Core<A>,
     lines: &[Line<A>],
+    events: &[Event<A>],
     cursors: &mut [usize],
     place: usize,
 ) -> Result<(), Refusal>
     requires room { HasRoom core.old }
+    requires prepared { ArePrepared core.old.opening.catalog lines.now events.now }
     requires before { AreCursors lines.now core.old.records cursors.old }
     ensures done { OnOk result (core.new ≡ after_turn lines.now core.old place) }
     ensures after { OnOk result (AreCursors lines.now core.new.records cursors.new) }
@@ -207,7 +250,7 @@ fn do_turn<A: Allocator + Copy>(
     ensures most { OnOk result (core.new.most ≡ core.old.most) }
 {
     if place < cursors.len() {
-        do_within(alloc, core, lines, cursors, place)
+        do_within(alloc, core, lines, events, cursors, place)
     } else {
         do_beyond(alloc, core, lines, cursors, place)
     }
@@ -218,27 +261,21 @@ fn do_each<A: Allocator + Copy>(
     alloc: A,
     core: &mut Core<A>,
     lines: &[Line<A>],
+    events: &[Event<A>],
     cursors: &mut [usize],
     order: &[usize],
 ) -> Result<(), Refusal>
     requires room { length core.old.records + length order.now ≤ core.old.most }
+    requires prepared { ArePrepared core.old.opening.catalog lines.now events.now }
     requires before { AreCursors lines.now core.old.records cursors.old }
     ensures { OnOk result (core.new ≡ after_turns lines.now core.old order.now) }
 {
     let mut left = order;
     while let [place, more @ ..] = left {
-        do_turn(alloc, core, lines, cursors, *place)?;
+        do_turn(alloc, core, lines, events, cursors, *place)?;
         left = more;
     }
     Ok(())
-}
-
-// A cursor for each session, before any event.
-fn first_cursors<A: Allocator>(alloc: A) -> Result<Vec<usize, A>, AllocError>
-    ensures { IfOk result (λ cs. cs.items ≡ replicate sessions 0) }
-{
-    let cursors = vec![in alloc; 0usize; 64]?;
-    Ok(cursors)
 }
 
 /// Does the turns of an order from a history's opening on, one after the other.
@@ -246,12 +283,15 @@ pub(crate) fn do_turns<A: Allocator + Copy>(
     alloc: A,
     core: &mut Core<A>,
     lines: &[Line<A>],
+    events: &[Event<A>],
     order: &[usize],
 ) -> Result<(), Refusal>
     requires unbegun { core.old.records ≡ [] }
+    requires prepared { ArePrepared core.old.opening.catalog lines.now events.now }
     requires room { length core.old.records + length order.now ≤ core.old.most }
     ensures { OnOk result (core.new ≡ after_turns lines.now core.old order.now) }
 {
-    let mut cursors = first_cursors(alloc)?;
-    do_each(alloc, core, lines, cursors.as_mut_slice(), order)
+    // A cursor for each session.
+    let mut cursors = [0usize; 64];
+    do_each(alloc, core, lines, events, &mut cursors, order)
 }

@@ -8,8 +8,9 @@ ghost use Rattle.explore.specs.Texts.{name_of, named_row, table_text, tables_tex
 
 use copytext::write_row;
 use schema::catalog::{Catalog, TableNo};
-use schema::reader::{SnapshotReader, first_row, row_after};
+use schema::reader::SnapshotReader;
 use schema::row::Row;
+use schema::walk::Walk;
 use std::alloc::Allocator;
 use value::refusal::Refusal;
 
@@ -27,7 +28,8 @@ fn append_named_row<A: Allocator>(
 }
 
 // Appends the rows of a table, each after the table's name.
-fn append_rows<A: Allocator, R: SnapshotReader<A>>(
+fn append_rows<A: Allocator + Copy, R: SnapshotReader<A>>(
+    alloc: A,
     reader: &R,
     table: TableNo,
     name: &str,
@@ -37,16 +39,16 @@ fn append_rows<A: Allocator, R: SnapshotReader<A>>(
     ensures ok { OnOk result (text.new.items ≡ text.old.items ++
         flat_map (named_row name.now) (rows_of (R.tables reader.now) table)) }
 {
-    let mut next = first_row(reader, table);
-    while let Some(row) = next {
+    let mut walk = Walk::over(alloc, reader, table)?;
+    while let Some(row) = walk.next()? {
         append_named_row(name, row, text)?;
-        next = row_after(reader, table, row);
     }
     Ok(())
 }
 
 // Appends a table.
-fn append_table<A: Allocator, R: SnapshotReader<A>>(
+fn append_table<A: Allocator + Copy, R: SnapshotReader<A>>(
+    alloc: A,
     reader: &R,
     catalog: &Catalog<A>,
     table: TableNo,
@@ -56,11 +58,12 @@ fn append_table<A: Allocator, R: SnapshotReader<A>>(
     requires count { length (R.tables reader.now) ≡ length catalog.now }
     ensures ok { OnOk result (text.new.items ≡ text.old.items ++ table_text catalog.now (R.tables reader.now) table) }
 {
-    append_rows(reader, table, catalog.table(table).name(), text)
+    append_rows(alloc, reader, table, catalog.table(table).name(), text)
 }
 
 /// Appends the tables of a reader, which are the catalog's, in the order of their creation.
-pub(crate) fn append_tables<A: Allocator, R: SnapshotReader<A>>(
+pub(crate) fn append_tables<A: Allocator + Copy, R: SnapshotReader<A>>(
+    alloc: A,
     reader: &R,
     catalog: &Catalog<A>,
     text: &mut Vec<u8, A>,
@@ -70,7 +73,7 @@ pub(crate) fn append_tables<A: Allocator, R: SnapshotReader<A>>(
         tables_text catalog.now (R.tables reader.now) (length catalog.now)) }
 {
     for place in 0..catalog.len() as u32 {
-        append_table(reader, catalog, TableNo::at(place), text)?;
+        append_table(alloc, reader, catalog, TableNo::at(place), text)?;
     }
     Ok(())
 }

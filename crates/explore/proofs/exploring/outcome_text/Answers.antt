@@ -6,4 +6,4 @@ pub returns : goal.returns
 unfolding outcome_text
 returns g c =
     c.in_ok-append_state.ensures
-    ∙ ap (λ (t : List ℕ). t ++ state_text c.args.core.now) (c.in_ok-append_replies.ensures.ok ∙ ap (λ (t : List ℕ). t ++ replies_of 64 c.records.result.now) c.new-text.ensures.items ∙ ap (λ es. replies_of 64 es) (c.records.ensures ∙ ap (λ h. h.records) c.history.ensures))
+    ∙ ap (λ (t : List ℕ). t ++ state_text c.args.core.now) (c.in_ok-append_replies.ensures.ok ∙ ap (λ (t : List ℕ). t ++ replies_of 64 c.records.result.now) c.in_ok-text.ensures.items ∙ ap (λ es. replies_of 64 es) (c.records.ensures ∙ ap (λ h. h.records) c.history.ensures))

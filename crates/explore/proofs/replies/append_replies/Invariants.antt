@@ -3,5 +3,5 @@ use Rattle.explore.specs.Texts.{replies_of}
 use Rattle.explore.proofs.replies.append_replies.Given as goal
 
 -- the sessions so far
-abbrev pub invariant-loop-place : goal.invariant-loop-place
-invariant-loop-place g l = l.text.items ≡ l.fn.text.items ++ replies_of l.place l.entries
+abbrev pub invariant-loop-replies : goal.invariant-loop-replies
+invariant-loop-replies g l = l.text.items ≡ l.fn.text.items ++ replies_of l.replies-index l.entries

@@ -11,12 +11,12 @@ pub returns-clause-done : goal.returns-clause-done
 returns-clause-done g c =
     let l = c.index-lines-at.result in
     let some = c.in-Some.ensures.some in
-    let e : c.do_line.new.core ≡ done c.args.core.now (Some (get_or c.args.lines.now c.in-Some.at l)) = c.in_ok-do_line.ensures.done ∙ ap (λ x. done c.args.core.now (Some x)) c.index-lines-at.is in
+    let e : c.do_prepared.new.core ≡ done c.args.core.now (Some (get_or c.args.lines.now c.in-Some.at l)) = c.in_ok-do_prepared.ensures.done ∙ ap (λ x. done c.args.core.now (Some x)) c.index-lines-at.is in
     e ∙ done_one c.args.lines.now c.args.core.now c.args.place c.args.cursor c.in-Some.at l c.requires.before some.0 (c.in-Some.ensures.own l) some.1
 
 pub returns-clause-after : goal.returns-clause-after
 returns-clause-after g c =
     let l = c.index-lines-at.result in
     let some = c.in-Some.ensures.some in
-    let e : c.do_line.new.core ≡ done c.args.core.now (Some (get_or c.args.lines.now c.in-Some.at l)) = c.in_ok-do_line.ensures.done ∙ ap (λ x. done c.args.core.now (Some x)) c.index-lines-at.is in
-    next_cursor c.args.lines.now c.args.core.now c.do_line.new.core c.args.place c.args.cursor c.in-Some.at l c.requires.before some.0 (c.in-Some.ensures.own l) some.1 e
+    let e : c.do_prepared.new.core ≡ done c.args.core.now (Some (get_or c.args.lines.now c.in-Some.at l)) = c.in_ok-do_prepared.ensures.done ∙ ap (λ x. done c.args.core.now (Some x)) c.index-lines-at.is in
+    next_cursor c.args.lines.now c.args.core.now c.do_prepared.new.core c.args.place c.args.cursor c.in-Some.at l c.requires.before some.0 (c.in-Some.ensures.own l) some.1 e

@@ -1,13 +1,12 @@
-use Rattle.std.proofs.Common.{◌∙◌, replicate, subst, sym}
+use Rattle.std.proofs.Common.{replicate, subst, sym}
 use Rattle.explore.specs.Cursors.{AreCursors}
 use Rattle.explore.specs.Explored.{sessions}
 use Rattle.explore.proofs.CursorLemmas.{begin}
 use Rattle.explore.proofs.running.do_turns.Goals as goal
 
 pub do_each-requires : goal.do_each-requires
-do_each-requires g c =
-    let first = subst (λ es. AreCursors c.args.lines.now es (replicate sessions 0)) (sym c.requires.unbegun) (begin c.args.lines.now sessions) in
-    record {
-      room = c.requires.room;
-      before = subst (AreCursors c.args.lines.now c.args.core.now.records) (sym (c.as_mut_slice.ensures.value ∙ c.in_ok-cursors.ensures)) first;
-    }
+do_each-requires g c = record {
+  room = c.requires.room;
+  prepared = c.requires.prepared;
+  before = subst (λ es. AreCursors c.args.lines.now es (replicate sessions 0)) (sym c.requires.unbegun) (begin c.args.lines.now sessions);
+}
