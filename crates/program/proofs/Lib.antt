@@ -1,4 +1,5 @@
 pub mod AskedLemmas
+pub mod CourseLemmas
 pub mod EndLemmas
 pub mod FreelyLemmas
 pub mod KeepLemmas

@@ -14,6 +14,7 @@ use Rattle.program.specs.declared.fault.Fault.{Fault}
 use Rattle.program.specs.declared.fault.Fault.TheVariants as fault
 use Rattle.program.specs.declared.run.Way.{Way}
 use Rattle.program.specs.Beginnings.{BeginsWith, IsUnbegun}
+use Rattle.program.specs.Remarks.{Noted, unnoted}
 use Rattle.program.specs.Runs.{EndsAt, HasBrokenOff, HasPrinted, HasRun, HasStopped, IsDone, LinesAreDone, ScriptHasRun, ScriptHasStopped, Stops, begun, first_text, lines_printed, order_text}
 use Rattle.schema.specs.Definition.{Catalog}
 use Rattle.script.specs.Scripts.{Said}
@@ -34,13 +35,13 @@ module _ {A : Type 0} where
   memory_stops h Checkpoint = refl
 
   -- the first n lines were done and printed
-  abbrev pub SoFar : Writing → Way → List (List ℕ) → Recorded A → List (Line A) → ℕ → Recorded A → Printed → Printed → Type 0
+  abbrev pub SoFar : Writing → Way → List (List ℕ) → Noted A → List (Line A) → ℕ → Noted A → Printed → Printed → Type 0
   SoFar writes way ls h lines n k p q = (text : List ℕ) × LinesAreDone writes way ls h (take n lines) k text × Adds p q text
 
-  pub one_more : (writes : Writing) (way : Way) (ls : List (List ℕ)) (h m k : Recorded A) (lines : List (Line A)) (n : ℕ) (line : Line A) (p q r : Printed) (text shown : List ℕ)
+  pub one_more : (writes : Writing) (way : Way) (ls : List (List ℕ)) (h m k : Noted A) (lines : List (Line A)) (n : ℕ) (line : Line A) (p q r : Printed) (text shown : List ℕ)
       → n < length lines → line ≡ get_or lines n line → SoFar writes way ls h lines n m p q → IsDone writes way ls m line k text → shown ≡ text → Adds q r shown → SoFar writes way ls h lines (n + 1) k p r
   one_more writes way ls h m k lines n line p q r text shown lt at so done is prints =
-      let does : Recorded A → Line A → Recorded A → List ℕ → Type 0 = IsDone writes way ls in
+      let does : Noted A → Line A → Noted A → List ℕ → Type 0 = IsDone writes way ls in
       let next : take (n + 1) lines ≡ take n lines ++ line ∷ [] = take_more lines n line lt ∙ ap (λ y. take n lines ++ y ∷ []) (sym at) in (
         so.0 ++ text,
         subst (λ l. AreDone does h l k (so.0 ++ text)) (sym next) (done_more does h m k (take n lines) line so.0 text so.1 done),
@@ -48,7 +49,7 @@ module _ {A : Type 0} where
       )
 
   -- Lines end once n of them are done and printed.
-  pub stopped : (writes : Writing) (way : Way) (ls : List (List ℕ)) (h k : Recorded A) (lines : List (Line A)) (n : ℕ) (f : Fault) (p q r : Printed) → SoFar writes way ls h lines n k p q → Prints q r [] → EndsAt k lines n f r → HasStopped writes way ls h lines f p r
+  pub stopped : (writes : Writing) (way : Way) (ls : List (List ℕ)) (h k : Noted A) (lines : List (Line A)) (n : ℕ) (f : Fault) (p q r : Printed) → SoFar writes way ls h lines n k p q → Prints q r [] → EndsAt k.history lines n f r → HasStopped writes way ls h lines f p r
   stopped writes way ls h k lines n f p q r so none ends = (n, k, so.0, so.1, prints_no_more p q r so.0 (added_is_printed p q so.0 so.2) none, ends)
 
   -- they end by a step
@@ -60,30 +61,30 @@ module _ {A : Type 0} where
   ends_by_print k lines n f q (inl e) = inl e
   ends_by_print k lines n f q (inr e) = inr (inl e)
 
-  pub run : (writes : Writing) (way : Way) (ls : List (List ℕ)) (h k : Recorded A) (lines : List (Line A)) (n : ℕ) (p q r : Printed) (shown : List ℕ) → length lines ≤ n → SoFar writes way ls h lines n k p q → shown ≡ order_text way.manner k → Adds q r shown → HasRun writes way ls h lines p r
+  pub run : (writes : Writing) (way : Way) (ls : List (List ℕ)) (h k : Noted A) (lines : List (Line A)) (n : ℕ) (p q r : Printed) (shown : List ℕ) → length lines ≤ n → SoFar writes way ls h lines n k p q → shown ≡ order_text way.manner k.history → Adds q r shown → HasRun writes way ls h lines p r
   run writes way ls h k lines n p q r shown le so is prints = (
     k,
     so.0,
     subst (λ l. AreDone (IsDone writes way ls) h l k so.0) (take_all n lines le) so.1,
-    adds_twice p q r so.0 (order_text way.manner k) so.2 (subst (λ t. Adds q r t) is prints),
+    adds_twice p q r so.0 (order_text way.manner k.history) so.2 (subst (λ t. Adds q r t) is prints),
   )
 
   -- All lines were done and printed, and what is held back was written.
-  pub flushed : (writes : Writing) (way : Way) (script : List ℕ) (h : Recorded A) (lines : List (Line A)) (p q r : Printed) → HasPrinted writes way script h lines p q → Adds q r [] → HasPrinted writes way script h lines p r
+  pub flushed : (writes : Writing) (way : Way) (script : List ℕ) (h : Noted A) (lines : List (Line A)) (p q r : Printed) → HasPrinted writes way script h lines p q → Adds q r [] → HasPrinted writes way script h lines p r
   flushed writes way script h lines p q r done next =
       let run = done.2 in
-      (done.0, done.1, (run.0, run.1, run.2, adds_no_more done.0 q r (run.1 ++ order_text way.manner run.0) run.3 next))
+      (done.0, done.1, (run.0, run.1, run.2, adds_no_more done.0 q r (run.1 ++ order_text way.manner run.0.history) run.3 next))
 
   -- The first lines were done, and what is held back was written.
-  stopped_flushed : (writes : Writing) (way : Way) (ls : List (List ℕ)) (h : Recorded A) (lines : List (Line A)) (f : Fault) (p q r : Printed) → HasStopped writes way ls h lines f p q → Adds q r [] → HasStopped writes way ls h lines f p r
+  stopped_flushed : (writes : Writing) (way : Way) (ls : List (List ℕ)) (h : Noted A) (lines : List (Line A)) (f : Fault) (p q r : Printed) → HasStopped writes way ls h lines f p q → Adds q r [] → HasStopped writes way ls h lines f p r
   stopped_flushed writes way ls h lines f p q r stop next = (stop.0, stop.1, stop.2, stop.3, prints_no_more p q r stop.2 stop.4 (added_is_printed q r [] next), go stop.5)
     where
-      go : EndsAt stop.1 lines stop.0 f q → EndsAt stop.1 lines stop.0 f r
+      go : EndsAt stop.1.history lines stop.0 f q → EndsAt stop.1.history lines stop.0 f r
       go (inl e) = inl e
       go (inr (inl e)) = inr (inl (e.0, next.1 ∙ e.1))
       go (inr (inr e)) = inr (inr e)
 
-  pub broken_flushed : (writes : Writing) (way : Way) (script : List ℕ) (h : Recorded A) (lines : List (Line A)) (f : Fault) (p q r : Printed) → HasBrokenOff writes way script h lines f p q → Adds q r [] → HasBrokenOff writes way script h lines f p r
+  pub broken_flushed : (writes : Writing) (way : Way) (script : List ℕ) (h : Noted A) (lines : List (Line A)) (f : Fault) (p q r : Printed) → HasBrokenOff writes way script h lines f p q → Adds q r [] → HasBrokenOff writes way script h lines f p r
   broken_flushed writes way script h lines f p q r (inl e) next = inl (prints_no_more p q r [] e.0 (added_is_printed q r [] next), go e.1)
     where
       go : (f ≡ fault.ScriptOutOfMemory) ⊎ (IsFileFault (codes "-") f × (q.failed ≡ true)) → (f ≡ fault.ScriptOutOfMemory) ⊎ (IsFileFault (codes "-") f × (r.failed ≡ true))
@@ -92,21 +93,21 @@ module _ {A : Type 0} where
   broken_flushed writes way script h lines f p q r (inr e) next = inr (e.0, e.1, stopped_flushed writes way (lines_printed way.manner script) h lines f e.0 q r e.2 next)
 
   -- the stream of lines that have broken off
-  stream_of : (writes : Writing) (way : Way) (script : List ℕ) (h : Recorded A) (lines : List (Line A)) (f : Fault) (p q : Printed) → HasBrokenOff writes way script h lines f p q → q.stream ≡ p.stream
+  stream_of : (writes : Writing) (way : Way) (script : List ℕ) (h : Noted A) (lines : List (Line A)) (f : Fault) (p q : Printed) → HasBrokenOff writes way script h lines f p q → q.stream ≡ p.stream
   stream_of writes way script h lines f p q (inl e) = e.0.0
   stream_of writes way script h lines f p q (inr e) = e.2.4.0 ∙ e.1.0
 
   -- The stream has failed: no more than nothing is known to be printed.
-  pub lost : (d : Result (Unit {0}) Fault) (writes : Writing) (way : Way) (script : List ℕ) (h : Recorded A) (lines : List (Line A)) (f : Fault) (p q r : Printed) → OnOk d (HasPrinted writes way script h lines p q) → IfErr d (λ g. HasBrokenOff writes way script h lines g p q) → Prints q r [] → IsFileFault (codes "-") f → r.failed ≡ true → HasBrokenOff writes way script h lines f p r
+  pub lost : (d : Result (Unit {0}) Fault) (writes : Writing) (way : Way) (script : List ℕ) (h : Noted A) (lines : List (Line A)) (f : Fault) (p q r : Printed) → OnOk d (HasPrinted writes way script h lines p q) → IfErr d (λ g. HasBrokenOff writes way script h lines g p q) → Prints q r [] → IsFileFault (codes "-") f → r.failed ≡ true → HasBrokenOff writes way script h lines f p r
   lost (Ok x) writes way script h lines f p q r done stop next is failed = inl ((next.0 ∙ done.2.3.0 ∙ done.1.0, λ e. failed, inl failed), inr (is, failed))
   lost (Err e) writes way script h lines f p q r done stop next is failed = inl ((next.0 ∙ stream_of writes way script h lines e p q stop, λ e. failed, inl failed), inr (is, failed))
 
   -- what stands before the lines was printed, and then they were done
-  pub printed : (writes : Writing) (way : Way) (script : List ℕ) (h : Recorded A) (lines : List (Line A)) (p m q : Printed) (shown : List ℕ) (ls : List (List ℕ)) → shown ≡ first_text way.manner script → ls ≡ lines_printed way.manner script → Adds p m shown → HasRun writes way ls h lines m q → HasPrinted writes way script h lines p q
+  pub printed : (writes : Writing) (way : Way) (script : List ℕ) (h : Noted A) (lines : List (Line A)) (p m q : Printed) (shown : List ℕ) (ls : List (List ℕ)) → shown ≡ first_text way.manner script → ls ≡ lines_printed way.manner script → Adds p m shown → HasRun writes way ls h lines m q → HasPrinted writes way script h lines p q
   printed writes way script h lines p m q shown ls first lined adds run = (m, subst (λ t. Adds p m t) first adds, subst (λ l. HasRun writes way l h lines m q) lined run)
 
   -- what stands before the lines was printed, and then they have stopped
-  pub broken : (writes : Writing) (way : Way) (script : List ℕ) (h : Recorded A) (lines : List (Line A)) (f : Fault) (p m q : Printed) (shown : List ℕ) (ls : List (List ℕ)) → shown ≡ first_text way.manner script → ls ≡ lines_printed way.manner script → Adds p m shown → HasStopped writes way ls h lines f m q → HasBrokenOff writes way script h lines f p q
+  pub broken : (writes : Writing) (way : Way) (script : List ℕ) (h : Noted A) (lines : List (Line A)) (f : Fault) (p m q : Printed) (shown : List ℕ) (ls : List (List ℕ)) → shown ≡ first_text way.manner script → ls ≡ lines_printed way.manner script → Adds p m shown → HasStopped writes way ls h lines f m q → HasBrokenOff writes way script h lines f p q
   broken writes way script h lines f p m q shown ls first lined adds stop = inr (m, subst (λ t. Adds p m t) first adds, subst (λ l. HasStopped writes way l h lines f m q) lined stop)
 
   -- A script has run, of which these are the parts.
@@ -117,7 +118,7 @@ module _ {A : Type 0} where
     run.0,
     run.1,
     subst (λ o. BeginsWith held o s.catalog run.0 run.1) opened (subst (λ c. BeginsWith held opens c run.0 run.1) created run.2),
-    subst (λ ls. HasPrinted writes way script (begun run.0 run.1 way.most_events) ls p q) lined run.3,
+    subst (λ ls. HasPrinted writes way script (unnoted (begun run.0 run.1 way.most_events)) ls p q) lined run.3,
     run.4,
   )
 
@@ -130,6 +131,6 @@ module _ {A : Type 0} where
     e.0,
     e.1,
     subst (λ o. BeginsWith held o s.catalog e.0 e.1) opened (subst (λ c. BeginsWith held opens c e.0 e.1) created e.2),
-    subst (λ ls. HasBrokenOff writes way script (begun e.0 e.1 way.most_events) ls f p q) lined e.3,
+    subst (λ ls. HasBrokenOff writes way script (unnoted (begun e.0 e.1 way.most_events)) ls f p q) lined e.3,
     e.4,
   )

@@ -7,6 +7,7 @@ pub mod Files
 pub mod Freely
 pub mod Outcomes
 pub mod Printed
+pub mod Remarks
 pub mod Restored
 pub mod Runs
 pub mod Steps

@@ -1,9 +1,8 @@
 -- What the lines of a script do, one after the other, and what is printed of them.
-use Rattle.std.specs.Prelude.{◌≡◌, ◌⊎◌, ℕ, true, List, [], ◌++◌, Option, Some, None, Ok, Err, codes, slice_get, take}
+use Rattle.std.specs.Prelude.{◌≡◌, ◌⊎◌, ℕ, true, List, [], ◌++◌, length, Option, Some, None, Ok, Err, codes, slice_get, take}
 use Rattle.value.specs.declared.refusal.Refusal.{Refusal}
 use Rattle.value.specs.Codes.{sqlstate}
 use Rattle.asking.specs.Asking.{Replies as HasReplied, Tells}
-use Rattle.retrace.specs.Remarks.{AreRemarks}
 use Rattle.statement.specs.declared.reply.Reply.{Reply}
 use Rattle.request.specs.declared.request.Request.{Request}
 use Rattle.script.specs.Printing.{reply_text}
@@ -28,6 +27,7 @@ use Rattle.program.specs.Dumps.{IsDumped, TellsDumpAt}
 use Rattle.program.specs.Files.{IsAllOf, IsFileFault, Writing, read_of}
 use Rattle.audit.specs.Orders.{check_line, order_lines}
 use Rattle.program.specs.Printed.{Adds, IsFlushed, Printed, Prints}
+use Rattle.program.specs.Remarks.{Noted, lines_after, remarks_on, unnoted, with_line}
 use Rattle.program.specs.Steps.{AreDone}
 use Rattle.program.specs.declared.fault.Fault.{Fault}
 use Rattle.program.specs.declared.fault.Fault.TheVariants as fault
@@ -94,42 +94,50 @@ module _ {A : Type 0} where
   Checkpoints most h k None = IsCheckpoint h most (Ok k)
   Checkpoints most h k (Some e) = IsCheckpoint h most (Err (k, e))
 
-  -- a reply as it is printed, followed by remarks and nothing else
-  abbrev pub IsRemarked : ℕ → Reply A → List ℕ → Type 0
-  IsRemarked s r text = (rest : List ℕ) × AreRemarks s rest × (text ≡ reply_text s r ++ rest)
+  -- What session s asked for took the history h to k, and the text is the reply. No line is noted.
+  abbrev pub TellsReply : Noted A → Noted A → ℕ → Request A → List ℕ → Type 0
+  TellsReply h k s q text = Tells h.history k.history s q text × (k.lines ≡ h.lines)
 
-  -- What session s asked for took the history h to k, and the text is the reply, with remarks on why it is refused.
-  abbrev pub TellsWhy : Recorded A → Recorded A → ℕ → Request A → List ℕ → Type 0
-  TellsWhy h k s q text = (r : Reply A) × HasReplied h k s q r × IsRemarked s r text
+  -- a reply as it is printed, followed by why other transactions refuse what was asked for, where the history has become k
+  abbrev pub IsRemarked : Noted A → ℕ → Reply A → List ℕ → Type 0
+  IsRemarked k s r text = text ≡ reply_text s r ++ remarks_on k s r
 
-  -- What session s asked for took the history h to k, and the text is the reply, with remarks where refusals are explained.
-  abbrev pub TellsRequest : Manner → Recorded A → Recorded A → ℕ → Request A → List ℕ → Type 0
-  TellsRequest Replies h k s q text = Tells h k s q text
-  TellsRequest Order h k s q text = Tells h k s q text
-  TellsRequest Why h k s q text = TellsWhy h k s q text
-  TellsRequest Transcript h k s q text = Tells h k s q text
+  -- What session s asked for in the line n, which is noted, took the history h to k, and the text is the reply with its remarks.
+  abbrev pub TellsWhy : ℕ → Noted A → Noted A → ℕ → Request A → List ℕ → Type 0
+  TellsWhy n h k s q text = (r : Reply A) × HasReplied h.history k.history s q r × (k.lines ≡ with_line n (length k.history.records) h.lines) × IsRemarked k s r text
 
-  -- The reply to a command of session s that takes h to k. For a dump, which is no event, it is the result of the dump to its path. Else it is the reply to the command's event; for WAIT, the reply to a POLL.
-  abbrev pub TellsCommandAt : Writing → Manner → Recorded A → Recorded A → ℕ → Command A → List ℕ → Type 0
-  TellsCommandAt writes m h k s (command.Dump request) text = (k ≡ h) × TellsDumpAt writes h s request.path text
-  TellsCommandAt writes m h k s (command.Ask request) text = TellsRequest m h k s request text
-  TellsCommandAt writes m h k s command.Wait text = TellsRequest m h k s ask.Poll text
+  -- What session s asked for in the line n took the history h to k, and the text is the reply, with remarks where refusals are explained.
+  abbrev pub TellsRequest : Manner → ℕ → Noted A → Noted A → ℕ → Request A → List ℕ → Type 0
+  TellsRequest Replies n h k s q text = TellsReply h k s q text
+  TellsRequest Order n h k s q text = TellsReply h k s q text
+  TellsRequest Why n h k s q text = TellsWhy n h k s q text
+  TellsRequest Transcript n h k s q text = TellsReply h k s q text
+
+  -- The reply to a command of session s in the line n that takes h to k. For a dump, which is no event, it is the result of the dump to its path. Else it is the reply to the command's event; for WAIT, the reply to a POLL.
+  abbrev pub TellsCommandAt : Writing → Manner → ℕ → Noted A → Noted A → ℕ → Command A → List ℕ → Type 0
+  TellsCommandAt writes m n h k s (command.Dump request) text = (k ≡ h) × TellsDumpAt writes h.history s request.path text
+  TellsCommandAt writes m n h k s (command.Ask request) text = TellsRequest m n h k s request text
+  TellsCommandAt writes m n h k s command.Wait text = TellsRequest m n h k s ask.Poll text
 
   -- A command of session s in the line n took h to k, and the text is what is printed of it.
-  abbrev pub IsAnswered : Writing → Way → List (List ℕ) → ℕ → Recorded A → ℕ → Command A → Recorded A → List ℕ → Type 0
-  IsAnswered writes way ls n h s c k text = (reply : List ℕ) × TellsCommandAt writes way.manner h k s c reply × (text ≡ line_text way.manner ls n reply)
+  abbrev pub IsAnswered : Writing → Way → List (List ℕ) → ℕ → Noted A → ℕ → Command A → Noted A → List ℕ → Type 0
+  IsAnswered writes way ls n h s c k text = (reply : List ℕ) × TellsCommandAt writes way.manner n h k s c reply × (text ≡ line_text way.manner ls n reply)
+
+  -- a checkpoint of a history with its lines
+  abbrev pub HasPassed : ℕ → Noted A → Noted A → Option Refusal → Type 0
+  HasPassed most h k refusal = Checkpoints most h.history k.history refusal × (k.lines ≡ lines_after refusal h.lines)
 
   -- a checkpoint in the line n, and what is printed of it: the order is that before it
-  abbrev pub IsPassed : Way → List (List ℕ) → ℕ → Recorded A → Recorded A → List ℕ → Type 0
-  IsPassed way ls n h k text = (refusal : Option Refusal) × Checkpoints way.most_events h k refusal × (text ≡ checkpoint_text way.manner ls n (order_text way.manner h) refusal)
+  abbrev pub IsPassed : Way → List (List ℕ) → ℕ → Noted A → Noted A → List ℕ → Type 0
+  IsPassed way ls n h k text = (refusal : Option Refusal) × HasPassed way.most_events h k refusal × (text ≡ checkpoint_text way.manner ls n (order_text way.manner h.history) refusal)
 
   -- A step in the line n was done: the history h has become k, and the text is what is printed of it.
-  abbrev pub IsStepDone : Writing → Way → List (List ℕ) → ℕ → Recorded A → Step A → Recorded A → List ℕ → Type 0
+  abbrev pub IsStepDone : Writing → Way → List (List ℕ) → ℕ → Noted A → Step A → Noted A → List ℕ → Type 0
   IsStepDone writes way ls n h (Session s c) k text = IsAnswered writes way ls n h s c k text
   IsStepDone writes way ls n h Checkpoint k text = IsPassed way ls n h k text
 
   -- A line was done, where these lines are printed: the history h has become k, and the text is what is printed of it.
-  abbrev pub IsDone : Writing → Way → List (List ℕ) → Recorded A → Line A → Recorded A → List ℕ → Type 0
+  abbrev pub IsDone : Writing → Way → List (List ℕ) → Noted A → Line A → Noted A → List ℕ → Type 0
   IsDone writes way ls h line k text = IsStepDone writes way ls line.number h line.step k text
 
   -- Why a command of session s, after the history h, ends its script: there was no memory for what is printed of it; or it is a dump, and its file has failed.
@@ -143,15 +151,15 @@ module _ {A : Type 0} where
   Stops h Checkpoint f = f ≡ fault.ScriptOutOfMemory
 
   -- the lines, done one after the other from the history h, which has become k; and their texts in that order
-  abbrev pub LinesAreDone : Writing → Way → List (List ℕ) → Recorded A → List (Line A) → Recorded A → List ℕ → Type 0
+  abbrev pub LinesAreDone : Writing → Way → List (List ℕ) → Noted A → List (Line A) → Noted A → List ℕ → Type 0
   LinesAreDone writes way ls = AreDone (IsDone writes way ls)
 
   -- All lines were done, and what is to be printed of them was printed, followed by the serial order where that is printed.
-  abbrev pub HasRun : Writing → Way → List (List ℕ) → Recorded A → List (Line A) → Printed → Printed → Type 0
-  HasRun writes way ls h lines p q = (k : Recorded A) × (text : List ℕ) × LinesAreDone writes way ls h lines k text × Adds p q (text ++ order_text way.manner k)
+  abbrev pub HasRun : Writing → Way → List (List ℕ) → Noted A → List (Line A) → Printed → Printed → Type 0
+  HasRun writes way ls h lines p q = (k : Noted A) × (text : List ℕ) × LinesAreDone writes way ls h lines k text × Adds p q (text ++ order_text way.manner k.history)
 
   -- The lines of a script of this text were done and printed, after what stands before them.
-  abbrev pub HasPrinted : Writing → Way → List ℕ → Recorded A → List (Line A) → Printed → Printed → Type 0
+  abbrev pub HasPrinted : Writing → Way → List ℕ → Noted A → List (Line A) → Printed → Printed → Type 0
   HasPrinted writes way script h lines p q = (m : Printed) × Adds p m (first_text way.manner script) × HasRun writes way (lines_printed way.manner script) h lines m q
 
   -- standard output has failed, or the step after n lines ends the script, after the history k
@@ -163,11 +171,11 @@ module _ {A : Type 0} where
   EndsAt k lines n f q = (f ≡ fault.ScriptOutOfMemory) ⊎ IsDeviceAt k lines n f q
 
   -- The first lines were done, and what is to be printed of them was printed, and nothing else; and this is why.
-  abbrev pub HasStopped : Writing → Way → List (List ℕ) → Recorded A → List (Line A) → Fault → Printed → Printed → Type 0
-  HasStopped writes way ls h lines f p q = (n : ℕ) × (k : Recorded A) × (text : List ℕ) × LinesAreDone writes way ls h (take n lines) k text × Prints p q text × EndsAt k lines n f q
+  abbrev pub HasStopped : Writing → Way → List (List ℕ) → Noted A → List (Line A) → Fault → Printed → Printed → Type 0
+  HasStopped writes way ls h lines f p q = (n : ℕ) × (k : Noted A) × (text : List ℕ) × LinesAreDone writes way ls h (take n lines) k text × Prints p q text × EndsAt k.history lines n f q
 
   -- What stands before the lines of a script of this text wasn't printed; or it was, and the lines have stopped.
-  abbrev pub HasBrokenOff : Writing → Way → List ℕ → Recorded A → List (Line A) → Fault → Printed → Printed → Type 0
+  abbrev pub HasBrokenOff : Writing → Way → List ℕ → Noted A → List (Line A) → Fault → Printed → Printed → Type 0
   HasBrokenOff writes way script h lines f p q = IsUnprintedAt f p q ⊎ ((m : Printed) × Adds p m (first_text way.manner script) × HasStopped writes way (lines_printed way.manner script) h lines f m q)
 
   -- the history of some tables before any event, with room for `most` events
@@ -176,11 +184,11 @@ module _ {A : Type 0} where
 
   -- From its tables all lines of a script of this text were done and printed, and the stream has all that was printed, unless it has failed.
   abbrev pub ScriptHasRun : Writing → (List ℕ → Option (List ℕ)) → Way → List ℕ → Said A → Printed → Printed → Type 0
-  ScriptHasRun writes held way script s p q = (c : Catalog) × (X : Tables A) × BeginsWith held s.opens s.catalog c X × HasPrinted writes way script (begun c X way.most_events) s.lines p q × IsFlushed q
+  ScriptHasRun writes held way script s p q = (c : Catalog) × (X : Tables A) × BeginsWith held s.opens s.catalog c X × HasPrinted writes way script (unnoted (begun c X way.most_events)) s.lines p q × IsFlushed q
 
   -- The script hasn't begun, for this fault, and nothing was printed; or the first lines were done, and the stream has what was printed of them, unless it has failed.
   abbrev pub ScriptHasStopped : Writing → (List ℕ → Option (List ℕ)) → Way → List ℕ → Said A → Fault → Printed → Printed → Type 0
-  ScriptHasStopped writes held way script s f p q = (IsUnbegun A held s.opens s.catalog f × (q ≡ p)) ⊎ ((c : Catalog) × (X : Tables A) × BeginsWith held s.opens s.catalog c X × HasBrokenOff writes way script (begun c X way.most_events) s.lines f p q × IsFlushed q)
+  ScriptHasStopped writes held way script s f p q = (IsUnbegun A held s.opens s.catalog f × (q ≡ p)) ⊎ ((c : Catalog) × (X : Tables A) × BeginsWith held s.opens s.catalog c X × HasBrokenOff writes way script (unnoted (begun c X way.most_events)) s.lines f p q × IsFlushed q)
 
 -- What a path has says a script, and that has run.
 abbrev pub PathHasRun : (A : Type 0) → Writing → (List ℕ → Option (List ℕ)) → Option (List ℕ) → Way → List ℕ → Printed → Printed → Type 0

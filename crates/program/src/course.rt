@@ -1,25 +1,26 @@
 //! A core, and the lines that its records came of.
 
-ghost use Rattle.std.specs.Prelude.{◌≡◌, IfOk, IfErr};
+ghost use Rattle.std.specs.Prelude.{◌≡◌, IfOk, IfErr, OnOk, length};
 ghost use Rattle.value.specs.Refusals.{out_of_memory};
-ghost use Rattle.asking.specs.Asking.{Tells};
-ghost use Rattle.program.specs.Runs.{Checkpoints, IsRemarked, TellsRequest, TellsWhy};
-ghost use Rattle.retrace.specs.Remarks.{AreRemarks};
+ghost use Rattle.asking.specs.Asking.{Replies};
+ghost use Rattle.program.specs.Remarks as spec;
+ghost use Rattle.program.specs.Remarks.{account_of, lines_after, unnoted, with_line};
+ghost use Rattle.program.specs.Runs.{Checkpoints, TellsReply, TellsRequest, TellsWhy};
+ghost use Rattle.retrace.specs.Explained.{why_told};
 
 use crate::fault::Fault;
 use crate::manner::Manner;
+use crate::remarks::{explained, failure_of, followed, remarked};
 use asking::reply_to;
 use history::session_id::SessionId;
 use request::request::Request;
-use retrace::explain::account::Account;
 use retrace::past::Past;
-use retrace::run::Run;
 use script::printing::reply_text;
 use session::sessions::Core;
 use statement::reply::Reply;
 use std::alloc::Allocator;
 use std::marker::Model;
-use value::refusal::{Code, Refusal};
+use value::refusal::Refusal;
 
 /// A core, and for each record of its history the line of the script that asked for it.
 #[derive(Drop)]
@@ -31,56 +32,25 @@ pub(crate) struct Course<A: Allocator> {
 }
 
 impl<A: Allocator> Model for Course<A> {
-    ghost use Rattle.history.specs.Opening.{Recorded};
+    ghost use Rattle.std.specs.Prelude.{IfSome};
+    ghost use Rattle.program.specs.Remarks.{IsFollowed, Noted};
 
-    ghost Value = { Recorded A };
+    ghost Value = { Noted A };
 
-    ghost view = { λ c. c.core };
+    ghost view = { λ c. record { history = c.core; lines = c.lines.items } };
+
+    ghost invariant = { λ c. IfSome c.past (λ p. IsFollowed c.core p) };
 }
 
-// No remarks.
-fn no_remarks<A: Allocator + Copy>(alloc: A, _session: SessionId) -> Result<Vec<u8, A>, Refusal>
-    ensures remarks { IfOk result (λ text. AreRemarks _session text.items) }
+// Adds the line of the last of so many events, where it has none yet.
+fn add_line<A: Allocator>(lines: &mut Vec<u64, A>, events: usize, line: u64) -> Result<(), Refusal>
+    ensures ok { OnOk result (lines.new.items ≡ with_line line events lines.old.items) }
     ensures memory { IfErr result (λ e. e ≡ out_of_memory) }
 {
-    Ok(Vec::new(alloc))
-}
-
-// A reply as it is printed, followed by remarks.
-fn remarked<A: Allocator + Copy>(
-    alloc: A,
-    session: SessionId,
-    reply: &Reply<A>,
-    remarks: &Vec<u8, A>,
-) -> Result<Vec<u8, A>, Refusal>
-    requires { AreRemarks session remarks.now.items }
-    ensures told { IfOk result (λ text. IsRemarked session reply.now text.items) }
-    ensures memory { IfErr result (λ e. e ≡ out_of_memory) }
-{
-    let mut text = reply_text(alloc, session, reply)?;
-    text.extend_from_slice(remarks.as_slice())?;
-    Ok(text)
-}
-
-// The transactions of what was followed.
-fn runs_of<A: Allocator>(past: &Option<Past<A>>) -> &[Run<A>] {
-    match past {
-        Some(past) => past.runs(),
-        None => &[],
+    if lines.len() < events {
+        lines.push(line)?;
     }
-}
-
-// Lets a core go on from its present tables, with room for `most_events` events more. Returns the refusal where it can't.
-fn go_on<A: Allocator + Copy>(alloc: A, core: &mut Core<A>, most_events: u32) -> Option<Refusal>
-    ensures { Checkpoints most_events core.old core.new result }
-{
-    match core.next(alloc, most_events) {
-        Ok(next) => {
-            *core = next;
-            None
-        }
-        Err(refusal) => Some(refusal),
-    }
+    Ok(())
 }
 
 impl<A: Allocator> Course<A> {
@@ -88,7 +58,7 @@ impl<A: Allocator> Course<A> {
     pub(crate) fn of(alloc: A, core: Core<A>) -> Course<A>
     where
         A: Copy,
-        ensures { result ≡ core }
+        ensures { result ≡ unnoted core }
     {
         Course {
             core,
@@ -99,37 +69,29 @@ impl<A: Allocator> Course<A> {
 
     /// The core.
     pub(crate) fn core(&self) -> &Core<A>
-        ensures { result.now ≡ self.now }
+        ensures { result.now ≡ self.now.history }
     {
         &self.core
     }
 
-    // Notes the line of the last record, where it has none.
-    fn note(&mut self, line: u64) -> Result<(), Refusal>
-        ensures same { self.new ≡ self.old }
-        ensures memory { IfErr result (λ e. e ≡ out_of_memory) }
-    {
-        if self.lines.len() < self.core.history().records().len() {
-            self.lines.push(line)?;
-        }
-        Ok(())
-    }
-
-    // Follows the records that weren't followed yet.
-    fn follow(&mut self, alloc: A) -> Result<(), Refusal>
+    // Does what a session asks for.
+    fn step(&mut self, alloc: A, session: SessionId, request: &Request<A>) -> Reply<A>
     where
         A: Copy,
-        ensures same { self.new ≡ self.old }
+        ensures replied { Replies self.old.history self.new.history session request.now result }
+        ensures lines { self.new.lines ≡ self.old.lines }
+    {
+        reply_to(alloc, &mut self.core, session, request)
+    }
+
+    // Notes the line of the last record, where it has none.
+    fn note(&mut self, line: u64) -> Result<(), Refusal>
+        ensures ok { OnOk result (self.new ≡ record self.old
+            { lines = with_line line (length self.old.history.records) self.old.lines }) }
         ensures memory { IfErr result (λ e. e ≡ out_of_memory) }
     {
-        let history = self.core.history();
-        if self.past.is_none() {
-            self.past = Some(Past::of(alloc, history)?);
-        }
-        if let Some(past) = &mut self.past {
-            past.follow(alloc, history, history.records().len())?;
-        }
-        Ok(())
+        let events = self.core.history().records().len();
+        add_line(&mut self.lines, events, line)
     }
 
     // Why the last record refuses a session's transaction.
@@ -137,16 +99,22 @@ impl<A: Allocator> Course<A> {
     where
         A: Copy,
         ensures same { self.new ≡ self.old }
-        ensures remarks { IfOk result (λ text. AreRemarks session text.items) }
+        ensures words { IfOk result (λ text.
+            text.items ≡ why_told (account_of self.old.history self.old.lines) session refusal) }
         ensures memory { IfErr result (λ e. e ≡ out_of_memory) }
     {
-        self.follow(alloc)?;
-        let account = Account {
-            history: self.core.history(),
-            runs: runs_of(&self.past),
-            lines: self.lines.as_slice(),
-        };
-        account.why(alloc, session, refusal)
+        let history = self.core.history();
+        let past = followed(alloc, history, self.past.take())?;
+        let text = explained(
+            alloc,
+            history,
+            &past,
+            self.lines.as_slice(),
+            session,
+            refusal,
+        );
+        self.past = Some(past);
+        text
     }
 
     // Why a reply refuses what was asked for, if other transactions are the reason; else no remarks.
@@ -159,14 +127,12 @@ impl<A: Allocator> Course<A> {
     where
         A: Copy,
         ensures same { self.new ≡ self.old }
-        ensures remarks { IfOk result (λ text. AreRemarks session text.items) }
+        ensures remarks { IfOk result (λ text. text.items ≡ spec.remarks_on self.old session reply.now) }
         ensures memory { IfErr result (λ e. e ≡ out_of_memory) }
     {
-        match reply {
-            Reply::Refused(refusal) if refusal.code == Code::SerializationFailure => {
-                self.why(alloc, session, *refusal)
-            }
-            _ => no_remarks(alloc, session),
+        match failure_of(reply) {
+            Some(refusal) => self.why(alloc, session, refusal),
+            None => Ok(Vec::new(alloc)),
         }
     }
 
@@ -181,13 +147,14 @@ impl<A: Allocator> Course<A> {
     ) -> Result<Vec<u8, A>, Refusal>
     where
         A: Copy,
-        ensures told { IfOk result (λ text. TellsWhy self.old self.new session request.now text.items) }
+        ensures told { IfOk result (λ text.
+            TellsWhy line self.old self.new session request.now text.items) }
         ensures memory { IfErr result (λ e. e ≡ out_of_memory) }
     {
-        let reply = reply_to(alloc, &mut self.core, session, request);
+        let reply = self.step(alloc, session, request);
         self.note(line)?;
         let remarks = self.remarks_on(alloc, session, &reply)?;
-        remarked(alloc, session, &reply, &remarks)
+        remarked(alloc, session, &reply, remarks.as_slice())
     }
 
     // Does what a session asks for, and returns its reply as it is printed.
@@ -199,10 +166,10 @@ impl<A: Allocator> Course<A> {
     ) -> Result<Vec<u8, A>, Refusal>
     where
         A: Copy,
-        ensures told { IfOk result (λ text. Tells self.old self.new session request.now text.items) }
+        ensures told { IfOk result (λ text. TellsReply self.old self.new session request.now text.items) }
         ensures memory { IfErr result (λ e. e ≡ out_of_memory) }
     {
-        let reply = reply_to(alloc, &mut self.core, session, request);
+        let reply = self.step(alloc, session, request);
         Ok(reply_text(alloc, session, &reply)?)
     }
 
@@ -218,7 +185,8 @@ impl<A: Allocator> Course<A> {
     ) -> Result<Vec<u8, A>, Fault<'p>>
     where
         A: Copy,
-        ensures told { IfOk result (λ text. TellsRequest manner self.old self.new session request.now text.items) }
+        ensures told { IfOk result (λ text.
+            TellsRequest manner line self.old self.new session request.now text.items) }
         ensures memory { IfErr result (λ f. f ≡ Fault.ScriptOutOfMemory) }
     {
         let reply = match manner {
@@ -238,13 +206,17 @@ impl<A: Allocator> Course<A> {
     pub(crate) fn checkpoint(&mut self, alloc: A, most_events: u32) -> Option<Refusal>
     where
         A: Copy,
-        ensures { Checkpoints most_events self.old self.new result }
+        ensures passed { Checkpoints most_events self.old.history self.new.history result }
+        ensures lines { self.new.lines ≡ lines_after result self.old.lines }
     {
-        let refusal = go_on(alloc, &mut self.core, most_events);
-        if refusal.is_none() {
-            self.lines.clear();
-            self.past = None;
+        match self.core.next(alloc, most_events) {
+            Ok(next) => {
+                self.core = next;
+                self.lines.clear();
+                self.past = None;
+                None
+            }
+            Err(refusal) => Some(refusal),
         }
-        refusal
     }
 }

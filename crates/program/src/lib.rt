@@ -20,6 +20,7 @@ pub mod opening;
 mod output;
 pub mod progress;
 pub mod reasons;
+pub mod remarks;
 pub mod replacing;
 mod restoring;
 mod run;

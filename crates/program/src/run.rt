@@ -5,6 +5,7 @@ ghost use Rattle.std.specs.Option.{option_copied};
 ghost use Rattle.program.specs.Ends.{EndsFor};
 ghost use Rattle.program.specs.Files.{IsFileFault, writing_of};
 ghost use Rattle.program.specs.Printed.{Adds, IsFlushed, Prints};
+ghost use Rattle.program.specs.Remarks.{unnoted};
 ghost use Rattle.program.specs.Runs.{HasBrokenOff, HasPrinted, HasRun, HasStopped, PathHasRun, ScriptHasRun, ScriptHasStopped, first_text as text_first, lines_printed};
 ghost use Rattle.program.specs.Stops.{PathHasStopped};
 
@@ -161,9 +162,9 @@ where
         way: Way,
         printer: &mut Printer<'_, W, A>,
     ) -> Result<(), Fault<'p>>
-        ensures done { OnOk result (HasPrinted (writing_of F.Out.path F.Out.kept F.Out.failures) way script.now core
+        ensures done { OnOk result (HasPrinted (writing_of F.Out.path F.Out.kept F.Out.failures) way script.now (unnoted core)
             lines.entry.now printer.old printer.new) }
-        ensures stopped { IfErr result (λ f. HasBrokenOff (writing_of F.Out.path F.Out.kept F.Out.failures) way script.now core
+        ensures stopped { IfErr result (λ f. HasBrokenOff (writing_of F.Out.path F.Out.kept F.Out.failures) way script.now (unnoted core)
             lines.entry.now f printer.old printer.new) }
         ensures flushed { IsFlushed printer.new }
     {

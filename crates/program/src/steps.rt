@@ -163,9 +163,9 @@ where
         session: SessionId,
         command: &'p Command<A>,
     ) -> Result<Vec<u8, A>, Fault<'p>>
-        ensures told { IfOk result (λ text. TellsCommandAt (writing_of F.Out.path F.Out.kept F.Out.failures) manner course.old
-            course.new session command.entry.now text.items) }
-        ensures fault { IfErr result (λ f. EndsBy course.old session command.entry.now f) }
+        ensures told { IfOk result (λ text. TellsCommandAt (writing_of F.Out.path F.Out.kept F.Out.failures) manner number
+            course.old course.new session command.entry.now text.items) }
+        ensures fault { IfErr result (λ f. EndsBy course.old.history session command.entry.now f) }
     {
         match command {
             Command::Dump(request) => self.tell_dump(course.core(), session, request),
@@ -185,7 +185,7 @@ where
     ) -> Result<Vec<u8, A>, Fault<'p>>
         ensures done { IfOk result (λ text. spec.IsStepDone (writing_of F.Out.path F.Out.kept F.Out.failures) way
             (map (λ l. l.now) texts.now) number course.old step.entry.now course.new text.items) }
-        ensures fault { IfErr result (λ f. Stops course.old step.entry.now f) }
+        ensures fault { IfErr result (λ f. Stops course.old.history step.entry.now f) }
     {
         match step {
             Step::Session(session, command) => {
@@ -206,7 +206,7 @@ where
     ) -> Result<Vec<u8, A>, Fault<'p>>
         ensures done { IfOk result (λ text. IsDone (writing_of F.Out.path F.Out.kept F.Out.failures) way (map (λ l. l.now) texts.now)
             course.old line.entry.now course.new text.items) }
-        ensures fault { IfErr result (λ f. Stops course.old line.entry.now.step f) }
+        ensures fault { IfErr result (λ f. Stops course.old.history line.entry.now.step f) }
     {
         self.do_step(course, line.number, &line.step, way, texts)
     }

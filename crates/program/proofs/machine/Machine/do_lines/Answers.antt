@@ -13,7 +13,7 @@ pub returns-in_err-text-clause-stopped : goal.returns-in_err-text-clause-stopped
 returns-in_err-text-clause-stopped g c =
     let p = err_from_is_err_and c.from_residual.result c.from_residual.ensures.1 in
     rw (p.1, p.2) (stopped (writing_of g.F.Out.OutFile.path g.F.Out.Placed.kept g.F.Out.Device.failures) c.args.way (map (λ l. l.now) c.args.texts.now) c.args.course.now c.loop-line.course c.args.lines.now c.loop-line.line-index c.in_err-text.field-0.0 c.args.printer.now c.loop-line.printer c.loop-line.printer c.loop-line.invariant (prints_none c.loop-line.printer)
-    (ends_by_step c.loop-line.course c.args.lines.now c.loop-line.line-index c.line-item.result c.in_err-text.field-0.0 c.loop-line.printer (omega arith) c.line-item.is c.in_err-text.ensures.fault))
+    (ends_by_step c.loop-line.course.history c.args.lines.now c.loop-line.line-index c.line-item.result c.in_err-text.field-0.0 c.loop-line.printer (omega arith) c.line-item.is c.in_err-text.ensures.fault))
 
 pub returns-in_err-order-clause-stopped : goal.returns-in_err-order-clause-stopped
 returns-in_err-order-clause-stopped g c =
@@ -30,7 +30,7 @@ pub returns-in_err-show-clause-stopped : goal.returns-in_err-show-clause-stopped
 returns-in_err-show-clause-stopped g c =
     let p = err_from_is_err_and c.from_residual-in_err-show.result c.from_residual-in_err-show.ensures.1 in
     rw (p.1, p.2) (stopped (writing_of g.F.Out.OutFile.path g.F.Out.Placed.kept g.F.Out.Device.failures) c.args.way (map (λ l. l.now) c.args.texts.now) c.args.course.now c.loop-line.course c.args.lines.now c.loop-line.line-index c.in_err-show.field-0.0 c.args.printer.now c.loop-line.printer c.show.new.printer c.loop-line.invariant c.in_err-show.ensures.stopped
-    (ends_by_print c.loop-line.course c.args.lines.now c.loop-line.line-index c.in_err-show.field-0.0 c.show.new.printer c.in_err-show.ensures.fault))
+    (ends_by_print c.loop-line.course.history c.args.lines.now c.loop-line.line-index c.in_err-show.field-0.0 c.show.new.printer c.in_err-show.ensures.fault))
 
 pub returns-clause-done : goal.returns-clause-done
 returns-clause-done g c =
@@ -41,6 +41,6 @@ returns-clause-done g c =
 pub returns-clause-stopped : goal.returns-clause-stopped
 returns-clause-stopped g c =
     if_err_of c.show-2.result _ _ _
-    (λ f none why. stopped (writing_of g.F.Out.OutFile.path g.F.Out.Placed.kept g.F.Out.Device.failures) c.args.way (map (λ l. l.now) c.args.texts.now) c.args.course.now c.loop-line.course c.args.lines.now c.loop-line.line-index f c.args.printer.now c.loop-line.printer c.show-2.new.printer c.loop-line.invariant none (ends_by_print c.loop-line.course c.args.lines.now c.loop-line.line-index f c.show-2.new.printer why))
+    (λ f none why. stopped (writing_of g.F.Out.OutFile.path g.F.Out.Placed.kept g.F.Out.Device.failures) c.args.way (map (λ l. l.now) c.args.texts.now) c.args.course.now c.loop-line.course c.args.lines.now c.loop-line.line-index f c.args.printer.now c.loop-line.printer c.show-2.new.printer c.loop-line.invariant none (ends_by_print c.loop-line.course.history c.args.lines.now c.loop-line.line-index f c.show-2.new.printer why))
     c.show-2.ensures.stopped
     c.show-2.ensures.fault

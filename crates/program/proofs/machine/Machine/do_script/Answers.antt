@@ -1,6 +1,7 @@
 use Rattle.std.proofs.Common.{inl, inr, refl, subst}
 use Rattle.std.proofs.lemmas.Result.{IfErr-weaker, err_from_is_err_and, on_ok_weaker}
 use Rattle.program.specs.Files.{writing_of}
+use Rattle.program.specs.Remarks.{unnoted}
 use Rattle.program.specs.Runs.{HasBrokenOff, HasPrinted}
 use Rattle.program.proofs.machine.Machine.do_script.Goals as goal
 
@@ -17,7 +18,7 @@ returns-clause-done g c =
       begun.0,
       begun.1,
       begun.2,
-      subst (λ h. HasPrinted (writing_of g.F.Out.OutFile.path g.F.Out.Placed.kept g.F.Out.Device.failures) c.args.way c.args.script.now h c.args.parts.2.now c.args.printer.now c.do_all_lines.new.printer) begun.3 run,
+      subst (λ h. HasPrinted (writing_of g.F.Out.OutFile.path g.F.Out.Placed.kept g.F.Out.Device.failures) c.args.way c.args.script.now (unnoted h) c.args.parts.2.now c.args.printer.now c.do_all_lines.new.printer) begun.3 run,
       c.do_all_lines.ensures.flushed,
     ))
     c.do_all_lines.ensures.done
@@ -30,7 +31,7 @@ returns-clause-stopped g c =
       begun.0,
       begun.1,
       begun.2,
-      subst (λ h. HasBrokenOff (writing_of g.F.Out.OutFile.path g.F.Out.Placed.kept g.F.Out.Device.failures) c.args.way c.args.script.now h c.args.parts.2.now f c.args.printer.now c.do_all_lines.new.printer) begun.3 stop,
+      subst (λ h. HasBrokenOff (writing_of g.F.Out.OutFile.path g.F.Out.Placed.kept g.F.Out.Device.failures) c.args.way c.args.script.now (unnoted h) c.args.parts.2.now f c.args.printer.now c.do_all_lines.new.printer) begun.3 stop,
       c.do_all_lines.ensures.flushed,
     ))
     c.do_all_lines.ensures.stopped
