@@ -2,3 +2,4 @@ pub mod WordsLemmas
 mod DrawnLemmas
 mod RefusedLemmas
 mod PromptWordsLemmas
+mod AnsweredLemmas

@@ -77,7 +77,8 @@ fn tell_why<'s, 'm, F, T, K, A: Allocator + Copy>(
     alloc: A,
     prompted: Prompted<'s, 'm, F, T, K, A>,
 ) -> Result<(Prompted<'s, 'm, F, T, K, A>, Vec<u8, A>), Refusal>
-    ensures told { IfOk result (λ x. (v : Option Why) × TellsWhy prompted.entry.why v x.1.items ×
+    ensures told { IfOk result (λ x. (v : Option Why) ×
+        TellsWhy prompted.entry.over.shell.core prompted.entry.why v x.1.items ×
         (x.0 ≡ record prompted.entry { why = v })) }
     ensures memory { IfErr result (λ e. e ≡ out_of_memory) }
 {

@@ -1,8 +1,10 @@
 //! What is kept of the lines that were asked.
 
-ghost use Rattle.std.specs.Prelude.{◌≡◌, None, IfOk, IfErr};
+ghost use Rattle.std.specs.Prelude.{◌≡◌, None, IfOk, IfErr, codes};
+ghost use Rattle.std.specs.Str.{bytes_eq};
 ghost use Rattle.value.specs.Refusals.{out_of_memory};
-ghost use Rattle.command_shell.specs.Asides.{Stays, TellsWhy, refused_by, refused_in};
+ghost use Rattle.command_shell.specs.Asides as spec;
+ghost use Rattle.command_shell.specs.Asides.{TellsWhy, known_as, numbers_to, refused_by, refused_in, why_shown};
 
 use crate::prompt::refused::{LastRefusal, last_behind, tell_last};
 use session::sessions::Core;
@@ -31,13 +33,21 @@ impl<A: Allocator> Model for Recalled<A> {
 
 /// The numbers from 1 to a count of lines.
 pub(crate) fn numbers<A: Allocator>(alloc: A, count: u64) -> Result<Vec<u64, A>, Refusal>
+    ensures numbers { IfOk result (λ numbers. numbers.items ≡ numbers_to count) }
     ensures memory { IfErr result (λ e. e ≡ out_of_memory) }
 {
     let mut numbers = Vec::new(alloc);
     for number in 0..count {
-        numbers.push(number.saturating_add(1))?;
+        numbers.push(number + 1)?;
     }
     Ok(numbers)
+}
+
+// Whether a line asks for a checkpoint.
+fn is_checkpoint(line: &[u8]) -> bool
+    ensures { result ≡ bytes_eq line.now (codes "CHECKPOINT;") }
+{
+    line == b"CHECKPOINT;".as_slice()
 }
 
 impl<A: Allocator + Copy> Recalled<A> {
@@ -58,7 +68,7 @@ impl<A: Allocator + Copy> Recalled<A> {
         alloc: A,
         shell: &Shell<A>,
     ) -> Result<(Recalled<A>, Vec<u8, A>), Refusal>
-        ensures told { IfOk result (λ x. TellsWhy self x.0 x.1.items) }
+        ensures told { IfOk result (λ x. TellsWhy shell.now.core self x.0 x.1.items) }
         ensures memory { IfErr result (λ e. e ≡ out_of_memory) }
     {
         let Recalled {
@@ -87,6 +97,15 @@ impl<A: Allocator + Copy> Recalled<A> {
         numbers(alloc, self.count)
     }
 
+    // What is recalled, once the reason of the last refusal is found and kept.
+    fn known(self, alloc: A, shell: &Shell<A>) -> Result<Recalled<A>, Refusal>
+        ensures known { IfOk result (λ r. r ≡ known_as (why_shown shell.now.core self) self) }
+        ensures memory { IfErr result (λ e. e ≡ out_of_memory) }
+    {
+        let (recalled, _told) = self.tell_why(alloc, shell)?;
+        Ok(recalled)
+    }
+
     /// What is recalled before a line. A checkpoint takes away the events that explain a refusal, so before one the
     /// reason of the last refusal is found, and kept.
     pub(crate) fn before(
@@ -95,14 +114,14 @@ impl<A: Allocator + Copy> Recalled<A> {
         shell: &Shell<A>,
         line: &[u8],
     ) -> Result<Recalled<A>, Refusal>
-        ensures stays { IfOk result (λ r. Stays self r) }
+        ensures recalled { IfOk result (λ r. r ≡ spec.recalled shell.now.core line.now self) }
         ensures memory { IfErr result (λ e. e ≡ out_of_memory) }
     {
-        if line != b"CHECKPOINT;".as_slice() {
-            return Ok(self);
+        if is_checkpoint(line) {
+            self.known(alloc, shell)
+        } else {
+            Ok(self)
         }
-        let (recalled, _told) = self.tell_why(alloc, shell)?;
-        Ok(recalled)
     }
 
     // What is recalled after a line that made an event.

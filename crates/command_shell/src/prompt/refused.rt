@@ -1,20 +1,21 @@
 //! Why a transaction was refused last because of other transactions.
 
-ghost use Rattle.std.specs.Prelude.{◌≡◌, [], None, Some, IfOk, IfErr, IfSome};
+ghost use Rattle.std.specs.Prelude.{◌≡◌, [], None, Some, IfOk, IfErr, take, unwrap_or};
 ghost use Rattle.value.specs.Refusals.{out_of_memory};
-ghost use Rattle.command_shell.specs.Asides.{IsWhy, TellsIt, TellsWhy, refused_after, refused_in, untold, why_text};
+ghost use Rattle.command_shell.specs.Asides.{TellsWhy, account_at, refused_after, refused_in, why_in, why_text};
+ghost use Rattle.retrace.specs.Explained.{why_told};
 
 use crate::prompt::recalled::numbers;
 use history::event::Record;
 use history::list::History;
 use history::session_id::SessionId;
+use program::remarks::failure_of;
 use retrace::explain::account::Account;
 use retrace::past::Past;
 use shell::shell::Shell;
-use statement::reply::Reply;
 use std::alloc::Allocator;
 use std::marker::Model;
-use value::refusal::{Code, Refusal};
+use value::refusal::Refusal;
 
 /// The session whose transaction was refused last, and why; the reason is found once it is asked for.
 #[derive(Drop)]
@@ -27,14 +28,17 @@ pub(crate) struct LastRefusal<A: Allocator> {
 }
 
 impl<A: Allocator> Model for LastRefusal<A> {
-    ghost use Rattle.std.specs.Prelude.{IfSome, option_map};
-    ghost use Rattle.command_shell.specs.Asides.{IsWhy, Why};
+    ghost use Rattle.std.specs.Prelude.{option_map};
+    ghost use Rattle.command_shell.specs.Asides.{Why};
 
     ghost Value = { Why };
 
-    ghost view = { λ r. record { session = r.session; told = option_map (λ t. t.items) r.told } };
-
-    ghost invariant = { λ r. IfSome r.told (λ t. IsWhy r.session t.items) };
+    ghost view = { λ r. record {
+      session = r.session;
+      refusal = r.refusal;
+      events = r.events;
+      told = option_map (λ t. t.items) r.told;
+    } };
 }
 
 // Remarks, or that there are none.
@@ -61,7 +65,7 @@ fn explain<A: Allocator + Copy>(
     session: SessionId,
     refusal: Refusal,
 ) -> Result<Vec<u8, A>, Refusal>
-    ensures why { IfOk result (λ t. IsWhy session t.items) }
+    ensures why { IfOk result (λ t. t.items ≡ why_text (why_told (account_at history.now events) session refusal)) }
     ensures memory { IfErr result (λ e. e ≡ out_of_memory) }
 {
     let mut past = Past::of(alloc, history)?;
@@ -79,7 +83,7 @@ fn explain<A: Allocator + Copy>(
 impl<A: Allocator + Copy> LastRefusal<A> {
     // Why it was refused, where a shell has its events.
     fn explained(&self, alloc: A, shell: &Shell<A>) -> Result<Vec<u8, A>, Refusal>
-        ensures why { IfOk result (λ t. IsWhy self.now.session t.items) }
+        ensures why { IfOk result (λ t. t.items ≡ why_in shell.now.core self.now) }
         ensures memory { IfErr result (λ e. e ≡ out_of_memory) }
     {
         match shell.core() {
@@ -96,8 +100,7 @@ impl<A: Allocator + Copy> LastRefusal<A> {
 
     // Why it was refused, by the text that was shown before, where one was.
     fn found(&self, alloc: A, shell: &Shell<A>) -> Result<Vec<u8, A>, Refusal>
-        ensures why { IfOk result (λ t. IsWhy self.now.session t.items) }
-        ensures before { IfOk result (λ t. IfSome self.now.told (λ known. t.items ≡ known)) }
+        ensures why { IfOk result (λ t. t.items ≡ unwrap_or self.now.told (why_in shell.now.core self.now)) }
         ensures memory { IfErr result (λ e. e ≡ out_of_memory) }
     {
         match &self.told {
@@ -111,7 +114,8 @@ impl<A: Allocator + Copy> LastRefusal<A> {
 
     // Returns why it was refused, which is known from then on.
     fn tell(self, alloc: A, shell: &Shell<A>) -> Result<(LastRefusal<A>, Vec<u8, A>), Refusal>
-        ensures told { IfOk result (λ x. TellsIt self x.0 x.1.items) }
+        ensures text { IfOk result (λ x. x.1.items ≡ unwrap_or self.told (why_in shell.now.core self)) }
+        ensures known { IfOk result (λ x. x.0 ≡ record self { told = Some x.1.items }) }
         ensures memory { IfErr result (λ e. e ≡ out_of_memory) }
     {
         let text = self.found(alloc, shell)?;
@@ -132,7 +136,7 @@ pub(crate) fn tell_last<A: Allocator + Copy>(
     shell: &Shell<A>,
     last: Option<LastRefusal<A>>,
 ) -> Result<(Option<LastRefusal<A>>, Vec<u8, A>), Refusal>
-    ensures told { IfOk result (λ x. TellsWhy last x.0 x.1.items) }
+    ensures told { IfOk result (λ x. TellsWhy shell.now.core last x.0 x.1.items) }
     ensures memory { IfErr result (λ e. e ≡ out_of_memory) }
 {
     match last {
@@ -154,18 +158,16 @@ fn or_by<A: Allocator>(
     last: &Record<A>,
     events: u64,
 ) -> Option<LastRefusal<A>>
-    ensures { result ≡ refused_after last.now before }
+    ensures { result ≡ refused_after events last.now before }
 {
-    match &last.reply {
-        Reply::Refused(refusal) if refusal.code == Code::SerializationFailure => {
-            Some(LastRefusal {
-                session: last.session,
-                refusal: *refusal,
-                events,
-                told: None,
-            })
-        }
-        _ => before,
+    match failure_of(&last.reply) {
+        Some(refusal) => Some(LastRefusal {
+            session: last.session,
+            refusal,
+            events,
+            told: None,
+        }),
+        None => before,
     }
 }
 
