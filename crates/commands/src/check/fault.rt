@@ -1,6 +1,7 @@
 //! Why a transcript isn't checked.
 
-ghost use Rattle.std.specs.Prelude.{◌≤◌};
+ghost use Rattle.std.specs.Prelude.{◌≡◌, ◌⊎◌};
+ghost use Rattle.commands.specs.Statuses.{IsFault};
 
 use program::fault::{self, Status};
 use program::words::tell_reason;
@@ -44,7 +45,9 @@ fn tell_memory<E: Write>(err: &mut E) -> io::Result<()> {
 }
 
 // Reports a fault in a line, and after it what is wrong; and returns how the command ends.
-fn tell_lines<E: Write>(fault: Fault<'_>, err: &mut E) -> Status {
+fn tell_lines<E: Write>(fault: Fault<'_>, err: &mut E) -> Status
+    ensures { (result ≡ Status.Refused) ⊎ (result ≡ Status.Device) }
+{
     let written = match fault {
         Fault::Transcript(fault) => tell_transcript(fault, err),
         Fault::Memory => tell_memory(err),
@@ -58,7 +61,7 @@ fn tell_lines<E: Write>(fault: Fault<'_>, err: &mut E) -> Status {
 /// Reports a fault in a line, and after it what is wrong or why a file has failed, where that is known; and returns the
 /// exit status.
 pub(crate) fn tell<E: Write>(fault: Fault<'_>, reason: Option<&str>, err: &mut E) -> u8
-    ensures { result ≤ 3 }
+    ensures { IsFault result }
 {
     let status = tell_lines(fault, err);
     tell_reason(status, reason, err);

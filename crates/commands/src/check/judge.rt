@@ -1,9 +1,14 @@
 //! The judgement of a transcript.
 
-ghost use Rattle.std.specs.Prelude.{◌≡◌, IfOk, true};
+ghost use Rattle.std.specs.Prelude.{◌≡◌, IfOk, Ok, true};
+ghost use Rattle.std.specs.Option.{option_copied};
 ghost use Rattle.orders.specs.Explains.{all_fit};
 ghost use Rattle.orders.specs.Found.{Tells};
 ghost use Rattle.schema.specs.Plain.{is_sound};
+ghost use Rattle.program.specs.Beginnings.{BeginsWith};
+ghost use Rattle.transcript.specs.Reading as spec;
+ghost use Rattle.judgement.specs.Telling.{names_of};
+ghost use Rattle.commands.specs.Checked.{IsJudged};
 
 use crate::check::certificates::read_certificate;
 use crate::check::fault::Fault;
@@ -30,9 +35,8 @@ fn judged_by<'p, A: Allocator + Copy>(
 ) -> Result<Judgement<A>, Fault<'p>>
     requires fit { all_fit catalog traces.transactions.items ≡ true }
     requires sound { is_sound catalog tables ≡ true }
-    ensures sound { IfOk result (λ j. is_sound j.catalog j.tables ≡ true) }
-    ensures fit { IfOk result (λ j. all_fit j.catalog j.traces.transactions.items ≡ true) }
-    ensures tells { IfOk result (λ j. Tells j.catalog j.tables j.traces.transactions.items j.answer) }
+    ensures kept { IfOk result (λ j. (j.catalog ≡ catalog) × (j.tables ≡ tables) × (j.traces ≡ traces)) }
+    ensures tells { IfOk result (λ j. Tells catalog tables traces.transactions.items j.answer) }
 {
     let certificate = read_certificate(alloc, &catalog, &tables, &traces, text)?;
     Ok(Judgement {
@@ -55,9 +59,8 @@ fn judged<'p, A: Allocator + Copy>(
 ) -> Result<Judgement<A>, Fault<'p>>
     requires fit { all_fit catalog traces.transactions.items ≡ true }
     requires sound { is_sound catalog tables ≡ true }
-    ensures sound { IfOk result (λ j. is_sound j.catalog j.tables ≡ true) }
-    ensures fit { IfOk result (λ j. all_fit j.catalog j.traces.transactions.items ≡ true) }
-    ensures tells { IfOk result (λ j. Tells j.catalog j.tables j.traces.transactions.items j.answer) }
+    ensures kept { IfOk result (λ j. (j.catalog ≡ catalog) × (j.tables ≡ tables) × (j.traces ≡ traces)) }
+    ensures tells { IfOk result (λ j. Tells catalog tables traces.transactions.items j.answer) }
 {
     match judging::judge(alloc, catalog, tables, traces, steps) {
         Ok(judgement) => Ok(judgement),
@@ -72,7 +75,9 @@ fn traces_of<'p, A: Allocator + Copy>(
     has_time: bool,
     text: &[u8],
 ) -> Result<Traces<A>, Fault<'p>>
-    ensures { IfOk result (λ traces. all_fit catalog.now traces.transactions.items ≡ true) }
+    ensures fit { IfOk result (λ traces. all_fit catalog.now traces.transactions.items ≡ true) }
+    ensures reads { IfOk result (λ traces. spec.traces catalog.now has_time text.now ≡
+        Ok (traces.transactions.items, names_of traces.names.items)) }
 {
     match read_traces(alloc, catalog, has_time, text) {
         Ok(traces) => Ok(traces),
@@ -90,9 +95,11 @@ fn judged_text<'p, A: Allocator + Copy>(
     certificate: Option<&[u8]>,
 ) -> Result<Judgement<A>, Fault<'p>>
     requires sound { is_sound catalog tables ≡ true }
-    ensures sound { IfOk result (λ j. is_sound j.catalog j.tables ≡ true) }
-    ensures fit { IfOk result (λ j. all_fit j.catalog j.traces.transactions.items ≡ true) }
-    ensures tells { IfOk result (λ j. Tells j.catalog j.tables j.traces.transactions.items j.answer) }
+    ensures kept { IfOk result (λ j. (j.catalog ≡ catalog) × (j.tables ≡ tables)) }
+    ensures fit { IfOk result (λ j. all_fit catalog j.traces.transactions.items ≡ true) }
+    ensures reads { IfOk result (λ j. spec.traces catalog task.entry.has_time text.now ≡
+        Ok (j.traces.transactions.items, names_of j.traces.names.items)) }
+    ensures tells { IfOk result (λ j. Tells catalog tables j.traces.transactions.items j.answer) }
 {
     let traces = traces_of(alloc, &catalog, task.has_time, text)?;
     match certificate {
@@ -111,6 +118,8 @@ where
     A: Allocator + Copy + Send + Sync,
     F: Files<A>,
     T: Threads + Sync,
+    ensures begins { IfOk result (λ x.
+        BeginsWith (F.held machine.now.files.now) (option_copied opens.entry) catalog x.0 x.1) }
     ensures sound { IfOk result (λ x. is_sound x.0 x.1 ≡ true) }
 {
     match machine.open_tables(opens, catalog) {
@@ -134,9 +143,8 @@ where
     A: Allocator + Copy + Send + Sync,
     F: Files<A>,
     T: Threads + Sync,
-    ensures sound { IfOk result (λ j. is_sound j.catalog j.tables ≡ true) }
-    ensures fit { IfOk result (λ j. all_fit j.catalog j.traces.transactions.items ≡ true) }
-    ensures tells { IfOk result (λ j. Tells j.catalog j.tables j.traces.transactions.items j.answer) }
+    ensures { IfOk result (λ j. IsJudged (F.held machine.now.files.now) task.entry.has_time text.now
+        (option_copied opens.entry) catalog j) }
 {
     let (catalog, tables) = begun(machine, catalog, opens)?;
     judged_text(machine.alloc, catalog, tables, text, task, certificate)

@@ -1,7 +1,13 @@
 //! What the words of the command line ask for.
 
+ghost use Rattle.std.specs.Prelude.{◌≡◌, IfOk, false, not, map, option_map, codes};
+ghost use Rattle.clap.specs.Words.{FailsBy, app_of, first_of, found_of, rows_of, rule_of};
+ghost use Rattle.program.specs.CommandLine.{is_set};
+ghost use Rattle.commands.specs.CheckWords as spec;
+
 use clap::builder::ValueParser;
-use clap::{Arg, ArgAction, Command, Error};
+use clap::{Arg, ArgAction, ArgMatches, Command, Error};
+use program::arguments::path_of;
 use std::alloc::{AllocError, Global};
 
 // How many steps a search takes, where nothing is said.
@@ -17,8 +23,48 @@ pub(crate) struct Task<'w> {
     pub(crate) certificate: Option<&'w str>,
 }
 
+// The file of a transcript.
+fn transcript<'w>(alloc: Global) -> Arg<'w>
+    ensures rule { rule_of result ≡ spec.transcript }
+    ensures local { result.global ≡ false }
+{
+    Arg::new(alloc, "TRANSCRIPT")
+        .required(true)
+        .action(ArgAction::Set)
+        .help("The transcript's file; - is standard input")
+}
+
+// The flag by which time doesn't count.
+fn no_time<'w>(alloc: Global) -> Arg<'w>
+    ensures rule { rule_of result ≡ spec.no_time }
+    ensures local { result.global ≡ false }
+{
+    Arg::new(alloc, "no-time")
+        .long("no-time")
+        .action(ArgAction::SetTrue)
+        .help("Let a transaction come before others that had ended when it began")
+}
+
+// How many steps a search takes.
+fn steps<'w>(alloc: Global) -> Arg<'w>
+    ensures rule { rule_of result ≡ spec.steps }
+    ensures local { result.global ≡ false }
+{
+    Arg::new(alloc, "steps")
+        .long("steps")
+        .value_name("N")
+        .action(ArgAction::Set)
+        .value_parser(ValueParser::signed(1, 4_294_967_295))
+        .help(
+            "How many steps each search takes at most, 1 to 4294967295; 1000000 where it isn't given. A step is a transaction that is run alone or taken back where orders are tried, and a look at what a transaction found in a column where reasons are sought",
+        )
+}
+
 // The file of a certificate.
-fn certificate<'w>(alloc: Global) -> Arg<'w> {
+fn certificate<'w>(alloc: Global) -> Arg<'w>
+    ensures rule { rule_of result ≡ spec.certificate }
+    ensures local { result.global ≡ false }
+{
     Arg::new(alloc, "certificate")
         .long("certificate")
         .value_name("FILE")
@@ -28,45 +74,81 @@ fn certificate<'w>(alloc: Global) -> Arg<'w> {
         )
 }
 
-// The command.
-fn check<'w>(alloc: Global) -> Result<Command<'w>, AllocError> {
-    let transcript = Arg::new(alloc, "TRANSCRIPT")
-        .required(true)
-        .action(ArgAction::Set)
-        .help("The transcript's file; - is standard input");
-    let no_time = Arg::new(alloc, "no-time")
-        .long("no-time")
-        .action(ArgAction::SetTrue)
-        .help("Let a transaction come before others that had ended when it began");
-    let steps = Arg::new(alloc, "steps")
-        .long("steps")
-        .value_name("N")
-        .action(ArgAction::Set)
-        .value_parser(ValueParser::signed(1, 4_294_967_295))
-        .help(
-            "How many steps each search takes at most, 1 to 4294967295; 1000000 where it isn't given. A step is a transaction that is run alone or taken back where orders are tried, and a look at what a transaction found in a column where reasons are sought",
-        );
-    let check = Command::new(alloc, "check")
+// The command, without its arguments.
+fn alone<'w>(alloc: Global) -> Result<Command<'w>, AllocError>
+    ensures { IfOk result (λ c. app_of c ≡ spec.alone) }
+{
+    let alone = Command::new(alloc, "check")
         .about(
             "Tell whether some order of a transcript's transactions explains what they were answered",
         )
         .bin_name("pgserial check")?
-        .no_binary_name(true)
-        .arg(transcript)?
-        .arg(no_time)?
-        .arg(steps)?
+        .no_binary_name(true);
+    Ok(alone)
+}
+
+// The command.
+fn check<'w>(alloc: Global) -> Result<Command<'w>, AllocError>
+    ensures { IfOk result (λ c. app_of c ≡ spec.check) }
+{
+    let check = alone(alloc)?
+        .arg(transcript(alloc))?
+        .arg(no_time(alloc))?
+        .arg(steps(alloc))?
         .arg(certificate(alloc))?;
     Ok(check)
 }
 
+// What the parser makes of some words.
+fn read<'w>(alloc: Global, words: &'w [&'w str]) -> Result<ArgMatches<'w>, Error>
+    ensures rows { IfOk result (λ m. rows_of (found_of m) ≡ spec.rows_in (map (λ w. w.now) words.entry.now)) }
+    ensures fails { FailsBy (spec.faults_in (map (λ w. w.now) words.entry.now)) result }
+{
+    let check = check(alloc)?;
+    check.try_get_matches_from(words)
+}
+
+// Whether time counts.
+fn has_time(matches: &ArgMatches<'_>) -> bool
+    ensures { result ≡ not (is_set (codes "no-time") (rows_of (found_of matches.now))) }
+{
+    match matches.get_str("no-time") {
+        Some(text) => text != "true",
+        None => true,
+    }
+}
+
+// How many steps a search takes; 1000000 where nothing is said.
+fn steps_of(matches: &ArgMatches<'_>) -> u32
+    ensures { spec.WritesSteps (rows_of (found_of matches.now)) result }
+{
+    matches.get_one::<u32>("steps").unwrap_or(STEPS)
+}
+
+// The path of a certificate, where one is given.
+fn certificate_of<'w>(matches: &ArgMatches<'w>) -> Option<&'w str>
+    ensures { option_map (λ s. s.now) result ≡ first_of (codes "certificate") (rows_of (found_of matches.now)) }
+{
+    matches.get_str("certificate")
+}
+
+// What words with these matches ask for.
+fn task_of<'w>(matches: &ArgMatches<'w>) -> Task<'w>
+    ensures { spec.AsksFor (rows_of (found_of matches.now)) result }
+{
+    Task {
+        transcript: path_of(matches, "TRANSCRIPT"),
+        has_time: has_time(matches),
+        steps: steps_of(matches),
+        certificate: certificate_of(matches),
+    }
+}
+
 /// What the words after `check` ask for. The error is a mistake in the words, `--help`, or out of memory.
-pub(crate) fn read_words<'w>(alloc: Global, words: &'w [&'w str]) -> Result<Task<'w>, Error> {
-    let command = check(alloc)?;
-    let matches = command.try_get_matches_from(words)?;
-    Ok(Task {
-        transcript: matches.get_str("TRANSCRIPT").unwrap_or("-"),
-        has_time: !matches.get_flag("no-time"),
-        steps: matches.get_one::<u32>("steps").unwrap_or(STEPS),
-        certificate: matches.get_str("certificate"),
-    })
+pub(crate) fn read_words<'w>(alloc: Global, words: &'w [&'w str]) -> Result<Task<'w>, Error>
+    ensures asked { IfOk result (λ task. spec.AsksFor (spec.rows_in (map (λ w. w.now) words.entry.now)) task) }
+    ensures fails { FailsBy (spec.faults_in (map (λ w. w.now) words.entry.now)) result }
+{
+    let matches = read(alloc, words)?;
+    Ok(task_of(&matches))
 }

@@ -1,7 +1,11 @@
 //! The command, over any files.
 
-ghost use Rattle.std.specs.Prelude.{◌≡◌, ◌≤◌};
+ghost use Rattle.std.specs.Prelude.{◌≡◌, ◌⊎◌, ◌≤◌, map, OnOk};
+ghost use Rattle.clap.specs.Words.{kind_of};
+ghost use Rattle.program.specs.CommandLine.{IsMistake};
+ghost use Rattle.commands.specs.Checked.{EndsAs, HasChecked, HasDone, HasJudged, IsHelp, IsPrinted, IsTold};
 ghost use Rattle.commands.specs.Statuses as spec;
+ghost use Rattle.commands.specs.Statuses.{IsFault};
 
 use crate::check::certificates::{keep, read_file};
 use crate::check::fault::{Fault, tell};
@@ -45,11 +49,25 @@ where
     A: Allocator + Copy,
     F: Files<A>,
     E: Write,
-    ensures { result ≤ 5 }
+    ensures { IsFault result ⊎ (result ≡ spec.status_of judgement.now.answer) }
 {
     match keep(alloc, files, path, judgement) {
         Ok(()) => status_of(&judgement.answer),
         Err(fault) => tell(fault, files.reason(), err),
+    }
+}
+
+// Prints a judgement.
+fn print<A: Allocator + Copy, W: Write>(
+    alloc: A,
+    judgement: &Judgement<A>,
+    out: &mut W,
+) -> Result<(), Fault<'static>>
+    ensures { OnOk result (IsPrinted judgement.now (W.contents out.old) (W.contents out.new)) }
+{
+    match judgement_text(alloc, judgement) {
+        Ok(text) => write_all(text.as_slice(), out),
+        Err(_) => Err(Fault::Memory),
     }
 }
 
@@ -67,12 +85,9 @@ where
     F: Files<A>,
     W: Write,
     E: Write,
-    ensures { result ≤ 5 }
+    ensures { IsFault result ⊎ IsTold judgement.now result (W.contents out.old) (W.contents out.new) }
 {
-    let Ok(text) = judgement_text(alloc, judgement) else {
-        return tell(Fault::Memory, None, err);
-    };
-    match write_all(text.as_slice(), out) {
+    match print(alloc, judgement, out) {
         Ok(()) => end(alloc, files, path, judgement, err),
         Err(fault) => tell(fault, None, err),
     }
@@ -83,6 +98,36 @@ fn target_of<'w>(task: Task<'w>, certificate: Option<&[u8]>) -> Option<&'w str> 
     match certificate {
         Some(_) => None,
         None => task.certificate,
+    }
+}
+
+// Judges the text of a transcript that begins with these tables, by that of a certificate where there is one, and prints
+// the judgement.
+fn check_opened<A, F, W, E, T>(
+    machine: &Machine<'_, F, T, A>,
+    opening: Opening<A>,
+    text: &[u8],
+    task: Task<'_>,
+    certificate: Option<&[u8]>,
+    out: &mut W,
+    err: &mut E,
+) -> u8
+where
+    A: Allocator + Copy + Send + Sync,
+    F: Files<A>,
+    W: Write,
+    E: Write,
+    T: Threads + Sync,
+    ensures { IsFault result ⊎ HasJudged (F.held machine.now.files.now) task.entry.has_time text.now opening result
+        (W.contents out.old) (W.contents out.new) }
+{
+    let Opening { catalog, opens, .. } = opening;
+    match judge(machine, catalog, opens.as_ref(), text, task, certificate) {
+        Ok(judgement) => {
+            let path = target_of(task, certificate);
+            tell_judgement(machine.alloc, machine.files, path, &judgement, out, err)
+        }
+        Err(fault) => tell(fault, machine.files.reason(), err),
     }
 }
 
@@ -101,18 +146,12 @@ where
     W: Write,
     E: Write,
     T: Threads + Sync,
-    ensures { result ≤ 5 }
+    ensures { IsFault result ⊎ HasChecked A (F.held machine.now.files.now) task.entry.has_time text.now result
+        (W.contents out.old) (W.contents out.new) }
 {
-    let Opening { catalog, opens, .. } = match read_opening(machine.alloc, text) {
-        Ok(opening) => opening,
-        Err(fault) => return tell(Fault::Transcript(fault), None, err),
-    };
-    match judge(machine, catalog, opens.as_ref(), text, task, certificate) {
-        Ok(judgement) => {
-            let path = target_of(task, certificate);
-            tell_judgement(machine.alloc, machine.files, path, &judgement, out, err)
-        }
-        Err(fault) => tell(fault, machine.files.reason(), err),
+    match read_opening(machine.alloc, text) {
+        Ok(opening) => check_opened(machine, opening, text, task, certificate, out, err),
+        Err(fault) => tell(Fault::Transcript(fault), None, err),
     }
 }
 
@@ -130,7 +169,8 @@ where
     W: Write,
     E: Write,
     T: Threads + Sync,
-    ensures { result ≤ 5 }
+    ensures { IsFault result ⊎ HasChecked A (F.held machine.now.files.now) task.entry.has_time text.now result
+        (W.contents out.old) (W.contents out.new) }
 {
     match read_file(machine.alloc, machine.files, task.certificate) {
         Ok(Some(lines)) => check_text(machine, text, task, Some(lines.as_slice()), out, err),
@@ -141,11 +181,33 @@ where
 
 // Reports a mistake in the words, or that there was no memory for them; or shows the help that they ask for.
 fn tell_words<W: Write, E: Write>(error: &Error, out: &mut W, err: &mut E) -> u8
-    ensures { result ≤ 5 }
+    ensures { IsFault result ⊎ (result ≡ 2) × IsMistake (kind_of error.now) ⊎ (result ≡ 0) × IsHelp (kind_of error.now) }
 {
     match error.kind() {
         ErrorKind::OutOfMemory => tell(Fault::Memory, None, err),
         _ => words::tell_words(error, out, err).code(),
+    }
+}
+
+// Does what the words ask for: judges a transcript, and prints the judgement.
+fn do_task<A, F, W, E, T>(
+    machine: &Machine<'_, F, T, A>,
+    task: Task<'_>,
+    out: &mut W,
+    err: &mut E,
+) -> u8
+where
+    A: Allocator + Copy + Send + Sync,
+    F: Files<A> + Places,
+    W: Write,
+    E: Write,
+    T: Threads + Sync,
+    ensures { IsFault result ⊎ HasDone A (F.held machine.now.files.now) (F.input machine.now.files.now) task.entry result
+        (W.contents out.old) (W.contents out.new) }
+{
+    match machine.read_path(task.transcript, fault::Fault::ScriptOutOfMemory) {
+        Ok(text) => check_both(machine, text.as_slice(), task, out, err),
+        Err(fault) => tell(Fault::of(fault), machine.files.reason(), err),
     }
 }
 
@@ -166,13 +228,11 @@ where
     E: Write,
     T: Threads + Sync,
     ensures within { result ≤ 5 }
+    ensures ends { EndsAs A (F.held machine.now.files.now) (F.input machine.now.files.now) (map (λ w. w.now) words.entry.now)
+        result (W.contents out.old) (W.contents out.new) }
 {
-    let task = match read_words(machine.words_memory, words) {
-        Ok(task) => task,
-        Err(error) => return tell_words(&error, out, err),
-    };
-    match machine.read_path(task.transcript, fault::Fault::ScriptOutOfMemory) {
-        Ok(text) => check_both(machine, text.as_slice(), task, out, err),
-        Err(fault) => tell(Fault::of(fault), machine.files.reason(), err),
+    match read_words(machine.words_memory, words) {
+        Ok(task) => do_task(machine, task, out, err),
+        Err(error) => tell_words(&error, out, err),
     }
 }

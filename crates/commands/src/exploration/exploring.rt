@@ -1,10 +1,10 @@
 //! What is printed of the schedules of a setup's lines.
 
 use crate::exploration::fault::Fault;
-use crate::exploration::setup::Setup;
 use crate::exploration::task::{Draw, Task};
 use explore::exploring::{explore, explore_sample};
-use explore::plan::Plan;
+use explore::plan::{Plan, Unexplored};
+use explore::setup::Setup;
 use program::files::Files;
 use program::machine::Machine;
 use program::progress::Stage;
@@ -14,6 +14,14 @@ use std::thread::Threads;
 use tally::listing::heading::Heading;
 use tally::listing::text::listing_text;
 use tally::runs::Schedules;
+
+// The fault of a plan whose schedules aren't all run.
+fn fault_of<'p>(unexplored: Unexplored, most: u64) -> Fault<'p> {
+    match unexplored {
+        Unexplored::Memory => Fault::memory(),
+        Unexplored::TooMany(all) => Fault::TooMany(all, most),
+    }
+}
 
 // What is printed of all schedules.
 fn all_text<'p, A, F, T>(
@@ -27,15 +35,11 @@ where
     T: Threads + Wait + Sync,
 {
     let alloc = machine.alloc;
-    let all = match plan.schedules(alloc) {
-        Ok(Some(all)) => all,
-        Ok(None) => return Err(Fault::TooMany(None, task.most)),
-        Err(_) => return Err(Fault::memory()),
+    let all = match plan.few_schedules(alloc, task.most) {
+        Ok(all) => all,
+        Err(unexplored) => return Err(fault_of(unexplored, task.most)),
     };
     let schedules = all.len();
-    if schedules > task.most {
-        return Err(Fault::TooMany(Some(schedules), task.most));
-    }
     let shown = machine.files.watch(Stage::Exploring(schedules));
     let found = explore(machine.rt, alloc, plan, &all, task.jobs, &shown);
     shown.clear();
