@@ -1,0 +1,3 @@
+pub mod EmptyLemmas
+pub mod LinesLemmas
+pub mod OutputLemmas

@@ -1,0 +1,4 @@
+pub mod Doing
+pub mod Endings
+pub mod Memory
+pub mod Scripts

@@ -1,0 +1,9 @@
+//! What the library answers to a call: bytes in, bytes out, without files and threads.
+
+#![tactic(auto)]
+
+pub mod ending;
+mod lines;
+pub mod manner;
+pub mod output;
+mod printing;

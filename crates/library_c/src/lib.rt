@@ -1,0 +1,143 @@
+//! The library's calls for C, as clients/c/pgserial.h declares them.
+
+#![tactic(auto)]
+
+mod handing;
+mod handle;
+mod kept;
+mod loose;
+mod status;
+mod talking;
+
+ghost use Rattle.std.specs.Prelude.{◌≡◌, ◌≢◌, ◌==◌, None, true, false};
+ghost use Rattle.std.specs.List.{list_any};
+ghost use Rattle.library_c.specs.Talking.{Calls, Opens, Replies, shut_status};
+ghost use Rattle.library_c.specs.Handing.{Answers};
+ghost use Rattle.library.specs.declared.manner.Shown.TheVariants as shown;
+
+use crate::handing::hand_over;
+use crate::handle::Handle;
+use crate::status::{DONE, FULL, MISUSE};
+use crate::talking::{answer_line, begin_in, put, take};
+use library::ending::End;
+use library::manner::{Manner, Shown};
+use library::output::script_output;
+use std::alloc::Global;
+
+/// How many bytes an answer has, and the line at which it ended; 0 where that is no line's matter.
+#[derive(Clone, Copy)]
+#[repr(C)]
+pub struct Report {
+    pub length: usize,
+    pub line: u64,
+}
+
+/// The replies to a script's lines, in `out` where they have room there.
+#[unsafe(no_mangle)]
+pub extern "C" fn pgserial_do_run(
+    alloc: Global,
+    script: &[u8],
+    most_events: u32,
+    out: &mut [u8],
+    report: &mut Report,
+) -> u32
+    ensures { Answers Global (record { shown = shown.Replies; most_events = most_events }) script.now out.old out.new report.new
+        result }
+{
+    let manner = Manner {
+        shown: Shown::Replies,
+        most_events,
+    };
+    let answer = script_output(alloc, manner, script);
+    hand_over(answer.text.as_slice(), answer.end, out, report)
+}
+
+/// The serial order of what a script's lines commit, in `out` where it has room there.
+#[unsafe(no_mangle)]
+pub extern "C" fn pgserial_do_audit(
+    alloc: Global,
+    script: &[u8],
+    most_events: u32,
+    out: &mut [u8],
+    report: &mut Report,
+) -> u32
+    ensures { Answers Global (record { shown = shown.Order; most_events = most_events }) script.now out.old out.new report.new
+        result }
+{
+    let manner = Manner {
+        shown: Shown::Order,
+        most_events,
+    };
+    let answer = script_output(alloc, manner, script);
+    hand_over(answer.text.as_slice(), answer.end, out, report)
+}
+
+/// Opens a handle that is shut: a server that answers lines, with room for so many events.
+#[unsafe(no_mangle)]
+pub extern "C" fn pgserial_do_open(alloc: Global, handle: &mut Handle, most_events: u32) -> u32
+    ensures full { most_events ≡ 0 → (handle.new.value ≡ handle.old.value) × (result ≡ 3) }
+    ensures opened { most_events ≢ 0 → Opens handle.old.value most_events handle.new.value result }
+{
+    if most_events == 0 {
+        return FULL;
+    }
+    if let Some(kept) = take(alloc, handle) {
+        put(alloc, handle, kept);
+        return MISUSE;
+    }
+    begin_in(alloc, handle, most_events)
+}
+
+/// Answers a line, which stands here without its newline. The answer is kept, and its length reported. Where memory is
+/// refused the handle is shut.
+#[unsafe(no_mangle)]
+pub extern "C" fn pgserial_do_call(
+    alloc: Global,
+    handle: &mut Handle,
+    line: &[u8],
+    report: &mut Report,
+) -> u32
+    ensures misuse { list_any (λ b. b == 10) line.now ≡ true →
+        (handle.new.value ≡ handle.old.value) × (report.new ≡ report.old) × (result ≡ 7) }
+    ensures answer { list_any (λ b. b == 10) line.now ≡ false →
+        Calls handle.old.value line.now handle.new.value report.old report.new result }
+{
+    if line.contains(&b'\n') {
+        return MISUSE;
+    }
+    match take(alloc, handle) {
+        Some(kept) => answer_line(alloc, handle, kept, line, report),
+        None => MISUSE,
+    }
+}
+
+/// The last answer, in `out` where it has room there.
+#[unsafe(no_mangle)]
+pub extern "C" fn pgserial_do_reply(
+    alloc: Global,
+    handle: &mut Handle,
+    out: &mut [u8],
+    report: &mut Report,
+) -> u32
+    ensures kept { handle.new.value ≡ handle.old.value }
+    ensures reply { Replies handle.old.value out.old out.new report.old report.new result }
+{
+    let Some(kept) = take(alloc, handle) else {
+        return MISUSE;
+    };
+    let status = hand_over(kept.reply.as_slice(), End::Done, out, report);
+    put(alloc, handle, kept);
+    status
+}
+
+/// Shuts a handle.
+#[unsafe(no_mangle)]
+pub extern "C" fn pgserial_do_close(alloc: Global, handle: &mut Handle) -> u32
+    ensures shut { handle.new.value ≡ None }
+    ensures status { result ≡ shut_status handle.old.value }
+{
+    match take(alloc, handle) {
+        Some(_) => DONE,
+        None => MISUSE,
+    }
+}

@@ -1,0 +1,9 @@
+//! The statuses of calls on a handle.
+
+pub(crate) const DONE: u32 = 0;
+
+pub(crate) const FULL: u32 = 3;
+
+pub(crate) const MEMORY: u32 = 4;
+
+pub(crate) const MISUSE: u32 = 7;
