@@ -1,0 +1,102 @@
+/* pgserial.h: pgserial's calls without a process of its own. Bytes in, bytes out.
+ *
+ * The library is libpgserial.a or libpgserial.so, for x86-64 Linux, made by `.ci/library build FOLDER`. It needs the C
+ * library's malloc, realloc, free and memmove, and nothing else: no file, no thread, no signal, no other library.
+ *
+ * A call is done when it returns, and keeps nothing: not what it was given, and no state. It gives back all memory that it
+ * took. What it answers is written to the caller's room.
+ *
+ * Sizes. A call that is given too little room answers PGSERIAL_NEEDS_ROOM, leaves `out` as it was, and reports in
+ * `report->length` how much there must be. The call can then be made again. Room of 0 asks for the size alone. No zero byte
+ * follows the text.
+ *
+ * Errors. The call whose arguments can't be right answers PGSERIAL_MISUSE, and does nothing: `report` is null; a text or the
+ * room is null and its length isn't 0; a length is above PTRDIFF_MAX; the text, the room and `report` overlap.
+ *
+ * Threads. Calls may be made from any number of threads at once, each with a room and a `report` of its own. A text may be
+ * read by several calls at once.
+ *
+ * What can't be seen is undefined, as in C: a pointer that isn't null and doesn't lead to as much memory as the length
+ * says; memory that another thread writes while a call is given it; a call from a signal handler, or from the forked child
+ * of a process with threads; a malloc, realloc and free that aren't one allocator's; a stack of under 1 MiB.
+ */
+#ifndef PGSERIAL_H
+#define PGSERIAL_H
+
+#include <stddef.h>
+#include <stdint.h>
+
+#ifdef __cplusplus
+extern "C" {
+#endif
+
+/* Rises where a declaration below changes its meaning: pgserial_abi() answers the library's own. */
+#define PGSERIAL_ABI 1
+
+/* For how many events `pgserial run` has room where nothing is said. It takes 16 MB. */
+#define PGSERIAL_MOST_EVENTS 100000
+
+enum pgserial_status {
+    PGSERIAL_DONE = 0,       /* all was done, refused statements included */
+    PGSERIAL_REFUSED = 1,    /* the line `report->line` may not stand where it stands */
+    PGSERIAL_NEEDS_ROOM = 2, /* the room is below `report->length` */
+    PGSERIAL_FULL = 3,       /* there is to be room for no event: 54000 */
+    PGSERIAL_MEMORY = 4,     /* out of memory: 53200 */
+    PGSERIAL_NO_TEXT = 5,    /* the text isn't UTF-8 */
+    PGSERIAL_DEVICE = 6,     /* the line `report->line` asks for a file, a DUMP; 0 for an OPEN: there are no files */
+    PGSERIAL_MISUSE = 7      /* the arguments can't be right, and nothing was done */
+};
+
+struct pgserial_report {
+    size_t length; /* how many bytes the answer has */
+    uint64_t line; /* the line that a status speaks of, counted from 1; else 0 */
+};
+
+/* The version of the declarations that the library was made with. */
+uint32_t pgserial_abi(void);
+
+/* The replies to the lines of a script, as `pgserial run` prints them. Where a script ends before its last line, by
+ * PGSERIAL_MEMORY or PGSERIAL_DEVICE, the answer has the replies to the lines before. */
+int pgserial_run(const char *script, size_t script_length, uint32_t most_events,
+                 char *out, size_t room, struct pgserial_report *report);
+
+/* The committed transactions of a script in the serial order, and whether that is one, as `pgserial audit` prints them. */
+int pgserial_audit(const char *script, size_t script_length, uint32_t most_events,
+                   char *out, size_t room, struct pgserial_report *report);
+
+/* ---- a server that is kept between calls
+ *
+ * A handle is shut, or keeps a server that answers lines as `pgserial shell` does. Begin with PGSERIAL_SHUT, and touch its
+ * fields no more. Whoever opens a handle closes it, on the same thread; else its memory is never given back. Calls on one
+ * handle come one after the other, all on the thread that has opened it.
+ *
+ * What can't be seen of a handle is undefined: a copy of an open one that is used beside it or after it; one whose fields
+ * were written; one that another thread uses.
+ */
+struct pgserial_handle {
+    void *at;
+    unsigned char is_open;
+};
+
+#define PGSERIAL_SHUT {NULL, 0}
+
+/* Opens a handle that is shut, with room for so many events; PGSERIAL_MISUSE where it is open. */
+int pgserial_open(struct pgserial_handle *handle, uint32_t most_events);
+
+/* Does a line, which stands here without its newline, as `pgserial shell` does: first those that create tables, then those of
+ * sessions; a line that begins with a backslash is refused. `report->length` is the length of the answer, which
+ * pgserial_reply gives. Where memory is refused, PGSERIAL_MEMORY, the conversation is over and the handle shut. A line with a
+ * newline in it is PGSERIAL_MISUSE, and so is a handle that is shut; nothing is done then. */
+int pgserial_call(struct pgserial_handle *handle, const char *line, size_t line_length, struct pgserial_report *report);
+
+/* The answer to the last line; empty before the first. PGSERIAL_NEEDS_ROOM where the room is too small; it can be asked again. */
+int pgserial_reply(struct pgserial_handle *handle, char *out, size_t room, struct pgserial_report *report);
+
+/* Shuts a handle, and gives back its memory; PGSERIAL_MISUSE where it is shut. */
+int pgserial_close(struct pgserial_handle *handle);
+
+#ifdef __cplusplus
+}
+#endif
+
+#endif

@@ -1,0 +1,152 @@
+/* test_misuse.c: what the library's calls answer to arguments that are wrong, too small or many at once; 1 where that isn't
+ * as pgserial.h says. `.ci/library` runs it, by an address sanitizer or valgrind where there is one.
+ */
+#include <pthread.h>
+#include <stdio.h>
+#include <stdlib.h>
+#include <string.h>
+
+#include "pgserial.h"
+
+#define EVENTS 100
+#define THREADS 8
+#define ROUNDS 50
+
+static const char script[] =
+    "CREATE TABLE t (id bigint PRIMARY KEY);\n1 BEGIN;\n1 INSERT INTO t VALUES (7);\n1 SELECT * FROM t;\n1 COMMIT;\n";
+static const char replies[] = "1 BEGIN\n1 INSERT 0 1\n1 SELECT 1\n1 | 7\n1 COMMIT\n";
+static int faults;
+
+static void check(int holds, const char *what)
+{
+    if (!holds) {
+        printf("not as it should be: %s\n", what);
+        faults = 1;
+    }
+}
+
+static int run(const char *text, size_t length, char *out, size_t room, struct pgserial_report *report)
+{
+    return pgserial_run(text, length, EVENTS, out, room, report);
+}
+
+/* Arguments that can't be right do nothing. */
+static void misuse(void)
+{
+    char out[64] = "as before";
+    struct pgserial_report report = {1, 2};
+    size_t beyond = (size_t)PTRDIFF_MAX + 1;
+    check(run(script, 1, out, 64, NULL) == PGSERIAL_MISUSE, "a null `report`");
+    check(run(NULL, 1, out, 64, &report) == PGSERIAL_MISUSE, "a null text");
+    check(run(script, 1, NULL, 64, &report) == PGSERIAL_MISUSE, "a null room");
+    check(run(script, beyond, out, 64, &report) == PGSERIAL_MISUSE, "a text that is too long");
+    check(run(script, 1, out, beyond, &report) == PGSERIAL_MISUSE, "a room that is too long");
+    check(run(out, 8, out, 64, &report) == PGSERIAL_MISUSE, "a text in the room");
+    check(run((char *)&report, 8, out, 64, &report) == PGSERIAL_MISUSE, "a text in `report`");
+    check(run(script, 1, (char *)&report, sizeof report, &report) == PGSERIAL_MISUSE, "a room in `report`");
+    check(report.length == 1 && report.line == 2 && strcmp(out, "as before") == 0, "what misuse leaves");
+}
+
+/* Each end of a script is report, with its line. */
+static void ends(void)
+{
+    char out[64];
+    struct pgserial_report report;
+    check(run("\xff", 1, out, 64, &report) == PGSERIAL_NO_TEXT && report.length == 0, "bytes that aren't UTF-8");
+    check(run("\n\nx\n", 4, out, 64, &report) == PGSERIAL_REFUSED && report.line == 3, "a faulty line");
+    check(run("OPEN d;\n", 8, out, 64, &report) == PGSERIAL_DEVICE && report.line == 0, "an OPEN");
+    check(run(NULL, 0, NULL, 0, &report) == PGSERIAL_DONE && report.length == 0, "nothing");
+    check(pgserial_run("", 0, 0, out, 64, &report) == PGSERIAL_FULL, "room for no event");
+    static const char dumps[] = "1 BEGIN READ ONLY DEFERRABLE;\n1 DUMP 1 1 d;\n1 POLL;\n1 DUMP 1 1 d;\n1 COMMIT;\n";
+    check(run(dumps, sizeof dumps - 1, out, 64, &report) == PGSERIAL_DEVICE && report.line == 4, "a DUMP");
+    check(report.length == 31 && memcmp(out, "1 BEGIN\n1 ERROR 55000\n1 SAFE 0\n", 31) == 0, "the replies before it");
+}
+
+/* Each room that is too small is left as it was, and its size is report. */
+static void rooms(void)
+{
+    size_t needed = sizeof replies - 1;
+    for (size_t room = 0; room <= needed + 2; room++) {
+        struct pgserial_report report = {0, 9};
+        char *out = malloc(room + 1);
+        if (out == NULL)
+            return;
+        memset(out, '~', room + 1);
+        int status = run(script, sizeof script - 1, room == 0 ? NULL : out, room, &report);
+        size_t written = room < needed ? 0 : needed;
+        check(status == (room < needed ? PGSERIAL_NEEDS_ROOM : PGSERIAL_DONE), "the status by the room");
+        check(report.length == needed && report.line == 0, "the size by the room");
+        check(memcmp(out, replies, written) == 0, "the replies by the room");
+        for (size_t at = written; at <= room; at++)
+            check(out[at] == '~', "what follows the replies");
+        free(out);
+    }
+}
+
+/* Calls from several threads. */
+static void *call_often(void *wrong)
+{
+    for (int round = 0; round < ROUNDS; round++) {
+        char out[sizeof replies];
+        struct pgserial_report report;
+        int status = run(script, sizeof script - 1, out, sizeof out, &report);
+        if (status != PGSERIAL_DONE || memcmp(out, replies, sizeof replies - 1) != 0)
+            *(int *)wrong = 1;
+    }
+    return NULL;
+}
+
+static void threads(void)
+{
+    pthread_t thread[THREADS];
+    int wrong[THREADS] = {0};
+    for (int at = 0; at < THREADS; at++)
+        if (pthread_create(&thread[at], NULL, call_often, &wrong[at]) != 0)
+            exit(2);
+    for (int at = 0; at < THREADS; at++) {
+        pthread_join(thread[at], NULL);
+        check(!wrong[at], "calls from several threads");
+    }
+}
+
+/* A handle: its lines, and what is wrong with it. */
+static void handles(void)
+{
+    static const char *const lines[] = {"CREATE TABLE t (id bigint PRIMARY KEY);", "1 BEGIN;", "1 INSERT INTO t VALUES (7);", "no line"};
+    static const char *const answers[] = {"CREATE TABLE\n", "1 BEGIN\n", "1 INSERT 0 1\n"};
+    struct pgserial_handle handle = PGSERIAL_SHUT, wrong = {NULL, 1};
+    struct pgserial_report report = {1, 2};
+    char out[64];
+    check(pgserial_close(&handle) == PGSERIAL_MISUSE, "a shut handle that is closed");
+    check(pgserial_call(&handle, lines[0], 1, &report) == PGSERIAL_MISUSE, "a line to a shut handle");
+    check(pgserial_reply(&handle, out, 64, &report) == PGSERIAL_MISUSE, "an answer of a shut handle");
+    check(pgserial_open(NULL, 9) == PGSERIAL_MISUSE && pgserial_open(&wrong, 9) == PGSERIAL_MISUSE, "no handle");
+    check(pgserial_open(&handle, 0) == PGSERIAL_FULL, "a handle with room for no event");
+    check(pgserial_open(&handle, EVENTS) == PGSERIAL_DONE, "a handle that is opened");
+    check(pgserial_open(&handle, EVENTS) == PGSERIAL_MISUSE, "an open handle that is opened");
+    check(pgserial_call(&handle, "1 BEGIN;\n", 9, &report) == PGSERIAL_MISUSE, "a line with its newline");
+    check(pgserial_reply(&handle, out, 0, &report) == PGSERIAL_DONE && report.length == 0, "the answer to no line");
+    for (size_t at = 0; at < 3; at++) {
+        size_t length = strlen(answers[at]);
+        check(pgserial_call(&handle, lines[at], strlen(lines[at]), &report) == PGSERIAL_DONE && report.length == length, lines[at]);
+        check(pgserial_reply(&handle, out, length - 1, &report) == PGSERIAL_NEEDS_ROOM && report.length == length, lines[at]);
+        check(pgserial_reply(&handle, out, 64, &report) == PGSERIAL_DONE && memcmp(out, answers[at], length) == 0, lines[at]);
+    }
+    check(pgserial_call(&handle, lines[3], 7, &report) == PGSERIAL_DONE && report.length > 12, "a faulty line");
+    check(pgserial_close(&handle) == PGSERIAL_DONE && pgserial_close(&handle) == PGSERIAL_MISUSE, "a handle that is closed twice");
+}
+
+int main(void)
+{
+    char out[64];
+    struct pgserial_report report;
+    check(pgserial_abi() == PGSERIAL_ABI, "the version");
+    misuse();
+    ends();
+    rooms();
+    threads();
+    handles();
+    check(pgserial_audit(script, sizeof script - 1, EVENTS, out, 64, &report) == PGSERIAL_DONE && report.length == 26
+          && memcmp(out, "txn 1 key 1 1 1\ncheck yes\n", 26) == 0, "the order");
+    return faults;
+}

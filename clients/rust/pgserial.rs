@@ -1,0 +1,196 @@
+//! pgserial's calls in this process: safe Rust over libpgserial, which `.ci/library build FOLDER` makes.
+//!
+//! `run` and `audit` keep nothing, and may be called from any number of threads at once. A `Conversation` keeps a server, on the
+//! thread that has opened it.
+
+use std::ffi::c_void;
+use std::fmt;
+use std::ptr::null_mut;
+
+/// For how many events `pgserial run` has room, where nothing is said.
+pub const MOST_EVENTS: u32 = 100_000;
+
+const ABI: u32 = 1;
+const DONE: i32 = 0;
+const NEEDS_ROOM: i32 = 2;
+const FIRST_ROOM: usize = 1 << 12;
+
+#[repr(C)]
+struct Report {
+    length: usize,
+    line: u64,
+}
+
+#[repr(C)]
+struct Handle {
+    at: *mut c_void,
+    is_open: u8,
+}
+
+// As clients/c/pgserial.h declares them: nothing compares the two.
+extern "C" {
+    fn pgserial_abi() -> u32;
+    fn pgserial_run(
+        script: *const u8,
+        script_length: usize,
+        most_events: u32,
+        out: *mut u8,
+        room: usize,
+        report: *mut Report,
+    ) -> i32;
+    fn pgserial_audit(
+        script: *const u8,
+        script_length: usize,
+        most_events: u32,
+        out: *mut u8,
+        room: usize,
+        report: *mut Report,
+    ) -> i32;
+    fn pgserial_open(handle: *mut Handle, most_events: u32) -> i32;
+    fn pgserial_call(
+        handle: *mut Handle,
+        line: *const u8,
+        line_length: usize,
+        report: *mut Report,
+    ) -> i32;
+    fn pgserial_reply(handle: *mut Handle, out: *mut u8, room: usize, report: *mut Report) -> i32;
+    fn pgserial_close(handle: *mut Handle) -> i32;
+}
+
+/// Why a text wasn't done.
+#[derive(Clone, Copy, Debug, PartialEq, Eq)]
+pub enum Reason {
+    /// A line may not stand where it stands.
+    Refused,
+    /// There is to be room for no event (54000).
+    Full,
+    /// Out of memory (53200).
+    Memory,
+    /// The text isn't UTF-8 (22021).
+    NoText,
+    /// A line asks for a file, and there are none: a DUMP; or an OPEN.
+    Device,
+    /// The library answers by a number that isn't known here.
+    Other(i32),
+}
+
+/// Why a text wasn't done, the line that this speaks of (0 where it is none's matter), and the output of the lines
+/// before.
+#[derive(Clone, Debug, PartialEq, Eq)]
+pub struct Error {
+    pub reason: Reason,
+    pub line: u64,
+    pub text: String,
+}
+
+impl fmt::Display for Error {
+    fn fmt(&self, f: &mut fmt::Formatter<'_>) -> fmt::Result {
+        match self.reason {
+            Reason::Refused => write!(f, "line {}", self.line),
+            Reason::Full => write!(f, "54000: there is to be room for no event"),
+            Reason::Memory => write!(f, "53200: out of memory"),
+            Reason::NoText => write!(f, "22021: the text isn't UTF-8"),
+            Reason::Device => write!(f, "line {}: there are no files", self.line),
+            Reason::Other(status) => write!(f, "status {status}"),
+        }
+    }
+}
+
+impl std::error::Error for Error {}
+
+fn reason_of(status: i32) -> Reason {
+    match status {
+        1 => Reason::Refused,
+        3 => Reason::Full,
+        4 => Reason::Memory,
+        5 => Reason::NoText,
+        6 => Reason::Device,
+        other => Reason::Other(other),
+    }
+}
+
+// A call's output, with as much room as that needs, and its status. The call is given room and how much that is.
+fn answer(call: impl Fn(*mut u8, usize, *mut Report) -> i32) -> (i32, Report, String) {
+    let mut report = Report { length: 0, line: 0 };
+    let mut out = vec![0; FIRST_ROOM];
+    let mut status = NEEDS_ROOM;
+    while status == NEEDS_ROOM {
+        out.resize(report.length.max(out.len()), 0);
+        status = call(out.as_mut_ptr(), out.len(), &mut report);
+    }
+    out.truncate(report.length);
+    let text = String::from_utf8_lossy(&out).into_owned();
+    (status, report, text)
+}
+
+// The output of what is done; else the error of the status.
+fn done((status, report, text): (i32, Report, String)) -> Result<String, Error> {
+    match status {
+        DONE => Ok(text),
+        _ => Err(Error {
+            reason: reason_of(status),
+            line: report.line,
+            text,
+        }),
+    }
+}
+
+/// Whether the library has the declarations of this file.
+pub fn is_fitting() -> bool {
+    // SAFETY: it takes nothing, and answers a number.
+    unsafe { pgserial_abi() == ABI }
+}
+
+/// The replies to the lines of a script, as `pgserial run` prints them.
+pub fn run(script: &str, most_events: u32) -> Result<String, Error> {
+    // SAFETY: the pointers and lengths are those of a `&str`, and of a `Vec` and a `Report` that are lent for the call and
+    // overlap nothing.
+    done(answer(|out, room, report| unsafe {
+        pgserial_run(script.as_ptr(), script.len(), most_events, out, room, report)
+    }))
+}
+
+/// The committed transactions of a script in the serial order, as `pgserial audit` prints them.
+pub fn audit(script: &str, most_events: u32) -> Result<String, Error> {
+    // SAFETY: as in `run`.
+    done(answer(|out, room, report| unsafe {
+        pgserial_audit(script.as_ptr(), script.len(), most_events, out, room, report)
+    }))
+}
+
+/// A server that is kept between calls, which answers lines as `pgserial shell` does. It is closed when it is dropped.
+pub struct Conversation {
+    handle: Handle,
+}
+
+impl Conversation {
+    /// A server with room for so many events.
+    pub fn open(most_events: u32) -> Result<Conversation, Error> {
+        let mut handle = Handle {
+            at: null_mut(),
+            is_open: 0,
+        };
+        // SAFETY: the handle is shut, and lent for the call.
+        let status = unsafe { pgserial_open(&mut handle, most_events) };
+        done((status, Report { length: 0, line: 0 }, String::new()))?;
+        Ok(Conversation { handle })
+    }
+
+    /// The answer to a line, which has no newline. After `Reason::Memory` the conversation is over.
+    pub fn ask(&mut self, line: &str) -> Result<String, Error> {
+        let handle: *mut Handle = &mut self.handle;
+        let mut report = Report { length: 0, line: 0 };
+        // SAFETY: the handle is this one's alone; the line and the report are lent for the call.
+        let status = unsafe { pgserial_call(handle, line.as_ptr(), line.len(), &mut report) };
+        done((status, report, String::new()))?;
+        // SAFETY: as above; the room is a `Vec`.
+        done(answer(|out, room, report| unsafe { pgserial_reply(handle, out, room, report) }))
+    }
+}
+
+impl Drop for Conversation {
+    fn drop(&mut self) {
+        // SAFETY: the handle is this one's alone. One that is shut is left as it is, by a status that says so.
+        let _status = unsafe { pgserial_close(&mut self.handle) };
+    }
+}
