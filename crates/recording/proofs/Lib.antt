@@ -16,3 +16,6 @@ pub mod ScriptLemmas
 pub mod RunLemmas
 pub mod RecordingLemmas
 pub mod OpeningLemmas
+pub mod ParsedLemmas
+pub mod JoinedLemmas
+pub mod PrintedLemmas
