@@ -111,3 +111,21 @@ where
     };
     count_by_threads(rt, alloc, jobs, runs, schedules, all)
 }
+
+/// Runs every order by the calling thread alone, as `count_outcomes` does by several. Out of memory is the only refusal.
+pub fn count_in_turn<A, R, S>(
+    alloc: A,
+    runs: &R,
+    schedules: &S,
+) -> Result<Vec<Outcome<A>, A>, AllocError>
+where
+    A: Allocator + Copy,
+    R: Runs<A>,
+    S: Schedules<A>,
+    requires { All (λ order. length order ≤ R.most runs.now) (S.orders schedules.now) }
+    ensures outcomes { IfOk result (λ found. found.items ≡
+        outcomes (map (R.outcome runs.now) (S.orders schedules.now))) }
+    ensures held { IfOk result (λ found. All (λ o. R.holds runs.now o.text) found.items) }
+{
+    count_stretch(alloc, runs, schedules, 0, schedules.count())
+}
