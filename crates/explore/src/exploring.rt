@@ -13,7 +13,7 @@ use crate::plan::Plan;
 use crate::replies::append_replies;
 use crate::running::do_turns;
 use crate::states::append_tables;
-use dumpplan::Gate;
+use dumpplan::{Gate, NoGate};
 use serial::laws::legal_histories_are_serializable;
 use session::sessions::Core;
 use std::alloc::{AllocError, Allocator};
@@ -24,7 +24,7 @@ use tally::laws::outcomes_are_counted;
 use tally::outcomes::Outcome;
 use tally::sample::laws::draws_have_all_turns;
 use tally::sample::sampling::Sample;
-use tally::workers::count_outcomes;
+use tally::workers::{count_in_turn, count_outcomes};
 use value::refusal::Refusal;
 
 // Appends the committed tables of a core.
@@ -128,5 +128,25 @@ where
     outcomes_are_counted();
     let runs = GatedPlan { plan, gate };
     let found = count_outcomes(rt, alloc, &runs, sample, jobs)?;
+    Ok(found)
+}
+
+/// Runs every schedule of a plan's lines by the calling thread alone, as `explore` does by several. Out of memory is the
+/// only refusal.
+pub fn explore_in_turn<A: Allocator + Copy>(
+    alloc: A,
+    plan: &Plan<A>,
+    all: &Interleavings<A>,
+) -> Result<Vec<Outcome<A>, A>, AllocError>
+    requires { interleavings all.now ≡ schedules plan.now }
+    ensures outcomes { IfOk result (λ found. found.items ≡ outcomes (map (outcome plan.now) (schedules plan.now))) }
+    ensures explained { IfOk result (λ found. All (λ o. IsExplained A o.text) found.items) }
+    ensures counted { IfOk result (λ found. AreOf (length (interleavings all.now)) found.items) }
+{
+    as_many_turns();
+    outcomes_are_counted();
+    let gate = NoGate;
+    let runs = GatedPlan { plan, gate: &gate };
+    let found = count_in_turn(alloc, &runs, all)?;
     Ok(found)
 }
