@@ -18,6 +18,12 @@ pub enum End {
     Full,
     /// Out of memory (53200).
     Memory,
+    /// No serial order explains what was recorded.
+    NoOrder,
+    /// The steps ran out before there was an answer.
+    Unknown,
+    /// There are more schedules than may be run.
+    TooMany,
 }
 
 impl End {
@@ -27,7 +33,13 @@ impl End {
     {
         match self {
             End::Refused(line) | End::Device(line) => line,
-            End::Done | End::NoText | End::Full | End::Memory => 0,
+            End::Done
+            | End::NoText
+            | End::Full
+            | End::Memory
+            | End::NoOrder
+            | End::Unknown
+            | End::TooMany => 0,
         }
     }
 
@@ -42,6 +54,9 @@ impl End {
             End::Memory => 4,
             End::NoText => 5,
             End::Device(_) => 6,
+            End::NoOrder => 9,
+            End::Unknown => 10,
+            End::TooMany => 11,
         }
     }
 }

@@ -2,7 +2,9 @@
 
 #![tactic(auto)]
 
+pub mod checking;
 pub mod ending;
+pub mod exploring;
 mod lines;
 pub mod manner;
 pub mod output;

@@ -25,8 +25,8 @@ pub struct Output<A: Allocator = Global> {
 }
 
 impl<A: Allocator> Output<A> {
-    // No output, of a text that ended so.
-    fn nothing(alloc: A, end: End) -> Output<A>
+    /// No output, of a text that ended so.
+    pub(crate) fn nothing(alloc: A, end: End) -> Output<A>
         ensures end { result.end ≡ end }
         ensures text { result.text.items ≡ [] }
     {
@@ -37,9 +37,9 @@ impl<A: Allocator> Output<A> {
     }
 }
 
-// The core that a script begins with, on the tables that it creates, without rows; none where memory is refused, or there is to be
-// room for no event.
-fn open_core<A: Allocator + Copy>(
+/// The core that a script begins with, on the tables that it creates, without rows; none where memory is refused, or there is to be
+/// room for no event.
+pub(crate) fn open_core<A: Allocator + Copy>(
     alloc: A,
     catalog: Catalog<A>,
     most_events: u32,
@@ -131,8 +131,8 @@ fn text_output<A: Allocator + Copy>(alloc: A, manner: Manner, text: &[u8]) -> Ou
     }
 }
 
-// Whether a text is UTF-8.
-fn is_text(text: &[u8]) -> bool
+/// Whether a text is UTF-8.
+pub(crate) fn is_text(text: &[u8]) -> bool
     ensures { result ≡ is_utf8 text.now }
 {
     match str::from_utf8(text) {
