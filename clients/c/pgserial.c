@@ -8,6 +8,8 @@
 /* The proved calls (crates/library_c). No pointer is null, no length above PTRDIFF_MAX, and no two overlap. */
 uint32_t pgserial_do_run(const uint8_t *, size_t, uint32_t, uint8_t *, size_t, struct pgserial_report *);
 uint32_t pgserial_do_audit(const uint8_t *, size_t, uint32_t, uint8_t *, size_t, struct pgserial_report *);
+uint32_t pgserial_do_check(const uint8_t *, size_t, uint32_t, uint8_t *, size_t, struct pgserial_report *);
+uint32_t pgserial_do_explore(const uint8_t *, size_t, uint32_t, uint64_t, uint8_t *, size_t, struct pgserial_report *);
 uint32_t pgserial_do_open(struct pgserial_handle *, uint32_t);
 uint32_t pgserial_do_call(struct pgserial_handle *, const uint8_t *, size_t, struct pgserial_report *);
 uint32_t pgserial_do_reply(struct pgserial_handle *, uint8_t *, size_t, struct pgserial_report *);
@@ -62,6 +64,23 @@ int pgserial_audit(const char *script, size_t script_length, uint32_t most_event
     if (!may_be_passed(script, script_length, out, room, report))
         return PGSERIAL_MISUSE;
     return (int)pgserial_do_audit(bytes(script, script_length), script_length, most_events, room_at(out, room), room, report);
+}
+
+int pgserial_check(const char *transcript, size_t transcript_length, uint32_t has_time,
+                   char *out, size_t room, struct pgserial_report *report)
+{
+    if (!may_be_passed(transcript, transcript_length, out, room, report))
+        return PGSERIAL_MISUSE;
+    return (int)pgserial_do_check(bytes(transcript, transcript_length), transcript_length, has_time, room_at(out, room), room, report);
+}
+
+int pgserial_explore(const char *script, size_t script_length, uint32_t most_events, uint64_t most_schedules,
+                     char *out, size_t room, struct pgserial_report *report)
+{
+    if (!may_be_passed(script, script_length, out, room, report))
+        return PGSERIAL_MISUSE;
+    return (int)pgserial_do_explore(bytes(script, script_length), script_length, most_events, most_schedules, room_at(out, room),
+                                    room, report);
 }
 
 /* Whether a handle is shut, or may be open. */

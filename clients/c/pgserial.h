@@ -36,6 +36,9 @@ extern "C" {
 /* For how many events `pgserial run` has room where nothing is said. It takes 16 MB. */
 #define PGSERIAL_MOST_EVENTS 100000
 
+/* How many schedules `pgserial explore` runs at most where nothing is said. */
+#define PGSERIAL_MOST_SCHEDULES 1000000
+
 enum pgserial_status {
     PGSERIAL_DONE = 0,       /* all was done, refused statements included */
     PGSERIAL_REFUSED = 1,    /* the line `report->line` may not stand where it stands */
@@ -44,7 +47,10 @@ enum pgserial_status {
     PGSERIAL_MEMORY = 4,     /* out of memory: 53200 */
     PGSERIAL_NO_TEXT = 5,    /* the text isn't UTF-8 */
     PGSERIAL_DEVICE = 6,     /* the line `report->line` asks for a file, a DUMP; 0 for an OPEN: there are no files */
-    PGSERIAL_MISUSE = 7      /* the arguments can't be right, and nothing was done */
+    PGSERIAL_MISUSE = 7,     /* the arguments can't be right, and nothing was done */
+    PGSERIAL_NO_ORDER = 9,   /* of a check: no serial order explains the replies; PGSERIAL_DONE where one does */
+    PGSERIAL_UNKNOWN = 10,   /* of a check: the steps ran out, which says nothing */
+    PGSERIAL_TOO_MANY = 11   /* of an exploration: there are more schedules than may be run, and none was */
 };
 
 struct pgserial_report {
@@ -63,6 +69,18 @@ int pgserial_run(const char *script, size_t script_length, uint32_t most_events,
 /* The committed transactions of a script in the serial order, and whether that is one, as `pgserial audit` prints them. */
 int pgserial_audit(const char *script, size_t script_length, uint32_t most_events,
                    char *out, size_t room, struct pgserial_report *report);
+
+/* Whether some serial order explains what a transcript or a recording has, as `pgserial check` prints it: PGSERIAL_DONE with the
+ * order, PGSERIAL_NO_ORDER with why there is none, or PGSERIAL_UNKNOWN. Time counts where `has_time` isn't 0, as without
+ * `--no-time`: a transaction that had ended before another began comes before it. A line that isn't UTF-8 is PGSERIAL_REFUSED. */
+int pgserial_check(const char *transcript, size_t transcript_length, uint32_t has_time,
+                   char *out, size_t room, struct pgserial_report *report);
+
+/* The outcomes of every interleaving of a script's lines after its setup, each counted, as `pgserial explore` prints them. The
+ * setup's history has room for `most_events`; at most `most_schedules` are run, one after the other. PGSERIAL_REFUSED also
+ * says that the setup's line is refused, and with line 0 that no session has a line after it. */
+int pgserial_explore(const char *script, size_t script_length, uint32_t most_events, uint64_t most_schedules,
+                     char *out, size_t room, struct pgserial_report *report);
 
 /* ---- a server that is kept between calls
  *

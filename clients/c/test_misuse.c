@@ -83,6 +83,32 @@ static void rooms(void)
     }
 }
 
+/* A transcript's check, and a script's exploration: how each ends, and that each can be asked again with more room. */
+static void searches(void)
+{
+    static const char asked[] = "> 1 BEGIN;\n  1 BEGIN\n> 1 COMMIT;\n  1 COMMIT\n", faulty[] = "> 1 BEGIN;\n\xff\n";
+    static const char yes[] = "order 1\ncheck yes\n", interleaved[] = "1 BEGIN;\n1 COMMIT;\n2 BEGIN;\n2 COMMIT;\n";
+    static const char lone[] = "CREATE TABLE t (id bigint PRIMARY KEY);\n1 BEGIN;\nCHECKPOINT;\n";
+    char out[256];
+    struct pgserial_report report = {1, 2};
+    check(pgserial_check(NULL, 1, 1, out, 64, &report) == PGSERIAL_MISUSE, "a null transcript");
+    check(pgserial_explore(out, 8, 9, 9, out, 64, &report) == PGSERIAL_MISUSE, "a script in the room");
+    check(report.length == 1 && report.line == 2, "what misuse leaves");
+    check(pgserial_check(asked, sizeof asked - 1, 1, out, 17, &report) == PGSERIAL_NEEDS_ROOM && report.length == 18, "a check's room");
+    check(pgserial_check(asked, sizeof asked - 1, 1, out, 18, &report) == PGSERIAL_DONE && memcmp(out, yes, 18) == 0, "a check");
+    check(pgserial_check(faulty, sizeof faulty - 1, 1, out, 64, &report) == PGSERIAL_REFUSED && report.line == 2, "a faulty transcript");
+    check(pgserial_check("> OPEN d;\n", 10, 1, out, 64, &report) == PGSERIAL_DEVICE && report.length == 0, "a transcript's OPEN");
+    check(pgserial_explore(interleaved, sizeof interleaved - 1, 9, 6, out, 8, &report) == PGSERIAL_NEEDS_ROOM, "the outcomes' room");
+    check(report.length > 8 && pgserial_explore(interleaved, sizeof interleaved - 1, 9, 6, out, 256, &report) == PGSERIAL_DONE
+          && memcmp(out, "schedules 6\n", 12) == 0, "the outcomes");
+    check(pgserial_explore(interleaved, sizeof interleaved - 1, 9, 5, out, 64, &report) == PGSERIAL_TOO_MANY, "too many schedules");
+    check(pgserial_explore(interleaved, sizeof interleaved - 1, 0, 6, out, 64, &report) == PGSERIAL_FULL, "a setup without room");
+    check(pgserial_explore(lone, sizeof lone - 1, 9, 6, out, 64, &report) == PGSERIAL_REFUSED && report.line == 3, "an open setup");
+    check(pgserial_explore("", 0, 9, 6, out, 64, &report) == PGSERIAL_REFUSED && report.line == 0, "nothing to explore");
+    check(pgserial_explore("\xff", 1, 9, 6, out, 64, &report) == PGSERIAL_NO_TEXT, "a script that isn't UTF-8");
+    check(pgserial_explore("OPEN d;\n", 8, 9, 6, out, 64, &report) == PGSERIAL_DEVICE && report.line == 0, "a script's OPEN");
+}
+
 /* Calls from several threads. */
 static void *call_often(void *wrong)
 {
@@ -144,6 +170,7 @@ int main(void)
     misuse();
     ends();
     rooms();
+    searches();
     threads();
     handles();
     check(pgserial_audit(script, sizeof script - 1, EVENTS, out, 64, &report) == PGSERIAL_DONE && report.length == 26

@@ -1,5 +1,5 @@
 //! Runs the script on standard input, and prints its replies; then the serial order of what it committed. It holds a
-//! conversation too.
+//! conversation too, checks a transcript that no serial order explains, and counts interleavings.
 //!
 //!     rustc --edition 2021 -L FOLDER -l static=pgserial example.rs && ./example < ../../examples/write_skew.script
 
@@ -7,6 +7,28 @@ mod pgserial;
 
 use std::error::Error;
 use std::io::{self, Read};
+
+// Two transactions that each miss what the other inserts.
+const SKEWED: &str = "> CREATE TABLE t (id bigint PRIMARY KEY);
+> 1 BEGIN;
+  1 BEGIN
+> 2 BEGIN;
+  2 BEGIN
+> 1 SELECT count(*) FROM t;
+  1 SELECT 1
+  1 | 0
+> 2 SELECT count(*) FROM t;
+  2 SELECT 1
+  2 | 0
+> 1 INSERT INTO t VALUES (1);
+  1 INSERT 0 1
+> 2 INSERT INTO t VALUES (2);
+  2 INSERT 0 1
+> 1 COMMIT;
+  1 COMMIT
+> 2 COMMIT;
+  2 COMMIT
+";
 
 fn main() -> Result<(), Box<dyn Error>> {
     assert!(pgserial::is_fitting());
@@ -17,5 +39,10 @@ fn main() -> Result<(), Box<dyn Error>> {
     let mut conversation = pgserial::Conversation::open(pgserial::MOST_EVENTS)?;
     assert_eq!(conversation.ask("CREATE TABLE t (id bigint PRIMARY KEY);")?, "CREATE TABLE\n");
     assert_eq!(conversation.ask("1 BEGIN;")?, "1 BEGIN\n");
+    let (answer, _reasons) = pgserial::check(SKEWED, true)?;
+    assert_eq!(answer, pgserial::Answer::No);
+    let script = "1 BEGIN;\n1 COMMIT;\n2 BEGIN;\n2 COMMIT;\n";
+    let outcomes = pgserial::explore(script, pgserial::MOST_EVENTS, pgserial::MOST_SCHEDULES)?;
+    assert!(outcomes.starts_with("schedules 6\n"));
     Ok(())
 }

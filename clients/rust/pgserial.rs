@@ -1,7 +1,7 @@
 //! pgserial's calls in this process: safe Rust over libpgserial, which `.ci/library build FOLDER` makes.
 //!
-//! `run` and `audit` keep nothing, and may be called from any number of threads at once. A `Conversation` keeps a server, on the
-//! thread that has opened it.
+//! `run`, `audit`, `check` and `explore` keep nothing, and may be called from any number of threads at once. A `Conversation` keeps
+//! a server, on the thread that has opened it.
 
 use std::ffi::c_void;
 use std::fmt;
@@ -10,9 +10,14 @@ use std::ptr::null_mut;
 /// For how many events `pgserial run` has room, where nothing is said.
 pub const MOST_EVENTS: u32 = 100_000;
 
+/// How many schedules `pgserial explore` runs at most, where nothing is said.
+pub const MOST_SCHEDULES: u64 = 1_000_000;
+
 const ABI: u32 = 1;
 const DONE: i32 = 0;
 const NEEDS_ROOM: i32 = 2;
+const NO_ORDER: i32 = 9;
+const UNKNOWN: i32 = 10;
 const FIRST_ROOM: usize = 1 << 12;
 
 #[repr(C)]
@@ -46,6 +51,23 @@ extern "C" {
         room: usize,
         report: *mut Report,
     ) -> i32;
+    fn pgserial_check(
+        transcript: *const u8,
+        transcript_length: usize,
+        has_time: u32,
+        out: *mut u8,
+        room: usize,
+        report: *mut Report,
+    ) -> i32;
+    fn pgserial_explore(
+        script: *const u8,
+        script_length: usize,
+        most_events: u32,
+        most_schedules: u64,
+        out: *mut u8,
+        room: usize,
+        report: *mut Report,
+    ) -> i32;
     fn pgserial_open(handle: *mut Handle, most_events: u32) -> i32;
     fn pgserial_call(
         handle: *mut Handle,
@@ -55,6 +77,15 @@ extern "C" {
     ) -> i32;
     fn pgserial_reply(handle: *mut Handle, out: *mut u8, room: usize, report: *mut Report) -> i32;
     fn pgserial_close(handle: *mut Handle) -> i32;
+}
+
+/// Whether some serial order explains the replies of a transcript.
+#[derive(Clone, Copy, Debug, PartialEq, Eq)]
+pub enum Answer {
+    Yes,
+    No,
+    /// The steps ran out, which says nothing.
+    Unknown,
 }
 
 /// Why a text wasn't done.
@@ -70,6 +101,8 @@ pub enum Reason {
     NoText,
     /// A line asks for a file, and there are none: a DUMP; or an OPEN.
     Device,
+    /// There are more schedules than may be run.
+    TooMany,
     /// The library answers by a number that isn't known here.
     Other(i32),
 }
@@ -91,6 +124,7 @@ impl fmt::Display for Error {
             Reason::Memory => write!(f, "53200: out of memory"),
             Reason::NoText => write!(f, "22021: the text isn't UTF-8"),
             Reason::Device => write!(f, "line {}: there are no files", self.line),
+            Reason::TooMany => write!(f, "there are more schedules than may be run"),
             Reason::Other(status) => write!(f, "status {status}"),
         }
     }
@@ -105,6 +139,7 @@ fn reason_of(status: i32) -> Reason {
         4 => Reason::Memory,
         5 => Reason::NoText,
         6 => Reason::Device,
+        11 => Reason::TooMany,
         other => Reason::Other(other),
     }
 }
@@ -123,15 +158,20 @@ fn answer(call: impl Fn(*mut u8, usize, *mut Report) -> i32) -> (i32, Report, St
     (status, report, text)
 }
 
+// The error of a status.
+fn error_of(status: i32, report: &Report, text: String) -> Error {
+    Error {
+        reason: reason_of(status),
+        line: report.line,
+        text,
+    }
+}
+
 // The output of what is done; else the error of the status.
 fn done((status, report, text): (i32, Report, String)) -> Result<String, Error> {
     match status {
         DONE => Ok(text),
-        _ => Err(Error {
-            reason: reason_of(status),
-            line: report.line,
-            text,
-        }),
+        _ => Err(error_of(status, &report, text)),
     }
 }
 
@@ -155,6 +195,31 @@ pub fn audit(script: &str, most_events: u32) -> Result<String, Error> {
     // SAFETY: as in `run`.
     done(answer(|out, room, report| unsafe {
         pgserial_audit(script.as_ptr(), script.len(), most_events, out, room, report)
+    }))
+}
+
+/// Whether some serial order explains the replies of a transcript, and what `pgserial check` prints of it. With time, who had
+/// ended before another began comes before it.
+pub fn check(transcript: &str, has_time: bool) -> Result<(Answer, String), Error> {
+    // SAFETY: as in `run`.
+    let (status, report, text) = answer(|out, room, report| unsafe {
+        let has_time = u32::from(has_time);
+        pgserial_check(transcript.as_ptr(), transcript.len(), has_time, out, room, report)
+    });
+    match status {
+        DONE => Ok((Answer::Yes, text)),
+        NO_ORDER => Ok((Answer::No, text)),
+        UNKNOWN => Ok((Answer::Unknown, text)),
+        _ => Err(error_of(status, &report, text)),
+    }
+}
+
+/// The outcomes of every interleaving of a script's lines after its setup, as `pgserial explore` prints them.
+pub fn explore(script: &str, most_events: u32, most_schedules: u64) -> Result<String, Error> {
+    // SAFETY: as in `run`.
+    done(answer(|out, room, report| unsafe {
+        let length = script.len();
+        pgserial_explore(script.as_ptr(), length, most_events, most_schedules, out, room, report)
     }))
 }
 

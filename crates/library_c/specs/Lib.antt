@@ -1,3 +1,4 @@
 pub mod Handing
+pub mod Judging
 pub mod Owning
 pub mod Talking

@@ -13,13 +13,16 @@ ghost use Rattle.std.specs.Prelude.{◌≡◌, ◌≢◌, ◌==◌, None, true, 
 ghost use Rattle.std.specs.List.{list_any};
 ghost use Rattle.library_c.specs.Talking.{Calls, Opens, Replies, shut_status};
 ghost use Rattle.library_c.specs.Handing.{Answers};
+ghost use Rattle.library_c.specs.Judging.{AnswersCheck, AnswersExploration};
 ghost use Rattle.library.specs.declared.manner.Shown.TheVariants as shown;
 
 use crate::handing::hand_over;
 use crate::handle::Handle;
 use crate::status::{DONE, FULL, MISUSE};
 use crate::talking::{answer_line, begin_in, put, take};
+use library::checking::check_output;
 use library::ending::End;
+use library::exploring::{Exploration, exploration_output};
 use library::manner::{Manner, Shown};
 use library::output::script_output;
 use std::alloc::Global;
@@ -69,6 +72,43 @@ pub extern "C" fn pgserial_do_audit(
         most_events,
     };
     let answer = script_output(alloc, manner, script);
+    hand_over(answer.text.as_slice(), answer.end, out, report)
+}
+
+/// Whether some serial order explains what a transcript records, in `out` where it has room there. Time counts where
+/// `has_time` isn't 0.
+#[unsafe(no_mangle)]
+pub extern "C" fn pgserial_do_check(
+    alloc: Global,
+    transcript: &[u8],
+    has_time: u32,
+    out: &mut [u8],
+    report: &mut Report,
+) -> u32
+    ensures { AnswersCheck Global has_time transcript.now out.old out.new report.new result }
+{
+    let answer = check_output(alloc, has_time != 0, transcript);
+    hand_over(answer.text.as_slice(), answer.end, out, report)
+}
+
+/// The outcomes of every interleaving of a script's lines after its setup, in `out` where they have room there.
+#[unsafe(no_mangle)]
+pub extern "C" fn pgserial_do_explore(
+    alloc: Global,
+    script: &[u8],
+    most_events: u32,
+    most_schedules: u64,
+    out: &mut [u8],
+    report: &mut Report,
+) -> u32
+    ensures { AnswersExploration Global (record { most_events = most_events; most_schedules = most_schedules }) script.now
+        out.old out.new report.new result }
+{
+    let exploration = Exploration {
+        most_events,
+        most_schedules,
+    };
+    let answer = exploration_output(alloc, exploration, script);
     hand_over(answer.text.as_slice(), answer.end, out, report)
 }
 
