@@ -1,4 +1,6 @@
+pub mod BackingLemmas
 pub mod CheckLemmas
+pub mod EmbeddedLemmas
 pub mod EmptyLemmas
 pub mod ExploreLemmas
 pub mod LinesLemmas

@@ -2,10 +2,17 @@
 
 #![tactic(auto)]
 
+pub mod answer;
+mod answering;
+mod backing;
 pub mod checking;
+pub mod embedded;
 pub mod ending;
 pub mod exploring;
 mod lines;
 pub mod manner;
 pub mod output;
 mod printing;
+pub mod restored;
+mod tape;
+mod wording;

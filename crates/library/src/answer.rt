@@ -1,0 +1,50 @@
+//! The answer to a line.
+
+ghost use Rattle.std.specs.Prelude.{◌≡◌};
+ghost use Rattle.std.specs.Option.{option_map};
+ghost use Rattle.script.specs.Printing as printed;
+ghost use Rattle.library.specs.Embedding.{answer_text, made_text};
+
+use history::session_id::SessionId;
+use script::printing::reply_text;
+use statement::reply::Reply;
+use std::alloc::{Allocator, Global};
+
+/// The answer to a line: its text; or a reply, for whose text there was no memory.
+#[derive(Drop)]
+pub enum Answer<A: Allocator = Global> {
+    Text(Vec<u8, A>),
+    Reply(SessionId, Reply<A>),
+}
+
+impl<A: Allocator> Answer<A> {
+    /// A reply to a session: its text, where there is memory for that.
+    pub fn of_reply(alloc: A, session: SessionId, reply: Reply<A>) -> Answer<A>
+        ensures { answer_text result ≡ printed.reply_text session reply }
+    {
+        match reply_text(alloc, session, &reply) {
+            Ok(text) => Answer::Text(text),
+            Err(_) => Answer::Reply(session, reply),
+        }
+    }
+
+    /// The same answer, as its text where there is memory for that.
+    pub fn printed(self, alloc: A) -> Answer<A>
+        ensures { answer_text result ≡ answer_text self }
+    {
+        match self {
+            Answer::Text(text) => Answer::Text(text),
+            Answer::Reply(session, reply) => Answer::of_reply(alloc, session, reply),
+        }
+    }
+
+    /// Its text, once that is made.
+    pub fn text(&self) -> Option<&[u8]>
+        ensures { option_map (λ text. text.now) result ≡ made_text self.now }
+    {
+        match self {
+            Answer::Text(text) => Some(text.as_slice()),
+            Answer::Reply(_, _) => None,
+        }
+    }
+}
