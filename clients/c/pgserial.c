@@ -14,6 +14,10 @@ uint32_t pgserial_do_open(struct pgserial_handle *, uint32_t);
 uint32_t pgserial_do_call(struct pgserial_handle *, const uint8_t *, size_t, struct pgserial_report *);
 uint32_t pgserial_do_reply(struct pgserial_handle *, uint8_t *, size_t, struct pgserial_report *);
 uint32_t pgserial_do_close(struct pgserial_handle *);
+uint32_t pgserial_do_open_dump(struct pgserial_handle *, const uint8_t *, size_t, uint32_t, uint8_t *, size_t, struct pgserial_report *);
+uint32_t pgserial_do_dump(struct pgserial_handle *, uint32_t, struct pgserial_report *);
+uint32_t pgserial_do_serial_order(struct pgserial_handle *, struct pgserial_report *);
+uint32_t pgserial_do_tables(struct pgserial_handle *, struct pgserial_report *);
 
 /* Where a length is 0, a pointer leads here. */
 static uint8_t nothing[1];
@@ -118,4 +122,28 @@ int pgserial_reply(struct pgserial_handle *handle, char *out, size_t room, struc
 int pgserial_close(struct pgserial_handle *handle)
 {
     return may_be_handle(handle) ? (int)pgserial_do_close(handle) : PGSERIAL_MISUSE;
+}
+
+int pgserial_open_dump(struct pgserial_handle *handle, const char *dump, size_t dump_length, uint32_t most_events,
+                       char *out, size_t room, struct pgserial_report *report)
+{
+    if (!may_be_used(handle, dump, dump_length, report) || !may_be_used(handle, out, room, report)
+        || overlap(dump, dump_length, out, room))
+        return PGSERIAL_MISUSE;
+    return (int)pgserial_do_open_dump(handle, bytes(dump, dump_length), dump_length, most_events, room_at(out, room), room, report);
+}
+
+int pgserial_dump(struct pgserial_handle *handle, uint32_t session, struct pgserial_report *report)
+{
+    return may_be_used(handle, NULL, 0, report) ? (int)pgserial_do_dump(handle, session, report) : PGSERIAL_MISUSE;
+}
+
+int pgserial_serial_order(struct pgserial_handle *handle, struct pgserial_report *report)
+{
+    return may_be_used(handle, NULL, 0, report) ? (int)pgserial_do_serial_order(handle, report) : PGSERIAL_MISUSE;
+}
+
+int pgserial_tables(struct pgserial_handle *handle, struct pgserial_report *report)
+{
+    return may_be_used(handle, NULL, 0, report) ? (int)pgserial_do_tables(handle, report) : PGSERIAL_MISUSE;
 }

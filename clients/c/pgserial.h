@@ -31,7 +31,7 @@ extern "C" {
 #endif
 
 /* Rises where a declaration below changes its meaning: pgserial_abi() answers the library's own. */
-#define PGSERIAL_ABI 1
+#define PGSERIAL_ABI 2
 
 /* For how many events `pgserial run` has room where nothing is said. It takes 16 MB. */
 #define PGSERIAL_MOST_EVENTS 100000
@@ -48,6 +48,7 @@ enum pgserial_status {
     PGSERIAL_NO_TEXT = 5,    /* the text isn't UTF-8 */
     PGSERIAL_DEVICE = 6,     /* the line `report->line` asks for a file, a DUMP; 0 for an OPEN: there are no files */
     PGSERIAL_MISUSE = 7,     /* the arguments can't be right, and nothing was done */
+    PGSERIAL_UNPRINTED = 8,  /* the line was done; there was no memory for its answer's text, which pgserial_reply makes */
     PGSERIAL_NO_ORDER = 9,   /* of a check: no serial order explains the replies; PGSERIAL_DONE where one does */
     PGSERIAL_UNKNOWN = 10,   /* of a check: the steps ran out, which says nothing */
     PGSERIAL_TOO_MANY = 11   /* of an exploration: there are more schedules than may be run, and none was */
@@ -85,11 +86,14 @@ int pgserial_explore(const char *script, size_t script_length, uint32_t most_eve
 /* ---- a server that is kept between calls
  *
  * A handle is shut, or keeps a server that answers lines as `pgserial shell` does. Begin with PGSERIAL_SHUT, and touch its
- * fields no more. Whoever opens a handle closes it, on the same thread; else its memory is never given back. Calls on one
- * handle come one after the other, all on the thread that has opened it.
+ * fields no more. Whoever opens a handle closes it; else its memory is never given back. Calls on one handle come one after
+ * the other, from whichever threads.
+ *
+ * Where memory is refused, PGSERIAL_MEMORY, nothing is lost: what the handle keeps is as it was, the last answer too, and the
+ * call can be made again. One that is open stays open until it is closed.
  *
  * What can't be seen of a handle is undefined: a copy of an open one that is used beside it or after it; one whose fields
- * were written; one that another thread uses.
+ * were written; calls on it from two threads at once.
  */
 struct pgserial_handle {
     void *at;
@@ -101,13 +105,33 @@ struct pgserial_handle {
 /* Opens a handle that is shut, with room for so many events; PGSERIAL_MISUSE where it is open. */
 int pgserial_open(struct pgserial_handle *handle, uint32_t most_events);
 
+/* Opens a handle that is shut on the tables of a dump. PGSERIAL_REFUSED where the dump is faulty: `report->line` is its first
+ * faulty line, `out` has what `pgserial shell` says of an OPEN of it, as `ERROR 22P04 line 1`, and the handle stays shut.
+ * Elsewhere `out` and `report` are as they were. */
+int pgserial_open_dump(struct pgserial_handle *handle, const char *dump, size_t dump_length, uint32_t most_events,
+                       char *out, size_t room, struct pgserial_report *report);
+
 /* Does a line, which stands here without its newline, as `pgserial shell` does: first those that create tables, then those of
- * sessions; a line that begins with a backslash is refused. `report->length` is the length of the answer, which
- * pgserial_reply gives. Where memory is refused, PGSERIAL_MEMORY, the conversation is over and the handle shut. A line with a
- * newline in it is PGSERIAL_MISUSE, and so is a handle that is shut; nothing is done then. */
+ * sessions, and `CHECKPOINT;`. Of OPEN, DUMP, WAIT and what begins with a backslash there is none: they are refused.
+ * `report->length` is the length of the answer, which pgserial_reply gives. Where that can't be made, PGSERIAL_UNPRINTED, it
+ * is 0: the line is done all the same, and isn't sent again. A line with a newline in it is PGSERIAL_MISUSE, and so is a
+ * handle that is shut; nothing is done then. */
 int pgserial_call(struct pgserial_handle *handle, const char *line, size_t line_length, struct pgserial_report *report);
 
-/* The answer to the last line; empty before the first. PGSERIAL_NEEDS_ROOM where the room is too small; it can be asked again. */
+/* Makes a dump of the snapshot of a session's transaction, by this thread alone. The answer is its text, which can be restored
+ * and read by psql. PGSERIAL_REFUSED where the session has no snapshot that is known to be safe (POLL has answered SAFE): the
+ * answer is what a DUMP line is told, as `1 ERROR 55000`. PGSERIAL_MISUSE where no session has that number. */
+int pgserial_dump(struct pgserial_handle *handle, uint32_t session, struct pgserial_report *report);
+
+/* The answer is the committed transactions in the serial order, and whether that is one, as `pgserial audit` prints them: of the
+ * history since the last checkpoint. */
+int pgserial_serial_order(struct pgserial_handle *handle, struct pgserial_report *report);
+
+/* The answer is the CREATE TABLE lines of the tables, and their number, as `TABLES 1`. */
+int pgserial_tables(struct pgserial_handle *handle, struct pgserial_report *report);
+
+/* The last answer; empty before the first. PGSERIAL_NEEDS_ROOM where the room is too small, PGSERIAL_MEMORY where its text has
+ * still to be made and can't be; it can be asked again. */
 int pgserial_reply(struct pgserial_handle *handle, char *out, size_t room, struct pgserial_report *report);
 
 /* Shuts a handle, and gives back its memory; PGSERIAL_MISUSE where it is shut. */

@@ -162,6 +162,86 @@ static void handles(void)
     check(pgserial_close(&handle) == PGSERIAL_DONE && pgserial_close(&handle) == PGSERIAL_MISUSE, "a handle that is closed twice");
 }
 
+/* The answer to a line is this. */
+static void answers(struct pgserial_handle *handle, const char *line, const char *wanted)
+{
+    struct pgserial_report report;
+    char out[256];
+    size_t length = strlen(wanted);
+    check(pgserial_call(handle, line, strlen(line), &report) == PGSERIAL_DONE && report.length == length, line);
+    check(pgserial_reply(handle, out, sizeof out, &report) == PGSERIAL_DONE && memcmp(out, wanted, length) == 0, line);
+}
+
+/* The last answer is this. */
+static void is_answer(struct pgserial_handle *handle, const char *wanted, const char *what)
+{
+    struct pgserial_report report;
+    char out[256];
+    size_t length = strlen(wanted);
+    check(pgserial_reply(handle, out, sizeof out, &report) == PGSERIAL_DONE && report.length == length, what);
+    check(memcmp(out, wanted, length) == 0, what);
+}
+
+#define TABLE "CREATE TABLE t (id bigint PRIMARY KEY);\n"
+#define DUMP "-- dump 2\n" TABLE "COPY t (id) FROM stdin;\n7\n\\.\n-- rows 1\n-- end\n"
+
+/* What a handle tells of itself, and what is wrong with asking for that. */
+static void dumps(void)
+{
+    struct pgserial_handle handle = PGSERIAL_SHUT, other = PGSERIAL_SHUT;
+    struct pgserial_report report = {1, 2};
+    char out[256] = "as before";
+    check(pgserial_dump(&handle, 1, &report) == PGSERIAL_MISUSE, "a dump of a shut handle");
+    check(pgserial_serial_order(&handle, &report) == PGSERIAL_MISUSE, "the order of a shut handle");
+    check(pgserial_tables(&handle, &report) == PGSERIAL_MISUSE, "the tables of a shut handle");
+    check(pgserial_open(&handle, EVENTS) == PGSERIAL_DONE, "a handle that is opened");
+    check(pgserial_dump(&handle, 1, NULL) == PGSERIAL_MISUSE, "a dump without a report");
+    check(pgserial_dump(&handle, 0, &report) == PGSERIAL_MISUSE && pgserial_dump(&handle, 65, &report) == PGSERIAL_MISUSE,
+          "a dump of no session");
+    check(report.length == 1 && report.line == 2, "what misuse leaves");
+    check(pgserial_dump(&handle, 64, &report) == PGSERIAL_REFUSED && report.length == 15 && report.line == 0, "an early dump");
+    is_answer(&handle, "64 ERROR 55000\n", "an early dump");
+    check(pgserial_tables(&handle, &report) == PGSERIAL_DONE && report.length == 9, "no tables");
+    is_answer(&handle, "TABLES 0\n", "no tables");
+    answers(&handle, "CREATE TABLE t (id bigint PRIMARY KEY);", "CREATE TABLE\n");
+    check(pgserial_tables(&handle, &report) == PGSERIAL_DONE, "tables, before the server runs");
+    is_answer(&handle, TABLE "TABLES 1\n", "tables, before the server runs");
+    check(pgserial_serial_order(&handle, &report) == PGSERIAL_DONE, "the order, before the server runs");
+    is_answer(&handle, "check yes\n", "the order, before the server runs");
+    answers(&handle, "1 BEGIN;", "1 BEGIN\n");
+    answers(&handle, "1 INSERT INTO t VALUES (7);", "1 INSERT 0 1\n");
+    check(pgserial_dump(&handle, 1, &report) == PGSERIAL_REFUSED, "a dump without a safe snapshot");
+    is_answer(&handle, "1 ERROR 55000\n", "a dump without a safe snapshot");
+    answers(&handle, "CHECKPOINT;", "ERROR 55000\n");
+    answers(&handle, "1 COMMIT;", "1 COMMIT\n");
+    answers(&handle, "2 BEGIN READ ONLY DEFERRABLE;", "2 BEGIN\n");
+    answers(&handle, "2 POLL;", "2 SAFE 1\n");
+    check(pgserial_dump(&handle, 2, &report) == PGSERIAL_DONE && report.length == strlen(DUMP), "a dump");
+    is_answer(&handle, DUMP, "a dump");
+    answers(&handle, "2 COMMIT;", "2 COMMIT\n");
+    check(pgserial_serial_order(&handle, &report) == PGSERIAL_DONE && report.length == 42, "the order");
+    is_answer(&handle, "txn 1 key 1 1 1\ntxn 2 key 1 2 6\ncheck yes\n", "the order");
+    check(pgserial_tables(&handle, &report) == PGSERIAL_DONE, "tables");
+    is_answer(&handle, TABLE "TABLES 1\n", "tables");
+    answers(&handle, "CHECKPOINT;", "CHECKPOINT\n");
+
+    report.length = 1, report.line = 2;
+    check(pgserial_open_dump(&handle, DUMP, strlen(DUMP), EVENTS, out, 64, &report) == PGSERIAL_MISUSE, "an open handle on a dump");
+    check(pgserial_open_dump(&other, DUMP, strlen(DUMP), 0, out, 64, &report) == PGSERIAL_FULL, "a dump with room for no event");
+    check(pgserial_open_dump(&other, out, 8, EVENTS, out, 64, &report) == PGSERIAL_MISUSE, "a dump in the room");
+    check(pgserial_open_dump(&other, DUMP, strlen(DUMP), EVENTS, out, 64, &report) == PGSERIAL_DONE, "a dump that is opened");
+    check(report.length == 1 && report.line == 2 && strcmp(out, "as before") == 0, "what opening leaves");
+    is_answer(&other, "", "the answer after a dump is opened");
+    answers(&other, "1 BEGIN;", "1 BEGIN\n");
+    answers(&other, "1 SELECT * FROM t;", "1 SELECT 1\n1 | 7\n");
+    check(pgserial_close(&other) == PGSERIAL_DONE && pgserial_close(&handle) == PGSERIAL_DONE, "handles that are closed");
+    check(pgserial_open_dump(&other, "x\n", 2, EVENTS, out, 18, &report) == PGSERIAL_NEEDS_ROOM && report.length == 19
+          && strcmp(out, "as before") == 0, "a faulty dump, without the room to tell it");
+    check(pgserial_open_dump(&other, "x\n", 2, EVENTS, out, 64, &report) == PGSERIAL_REFUSED && report.line == 1
+          && memcmp(out, "ERROR 22P04 line 1\n", 19) == 0, "a faulty dump");
+    check(pgserial_close(&other) == PGSERIAL_MISUSE, "a handle on a faulty dump");
+}
+
 int main(void)
 {
     char out[64];
@@ -173,6 +253,7 @@ int main(void)
     searches();
     threads();
     handles();
+    dumps();
     check(pgserial_audit(script, sizeof script - 1, EVENTS, out, 64, &report) == PGSERIAL_DONE && report.length == 26
           && memcmp(out, "txn 1 key 1 1 1\ncheck yes\n", 26) == 0, "the order");
     return faults;

@@ -38,7 +38,17 @@ fn main() -> Result<(), Box<dyn Error>> {
     print!("{}", pgserial::audit(&script, pgserial::MOST_EVENTS)?);
     let mut conversation = pgserial::Conversation::open(pgserial::MOST_EVENTS)?;
     assert_eq!(conversation.ask("CREATE TABLE t (id bigint PRIMARY KEY);")?, "CREATE TABLE\n");
-    assert_eq!(conversation.ask("1 BEGIN;")?, "1 BEGIN\n");
+    assert_eq!(conversation.ask("1 BEGIN READ ONLY DEFERRABLE;")?, "1 BEGIN\n");
+    assert_eq!(conversation.dump(1).unwrap_err().text, "1 ERROR 55000\n");
+    assert_eq!(conversation.ask("1 POLL;")?, "1 SAFE 0\n");
+    let dump = conversation.dump(1)?;
+    assert_eq!(conversation.last()?, dump);
+    let mut restored = pgserial::Conversation::open_dump(&dump, pgserial::MOST_EVENTS)?;
+    assert_eq!(restored.tables()?, conversation.tables()?);
+    assert_eq!(restored.serial_order()?, "check yes\n");
+    let faulty = pgserial::Conversation::open_dump(&dump[1..], pgserial::MOST_EVENTS);
+    assert_eq!(faulty.err().map(|error| error.text), Some("ERROR 22P04 line 1\n".to_string()));
+    assert_eq!(std::thread::spawn(move || restored.ask("1 BEGIN;")).join().unwrap()?, "1 BEGIN\n");
     let (answer, _reasons) = pgserial::check(SKEWED, true)?;
     assert_eq!(answer, pgserial::Answer::No);
     let script = "1 BEGIN;\n1 COMMIT;\n2 BEGIN;\n2 COMMIT;\n";

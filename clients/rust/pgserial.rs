@@ -1,7 +1,7 @@
 //! pgserial's calls in this process: safe Rust over libpgserial, which `.ci/library build FOLDER` makes.
 //!
 //! `run`, `audit`, `check` and `explore` keep nothing, and may be called from any number of threads at once. A `Conversation` keeps
-//! a server, on the thread that has opened it.
+//! a server.
 
 use std::ffi::c_void;
 use std::fmt;
@@ -13,9 +13,11 @@ pub const MOST_EVENTS: u32 = 100_000;
 /// How many schedules `pgserial explore` runs at most, where nothing is said.
 pub const MOST_SCHEDULES: u64 = 1_000_000;
 
-const ABI: u32 = 1;
+const ABI: u32 = 2;
 const DONE: i32 = 0;
+const REFUSED: i32 = 1;
 const NEEDS_ROOM: i32 = 2;
+const UNPRINTED: i32 = 8;
 const NO_ORDER: i32 = 9;
 const UNKNOWN: i32 = 10;
 const FIRST_ROOM: usize = 1 << 12;
@@ -75,6 +77,18 @@ extern "C" {
         line_length: usize,
         report: *mut Report,
     ) -> i32;
+    fn pgserial_open_dump(
+        handle: *mut Handle,
+        dump: *const u8,
+        dump_length: usize,
+        most_events: u32,
+        out: *mut u8,
+        room: usize,
+        report: *mut Report,
+    ) -> i32;
+    fn pgserial_dump(handle: *mut Handle, session: u32, report: *mut Report) -> i32;
+    fn pgserial_serial_order(handle: *mut Handle, report: *mut Report) -> i32;
+    fn pgserial_tables(handle: *mut Handle, report: *mut Report) -> i32;
     fn pgserial_reply(handle: *mut Handle, out: *mut u8, room: usize, report: *mut Report) -> i32;
     fn pgserial_close(handle: *mut Handle) -> i32;
 }
@@ -91,7 +105,7 @@ pub enum Answer {
 /// Why a text wasn't done.
 #[derive(Clone, Copy, Debug, PartialEq, Eq)]
 pub enum Reason {
-    /// A line may not stand where it stands.
+    /// A line may not stand where it stands; or a dump is faulty, or isn't made: then the text says why.
     Refused,
     /// There is to be room for no event (54000).
     Full,
@@ -119,6 +133,7 @@ pub struct Error {
 impl fmt::Display for Error {
     fn fmt(&self, f: &mut fmt::Formatter<'_>) -> fmt::Result {
         match self.reason {
+            Reason::Refused if self.line == 0 => write!(f, "{}", self.text.trim_end()),
             Reason::Refused => write!(f, "line {}", self.line),
             Reason::Full => write!(f, "54000: there is to be room for no event"),
             Reason::Memory => write!(f, "53200: out of memory"),
@@ -223,33 +238,92 @@ pub fn explore(script: &str, most_events: u32, most_schedules: u64) -> Result<St
     }))
 }
 
-/// A server that is kept between calls, which answers lines as `pgserial shell` does. It is closed when it is dropped.
+/// A server that is kept between calls, which answers lines as `pgserial shell` does. It is closed when it is dropped. A
+/// call that answers `Reason::Memory` has changed nothing, and can be made again.
 pub struct Conversation {
     handle: Handle,
 }
 
+// SAFETY: calls on a handle may come from whichever threads, one after the other; each takes it by `&mut`.
+unsafe impl Send for Conversation {}
+
+const SHUT: Handle = Handle {
+    at: null_mut(),
+    is_open: 0,
+};
+
 impl Conversation {
     /// A server with room for so many events.
     pub fn open(most_events: u32) -> Result<Conversation, Error> {
-        let mut handle = Handle {
-            at: null_mut(),
-            is_open: 0,
-        };
+        let mut handle = SHUT;
         // SAFETY: the handle is shut, and lent for the call.
         let status = unsafe { pgserial_open(&mut handle, most_events) };
         done((status, Report { length: 0, line: 0 }, String::new()))?;
         Ok(Conversation { handle })
     }
 
-    /// The answer to a line, which has no newline. After `Reason::Memory` the conversation is over.
-    pub fn ask(&mut self, line: &str) -> Result<String, Error> {
+    /// A server on the tables of a dump, with room for so many events.
+    pub fn open_dump(dump: &str, most_events: u32) -> Result<Conversation, Error> {
+        let mut handle = SHUT;
+        let mut report = Report { length: 0, line: 0 };
+        let mut out = [0; 64]; // for `ERROR`, a code and a line
+        // SAFETY: the handle is shut, and lent for the call, as all else is.
+        let status = unsafe {
+            pgserial_open_dump(
+                &mut handle, dump.as_ptr(), dump.len(), most_events, out.as_mut_ptr(), out.len(), &mut report,
+            )
+        };
+        let text = String::from_utf8_lossy(&out[..report.length]).into_owned();
+        done((status, report, text))?;
+        Ok(Conversation { handle })
+    }
+
+    // The last answer, of a call that ended so.
+    fn told(&mut self, status: i32, report: Report) -> Result<String, Error> {
+        if status != DONE && status != UNPRINTED && status != REFUSED {
+            return done((status, report, String::new()));
+        }
         let handle: *mut Handle = &mut self.handle;
+        // SAFETY: the handle is this one's alone; the room is a `Vec`.
+        let (made, report, text) = answer(|out, room, report| unsafe { pgserial_reply(handle, out, room, report) });
+        done((if made == DONE && status == REFUSED { REFUSED } else { made }, report, text))
+    }
+
+    /// The answer to a line, which has no newline.
+    pub fn ask(&mut self, line: &str) -> Result<String, Error> {
         let mut report = Report { length: 0, line: 0 };
         // SAFETY: the handle is this one's alone; the line and the report are lent for the call.
-        let status = unsafe { pgserial_call(handle, line.as_ptr(), line.len(), &mut report) };
-        done((status, report, String::new()))?;
-        // SAFETY: as above; the room is a `Vec`.
-        done(answer(|out, room, report| unsafe { pgserial_reply(handle, out, room, report) }))
+        let status = unsafe { pgserial_call(&mut self.handle, line.as_ptr(), line.len(), &mut report) };
+        self.told(status, report)
+    }
+
+    /// The answer to the last line, once more: where there was no memory for its text.
+    pub fn last(&mut self) -> Result<String, Error> {
+        self.told(DONE, Report { length: 0, line: 0 })
+    }
+
+    /// A dump of the safe snapshot of a session's transaction.
+    pub fn dump(&mut self, session: u32) -> Result<String, Error> {
+        let mut report = Report { length: 0, line: 0 };
+        // SAFETY: as in `ask`.
+        let status = unsafe { pgserial_dump(&mut self.handle, session, &mut report) };
+        self.told(status, report)
+    }
+
+    /// The committed transactions in the serial order, since the last checkpoint.
+    pub fn serial_order(&mut self) -> Result<String, Error> {
+        let mut report = Report { length: 0, line: 0 };
+        // SAFETY: as in `ask`.
+        let status = unsafe { pgserial_serial_order(&mut self.handle, &mut report) };
+        self.told(status, report)
+    }
+
+    /// The CREATE TABLE lines of the tables, and their number.
+    pub fn tables(&mut self) -> Result<String, Error> {
+        let mut report = Report { length: 0, line: 0 };
+        // SAFETY: as in `ask`.
+        let status = unsafe { pgserial_tables(&mut self.handle, &mut report) };
+        self.told(status, report)
     }
 }
 

@@ -16,11 +16,10 @@ import ctypes
 import os
 from typing import NamedTuple
 
-ABI = 1
+ABI = 2
 MOST_EVENTS = 100_000
 MOST_SCHEDULES = 1_000_000
-DONE, REFUSED, NEEDS_ROOM, FULL, MEMORY, NO_TEXT, DEVICE, MISUSE = range(8)
-NO_ORDER, UNKNOWN, TOO_MANY = 9, 10, 11
+DONE, REFUSED, NEEDS_ROOM, FULL, MEMORY, NO_TEXT, DEVICE, MISUSE, UNPRINTED, NO_ORDER, UNKNOWN, TOO_MANY = range(12)
 ANSWERS = {DONE: "yes", NO_ORDER: "no", UNKNOWN: "unknown"}  # of a check
 WORDS = {
     REFUSED: "line {line}",
@@ -35,11 +34,12 @@ FIRST_ROOM = 1 << 12  # bytes
 
 
 class LibraryError(Exception):
-    """Why a text wasn't done: the status, its line (0 where it is none's matter), and the output of the lines before."""
+    """Why a text wasn't done: the status, its line (0 where it is none's matter), and the output of the lines before; or what
+    is told of a dump. `is_done` where a line is done and memory was refused to its answer alone."""
 
-    def __init__(self, status, line, text):
+    def __init__(self, status, line, text, is_done=False):
         super().__init__(WORDS.get(status, f"status {status}").format(line=line))
-        self.status, self.line, self.text = status, line, text
+        self.status, self.line, self.text, self.is_done = status, line, text, is_done
 
 
 class Checked(NamedTuple):
@@ -62,11 +62,18 @@ class _Handle(ctypes.Structure):
 
 class Conversation:
     """A server that is kept between calls, which answers lines as `pgserial shell` does. `with library.open() as talk:` closes
-    it. It belongs to the thread that has opened it."""
+    it. One thread uses it at a time. Where memory is refused (`MEMORY`), nothing has changed, and it goes on."""
 
-    def __init__(self, library, most_events):
-        self._library, self._handle, self._report = library, _Handle(), _Report()
-        self._check(library._loaded.pgserial_open(ctypes.byref(self._handle), most_events))
+    def __init__(self, library, most_events, dump=None):
+        self._loaded, self._handle, self._report = library._loaded, _Handle(), _Report()
+        self._words = ctypes.byref(self._handle), ctypes.byref(self._report)
+        self._out = ctypes.create_string_buffer(FIRST_ROOM)
+        if dump is None:
+            self._check(self._loaded.pgserial_open(self._words[0], most_events))
+            return
+        given, out = _bytes(dump), self._out
+        status = self._loaded.pgserial_open_dump(self._words[0], given, len(given), most_events, out, len(out), self._words[1])
+        self._check(status, ctypes.string_at(out, self._report.length).decode())
 
     def __enter__(self):
         return self
@@ -74,24 +81,57 @@ class Conversation:
     def __exit__(self, *_):
         self.close()
 
-    @staticmethod
-    def _check(status):
+    def _check(self, status, text=""):
         if status != DONE:
-            raise LibraryError(status, 0, "")
+            raise LibraryError(status, self._report.line, text)
+
+    def _answer(self, status):
+        """The answer of a call that has ended so."""
+        if status not in (DONE, REFUSED, UNPRINTED):
+            self._check(status)
+        handle, report = self._words
+        out = self._out
+        made = self._loaded.pgserial_reply(handle, out, FIRST_ROOM, report)
+        if made == NEEDS_ROOM:
+            out = ctypes.create_string_buffer(self._report.length)
+            made = self._loaded.pgserial_reply(handle, out, len(out), report)
+        if made != DONE:
+            raise LibraryError(made, 0, "", is_done=True)
+        text = ctypes.string_at(out, self._report.length)
+        if status == REFUSED:
+            raise LibraryError(status, 0, text.decode())
+        return text
+
+    def ask_bytes(self, line):
+        """The answer to a line of bytes, which has no newline."""
+        handle, report = self._words
+        return self._answer(self._loaded.pgserial_call(handle, line, len(line), report))
 
     def ask(self, line):
         """The answer to a line, which has no newline."""
-        given = line.encode() if isinstance(line, str) else bytes(line)
-        loaded, handle, report = self._library._loaded, ctypes.byref(self._handle), ctypes.byref(self._report)
-        self._check(loaded.pgserial_call(handle, given, len(given), report))
-        out = ctypes.create_string_buffer(self._report.length)
-        self._check(loaded.pgserial_reply(handle, out, self._report.length, report))
-        return out.raw.decode("utf-8", "backslashreplace")
+        return self.ask_bytes(_bytes(line)).decode("utf-8", "backslashreplace")
+
+    def dump(self, session):
+        """A dump of the safe snapshot of a session's transaction."""
+        handle, report = self._words
+        return self._answer(self._loaded.pgserial_dump(handle, session, report)).decode("utf-8")
+
+    def serial_order(self):
+        """The committed transactions since the last checkpoint in the serial order, and the check of that."""
+        return self._answer(self._loaded.pgserial_serial_order(*self._words)).decode()
+
+    def tables(self):
+        """The CREATE TABLE lines of the tables, and their number."""
+        return self._answer(self._loaded.pgserial_tables(*self._words)).decode()
 
     def close(self):
         """Gives back the server's memory; nothing where that was done."""
         if self._handle.is_open:
-            self._check(self._library._loaded.pgserial_close(ctypes.byref(self._handle)))
+            self._check(self._loaded.pgserial_close(self._words[0]))
+
+
+def _bytes(text):
+    return text.encode() if isinstance(text, str) else bytes(text)
 
 
 class Library:
@@ -110,6 +150,11 @@ class Library:
         self._loaded.pgserial_call.argtypes = [handle, ctypes.c_char_p, ctypes.c_size_t, report]
         self._loaded.pgserial_reply.argtypes = [handle, ctypes.c_void_p, ctypes.c_size_t, report]
         self._loaded.pgserial_close.argtypes = [handle]
+        self._loaded.pgserial_open_dump.argtypes = [
+            handle, ctypes.c_char_p, ctypes.c_size_t, ctypes.c_uint32, ctypes.c_void_p, ctypes.c_size_t, report]
+        self._loaded.pgserial_dump.argtypes = [handle, ctypes.c_uint32, report]
+        self._loaded.pgserial_serial_order.argtypes = [handle, report]
+        self._loaded.pgserial_tables.argtypes = [handle, report]
 
     def _call(self, name, *numbers):
         """A function of the library that takes a text and such numbers."""
@@ -151,6 +196,6 @@ class Library:
         """The outcomes of every interleaving of a script's lines after its setup, as `pgserial explore` prints them."""
         return self._answer(self._explore, script, most_events, most_schedules)[1]
 
-    def open(self, most_events=MOST_EVENTS):
-        """A Conversation: a server that is kept between calls."""
-        return Conversation(self, most_events)
+    def open(self, most_events=MOST_EVENTS, dump=None):
+        """A Conversation: a server that is kept between calls, on the tables of a dump where one is given."""
+        return Conversation(self, most_events, dump)

@@ -1,4 +1,6 @@
 pub mod Handing
 pub mod Judging
+pub mod Opening
 pub mod Owning
 pub mod Talking
+pub mod Telling

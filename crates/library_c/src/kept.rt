@@ -1,11 +1,12 @@
 //! What a handle keeps.
 
-use shell::shell::Shell;
+use library::answer::Answer;
+use library::embedded::Embedded;
 use std::alloc::Global;
 
 /// A server that answers lines, and its last answer.
 #[derive(Drop)]
 pub struct Kept {
-    pub(crate) shell: Shell<Global>,
-    pub(crate) reply: Vec<u8, Global>,
+    pub(crate) server: Embedded<Global>,
+    pub(crate) answer: Answer<Global>,
 }

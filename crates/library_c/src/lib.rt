@@ -6,21 +6,29 @@ mod handing;
 mod handle;
 mod kept;
 mod loose;
+mod opening;
 mod status;
 mod talking;
+mod telling;
 
-ghost use Rattle.std.specs.Prelude.{◌≡◌, ◌≢◌, ◌==◌, None, true, false};
+ghost use Rattle.std.specs.Prelude.{◌≡◌, ◌≢◌, ◌⊎◌, ◌<◌, ◌≤◌, ◌==◌, None, true, false};
 ghost use Rattle.std.specs.List.{list_any};
-ghost use Rattle.library_c.specs.Talking.{Calls, Opens, Replies, shut_status};
+ghost use Rattle.library_c.specs.Talking.{Calls, Replies, shut_status};
+ghost use Rattle.library_c.specs.Opening.{IsUntold, Opens, OpensDump};
+ghost use Rattle.library_c.specs.Telling.{Dumps, TellsOrder, TellsTables};
 ghost use Rattle.library_c.specs.Handing.{Answers};
 ghost use Rattle.library_c.specs.Judging.{AnswersCheck, AnswersExploration};
 ghost use Rattle.library.specs.declared.manner.Shown.TheVariants as shown;
 
 use crate::handing::hand_over;
 use crate::handle::Handle;
+use crate::opening::{begin_in, restore_in};
 use crate::status::{DONE, FULL, MISUSE};
-use crate::talking::{answer_line, begin_in, put, take};
+use crate::talking::{answer_line, hand_answer, put, take};
+use crate::telling::{keep_dump, keep_order, keep_tables};
+use history::session_id::SessionId;
 use library::checking::check_output;
+use library::embedded::Embedded;
 use library::ending::End;
 use library::exploring::{Exploration, exploration_output};
 use library::manner::{Manner, Shown};
@@ -125,11 +133,37 @@ pub extern "C" fn pgserial_do_open(alloc: Global, handle: &mut Handle, most_even
         put(alloc, handle, kept);
         return MISUSE;
     }
-    begin_in(alloc, handle, most_events)
+    begin_in(alloc, handle, Embedded::new(alloc, most_events))
+}
+
+/// Opens a handle that is shut on the tables of a dump. Of a dump that is faulty, its first faulty line is told, in `out`
+/// where that has room there.
+#[unsafe(no_mangle)]
+pub extern "C" fn pgserial_do_open_dump(
+    alloc: Global,
+    handle: &mut Handle,
+    dump: &[u8],
+    most: u32,
+    out: &mut [u8],
+    report: &mut Report,
+) -> u32
+    ensures full { most ≡ 0 → (handle.new.value ≡ handle.old.value) ×
+        IsUntold out.old out.new report.old report.new × (result ≡ 3) }
+    ensures opened { most ≢ 0 → OpensDump Global handle.old.value dump.now most handle.new.value out.old out.new
+        report.old report.new result }
+{
+    if most == 0 {
+        return FULL;
+    }
+    if let Some(kept) = take(alloc, handle) {
+        put(alloc, handle, kept);
+        return MISUSE;
+    }
+    restore_in(alloc, handle, dump, most, out, report)
 }
 
 /// Answers a line, which stands here without its newline. The answer is kept, and its length reported. Where memory is
-/// refused the handle is shut.
+/// refused, nothing has changed.
 #[unsafe(no_mangle)]
 pub extern "C" fn pgserial_do_call(
     alloc: Global,
@@ -145,10 +179,66 @@ pub extern "C" fn pgserial_do_call(
     if line.contains(&b'\n') {
         return MISUSE;
     }
-    match take(alloc, handle) {
-        Some(kept) => answer_line(alloc, handle, kept, line, report),
-        None => MISUSE,
-    }
+    let Some(mut kept) = take(alloc, handle) else {
+        return MISUSE;
+    };
+    let status = answer_line(alloc, &mut kept, line, report);
+    put(alloc, handle, kept);
+    status
+}
+
+/// Makes a dump of a session's safe snapshot, which is kept as an answer is.
+#[unsafe(no_mangle)]
+pub extern "C" fn pgserial_do_dump(
+    alloc: Global,
+    handle: &mut Handle,
+    session: u32,
+    report: &mut Report,
+) -> u32
+    ensures misuse { (session ≡ 0) ⊎ (64 < session) →
+        (handle.new.value ≡ handle.old.value) × (report.new ≡ report.old) × (result ≡ 7) }
+    ensures dump { (1 ≤ session) × (session ≤ 64) →
+        Dumps handle.old.value session handle.new.value report.old report.new result }
+{
+    let Some(session) = SessionId::new(session) else {
+        return MISUSE;
+    };
+    let Some(mut kept) = take(alloc, handle) else {
+        return MISUSE;
+    };
+    let status = keep_dump(alloc, &mut kept, session, report);
+    put(alloc, handle, kept);
+    status
+}
+
+/// The serial order since the last checkpoint, which is kept as an answer is.
+#[unsafe(no_mangle)]
+pub extern "C" fn pgserial_do_serial_order(
+    alloc: Global,
+    handle: &mut Handle,
+    report: &mut Report,
+) -> u32
+    ensures { TellsOrder handle.old.value handle.new.value report.old report.new result }
+{
+    let Some(mut kept) = take(alloc, handle) else {
+        return MISUSE;
+    };
+    let status = keep_order(alloc, &mut kept, report);
+    put(alloc, handle, kept);
+    status
+}
+
+/// The tables, which are kept as an answer is.
+#[unsafe(no_mangle)]
+pub extern "C" fn pgserial_do_tables(alloc: Global, handle: &mut Handle, report: &mut Report) -> u32
+    ensures { TellsTables handle.old.value handle.new.value report.old report.new result }
+{
+    let Some(mut kept) = take(alloc, handle) else {
+        return MISUSE;
+    };
+    let status = keep_tables(alloc, &mut kept, report);
+    put(alloc, handle, kept);
+    status
 }
 
 /// The last answer, in `out` where it has room there.
@@ -159,13 +249,12 @@ pub extern "C" fn pgserial_do_reply(
     out: &mut [u8],
     report: &mut Report,
 ) -> u32
-    ensures kept { handle.new.value ≡ handle.old.value }
-    ensures reply { Replies handle.old.value out.old out.new report.old report.new result }
+    ensures { Replies handle.old.value handle.new.value out.old out.new report.old report.new result }
 {
-    let Some(kept) = take(alloc, handle) else {
+    let Some(mut kept) = take(alloc, handle) else {
         return MISUSE;
     };
-    let status = hand_over(kept.reply.as_slice(), End::Done, out, report);
+    let status = hand_answer(alloc, &mut kept, out, report);
     put(alloc, handle, kept);
     status
 }

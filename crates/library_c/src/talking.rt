@@ -1,16 +1,18 @@
 //! What is done with what a handle keeps.
 
-ghost use Rattle.std.specs.Prelude.{◌≡◌, None, Some, IfNone, IfSome};
+ghost use Rattle.std.specs.Prelude.{◌≡◌, None, Some};
 ghost use Rattle.std.specs.Option.{option_map};
-ghost use Rattle.shell.specs.Shells.{Answers};
-ghost use Rattle.library_c.specs.Talking.{AnswersLine, IsNew, Opens};
+ghost use Rattle.library.specs.Embedding.{answer_text};
+ghost use Rattle.library_c.specs.Talking.{AnswersLine, HandsPrinted, IsReported, IsSame, RepliesIn, line_status, made_length};
 
 use crate::Report;
+use crate::handing::hand_over;
 use crate::handle::Handle;
 use crate::kept::Kept;
 use crate::loose::Loose;
-use crate::status::{DONE, MEMORY};
-use shell::shell::Shell;
+use crate::status::{DONE, MEMORY, UNPRINTED};
+use library::answer::Answer;
+use library::ending::End;
 use std::alloc::Global;
 use std::mem::replace;
 
@@ -36,68 +38,80 @@ pub(crate) fn put(alloc: Global, handle: &mut Handle, kept: Box<Kept>)
     }
 }
 
-// Answers a line, and keeps the answer. Out of memory is the only failure, and ends the conversation.
-fn answer(alloc: Global, mut kept: Box<Kept>, line: &[u8]) -> Option<Box<Kept>>
-    ensures { IfSome result (λ b. Answers kept.value.shell line.now b.value.shell b.value.reply.items) }
+// How long the text of an answer is; 0 where it isn't made yet.
+fn length_of(answer: &Answer<Global>) -> usize
+    ensures { result ≡ made_length answer.now }
 {
-    let shell = replace(&mut kept.shell, Shell::new(alloc, 0));
-    match shell.answer(alloc, line) {
-        Ok((shell, reply)) => {
-            kept.shell = shell;
-            kept.reply = reply;
-            Some(kept)
-        }
-        Err(_) => None,
+    match answer {
+        Answer::Text(text) => text.as_slice().len(),
+        Answer::Reply(_, _) => 0,
     }
 }
 
-/// Lets the server that was taken out of a handle answer a line, gives it back, and reports the answer's length. Where
-/// memory is refused, the handle stays shut.
-pub(crate) fn answer_line(
+/// Reports an answer's length; 0 where its text isn't made yet.
+pub(crate) fn report_answer(answer: &Answer<Global>, report: &mut Report)
+    ensures { IsReported answer.now report.new }
+{
+    report.line = 0;
+    report.length = length_of(answer);
+}
+
+// The status of a line that is done: whether its answer's text is made.
+fn status_of(answer: &Answer<Global>) -> u32
+    ensures { result ≡ line_status answer.now }
+{
+    match answer {
+        Answer::Text(_) => DONE,
+        Answer::Reply(_, _) => UNPRINTED,
+    }
+}
+
+/// Lets a server answer a line, keeps the answer and reports its length. Where memory is refused, all stays.
+pub(crate) fn answer_line(alloc: Global, kept: &mut Kept, line: &[u8], report: &mut Report) -> u32
+    ensures { AnswersLine kept.old line.now kept.new report.old report.new result }
+{
+    match kept.server.answer(alloc, line) {
+        Ok(answer) => {
+            report_answer(&answer, report);
+            let status = status_of(&answer);
+            kept.answer = answer;
+            status
+        }
+        Err(_) => MEMORY,
+    }
+}
+
+// Makes the last answer's text, where there is memory for it.
+fn print(alloc: Global, kept: &mut Kept)
+    ensures { IsSame kept.old kept.new }
+{
+    let answer = replace(&mut kept.answer, Answer::Text(Vec::new(alloc)));
+    kept.answer = answer.printed(alloc);
+}
+
+// Hands over the last answer, whose text has still to be made.
+fn hand_printed(alloc: Global, kept: &mut Kept, out: &mut [u8], report: &mut Report) -> u32
+    ensures same { IsSame kept.old kept.new }
+    ensures handed { HandsPrinted (answer_text kept.old.answer) out.old out.new report.old report.new result }
+{
+    print(alloc, kept);
+    match kept.answer.text() {
+        Some(printed) => hand_over(printed, End::Done, out, report),
+        None => MEMORY,
+    }
+}
+
+/// Hands over the last answer, whose text is made if it isn't yet.
+pub(crate) fn hand_answer(
     alloc: Global,
-    handle: &mut Handle,
-    kept: Box<Kept>,
-    line: &[u8],
+    kept: &mut Kept,
+    out: &mut [u8],
     report: &mut Report,
 ) -> u32
-    requires { handle.old.value ≡ None }
-    ensures { AnswersLine kept.value line.now handle.new.value report.old report.new result }
+    ensures { RepliesIn kept.old kept.new out.old out.new report.old report.new result }
 {
-    match answer(alloc, kept, line) {
-        Some(kept) => {
-            report.length = kept.reply.as_slice().len();
-            report.line = 0;
-            put(alloc, handle, kept);
-            DONE
-        }
-        None => MEMORY,
-    }
-}
-
-// A server that answers lines, with room for so many events, in a box of its own; none where memory is refused.
-fn begin(alloc: Global, most_events: u32) -> Option<Box<Kept>>
-    ensures { IfSome result (λ b. IsNew most_events b.value) }
-{
-    let kept = Kept {
-        shell: Shell::new(alloc, most_events),
-        reply: Vec::new(alloc),
-    };
-    match Box::new(alloc, kept) {
-        Ok(kept) => Some(kept),
-        Err(_) => None,
-    }
-}
-
-/// Lets a handle that is shut keep a new server, with room for so many events.
-pub(crate) fn begin_in(alloc: Global, handle: &mut Handle, most_events: u32) -> u32
-    requires { handle.old.value ≡ None }
-    ensures { Opens None most_events handle.new.value result }
-{
-    match begin(alloc, most_events) {
-        Some(kept) => {
-            put(alloc, handle, kept);
-            DONE
-        }
-        None => MEMORY,
+    match kept.answer.text() {
+        Some(text) => hand_over(text, End::Done, out, report),
+        None => hand_printed(alloc, kept, out, report),
     }
 }

@@ -1,5 +1,0 @@
-use Rattle.std.proofs.Common.{inl, refl}
-use Rattle.library_c.proofs.talking.begin_in.Goals as goal
-
-pub returns-in-Some : goal.returns-in-Some
-returns-in-Some c = inl (c.in-Some.kept.value, c.put.ensures, c.in-Some.ensures, refl)
