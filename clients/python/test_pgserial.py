@@ -1,4 +1,5 @@
-"""Tests of the client, on the program that $PGSERIAL names, or else on that of this repository.
+"""Tests of the client, on the program that $PGSERIAL names, or else on that of this repository; or with servers in this process,
+by the library that $PGSERIAL_LIBRARY names. Left out are then those of the child process, each with its reason.
 
     python3 clients/python/test_pgserial.py
 """
@@ -12,13 +13,15 @@ import tempfile
 import threading
 import time
 import unittest
-from typing import Any, Callable, List, Optional, Tuple, Type
+from typing import Any, Callable, Dict, List, Optional, Tuple, Type
 from unittest import mock
 
 import pgserial
 
 BUILT = os.path.join(os.path.dirname(os.path.abspath(__file__)), "../../crates/pgserial/out/pgserial")
-PROGRAM = os.environ.get("PGSERIAL") or os.path.abspath(BUILT)
+LIBRARY = os.environ.get("PGSERIAL_LIBRARY")
+PROGRAM = LIBRARY or os.environ.get("PGSERIAL") or os.path.abspath(BUILT)
+HOW: Dict[str, Any] = {"program": PROGRAM, "in_process": bool(LIBRARY)}
 PAIRS = "CREATE TABLE t (id bigint PRIMARY KEY, v bigint);"
 KINDS = "CREATE TABLE kinds (id bigint PRIMARY KEY, word text, raw bytea, number bigint NOT NULL);"
 FAMILY = """
@@ -31,6 +34,11 @@ CREATE TABLE child (
 """
 
 
+def of_a_process(why: str) -> Callable[[Any], Any]:
+    """A test of the child process, which a server in this process doesn't have."""
+    return unittest.skipIf(LIBRARY is not None, why)
+
+
 class Case(unittest.TestCase):
     """A test with a server of its own, which ends with it."""
 
@@ -39,7 +47,7 @@ class Case(unittest.TestCase):
     def server(self, schema: Optional[str] = None, **words: Any) -> pgserial.Server:
         if schema is None and "dump" not in words:
             schema = self.schema
-        server = pgserial.Server(schema=schema, program=PROGRAM, **words)
+        server = pgserial.Server(schema=schema, **HOW, **words)
         self.addCleanup(server.close)
         return server
 
@@ -54,6 +62,7 @@ class Case(unittest.TestCase):
 
 
 class Starting(Case):
+    @of_a_process("a library is found otherwise than a program")
     def test_the_program_is_named_by_an_argument_by_the_environment_or_found_on_the_path(self) -> None:
         with tempfile.TemporaryDirectory() as folder:
             os.symlink(PROGRAM, os.path.join(folder, "pgserial"))
@@ -65,6 +74,12 @@ class Starting(Case):
         with self.assertRaisesRegex(pgserial.InterfaceError, "/no/such/program"):
             pgserial.Server(program="/no/such/program")
 
+    @unittest.skipUnless(LIBRARY, "a program is found otherwise than a library")
+    def test_the_library_is_named_by_an_argument_or_by_the_environment(self) -> None:
+        pgserial.Server(in_process=True).close()
+        with self.assertRaisesRegex(pgserial.InterfaceError, "/no/such/library"):
+            pgserial.Server(program="/no/such/library", in_process=True)
+
     def test_tables_are_those_of_the_schema(self) -> None:
         tables = self.server(KINDS + FAMILY).tables
         self.assertEqual(list(tables), ["kinds", "parent", "child"])
@@ -73,7 +88,7 @@ class Starting(Case):
         self.assertEqual(kinds[2:], [("raw", pgserial.BINARY), ("number", pgserial.NUMBER)])
 
     def test_a_schema_may_be_a_list(self) -> None:
-        server = pgserial.Server([PAIRS, "create table u (id text primary key)"], program=PROGRAM)
+        server = pgserial.Server([PAIRS, "create table u (id text primary key)"], **HOW)
         self.addCleanup(server.close)
         self.assertEqual(list(server.tables), ["t", "u"])
 
@@ -88,7 +103,7 @@ class Starting(Case):
         with self.assertRaises(pgserial.ProgrammingError):
             self.server(PAIRS, dump="dump")
         for none in (5, PAIRS.encode(), [PAIRS.encode()], [None]):
-            self.assertRaises(pgserial.ProgrammingError, pgserial.Server, none, program=PROGRAM)
+            self.assertRaises(pgserial.ProgrammingError, pgserial.Server, none, **HOW)
 
     def test_a_long_schema_is_refused_too(self) -> None:
         told: List[BaseException] = []
@@ -107,11 +122,11 @@ class Starting(Case):
     def test_a_dump_that_cannot_be_read_is_told(self) -> None:
         with tempfile.TemporaryDirectory() as folder:
             path = os.path.join(folder, "dump")
-            with self.assertRaisesRegex(pgserial.OperationalError, f"status 3: device: {path}"):
+            with self.assertRaisesRegex(pgserial.OperationalError, f"device: {path}"):
                 self.server(dump=path)
             with open(path, "w", encoding="utf-8") as file:
                 file.write("-- no dump\n")
-            with self.assertRaisesRegex(pgserial.OperationalError, "status 1: dump line 1: 22P04"):
+            with self.assertRaisesRegex(pgserial.OperationalError, "dump line 1: 22P04"):
                 self.server(dump=path)
 
     def test_there_are_64_sessions(self) -> None:
@@ -124,7 +139,7 @@ class Starting(Case):
         self.assertEqual(server.connect().session, 7)
 
     def test_connect_starts_a_server_of_its_own(self) -> None:
-        connection = pgserial.connect(PAIRS, program=PROGRAM)
+        connection = pgserial.connect(PAIRS, **HOW)
         with connection.server:
             self.assertEqual(connection.execute("SELECT count(*) FROM t").fetchone(), (0,))
 
@@ -404,6 +419,7 @@ class Refusals(Case):
         self.assertFalse(connection.in_transaction)
         self.assertEqual(connection.execute("SELECT * FROM parent").fetchall(), [])
 
+    @of_a_process("nothing dies but this process")
     def test_a_server_that_has_died_is_told(self) -> None:
         server = self.server()
         connection = server.connect()
@@ -420,6 +436,7 @@ class Refusals(Case):
         self.assertFalse(connection.in_transaction)
         connection.close()
 
+    @of_a_process("no child is stopped")
     def test_a_child_that_is_stopped_can_be_closed(self) -> None:
         server = self.server()
         server.connect().begin()
@@ -433,6 +450,7 @@ class Refusals(Case):
         server._shell._child.kill()
         self.assertTrue(is_closed, time.monotonic() - begun)
 
+    @of_a_process("no answer is waited for: a call returns")
     def test_a_server_can_be_closed_while_a_thread_waits_for_its_answer(self) -> None:
         server = self.server()
         told: List[Any] = []
@@ -467,8 +485,9 @@ class Refusals(Case):
         return AssertionError
 
     def test_an_exchange_that_is_broken_off_ends_the_server(self) -> None:
-        connection = self.server().connect()
-        with mock.patch.object(pgserial._Shell, "_line", side_effect=KeyboardInterrupt):
+        server = self.server()
+        connection = server.connect()
+        with mock.patch.object(type(server._shell), "_answer", side_effect=KeyboardInterrupt):
             self.assertRaises(KeyboardInterrupt, connection.begin)
         with self.assertRaisesRegex(pgserial.OperationalError, "broken off"):
             connection.execute("SELECT * FROM parent")
@@ -640,10 +659,10 @@ class Dumps(Case):
             self.assertEqual(told, [(10,)])
 
     def test_a_deferrable_transaction_waits_for_no_server_that_has_gone(self) -> None:
-        for ends, kind in (
-            (lambda server: server._shell._child.kill(), pgserial.OperationalError),
-            (lambda server: server.close(), pgserial.InterfaceError),
-        ):
+        endings: List[Tuple[Callable[[Any], None], Type[BaseException]]] = [(lambda server: server.close(), pgserial.InterfaceError)]
+        if not LIBRARY:  # a server in this process ends by no other way
+            endings.append((lambda server: server._shell._child.kill(), pgserial.OperationalError))
+        for ends, kind in endings:
             server = self.pairs((1, 10))
             told: List[Any] = []
             server.connect().execute("UPDATE t SET v = 11")

@@ -8,8 +8,8 @@
             connection.execute("INSERT INTO t VALUES (%s, %s)", (1, "one"))
         print(connection.execute("SELECT * FROM t").fetchall())
 
-A `Server` is a child process. Its tables live in its memory, and go with it. Each of its connections is a session, up to
-64 at once, and each transaction is SERIALIZABLE.
+A `Server` is a child process, or with `in_process=True` in this one. Its tables live in its memory, and go with it. Each of its
+connections is a session, up to 64 at once, and each transaction is SERIALIZABLE.
 """
 
 import contextlib
@@ -23,6 +23,7 @@ import time
 from dataclasses import dataclass
 from typing import Any, Dict, Iterable, Iterator, List, NamedTuple, Optional, Sequence, Set, Tuple, Type, Union
 
+from .answers import Answer, first_of, row_of
 from .exceptions import (
     BY_SQLSTATE, ActiveSqlTransaction, BadCopyFileFormat, CharacterNotInRepertoire, DatabaseError, DataError, DatatypeMismatch,
     DuplicateTable, Error, ForeignKeyViolation, InFailedSqlTransaction, IntegrityError, InterfaceError, InternalError,
@@ -30,6 +31,7 @@ from .exceptions import (
     ObjectNotInPrerequisiteState, OperationalError, OutOfMemory, ProgramLimitExceeded, ProgrammingError, ReadOnlySqlTransaction,
     SerializationFailure, SyntaxError, UndefinedColumn, UndefinedTable, UniqueViolation, Warning, refusal,
 )  # fmt: skip
+from .inside import Inside
 from .statements import Parameters, create_lines, statement_of, text_of
 
 __all__ = [
@@ -135,32 +137,6 @@ def _row(columns: Sequence[Column], line: bytes) -> Row:
 # ---- the child process
 
 
-@dataclass(frozen=True)
-class Answer:
-    """What was answered to one line, without the session's number; behind a SELECT's the rows as COPY text."""
-
-    text: str
-    rows: Sequence[bytes] = ()
-
-    @property
-    def error(self) -> Optional[DatabaseError]:
-        """The exception for it, where it is a refusal."""
-        return refusal(self.text) if self.text.startswith("ERROR ") else None
-
-    @property
-    def count(self) -> int:
-        """How many rows it speaks of."""
-        last = self.text.rpartition(" ")[2]
-        return int(last) if last.isdigit() else -1
-
-    def checked(self) -> "Answer":
-        """Itself, where it is no refusal."""
-        error = self.error
-        if error is not None:
-            raise error
-        return self
-
-
 def _program(path: Path) -> str:
     """The program: what is said, or what $PGSERIAL says, or that of the PATH."""
     wanted = path or os.environ.get("PGSERIAL") or "pgserial"
@@ -197,12 +173,27 @@ class _Shell:
         """The answers to lines, all of which are sent ahead."""
         return [self._answer(first) for first in self._exchange(lines)]
 
-    def listed(self, word: str, last: Sequence[str]) -> List[str]:
+    def tables(self) -> List[str]:
+        """The lines that create the tables, and that of their number."""
+        return self._listed("\\d", "TABLES ")
+
+    def order(self) -> List[str]:
+        """The lines of the serial order since the last checkpoint, and that of its check."""
+        return self._listed("\\serial", "check ")
+
+    def dumped(self, session: int, jobs: int) -> str:
+        """The dump of a session's safe snapshot."""
+        name = f"dump{session}"
+        self.ask([f"{session} DUMP {jobs} 1000 {name};"])[0].checked()
+        with open(self.path(name), encoding="utf-8", newline="") as file:
+            return file.read()
+
+    def _listed(self, word: str, last: str) -> List[str]:
         """The lines of an answer that ends with a line that begins so, or with a refusal."""
         lines = []
         for line in self._exchange([word]):
             lines.append(line.decode("utf-8"))
-            while not lines[-1].startswith(("ERROR ", *last)):
+            while not lines[-1].startswith(("ERROR ", last)):
                 lines.append(self._line().decode("utf-8"))
         return lines
 
@@ -258,10 +249,8 @@ class _Shell:
 
     def _answer(self, first: bytes) -> Answer:
         """The answer whose first line this is: how many follow is told by it."""
-        number, _, rest = first.partition(b" ")
-        text = (rest if number.isdigit() else first).decode("utf-8")
-        count = int(text[len("SELECT ") :]) if text.startswith("SELECT ") else 0
-        return Answer(text, [self._line().partition(b" | ")[2] for _ in range(count)])
+        text, count = first_of(first)
+        return Answer(text, [row_of(self._line()) for _ in range(count)])
 
     def _ended(self) -> OperationalError:
         """The exception for its end, in its own words."""
@@ -272,22 +261,30 @@ class _Shell:
         return OperationalError(self._lost)
 
 
+def _inside(library: Path, dump: Path, events: int) -> Inside:
+    """A server in this process, by the library of a path, if one is said."""
+    return Inside(None if library is None else os.fspath(library), None if dump is None else os.path.abspath(dump), events)
+
+
 # ---- servers, connections and cursors
 
 
 class Server:
-    """A server as a child process, with tables of its own: those that `schema` creates, or those of the file `dump`.
+    """A server as a child process, with tables of its own: those that `schema` creates, or those of the file `dump`. With
+    `in_process` it is in this process, by libpgserial.so; `program` is then the path of that.
 
     `events` says for how many events its history has room. It is checkpointed by itself, when half of them are used and no
     session is in a transaction. So that transactions can end in any case, an event is kept for the end of each: what would
     take one of these is refused (`ProgramLimitExceeded`).
     """
 
-    def __init__(self, schema: Schema = None, dump: Path = None, program: Path = None, events: int = EVENTS) -> None:
+    def __init__(
+        self, schema: Schema = None, dump: Path = None, program: Path = None, events: int = EVENTS, in_process: bool = False
+    ) -> None:
         if schema is not None and dump is not None:
             raise ProgrammingError("tables come from a schema or from a dump, and not from both")
         lines = create_lines(schema)
-        self._shell = _Shell(_program(program), dump, events)
+        self._shell = _inside(program, dump, events) if in_process else _Shell(_program(program), dump, events)
         self._changed = threading.Condition()  # held for each exchange, and notified when a transaction has ended
         self._connections: Dict[int, Connection] = {}
         self._in_transaction: Set[int] = set()
@@ -372,23 +369,20 @@ class Server:
             answer = self._shell.ask([line])[0]
             if answer.error is not None:
                 raise refusal(f"{answer.text}, in {line}")
-        *created, last = self._shell.listed("\\d", ("TABLES ",))
+        *created, last = self._shell.tables()
         Answer(last).checked()
         return dict(map(_table, created))
 
     def _order_since_checkpoint(self) -> List[int]:
-        *committed, last = self._shell.listed("\\serial", ("check ",))
+        *committed, last = self._shell.order()
         if Answer(last).checked().text != "check yes":
             raise InternalError("the serial order isn't one")
         return [int(line.split(" ")[1]) for line in committed]
 
     def _dumped(self, session: int, jobs: int) -> str:
         """The dump of a session's safe snapshot."""
-        name = f"dump{session}"
         with self._held():
-            self._shell.ask([f"{session} DUMP {jobs} 1000 {name};"])[0].checked()
-        with open(self._shell.path(name), encoding="utf-8", newline="") as file:
-            return file.read()
+            return self._shell.dumped(session, jobs)
 
     def _begin(self, session: int, command: str) -> int:
         """Begins a transaction, and gives its number."""
@@ -675,7 +669,9 @@ class Cursor:
         return sum(answer.checked().count for answer in self.connection._answers(statements)) if statements else 0
 
 
-def connect(schema: Schema = None, dump: Path = None, program: Path = None, events: int = EVENTS) -> Connection:
+def connect(
+    schema: Schema = None, dump: Path = None, program: Path = None, events: int = EVENTS, in_process: bool = False
+) -> Connection:
     """A connection to a server of its own (`connection.server`), which takes the same words. The server goes on when the
     connection is closed, until it is closed itself or the program ends."""
-    return Server(schema, dump, program, events).connect()
+    return Server(schema, dump, program, events, in_process).connect()
