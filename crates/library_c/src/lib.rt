@@ -29,7 +29,6 @@ use crate::telling::{keep_dump, keep_order, keep_tables};
 use history::session_id::SessionId;
 use library::checking::check_output;
 use library::embedded::Embedded;
-use library::ending::End;
 use library::exploring::{Exploration, exploration_output};
 use library::manner::{Manner, Shown};
 use library::output::script_output;
