@@ -114,21 +114,22 @@ impl<A: Allocator> Account<'_, A> {
             .any(|line| excludes(line, place, spot, number))
     }
 
-    // What the ways that are left say of a cell.
+    // What the ways that are left say of a cell, or all ways; nothing where there is none.
     fn sight_of(
         &self,
         alloc: A,
         place: usize,
         cell: &Cell<A>,
         ways: &[Way<A>],
-    ) -> Result<Sight<A>, Refusal>
+        all: bool,
+    ) -> Result<Option<Sight<A>>, Refusal>
     where
         A: Copy,
         ensures memory { IfErr result (λ e. e ≡ out_of_memory) }
     {
         let mut seen = None;
         for (number, way) in ways.iter().enumerate() {
-            if self.is_excluded(place, &cell.spot, number) {
+            if !all && self.is_excluded(place, &cell.spot, number) {
                 continue;
             }
             let sight = sight_by(alloc, way, cell.column)?;
@@ -137,10 +138,10 @@ impl<A: Allocator> Account<'_, A> {
                 None => Some(sight),
             };
         }
-        Ok(seen.unwrap_or(Sight::Unknown))
+        Ok(seen)
     }
 
-    // What a transaction found in a cell.
+    // What a transaction found in a cell: what the ways say that no line excludes, or all ways where each is excluded.
     fn sight(
         &self,
         alloc: A,
@@ -159,7 +160,11 @@ impl<A: Allocator> Account<'_, A> {
             cell.spot.key.value(),
             transaction.statements.as_slice(),
         )?;
-        self.sight_of(alloc, place, cell, ways.as_slice())
+        let seen = match self.sight_of(alloc, place, cell, ways.as_slice(), false)? {
+            Some(sight) => Some(sight),
+            None => self.sight_of(alloc, place, cell, ways.as_slice(), true)?,
+        };
+        Ok(seen.unwrap_or(Sight::Unknown))
     }
 }
 
