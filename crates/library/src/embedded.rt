@@ -162,6 +162,7 @@ impl<A: Allocator + Copy> Embedded<A> {
         ensures held { self.now ≡ opening self.now.created self.now.most }
         ensures text { answer_text result ≡ text.items }
     {
+        // Naming what is held shows it to the prover.
         let _created = self.created();
         Answer::Text(text)
     }

@@ -63,6 +63,7 @@ IsSame k q = (q.server ≡ k.server) × (answer_text q.answer ≡ answer_text k.
 abbrev pub RepliesIn : Kept → Kept → List ℕ → List ℕ → Report → Report → ℕ → Type 0
 RepliesIn k q room left before after status = IsSame k q × HandsMade (made_text k.answer) (answer_text k.answer) room left before after status
 
+-- What a call for a handle's last answer does: it hands that over; of a handle that is shut nothing is done.
 abbrev pub Replies : Option Kept → Option Kept → List ℕ → List ℕ → Report → Report → ℕ → Type 0
 Replies None w room left before after status = (w ≡ None) × (left ≡ room) × (after ≡ before) × (status ≡ 7)
 Replies (Some k) w room left before after status = Keeps (λ q. RepliesIn k q room left before after status) w
