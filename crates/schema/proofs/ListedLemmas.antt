@@ -1,18 +1,19 @@
 -- Changes of one table as a list by rising keys: what is found among them, and that they may be put in one after another.
-use Rattle.std.proofs.Common.{◌≡◌, ℕ, zero, suc, ◌<◌, ◌==◌, Bool, true, false, cond, List, [], ◌∷◌, take, drop, length, get_or, map, Option, Some, None, IfSome, ◌&&◌, Bor, refl, sym, ap, subst, ◌∙◌, arith}
+use Rattle.std.proofs.Common.{◌≡◌, ℕ, zero, suc, ◌<◌, ◌==◌, Bool, true, false, cond, List, [], ◌∷◌, take, drop, length, get_or, set, map, Option, Some, None, IfSome, ◌&&◌, Bor, refl, sym, ap, subst, ◌∙◌, arith}
 use Rattle.std.proofs.lemmas.Bool.Decides.{nat_tests}
 use Rattle.std.specs.List.{AllByRecursion, find, slice_get}
 use Rattle.std.specs.List.Sorted.{IsStrictlySortedBy}
-use Rattle.std.specs.Option.{option_map}
+use Rattle.std.specs.Option.{option_map, option_map_or}
+use Rattle.std.specs.Ordering.{is_le, nat_cmp, ordering_then, match_ordering}
 use Rattle.std.specs.declared.cmp.Ordering.TheVariants.{Less}
 use Rattle.value.specs.declared.key.Key.{Key}
 use Rattle.value.specs.declared.value.Value.{Value}
-use Rattle.value.specs.Order.{value_cmp}
-use Rattle.value.proofs.Basics.{all-at, all-weaker, eqb-self}
+use Rattle.value.specs.Order.{value_cmp, value_cmp-exact}
+use Rattle.value.proofs.Basics.{Equal-from_eq, Greater-from_le, all-at, all-weaker, eqb-self, nat_cmp-self}
 use Rattle.schema.specs.declared.row.Row.{Row}
 use Rattle.schema.specs.declared.reader.Bound.{Bound}
 use Rattle.schema.specs.declared.changes.Change.{Change}
-use Rattle.schema.specs.Changing.{put_change, new_row, change_of, next_change, changes_at, AreOfTable, IsByKey}
+use Rattle.schema.specs.Changing.{change_cmp, put_change, new_row, change_of, next_change, changes_at, AreOfTable, IsByKey, TakesPlace}
 use Rattle.schema.specs.Plain.{same}
 use Rattle.schema.specs.Rows.{is_within}
 use Rattle.schema.proofs.ChangingLemmas.{above_key}
@@ -24,10 +25,19 @@ find-at test zero (x ∷ xs) early late = rw late.0 refl
 find-at test (suc i) [] early late = refl
 find-at test (suc i) (x ∷ xs) early late = rw early.0 (find-at test i xs early.1 late)
 
+-- what is found at a place stands there
+there : {X : Type 0} (xs : List X) (p : ℕ) (test : X → Bool) → option_map_or test (slice_get xs p) false ≡ true → p < length xs
+there [] p test is = absurd cc
+there (x ∷ xs) zero test is = omega arith
+there (x ∷ xs) (suc p) test is = let rest = there xs p test is in omega arith
+
 pub unequal : (t own : ℕ) → (t == own) ≡ false → (own == t) ≡ false
 unequal t own other = grind (arith, nat_tests)
 
 module _ {A : Type 0} where
+  by_keys : (x y : Change A) → x.table ≡ y.table → change_cmp x y ≡ value_cmp x.key y.key
+  by_keys x y same_table = ap (λ n. ordering_then (nat_cmp x.table n) (value_cmp x.key y.key)) (sym same_table) ∙ ap (λ o. ordering_then o (value_cmp x.key y.key)) (nat_cmp-self x.table)
+
   -- ---- what is found
 
   find-own : (t : ℕ) (test : Value A → Bool) (xs : List (Change A)) → AllByRecursion (λ x. x.table ≡ t) xs → find (λ x. x.table == t && test x.key) xs ≡ find (λ x. test x.key) xs
@@ -107,3 +117,39 @@ module _ {A : Type 0} where
       go : (o : Option (List (Value A))) → IfSome {T = Row A} (option_map (λ fields. (x.key, fields)) o) (λ r. r.0 ≡ k)
       go None = tt
       go (Some fields) = sym same_key
+
+  -- ---- a change over that of its key
+
+  keys_kept : (xs : List (Change A)) (x : Change A) (p : ℕ) → p < length xs → option_map_or (λ y. same x.key y.key) (slice_get xs p) false ≡ true → map (λ y. y.key) (set xs p x) ≡ map (λ y. y.key) xs
+  keys_kept [] x p lt is = refl
+  keys_kept (y ∷ ys) x zero lt is = ap (λ k. k ∷ map (λ z. z.key) ys) (value_cmp-exact x.key y.key (Equal-from_eq (value_cmp x.key y.key) is))
+  keys_kept (y ∷ ys) x (suc p) lt is = ap (λ ks. y.key ∷ ks) (keys_kept ys x p (omega arith) is)
+
+  tables_kept : (t : ℕ) (xs : List (Change A)) (x : Change A) (p : ℕ) → x.table ≡ t → AllByRecursion (λ y. y.table ≡ t) xs → AllByRecursion (λ y. y.table ≡ t) (set xs p x)
+  tables_kept t [] x p own all = tt
+  tables_kept t (y ∷ ys) x zero own all = (own, all.1)
+  tables_kept t (y ∷ ys) x (suc p) own all = (all.0, tables_kept t ys x p own all.1)
+
+  one_table : (t own : ℕ) (xs : List (Change A)) (p : ℕ) → p < length xs → AllByRecursion (λ y. y.table ≡ t) xs → AllByRecursion (λ y. y.table ≡ own) xs → t ≡ own
+  one_table t own [] p lt all kept = absurd (omega arith)
+  one_table t own (y ∷ ys) p lt all kept = sym all.0 ∙ kept.0
+
+  put_set : (t : ℕ) (xs : List (Change A)) (x : Change A) (p : ℕ) → x.table ≡ t → AllByRecursion (λ y. y.table ≡ t) xs → AllByRecursion (λ y. is_le (value_cmp x.key y.key) ≡ false) (take p xs)
+      → option_map_or (λ y. same x.key y.key) (slice_get xs p) false ≡ true → put_change xs x ≡ set xs p x
+  put_set t [] x p own all before is = absurd cc
+  put_set t (y ∷ ys) x zero own all before is =
+      ap (λ o. match_ordering o (x ∷ y ∷ ys) (x ∷ ys) (y ∷ put_change ys x)) (by_keys x y (own ∙ sym all.0) ∙ Equal-from_eq (value_cmp x.key y.key) is)
+  put_set t (y ∷ ys) x (suc p) own all before is =
+      ap (λ o. match_ordering o (x ∷ y ∷ ys) (x ∷ ys) (y ∷ put_change ys x)) (by_keys x y (own ∙ sym all.0) ∙ Greater-from_le (value_cmp x.key y.key) before.0)
+      ∙ ap (λ zs. y ∷ zs) (put_set t ys x p own all.1 before.1 is)
+
+  -- a change of a key takes the place of the one there
+  pub takes_place : (t : ℕ) (xs : List (Change A)) (k : Value A) (p : ℕ) → AreOfTable t xs → AllByRecursion (λ y. is_le (value_cmp k y.key) ≡ false) (take p xs) → option_map_or (λ y. same k y.key) (slice_get xs p) false ≡ true → TakesPlace t k xs p
+  takes_place t xs k p of_table before is = (lt, λ x own at. put x own (subst (λ j. AllByRecursion (λ y. is_le (value_cmp j y.key) ≡ false) (take p xs)) (sym at) before) (subst (λ j. option_map_or (λ y. same j y.key) (slice_get xs p) false ≡ true) (sym at) is))
+    where
+      lt : p < length xs
+      lt = there xs p (λ y. same k y.key) is
+
+      put : (x : Change A) → x.table ≡ t → AllByRecursion (λ y. is_le (value_cmp x.key y.key) ≡ false) (take p xs) → option_map_or (λ y. same x.key y.key) (slice_get xs p) false ≡ true
+          → (put_change xs x ≡ set xs p x) × ((own : ℕ) → AreOfTable own xs → AreOfTable own (set xs p x))
+      put x is_own early at = (put_set t xs x p is_own of_table.0 early at, λ own kept. (tables_kept own xs x p (is_own ∙ one_table t own xs p lt of_table.0 kept.0) kept.0, subst (λ ks. IsStrictlySortedBy value_cmp ks) (sym (keys_kept xs x p lt at)) kept.1))

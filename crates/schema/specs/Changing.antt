@@ -1,6 +1,6 @@
 -- Changes by table, then by key: putting one in, and looking one up.
 -- Source: this project's choice.
-use Rattle.std.specs.Prelude.{◌≡◌, ℕ, suc, ◌==◌, ◌&&◌, Option, List, [], ◌∷◌, ◌++◌, map, find, filter}
+use Rattle.std.specs.Prelude.{◌≡◌, ◌<◌, ℕ, suc, ◌==◌, ◌&&◌, Option, List, [], ◌∷◌, ◌++◌, length, map, find, filter, slice_set}
 use Rattle.std.specs.List.{AllByRecursion}
 use Rattle.std.specs.List.Sorted.{IsStrictlySortedBy}
 use Rattle.std.specs.Borrow.{Bor}
@@ -50,6 +50,10 @@ module _ {A : Type 0} where
   -- changes of one table, by rising keys
   abbrev pub AreOfTable : ℕ → List (Change A) → Type 0
   AreOfTable t xs = AllByRecursion (λ x. x.table ≡ t) xs × IsStrictlySortedBy value_cmp (map (λ x. x.key) xs)
+
+  -- Among changes of one table, a change of this key takes this place when it is put in.
+  abbrev pub TakesPlace : ℕ → Value A → List (Change A) → ℕ → Type 0
+  TakesPlace t k xs p = (p < length xs) × ((x : Change A) → x.table ≡ t → x.key ≡ k → (put_change xs x ≡ slice_set xs p x) × ((own : ℕ) → AreOfTable own xs → AreOfTable own (slice_set xs p x)))
 
   -- ---- the changes of one table
 

@@ -33,6 +33,18 @@ enum Said<A: Allocator = Global> {
     Gone(Key<A>),
 }
 
+// What is said of a key that has a row from now on, or none.
+fn said_of<A: Allocator>(key: Key<A>, row: Option<Row<A>>) -> Said<A>
+    requires { IfSome row (λ r. r.0 ≡ key) }
+    ensures key { said_key result ≡ key }
+    ensures fields { said_fields result ≡ option_map (λ r. r.1) row }
+{
+    match row {
+        Some(row) => Said::There(row),
+        None => Said::Gone(key),
+    }
+}
+
 // The key.
 fn key_of<A: Allocator>(said: &Said<A>) -> &Key<A>
     ensures { result.now ≡ said_key said.now }
@@ -259,7 +271,7 @@ impl<A: Allocator> Changes<A> {
         self.put(alloc, table, key, None)
     }
 
-    // Puts in what is said of a key of a table. A list is copied first.
+    // Puts in what is said of a key of a table. A list stays one where something was said of the key; else it is copied.
     fn put(
         &mut self,
         alloc: A,
@@ -278,6 +290,11 @@ impl<A: Allocator> Changes<A> {
         match &mut self.kept {
             Kept::ByTable(trees) => trees.put(alloc, table, key, row),
             Kept::OfOne(listed) => {
+                if let Some(place) = listed.place(table, &key) {
+                    let said = said_of(key, row);
+                    listed.put_over(place, Change { table, said });
+                    return Ok(());
+                }
                 let mut trees = listed.trees(alloc)?;
                 trees.put(alloc, table, key, row)?;
                 self.kept = Kept::ByTable(trees);

@@ -220,7 +220,7 @@ pub fn place_near<A: Allocator, P: Paged<A>>(pages: &[P], near: usize, key: &Val
     place_of(pages, key)
 }
 
-/// The item of a key, among all pages.
+/// The item of a key, among all pages. The last is asked for it first: keys mostly come in order.
 pub fn find_among<'p, A: Allocator, P: Paged<A>>(
     pages: &'p [P],
     key: &Value<A>,
@@ -231,6 +231,6 @@ pub fn find_among<'p, A: Allocator, P: Paged<A>>(
     if pages.is_empty() {
         return None;
     }
-    let page = &pages[place_of(pages, key)];
+    let page = &pages[place_near(pages, pages.len() - 1, key)];
     find(page.items(), key)
 }

@@ -29,7 +29,7 @@ pub enum Bound<K> {
 }
 
 impl<'k, A: Allocator> Bound<&'k Key<A>> {
-    /// The same, of the value of its key.
+    /// This bound by the value of its key.
     pub fn of_values(self) -> Bound<&'k Value<A>>
         ensures next { (rows : Rows A) → next_row rows result ≡ next_row rows self.entry }
         ensures within { (rows : Rows A) → rows_within rows result ≡ rows_within rows self.entry }
@@ -42,7 +42,7 @@ impl<'k, A: Allocator> Bound<&'k Key<A>> {
         }
     }
 
-    /// The same, as the start of a range of keys.
+    /// This bound as the start of a range of keys.
     pub fn start_key(self) -> ops::Bound<&'k Key<A>>
         ensures { shown_bound result ≡ start_of self.entry }
     {

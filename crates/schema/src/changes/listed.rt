@@ -1,16 +1,16 @@
 //! The changes of one table as a list.
 
-ghost use Rattle.std.specs.Prelude.{◌≡◌, ◌<◌, ◌≤◌, ◌^◌, [], None, map, OnOk, OnErr, IfOk, IfErr};
+ghost use Rattle.std.specs.Prelude.{◌≡◌, ◌<◌, ◌≤◌, ◌^◌, [], None, map, OnOk, OnErr, IfOk, IfErr, IfSome};
 ghost use Rattle.std.specs.List.{AllByRecursion};
 ghost use Rattle.std.specs.Option.{option_map, option_copied};
 ghost use Rattle.value.specs.Refusals.{out_of_memory};
 ghost use Rattle.schema.specs.Coming.{coming, left, said_of};
-ghost use Rattle.schema.specs.Changing.{change_of, next_change, new_row, put_change, AreOfTable, IsByKey};
+ghost use Rattle.schema.specs.Changing.{change_of, next_change, new_row, put_change, AreOfTable, IsByKey, TakesPlace};
 
 use super::Change;
 use crate::catalog::TableNo;
 use crate::changes::trees::Trees;
-use crate::paged::{at, find, start};
+use crate::paged::{at, find, is_at, start};
 use crate::reader::Bound;
 use crate::row::Row;
 use std::alloc::{Allocator, Global};
@@ -123,6 +123,19 @@ fn walk_within<'c, A: Allocator>(
     rest
 }
 
+// The place of the change of a key, among changes of a table.
+fn place_within<A: Allocator>(table: TableNo, list: &[Change<A>], key: &Key<A>) -> Option<usize>
+    requires { AreOfTable table list.now }
+    ensures { IfSome result (TakesPlace table key.now list.now) }
+{
+    let place = start(list, Bound::From(key.value()));
+    if is_at(list, place, key.value()) {
+        Some(place)
+    } else {
+        None
+    }
+}
+
 impl<A: Allocator> Listed<A> {
     /// These changes of a table.
     pub fn of(table: TableNo, list: Vec<Change<A>, A>) -> Listed<A>
@@ -171,6 +184,25 @@ impl<A: Allocator> Listed<A> {
     {
         // Naming a field tells what the type keeps true.
         let _table = self.table;
+    }
+
+    /// The place of the change of a key. It takes no memory.
+    pub fn place(&self, table: TableNo, key: &Key<A>) -> Option<usize>
+        ensures { IfSome result (TakesPlace table key.now self.now) }
+    {
+        if table == self.table {
+            place_within(table, self.list.as_slice(), key)
+        } else {
+            None
+        }
+    }
+
+    /// Puts in a change in the place of the one of its key. It takes no memory.
+    pub fn put_over(&mut self, place: usize, change: Change<A>)
+        requires { TakesPlace change.table change.key self.old place }
+        ensures { self.new ≡ put_change self.old change }
+    {
+        self.list[place] = change;
     }
 
     /// Copies of the changes by their keys.

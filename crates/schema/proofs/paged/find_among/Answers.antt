@@ -9,4 +9,4 @@ returns g c =
     let key = g.P.Item.Keyed.key_of in
     c.find.ensures
     ∙ ap (find (λ x. same c.args.key.now (key x))) c.items.ensures.items
-    ∙ find-in key g.P.Paged.items_of c.args.key.now c.args.pages.now c.place_of.result c.index-pages-place_of.result c.place_of.ensures.range c.index-pages-place_of.is c.place_of.ensures.placed
+    ∙ find-in key g.P.Paged.items_of c.args.key.now c.args.pages.now c.place_near.result c.index-pages-place_near.result c.place_near.ensures.range c.index-pages-place_near.is c.place_near.ensures.placed
