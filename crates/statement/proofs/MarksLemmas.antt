@@ -1,6 +1,7 @@
 -- What a statement marks: the references of each row that it writes, before and after.
 use Rattle.std.proofs.Common.{◌≡◌, refl, sym, ap, subst, ◌∙◌, ℕ, zero, suc, ◌+◌, ◌<◌, ◌≤◌, Bool, true, false, true≢false, cond, not, ◌&&◌, ◌||◌, ◌⊎◌, inl, inr, List, [], ◌∷◌, ◌++◌, map, length, slice_get, slice_index_or, Option, Some, None, is_some, unwrap_or, eqb, arith}
-use Rattle.std.proofs.lemmas.Bool.{eqb-true, eq-eqb, and_from, and_parts, or_left, or_right}
+use Rattle.std.proofs.lemmas.Bool.{eqb-true, eq-eqb, and_from, and_parts, or_left, or_parts, or_right}
+use Rattle.std.proofs.lemmas.List.{append-nil}
 use Rattle.std.proofs.lemmas.Cmp.{tied_itself}
 use Rattle.std.specs.Ordering.{is_eq}
 use Rattle.std.specs.List.{list_any}
@@ -18,10 +19,25 @@ use Rattle.schema.specs.Plain.{same, is_null, field, row_at, columns_of, put_all
 use Rattle.schema.proofs.PlainLemmas.{same_value, touches, left_by, row_at-put_all, rows_of-past, length-put_all}
 use Rattle.statement.specs.declared.outcome.Mark.{Mark}
 pub use Rattle.statement.specs.Laws.{refers, refers_at}
-use Rattle.statement.specs.Marks.{is_reference, references_among, references_of, marks_of_change, marks_of, is_mark, marks_reference}
+use Rattle.statement.specs.Marks.{have_references, is_reference, references_among, references_of, marks_of_change, marks_of, is_mark, marks_reference}
 use Rattle.statement.specs.Agreement.{if_naming, row_naming}
 
 module _ {A : Type 0} where
+  -- ---- columns without REFERENCES
+
+  none_among : (t n : ℕ) (ds : List Column) (vs : List (Value A)) → have_references ds ≡ false → references_among t n ds vs ≡ []
+  none_among t n [] vs e = refl
+  none_among t n (d ∷ ds) [] e = refl
+  none_among t n (d ∷ ds) (v ∷ vs) e =
+      let parts = or_parts (is_some d.references) (have_references ds) e in
+      let isnt : is_reference d v ≡ false = ap (λ b. b && not (is_null v)) parts.0 in
+      ap (λ b. cond b (record { table = t; column = n; key = v } ∷ references_among t (suc n) ds vs) (references_among t (suc n) ds vs)) isnt ∙ none_among t (suc n) ds vs parts.1
+
+  -- rows of such columns have no references, before and after
+  pub none_marked : (t : ℕ) (ds : List Column) (ms : List (Mark A)) (k l : Value A) (vs ws : List (Value A)) → have_references ds ≡ false → ms ≡ ms ++ references_of t ds k (Some vs) ++ references_of t ds l (Some ws)
+  none_marked t ds ms k l vs ws e =
+      sym (ap (λ xs. ms ++ xs ++ references_of t ds l (Some ws)) (none_among t 0 ds (k ∷ vs) e) ∙ ap (λ xs. ms ++ [] ++ xs) (none_among t 0 ds (l ∷ ws) e) ∙ append-nil (ms ++ []) ∙ append-nil ms)
+
   same_itself : (v : Value A) → same v v ≡ true
   same_itself v = ap is_eq (tied_itself value_cmp-total v)
 

@@ -1,10 +1,10 @@
 -- An UPDATE by its assignments: its faults, column by column, are those of its new rows.
-use Rattle.std.proofs.Common.{◌≡◌, refl, sym, ap, subst, ◌∙◌, ℕ, zero, suc, ◌+◌, ◌-◌, ◌<◌, ◌≤◌, Bool, true, false, true≢false, cond, not, ◌&&◌, ◌||◌, ◌⊎◌, inl, inr, List, [], ◌∷◌, map, take, drop, length, nat_lt, eqb, get_or, slice_get, slice_set, Option, Some, None, is_some, Bor, arith}
-use Rattle.std.proofs.lemmas.Bool.{eqb-true, eq-eqb, ltb-true, and_parts}
+use Rattle.std.proofs.Common.{◌≡◌, refl, sym, ap, subst, ◌∙◌, ℕ, zero, suc, ◌+◌, ◌-◌, ◌<◌, ◌≤◌, Bool, true, false, true≢false, cond, not, ◌&&◌, ◌||◌, ◌⊎◌, inl, inr, List, [], ◌∷◌, map, take, drop, length, nat_lt, eqb, get_or, slice_get, slice_set, Option, Some, None, find, is_some, Bor, arith}
+use Rattle.std.proofs.lemmas.Bool.{eqb-true, eq-eqb, ltb-true, and_parts, or_parts}
 use Rattle.std.proofs.lemmas.Bool.Decides.{nat_tests}
 use Rattle.std.proofs.lemmas.Option.{slice_get_within}
 use Rattle.std.proofs.lemmas.List.{length-set, take_all}
-use Rattle.std.specs.List.{AllByRecursion, filter, list_all}
+use Rattle.std.specs.List.{AllByRecursion, filter, list_all, list_any}
 use Rattle.std.specs.Option.{option_map_or}
 use Rattle.value.specs.declared.value.Value.{Value}
 use Rattle.value.specs.declared.refusal.Refusal.{Refusal}
@@ -21,10 +21,10 @@ use Rattle.statement.specs.declared.outcome.Outcome.{Outcome}
 use Rattle.statement.specs.declared.evaluate.stage.Stage.{Stage}
 use Rattle.statement.specs.declared.evaluate.stage.Stage.TheVariants as stage
 use Rattle.statement.specs.Conditions.{chosen, satisfies}
-use Rattle.statement.specs.Evaluation.{answers, assigned, at_column, first_bad, given, is_assigned, least_column, out_of_range, puts, set_field, updated, updated_row, writes_rows, ◌or_else◌}
+use Rattle.statement.specs.Evaluation.{answers, assigned, at_column, first_bad, given, is_assigned, least_column, lacks_row, lacks_value, out_of_range, puts, set_field, updated, updated_row, writes_rows, ◌or_else◌}
 use Rattle.statement.specs.declared.statement.Statement.TheVariants.{Update}
 use Rattle.statement.specs.Fits.{Fits, assignment_fits, assigns_once, column_passes, condition_fits, has_table, literals_fit, source_fits}
-use Rattle.statement.specs.Updating.{AreAssignable, IsAssignable, assignment_to, code_of, fault_of, first_fault, first_given, is_given, least_given, refuses}
+use Rattle.statement.specs.Updating.{AreAssignable, IsAssignable, assignment_to, code_of, fault_of, first_fault, first_given, is_faulty, is_given, is_refused, least_given, refuses}
 use Rattle.statement.specs.Walk.{are_of, is_row_of}
 use Rattle.statement.specs.Writing.{AreRowsOf}
 use Rattle.statement.proofs.HeldLemmas.{held_length, held_table, literals_length}
@@ -73,7 +73,58 @@ module _ {B C : Type 0} where
       let p = first_before f (map (λ w. w.now) (take i xs)) y.now none in
       ap (λ o. cond (is_some o) o (first_some f (map (λ w. w.now) (take (suc i) xs)))) p.0 ∙ none_more f xs i x p.1 (omega arith) is e
 
+-- what holds of none of a list doesn't hold of the one that is found
+find_none : {B : Type 0} (p q h : B → Bool) (xs : List B) → ((x : B) → p x ≡ true → q x ≡ false → h x ≡ false) → list_any q xs ≡ false → option_map_or h (find p xs) false ≡ false
+find_none p q h [] f e = refl
+find_none p q h (x ∷ xs) f e = let parts = or_parts (q x) (list_any q xs) e in go (p x) refl parts.0 (find_none p q h xs f parts.1)
+  where
+    go : (b : Bool) → p x ≡ b → q x ≡ false → option_map_or h (find p xs) false ≡ false → option_map_or h (cond b (Some x) (find p xs)) false ≡ false
+    go true is isnt rest = f x is isnt
+    go false is isnt rest = rest
+
 module _ {A : Type 0} where
+  -- ---- rows without a fault
+
+  none_refuses : (s : Stage) (X : Tables A) (n : ℕ) (d : Column) (v : Value A) → is_refused X n d v ≡ false → refuses s X n d v ≡ false
+  none_refuses s X n d v e =
+      let outer = or_parts (lacks_value n d v || out_of_range v) (lacks_row X n d v) e in
+      let inner = or_parts (lacks_value n d v) (out_of_range v) outer.0 in
+      go s inner.0 inner.1 outer.1
+    where
+      go : (t : Stage) → lacks_value n d v ≡ false → out_of_range v ≡ false → lacks_row X n d v ≡ false → refuses t X n d v ≡ false
+      go stage.Value a b c = a
+      go stage.Range a b c = b
+      go stage.Reference a b c = c
+
+  not_given : (s : Stage) (X : Tables A) (columns : List Column) (row : Row A) (more : List (Assignment A)) (n : ℕ) (d : Column) → slice_get columns n ≡ Some d → list_any (is_faulty X columns row) more ≡ false → is_given (refuses s X) more row n d ≡ false
+  not_given s X columns row more n d there e = find_none (λ a. eqb a.column n) (is_faulty X columns row) (λ a. refuses s X n d (given row a.source)) more each e
+    where
+      each : (a : Assignment A) → eqb a.column n ≡ true → is_faulty X columns row a ≡ false → refuses s X n d (given row a.source) ≡ false
+      each a is isnt =
+          let same : a.column ≡ n = eqb-true a.column n is in
+          let at : slice_get columns a.column ≡ Some d = ap (slice_get columns) same ∙ there in
+          let fine : is_refused X a.column d (given row a.source) ≡ false = sym (ap (λ o. option_map_or (λ x. is_refused X a.column x (given row a.source)) o false) at) ∙ isnt in
+          none_refuses s X n d (given row a.source) (subst (λ m. is_refused X m d (given row a.source) ≡ false) same fine)
+
+  least_none : (s : Stage) (X : Tables A) (columns : List Column) (row : Row A) (more : List (Assignment A)) → list_any (is_faulty X columns row) more ≡ false
+      → (n : ℕ) (ds : List Column) → ((i : ℕ) (d : Column) → slice_get ds i ≡ Some d → slice_get columns (n + i) ≡ Some d) → least_given (refuses s X) more row n ds ≡ None
+  least_none s X columns row more e n [] at = refl
+  least_none s X columns row more e n (d ∷ ds) at =
+      let here : slice_get columns n ≡ Some d = subst (λ m. slice_get columns m ≡ Some d) (plus_zero n) (at 0 d refl) in
+      ap (λ b. cond b (Some n) (least_given (refuses s X) more row (suc n) ds)) (not_given s X columns row more n d here e)
+      ∙ least_none s X columns row more e (suc n) ds (λ i b is. subst (λ m. slice_get columns m ≡ Some b) (plus_suc n i) (at (suc i) b is))
+
+  -- no stage refuses what is assigned to a row
+  pub row_faultless : (X : Tables A) (columns : List Column) (row : Row A) (more : List (Assignment A)) → list_any (is_faulty X columns row) more ≡ false → (s : Stage) → least_given (refuses s X) more row 0 columns ≡ None
+  row_faultless X columns row more e s = least_none s X columns row more e 0 columns (λ i d is. subst (λ m. slice_get columns m ≡ Some d) (zero_plus i) is)
+
+  -- nor to any row
+  pub rows_faultless : (X : Tables A) (more : List (Assignment A)) (columns : List Column) (rows : List (Row A)) → ((s : Stage) → first_given (refuses s X) more columns rows ≡ None) → first_fault X more columns rows ≡ None
+  rows_faultless X more columns rows none =
+      let fault : Stage → Option Refusal = λ s. fault_of s X more columns rows in
+      let clear : (s : Stage) → fault s ≡ None = λ s. ap (at_column (code_of s)) (none s) in
+      ap (λ o. cond (is_some o) o (first_some fault (stage.Range ∷ stage.Reference ∷ []))) (clear stage.Value) ∙ ap (λ o. cond (is_some o) o (first_some fault (stage.Reference ∷ []))) (clear stage.Range) ∙ ap (λ o. cond (is_some o) o None) (clear stage.Reference)
+
   -- ---- the assignment to a column
 
   unassigned : (more : List (Assignment A)) (n : ℕ) → is_assigned more n ≡ false → assignment_to more n ≡ None

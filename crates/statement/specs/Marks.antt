@@ -8,6 +8,10 @@ use Rattle.schema.specs.declared.tables.Tables.{Tables}
 use Rattle.schema.specs.Plain.{same, is_null, row_at, columns_of}
 use Rattle.statement.specs.declared.outcome.Mark.{Mark}
 
+-- one of the columns has REFERENCES
+abbrev pub have_references : List Column → Bool
+have_references ds = list_any (λ d. is_some d.references) ds
+
 module _ {A : Type 0} where
   -- a value in a column names a row: the column has REFERENCES, and the value isn't null
   abbrev pub is_reference : Column → Value A → Bool

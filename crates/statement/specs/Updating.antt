@@ -1,5 +1,5 @@
 -- An UPDATE by its assignments: what a column gets of them, and the first fault of each of its stages.
-use Rattle.std.specs.Prelude.{◌≡◌, ◌<◌, ◌≤◌, length, ℕ, suc, ℤ, ◌==◌, Bool, false, if◌then◌else◌, Option, Some, None, List, [], ◌∷◌, find}
+use Rattle.std.specs.Prelude.{◌≡◌, ◌<◌, ◌≤◌, length, ℕ, suc, ℤ, ◌==◌, Bool, false, ◌||◌, if◌then◌else◌, Option, Some, None, List, [], ◌∷◌, find, slice_get}
 use Rattle.std.specs.List.{AllByRecursion}
 use Rattle.std.specs.Option.{option_map_or}
 use Rattle.value.specs.declared.value.Value.{Value}
@@ -58,6 +58,14 @@ module _ {A : Type 0} where
   -- the fault of the first stage that has one
   abbrev pub first_fault : Tables A → List (Assignment A) → List Column → List (Row A) → Option Refusal
   first_fault X more columns rows = first_some (λ s. fault_of s X more columns rows) (stage.Value ∷ stage.Range ∷ stage.Reference ∷ [])
+
+  -- some stage refuses it
+  abbrev pub is_refused : Tables A → ℕ → Column → Value A → Bool
+  is_refused X n d v = lacks_value n d v || out_of_range v || lacks_row X n d v
+
+  -- some stage refuses what an assignment gives to its column
+  abbrev pub is_faulty : Tables A → List Column → Row A → Assignment A → Bool
+  is_faulty X columns row a = option_map_or (λ d. is_refused X a.column d (given row a.source)) (slice_get columns a.column) false
 
   -- An assignment to a row with so many fields beside its key: it gives no sum out of range, and its column is one of these fields'.
   pub record IsAssignable (row : Row A) (count : ℕ) (a : Assignment A) : Type 0 where

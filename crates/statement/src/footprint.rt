@@ -125,10 +125,10 @@ fn read_named<A: Allocator>(
     ensures ok { OnOk result (readings.new.items ≡ readings.old.items ++ reads_named column.now value.now) }
     ensures err { IfErr result (λ e. e ≡ out_of_memory) }
 {
-    let Some(key) = key_of(alloc, value)? else {
+    let Some(table) = column.references() else {
         return Ok(());
     };
-    if let Some(table) = column.references() {
+    if let Some(key) = key_of(alloc, value)? {
         readings.push(Reading {
             table,
             extent: Extent::One(key),

@@ -1,14 +1,14 @@
 //! UPDATE.
 
-ghost use Rattle.std.specs.Prelude.{◌≡◌, ◌<◌, ◌≤◌, ◌+◌, Ok, true, map, length, IfOk, IfErr, IfSome};
-ghost use Rattle.std.specs.List.{AllByRecursion};
+ghost use Rattle.std.specs.Prelude.{◌≡◌, ◌<◌, ◌≤◌, ◌+◌, Ok, None, true, map, length, IfOk, IfErr, IfSome, IsTrue};
+ghost use Rattle.std.specs.List.{AllByRecursion, list_any};
 ghost use Rattle.std.specs.Option.{option_copied};
 ghost use Rattle.value.specs.Refusals.{out_of_memory, AnswersOrNoMemory};
 ghost use Rattle.schema.specs.Plain.{columns_of};
 ghost use Rattle.statement.specs.Conditions.{chosen};
 ghost use Rattle.statement.specs.Evaluation.{given, lacks_value, puts, set_field, updated, updated_row, writes_rows};
 ghost use Rattle.statement.specs.Fits.{Fits};
-ghost use Rattle.statement.specs.Updating.{AreAssignable, assignment_to, fault_of, first_fault, first_given, is_given, least_given, refuses};
+ghost use Rattle.statement.specs.Updating.{AreAssignable, assignment_to, fault_of, first_fault, first_given, is_faulty, is_given, is_refused, least_given, refuses};
 ghost use Rattle.statement.specs.Walk.{are_of};
 ghost use Rattle.statement.specs.Writing.{AreRowsOf};
 
@@ -17,8 +17,8 @@ use crate::evaluate::answers;
 use crate::evaluate::chosen::chosen;
 use crate::evaluate::source::{given, gives_null, gives_reference, gives_too_much};
 use crate::evaluate::stage::Stage;
-use crate::evaluate::written::Written;
-use crate::fits::columns_of;
+use crate::evaluate::written::{Written, have_references};
+use crate::fits::{column_at, columns_of};
 use crate::outcome::Outcome;
 use crate::reply::Reply;
 use crate::statement::{Assignment, Assignments, Source, Statement};
@@ -217,8 +217,94 @@ impl<'u, A: Allocator + Copy, R: SnapshotReader<A>> Updating<'u, A, R> {
         }
     }
 
-    // The fault of the first stage that has one.
-    fn first_fault(
+    // Whether a stage refuses what an assignment gives to a column.
+    fn is_refused(
+        &self,
+        alloc: A,
+        assignment: &Assignment<A>,
+        column: &Column<A>,
+        row: &Row<A>,
+    ) -> Result<bool, Refusal>
+        requires { are_of self.now.catalog.now (R.tables self.now.reader.now) ≡ true }
+        ensures ok { IfOk result (λ b. b ≡ is_refused (R.tables self.now.reader.now) assignment.now.column column.now
+            (given row.now assignment.now.source)) }
+        ensures err { IfErr result (λ e. e ≡ out_of_memory) }
+    {
+        let source = &assignment.source;
+        if lacks_value(assignment.column, column, source, row) || gives_too_much(source, row) {
+            return Ok(true);
+        }
+        let is_named = gives_reference(alloc, self.catalog, self.reader, column, source, row)?;
+        Ok(!is_named)
+    }
+
+    // Whether a stage refuses what an assignment gives to its column.
+    fn is_faulty(
+        &self,
+        alloc: A,
+        columns: &[Column<A>],
+        row: &Row<A>,
+        assignment: &Assignment<A>,
+    ) -> Result<bool, Refusal>
+        requires { are_of self.now.catalog.now (R.tables self.now.reader.now) ≡ true }
+        ensures ok { IfOk result (λ b. b ≡
+            is_faulty (R.tables self.now.reader.now) columns.now row.now assignment.now) }
+        ensures err { IfErr result (λ e. e ≡ out_of_memory) }
+    {
+        match column_at(columns, assignment.column) {
+            Some(column) => self.is_refused(alloc, assignment, column, row),
+            None => Ok(false),
+        }
+    }
+
+    // Whether a stage refuses what one of these assignments gives to its column.
+    fn has_fault(
+        &self,
+        alloc: A,
+        columns: &[Column<A>],
+        row: &Row<A>,
+        assignments: &[Assignment<A>],
+    ) -> Result<bool, Refusal>
+        requires { are_of self.now.catalog.now (R.tables self.now.reader.now) ≡ true }
+        ensures ok { IfOk result (λ b. b ≡
+            list_any (is_faulty (R.tables self.now.reader.now) columns.now row.now) assignments.now) }
+        ensures err { IfErr result (λ e. e ≡ out_of_memory) }
+    {
+        match assignments {
+            [] => Ok(false),
+            [assignment, more @ ..] => {
+                if self.is_faulty(alloc, columns, row, assignment)? {
+                    Ok(true)
+                } else {
+                    self.has_fault(alloc, columns, row, more)
+                }
+            }
+        }
+    }
+
+    // Whether no row has a fault of any stage: one look at each row, where a stage by itself looks at all.
+    fn are_faultless(
+        &self,
+        alloc: A,
+        columns: &[Column<A>],
+        rows: &[&Row<A>],
+    ) -> Result<bool, Refusal>
+        requires { are_of self.now.catalog.now (R.tables self.now.reader.now) ≡ true }
+        ensures none { IfOk result (λ b. IsTrue b → first_fault (R.tables self.now.reader.now)
+            self.now.assignments.now columns.now (map (λ row. row.now) rows.now) ≡ None) }
+        ensures err { IfErr result (λ e. e ≡ out_of_memory) }
+    {
+        for row in rows {
+            let faulty = self.has_fault(alloc, columns, row, self.assignments)?;
+            if faulty {
+                return Ok(false);
+            }
+        }
+        Ok(true)
+    }
+
+    // The fault of the first stage that has one, by a look at all rows for each stage.
+    fn staged_fault(
         &self,
         alloc: A,
         columns: &[Column<A>],
@@ -241,6 +327,26 @@ impl<'u, A: Allocator + Copy, R: SnapshotReader<A>> Updating<'u, A, R> {
         self.fault(alloc, Stage::Reference, columns, rows)
     }
 
+    // The fault of the first stage that has one. Mostly there is none.
+    fn first_fault(
+        &self,
+        alloc: A,
+        columns: &[Column<A>],
+        rows: &[&Row<A>],
+    ) -> Result<Option<Refusal>, Refusal>
+        requires held { are_of self.now.catalog.now (R.tables self.now.reader.now) ≡ true }
+        requires few { length columns.now ≤ 32 }
+        ensures ok { IfOk result (λ o. o ≡ first_fault (R.tables self.now.reader.now) self.now.assignments.now
+            columns.now (map (λ row. row.now) rows.now)) }
+        ensures err { IfErr result (λ e. e ≡ out_of_memory) }
+    {
+        if self.are_faultless(alloc, columns, rows)? {
+            Ok(None)
+        } else {
+            self.staged_fault(alloc, columns, rows)
+        }
+    }
+
     // Writes the rows anew.
     fn write(
         &self,
@@ -258,16 +364,17 @@ impl<'u, A: Allocator + Copy, R: SnapshotReader<A>> Updating<'u, A, R> {
             (map (λ row. puts table (updated_row self.now.assignments.now row)) (map (λ row. row.now) rows.now))) }
         ensures err { IfErr result (λ e. e ≡ out_of_memory) }
     {
+        let marked = have_references(columns);
         let mut written = Written::new(alloc);
         for row in rows {
             let after = updated_row(alloc, self.assignments, row)?;
-            written.update(alloc, table, columns, row, after)?;
+            written.update(alloc, table, columns, marked, row, after)?;
         }
         Ok(written.outcome(table, Reply::Updated(rows.len() as u64)))
     }
 }
 
-/// What an UPDATE answers. All rows that satisfy the conditions are looked at for each stage of
+/// What an UPDATE answers. All rows that satisfy the conditions are looked at, where one has a fault for each stage of
 /// faults, and only then new rows are made.
 pub(super) fn update<A: Allocator + Copy, R: SnapshotReader<A>>(
     alloc: A,

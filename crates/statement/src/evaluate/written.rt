@@ -5,7 +5,7 @@ ghost use Rattle.value.specs.Refusals.{out_of_memory};
 ghost use Rattle.schema.specs.Changing.{AreOfTable};
 ghost use Rattle.schema.specs.Plain.{cells};
 ghost use Rattle.statement.specs.Evaluation.{puts, removes};
-ghost use Rattle.statement.specs.Marks.{references_among, references_of};
+ghost use Rattle.statement.specs.Marks.{have_references, references_among, references_of};
 
 use crate::interval::key_of;
 use crate::outcome::{Mark, Marks, Outcome};
@@ -91,6 +91,13 @@ fn push_references<A: Allocator + Copy>(
     }
 }
 
+/// Whether one of the columns has REFERENCES.
+pub(super) fn have_references<A: Allocator>(columns: &[Column<A>]) -> bool
+    ensures { result ≡ have_references columns.now }
+{
+    columns.iter().any(|column| column.references().is_some())
+}
+
 /// The rows that a statement writes, and the references that they had and have.
 #[derive(Drop)]
 pub(super) struct Written<A: Allocator> {
@@ -129,24 +136,52 @@ impl<A: Allocator + Copy> Written<A> {
         Ok(())
     }
 
-    /// Writes a row over the one of its key.
+    // Adds the references of a row and of the one that is written over it, where columns have any.
+    fn mark(
+        &mut self,
+        alloc: A,
+        table: TableNo,
+        columns: &[Column<A>],
+        marked: bool,
+        before: &Row<A>,
+        after: &Row<A>,
+    ) -> Result<(), Refusal>
+        requires few { length columns.now ≤ 32 }
+        requires marked { marked ≡ have_references columns.now }
+        ensures changes { self.new.changes.items ≡ self.old.changes.items }
+        ensures marks { OnOk result (self.new.marks.items ≡ self.old.marks.items ++
+            references_of table columns.now before.now.0 (Some before.now.1) ++
+            references_of table columns.now after.now.0 (Some after.now.1)) }
+        ensures memory { IfErr result (λ e. e ≡ out_of_memory) }
+    {
+        if !marked {
+            return Ok(());
+        }
+        push_references(alloc, table, columns, before, &mut self.marks)?;
+        push_references(alloc, table, columns, after, &mut self.marks)
+    }
+
+    /// Writes a row over the one of its key. It is told whether columns have REFERENCES.
     pub(super) fn update(
         &mut self,
         alloc: A,
         table: TableNo,
         columns: &[Column<A>],
+        marked: bool,
         before: &Row<A>,
         after: Row<A>,
     ) -> Result<(), Refusal>
-        requires { length columns.now ≤ 32 }
+        requires few { length columns.now ≤ 32 }
+        requires marked { marked ≡ have_references columns.now }
         ensures changes { OnOk result (self.new.changes.items ≡ self.old.changes.items ++ puts table after ∷ []) }
         ensures marks { OnOk result (self.new.marks.items ≡ self.old.marks.items ++
             references_of table columns.now before.now.0 (Some before.now.1) ++
             references_of table columns.now after.0 (Some after.1)) }
         ensures memory { IfErr result (λ e. e ≡ out_of_memory) }
     {
-        push_references(alloc, table, columns, before, &mut self.marks)?;
-        self.insert(alloc, table, columns, after)
+        self.mark(alloc, table, columns, marked, before, &after)?;
+        self.changes.push(Change::of_row(table, after))?;
+        Ok(())
     }
 
     /// Takes a row away.
