@@ -3,3 +3,4 @@ mod FirstLemmas
 mod OverlayLemmas
 mod UnchangedLemmas
 mod MergeLemmas
+mod AheadLemmas

@@ -1,6 +1,6 @@
 -- Rows of a table and changes of their keys, walked side by side.
 -- Source: this project's choice.
-use Rattle.std.specs.Prelude.{Bool, false, if◌then◌else◌, Option, Some, None, [], ◌∷◌}
+use Rattle.std.specs.Prelude.{◌≡◌, ℕ, Bool, false, if◌then◌else◌, Option, Some, None, [], ◌∷◌, slice_get}
 use Rattle.std.specs.Ordering.{is_lt}
 use Rattle.value.specs.declared.key.Key.{Key}
 use Rattle.value.specs.declared.value.Value.{Value}
@@ -8,13 +8,13 @@ use Rattle.value.specs.Order.{value_cmp}
 use Rattle.schema.specs.declared.row.Row.{Row}
 use Rattle.schema.specs.Plain.{same}
 use Rattle.schema.specs.Rows.{Rows}
+use Rattle.schema.specs.Walking.{rows_to_come}
 use Rattle.snapshot.specs.Overlaid.{is_before}
 
 module _ {A : Type 0} where
-  -- a row and those after it; none where there is no first
-  abbrev pub first_and_rest : Option (Row A) → Rows A → Rows A
-  first_and_rest None rest = []
-  first_and_rest (Some row) rest = row ∷ rest
+  -- where no row stands at a place of a batch, none is to come
+  abbrev pub HasFirst : Rows A → Rows A → ℕ → Type 0
+  HasFirst rows batch place = slice_get batch place ≡ None → rows_to_come rows batch place ≡ []
 
   -- the rows behind that of a key, where it is the first; else all
   abbrev pub past_key : Key A → Rows A → Rows A

@@ -1,16 +1,17 @@
 //! A walk over the rows of a table, the first of which is known before it is given.
 
-ghost use Rattle.std.specs.Prelude.{◌≡◌, false, drop, slice_get, OnOk, IfOk, IfErr};
+ghost use Rattle.std.specs.Prelude.{◌≡◌, ◌<◌, false, drop, slice_get, take, OnOk, IfErr};
 ghost use Rattle.std.specs.Option.{option_copied, option_map_or};
 ghost use Rattle.value.specs.Refusals.{out_of_memory};
 ghost use Rattle.schema.specs.Plain.{rows_of, same};
 ghost use Rattle.schema.specs.Rows.{HasTable, IsInKeyOrder, rows_within};
+ghost use Rattle.schema.specs.Walking.{lent};
 ghost use Rattle.snapshot.specs.Merging.{past_key};
 
 use schema::catalog::TableNo;
 use schema::reader::{Bound, SnapshotReader};
 use schema::row::Row;
-use schema::walk::Walk;
+use schema::walk::rows_behind;
 use std::alloc::Allocator;
 use std::marker::Model;
 use value::key::Key;
@@ -20,18 +21,37 @@ use value::refusal::Refusal;
 /// still to come.
 #[derive(Drop)]
 pub(crate) struct Ahead<'r, R: SnapshotReader<A>, A: Allocator> {
-    first: Option<&'r Row<A>>,
-    rest: Walk<'r, R, A>,
+    alloc: A,
+    reader: &'r R,
+    table: TableNo,
+    // The rows that were read at once, of which those before the place are passed.
+    batch: Vec<&'r Row<A>, A>,
+    place: usize,
 }
 
 impl<'r, R: SnapshotReader<A>, A: Allocator> Model for Ahead<'r, R, A> {
-    ghost use Rattle.std.specs.Option.{option_copied};
-    ghost use Rattle.schema.specs.Rows.{Rows};
-    ghost use Rattle.snapshot.specs.Merging.{first_and_rest};
+    ghost use Rattle.schema.specs.Plain.{rows_of};
+    ghost use Rattle.schema.specs.Rows.{Rows, HasTable};
+    ghost use Rattle.schema.specs.Walking.{lent, rows_to_come};
+    ghost use Rattle.snapshot.specs.Merging.{HasFirst};
 
     ghost Value = { Rows A };
 
-    ghost view = { λ a. first_and_rest (option_copied a.first) a.rest };
+    ghost view = { λ a. rows_to_come (rows_of (R.tables a.reader.now) a.table) (lent a.batch.items) a.place };
+
+    // Where no row stands at the place, none is to come.
+    ghost invariant = { λ a. HasTable (R.tables a.reader.now) a.table ×
+        HasFirst (rows_of (R.tables a.reader.now) a.table) (lent a.batch.items) a.place };
+}
+
+// The row at a place of a batch.
+fn row_at<'r, A: Allocator>(batch: &[&'r Row<A>], place: usize) -> Option<&'r Row<A>>
+    ensures { option_copied result ≡ slice_get (lent batch.now) place }
+{
+    match batch.get(place) {
+        Some(row) => Some(*row),
+        None => None,
+    }
 }
 
 // Whether there is a row, of this key.
@@ -45,28 +65,35 @@ fn is_of<A: Allocator>(row: Option<&Row<A>>, key: &Key<A>) -> bool
 }
 
 impl<'r, R: SnapshotReader<A>, A: Allocator + Copy> Ahead<'r, R, A> {
-    /// A walk over the rows within a bound.
-    pub fn within(
+    /// A walk over the rows within a bound, of which the first have been read.
+    pub fn of(
         alloc: A,
         reader: &'r R,
         table: TableNo,
         bound: Bound<&Key<A>>,
-    ) -> Result<Ahead<'r, R, A>, Refusal>
-        requires { HasTable (R.tables reader.now) table }
-        ensures rows { IfOk result (λ rows. rows ≡ rows_within (rows_of (R.tables reader.now) table) bound.entry) }
-        ensures ordered { IsInKeyOrder (rows_of (R.tables reader.now) table) }
-        ensures err { IfErr result (λ e. e ≡ out_of_memory) }
+        most: usize,
+        batch: Vec<&'r Row<A>, A>,
+    ) -> Ahead<'r, R, A>
+        requires some { 0 < most }
+        requires has { HasTable (R.tables reader.now) table }
+        requires ordered { IsInKeyOrder (rows_of (R.tables reader.now) table) }
+        requires read { lent batch.items ≡ take most (rows_within (rows_of (R.tables reader.now) table) bound) }
+        ensures { result ≡ rows_within (rows_of (R.tables reader.now) table) bound.entry }
     {
-        let mut rest = Walk::within(alloc, reader, table, bound)?;
-        let first = rest.next()?;
-        Ok(Ahead { first, rest })
+        Ahead {
+            alloc,
+            reader,
+            table,
+            batch,
+            place: 0,
+        }
     }
 
     /// The first row to come.
     pub fn first(&self) -> Option<&'r Row<A>>
         ensures { option_copied result ≡ slice_get self.now 0 }
     {
-        self.first
+        row_at(self.batch.as_slice(), self.place)
     }
 
     /// Goes past the first row to come.
@@ -74,9 +101,18 @@ impl<'r, R: SnapshotReader<A>, A: Allocator + Copy> Ahead<'r, R, A> {
         ensures ok { OnOk result (self.new ≡ drop 1 self.old) }
         ensures err { IfErr result (λ e. e ≡ out_of_memory) }
     {
-        if self.first.is_some() {
-            self.first = self.rest.next()?;
+        let count = self.batch.len();
+        if self.place >= count {
+            return Ok(());
         }
+        let next = self.place + 1;
+        if next < count {
+            self.place = next;
+            return Ok(());
+        }
+        let batch = rows_behind(self.alloc, self.reader, self.table, self.batch.as_slice())?;
+        self.batch = batch;
+        self.place = 0;
         Ok(())
     }
 
@@ -85,7 +121,7 @@ impl<'r, R: SnapshotReader<A>, A: Allocator + Copy> Ahead<'r, R, A> {
         ensures ok { OnOk result (self.new ≡ past_key key.now self.old) }
         ensures err { IfErr result (λ e. e ≡ out_of_memory) }
     {
-        if is_of(self.first, key) {
+        if is_of(self.first(), key) {
             self.step()?;
         }
         Ok(())

@@ -232,15 +232,21 @@ impl<'a, R: SnapshotReader<A>, A: Allocator + Copy> Overlay<'a, R, A> {
         }
     }
 
-    // The first rows within a bound, so many at most, by a walk of the rows and the changes side by side.
+    // The first rows within a bound, so many at most, by a walk of the rows and the changes side by side. So many rows have
+    // been read.
     fn merge_rows(
         &self,
         alloc: A,
         table: TableNo,
         after: Bound<&Key<A>>,
         most: usize,
+        batch: Vec<&'a Row<A>, A>,
     ) -> Result<Vec<&'a Row<A>, A>, Refusal>
-        requires { HasTable (put_all self.now.changes.now (R.tables self.now.reader.now)) table }
+        requires has { HasTable (put_all self.now.changes.now (R.tables self.now.reader.now)) table }
+        requires some { 0 < most }
+        requires sorted { IsInKeyOrder (rows_of (R.tables self.now.reader.now) table) }
+        requires read { lent batch.items ≡ take most (rows_within (rows_of (R.tables self.now.reader.now) table)
+            after) }
         ensures rows { IfOk result (λ rows. lent rows.items ≡ take most (rows_within
             (rows_with self.now.changes.now (R.tables self.now.reader.now) table) after.entry)) }
         ensures ordered { IsInKeyOrder (rows_with self.now.changes.now (R.tables self.now.reader.now) table) }
@@ -248,7 +254,7 @@ impl<'a, R: SnapshotReader<A>, A: Allocator + Copy> Overlay<'a, R, A> {
     {
         self.changes.in_key_order(table);
         let mut rows = Vec::new(alloc);
-        let mut ahead = Ahead::within(alloc, self.reader, table, after)?;
+        let mut ahead = Ahead::of(alloc, self.reader, table, after, most, batch);
         let mut coming = self.changes.walk(table, after);
         let mut change = coming.next();
         'both: while rows.len() < most {
@@ -284,10 +290,13 @@ impl<'a, R: SnapshotReader<A>, A: Allocator + Copy> Overlay<'a, R, A> {
     {
         self.changes.in_key_order(table);
         let rows = self.reader.next_rows(alloc, table, after, most)?;
+        if most == 0 {
+            return Ok(rows);
+        }
         if rows.len() == most && self.are_before_changes(table, after, rows.as_slice()) {
             Ok(rows)
         } else {
-            self.merge_rows(alloc, table, after, most)
+            self.merge_rows(alloc, table, after, most, rows)
         }
     }
 

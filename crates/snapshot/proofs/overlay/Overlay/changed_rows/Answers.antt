@@ -30,3 +30,6 @@ returns-then-are_before_changes-clause-rows g c =
     ∙ sym c.are_before_changes.ensures
     ∙ c.if-are_before_changes.true in
     all_before xs X c.args.table c.args.after within c.in_key_order.ensures c.next_rows.ensures.ordered c.args.most c.args.after (lent c.in_ok-rows.rows.items) c.in_ok-rows.ensures.rows many before
+
+pub returns-then-most-eq0-clause-ordered : goal.returns-then-most-eq0-clause-ordered
+returns-then-most-eq0-clause-ordered g c = put_all-in_order c.args.self.now.changes.now (g.R.SnapshotReader.tables c.args.self.now.reader.now) c.args.table (omega (arith, c.requires, length-put_all c.args.self.now.changes.now (g.R.SnapshotReader.tables c.args.self.now.reader.now))) c.next_rows.ensures.ordered
