@@ -5,10 +5,12 @@ pub mod HeldLemmas
 pub mod JoinedLemmas
 pub mod KeptLemmas
 pub mod LeavesLemmas
+mod NearLemmas
 pub mod NewestLemmas
 pub mod PageLemmas
 pub mod PruningLemmas
 pub mod ReadLemmas
+pub mod ReplacingLemmas
 pub mod SettledPageLemmas
 pub mod SettledTablesLemmas
 pub mod SettlingLemmas

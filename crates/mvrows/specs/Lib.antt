@@ -8,6 +8,7 @@ pub mod Kept
 pub mod Laws
 pub mod Owned
 pub mod Pruning
+pub mod Replacing
 pub mod Settling
 pub mod SharedTable
 pub mod Stored

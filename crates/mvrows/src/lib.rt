@@ -8,6 +8,7 @@ pub mod laws;
 mod leaf;
 mod owned;
 mod page;
+mod replaced;
 pub mod rows;
 mod shared;
 mod table;

@@ -1,8 +1,8 @@
 //! Keys with their versions, side by side: what views share of a table.
 
-ghost use Rattle.std.specs.Prelude.{◌≡◌, ◌≤◌, ◌++◌, ◌∷◌, [], true, false, is_some, if◌then◌else◌, length, take, drop, slice_get, map, filter, find, OnOk, OnErr, IfOk, IfErr, IfSome, IsTrue};
+ghost use Rattle.std.specs.Prelude.{◌≡◌, ◌≤◌, ◌+◌, ◌<◌, ◌++◌, ◌∷◌, [], true, false, is_some, if◌then◌else◌, length, take, drop, slice_get, map, filter, find, OnOk, OnErr, IfOk, IfErr, IfSome, IsTrue};
 ghost use Rattle.std.specs.List.{AllByRecursion};
-ghost use Rattle.std.specs.Option.{option_copied};
+ghost use Rattle.std.specs.Option.{option_copied, option_map_or};
 ghost use Rattle.std.specs.Ordering.{is_le};
 ghost use Rattle.value.specs.Order.{value_cmp};
 ghost use Rattle.value.specs.Refusals.{out_of_memory};
@@ -12,6 +12,7 @@ ghost use Rattle.schema.specs.Walking.{lent};
 ghost use Rattle.mvrows.specs.Versions.{IsInOrder, shown_row, shown_rows};
 ghost use Rattle.mvrows.specs.Installing.{put_version, opened_row, first_version};
 ghost use Rattle.mvrows.specs.Pruning.{pruned_key, has_version, pruned_rows};
+ghost use Rattle.mvrows.specs.Replacing.{replaced, left};
 ghost use Rattle.mvrows.specs.Settling.{settle_key};
 ghost use Rattle.mvrows.specs.TakenBack.{was_there, taken_back, rows_before};
 ghost use Rattle.mvrows.specs.HeldRows.{has_keys};
@@ -20,6 +21,7 @@ ghost use Rattle.mvrows.specs.Whole.{IsNewestRow, IsWhole};
 
 use crate::chain::Chain;
 use crate::owned::Copied;
+use crate::replaced::Replacing;
 use schema::catalog::TableNo;
 use schema::changes::Change;
 use schema::paged::{self, is_at, start};
@@ -40,6 +42,8 @@ const MOST_KEYS: usize = 64;
 #[derive_where(Debug)]
 pub(crate) struct Page<A: Allocator = Global> {
     chains: Vec<Chain<A>, A>,
+    // Where a key was found last.
+    near: usize,
 }
 
 impl<A: Allocator> Model for Page<A> {
@@ -58,6 +62,7 @@ impl<A: Allocator + Copy> Copied<A> for Page<A> {
     fn new(alloc: A) -> Page<A> {
         Page {
             chains: Vec::new(alloc),
+            near: 0,
         }
     }
 
@@ -66,7 +71,7 @@ impl<A: Allocator + Copy> Copied<A> for Page<A> {
         for chain in &self.chains {
             chains.push(chain.copy(alloc)?)?;
         }
-        Ok(Page { chains })
+        Ok(Page { chains, near: 0 })
     }
 }
 
@@ -187,6 +192,42 @@ fn drop_empty<A: Allocator>(chains: &mut Vec<Chain<A>, A>)
     ensures { chains.new.items ≡ filter has_version chains.old.items }
 {
     chains.retain(|chain| chain.has_version());
+}
+
+// Whether a key stands right behind a place.
+fn is_behind<A: Allocator>(chains: &[Chain<A>], place: usize, key: &Key<A>) -> bool
+    ensures at { IsTrue result → option_map_or (λ k. same key.now k.key) (slice_get chains.now (place + 1)) false ≡ true }
+    ensures range { IsTrue result → place < length chains.now }
+{
+    place < chains.len() && is_at(chains, place + 1, key.value())
+}
+
+// The place of the first key that isn't below one, asked for first at a place.
+fn place_from<A: Allocator>(chains: &[Chain<A>], place: usize, key: &Key<A>) -> usize
+    requires { IsInOrder chains.now }
+    ensures within_length { result ≤ length chains.now }
+    ensures before { AllByRecursion (λ k. is_le (value_cmp key.now k.key) ≡ false) (take result chains.now) }
+    ensures within { AllByRecursion (λ k. is_le (value_cmp key.now k.key) ≡ true) (drop result chains.now) }
+{
+    if is_at(chains, place, key.value()) {
+        place
+    } else {
+        start(chains, Bound::From(key.value()))
+    }
+}
+
+// The place of the first key that isn't below one, asked for first behind a place, then there: keys mostly come in order.
+fn place_near<A: Allocator>(chains: &[Chain<A>], near: usize, key: &Key<A>) -> usize
+    requires { IsInOrder chains.now }
+    ensures within_length { result ≤ length chains.now }
+    ensures before { AllByRecursion (λ k. is_le (value_cmp key.now k.key) ≡ false) (take result chains.now) }
+    ensures within { AllByRecursion (λ k. is_le (value_cmp key.now k.key) ≡ true) (drop result chains.now) }
+{
+    if is_behind(chains, near, key) {
+        near + 1
+    } else {
+        place_from(chains, near, key)
+    }
 }
 
 // Puts in a newer version of a change's key at its place.
@@ -320,11 +361,20 @@ impl<A: Allocator> Page<A> {
         self.chains.len() >= MOST_KEYS
     }
 
+    // Where a key belongs, asked for first near the one that was found last.
+    fn place(&self, key: &Key<A>) -> usize
+        ensures within_length { result ≤ length self.now }
+        ensures before { AllByRecursion (λ k. is_le (value_cmp key.now k.key) ≡ false) (take result self.now) }
+        ensures within { AllByRecursion (λ k. is_le (value_cmp key.now k.key) ≡ true) (drop result self.now) }
+    {
+        place_near(self.chains.as_slice(), self.near, key)
+    }
+
     /// Whether a key would be one too many.
     pub fn needs_room(&self, key: &Key<A>) -> bool
         ensures { IsTrue result → 2 ≤ length self.now }
     {
-        self.is_full() && self.find(key).is_none()
+        self.is_full() && !is_at(self.chains.as_slice(), self.place(key), key.value())
     }
 
     /// Puts in a row of the opening, whose key is above all.
@@ -346,7 +396,8 @@ impl<A: Allocator> Page<A> {
         ensures err { OnErr result (self.new ≡ self.old) }
         ensures memory { IfErr result (λ e. e ≡ out_of_memory) }
     {
-        let place = start(self.chains.as_slice(), Bound::From(change.key().value()));
+        let place = self.place(change.key());
+        self.near = place;
         put(alloc, &mut self.chains, place, number, change)
     }
 
@@ -360,7 +411,30 @@ impl<A: Allocator> Page<A> {
     {
         let mut chains = Vec::new(alloc);
         chains.push(Chain::of(alloc, number, change)?)?;
-        Ok(Page { chains })
+        Ok(Page { chains, near: 0 })
+    }
+
+    /// Another page of the same keys, with the rows of changes from a place on, each of which comes to its key in turn.
+    pub fn replaced(
+        &self,
+        alloc: A,
+        replacing: Replacing,
+        changes: &[Change<A>],
+        place: &mut usize,
+    ) -> Result<Page<A>, Refusal>
+    where
+        A: Copy,
+        ensures page { IfOk result (λ page. page ≡
+            replaced replacing.table replacing.number (drop place.old changes.now) self.now) }
+        ensures place { OnOk result (drop place.new changes.now ≡
+            left replacing.table (drop place.old changes.now) self.now) }
+        ensures err { IfErr result (λ e. e ≡ out_of_memory) }
+    {
+        let mut chains = Vec::with_capacity(alloc, self.chains.len())?;
+        for chain in &self.chains {
+            chains.push(replacing.key(alloc, changes, place, chain)?)?;
+        }
+        Ok(Page { chains, near: 0 })
     }
 
     /// Moves the upper half of the keys out.
@@ -374,7 +448,7 @@ impl<A: Allocator> Page<A> {
         ensures memory { IfErr result (λ e. e ≡ out_of_memory) }
     {
         let chains = paged::cut(&mut self.chains)?;
-        Ok(Page { chains })
+        Ok(Page { chains, near: 0 })
     }
 
     /// Whether a pruning leaves it as it is.
@@ -403,7 +477,8 @@ impl<A: Allocator> Page<A> {
     pub fn settle(&mut self, oldest: u64, snapshots: &[u64], key: &Key<A>)
         ensures { self.new ≡ settle_key (record { oldest = oldest; snapshots = snapshots.now }) key.now self.old }
     {
-        let place = start(self.chains.as_slice(), Bound::From(key.value()));
+        let place = self.place(key);
+        self.near = place;
         settle(&mut self.chains, place, oldest, snapshots, key);
     }
 

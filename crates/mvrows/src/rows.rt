@@ -1,6 +1,6 @@
 //! The tables with their versions.
 
-ghost use Rattle.std.specs.Prelude.{List, [], ◌∷◌, ◌≡◌, ◌≤◌, ◌<◌, ◌^◌, length, map, OnOk, OnErr, IfOk, IfErr};
+ghost use Rattle.std.specs.Prelude.{ℕ, List, [], ◌∷◌, ◌≡◌, ◌≤◌, ◌<◌, ◌^◌, length, map, slice_set, OnSome, OnOk, OnErr, IfOk, IfErr, IfSome};
 ghost use Rattle.std.specs.List.{AllByRecursion};
 ghost use Rattle.value.specs.Refusals.{out_of_memory};
 ghost use Rattle.mvrows.specs.Versions.{TablesAreBelow, newest as last_commit, newest_in, shown, versions_of};
@@ -11,7 +11,8 @@ ghost use Rattle.mvrows.specs.Fresh.{AreFresh};
 ghost use Rattle.mvrows.specs.HeldRows.{rows_in, rows_held, undone_in, AreUndoable, own_pruned_in, AreVersioned};
 
 use crate::at::At;
-use crate::shared::SharedTable;
+use crate::replaced::Replacing;
+use crate::shared::{SharedTable, lend_all};
 use crate::table::Table;
 use crate::view::View;
 use schema::catalog::{Catalog, TableNo};
@@ -120,6 +121,52 @@ fn put_all<A: Allocator + Copy>(
         put_change(alloc, tables, commit, change)?;
     }
     Ok(())
+}
+
+// The table of the first of many changes, where no version below a commit may be read.
+fn table_of_many<A: Allocator>(snapshots: &[u64], changes: &[Change<A>]) -> Option<TableNo>
+    ensures { OnSome result (snapshots.now ≡ []) }
+{
+    if !snapshots.is_empty() || changes.len() < MANY_CHANGES {
+        return None;
+    }
+    match changes.first() {
+        Some(change) => Some(change.table()),
+        None => None,
+    }
+}
+
+// A table with the rows of a commit in the place of all versions of their keys, and its place: where no version below may
+// be read, and the changes are of most of the keys of that one table.
+fn replaced_table<A: Allocator + Copy>(
+    alloc: A,
+    tables: &[SharedTable<A>],
+    snapshots: &[u64],
+    commit: u64,
+    changes: &[Change<A>],
+) -> Result<Option<(usize, SharedTable<A>)>, Refusal>
+    ensures within { IfOk result (λ made. IfSome made (λ p. p.0 < length tables.now)) }
+    ensures rows { IfOk result (λ made. IfSome made (λ p. (oldest : ℕ) → rows_held (slice_set tables.now p.0 p.1) ≡
+        settled (record { oldest = oldest; snapshots = snapshots.now }) changes.now
+        (installed commit changes.now (rows_held tables.now)))) }
+    ensures err { IfErr result (λ e. e ≡ out_of_memory) }
+{
+    let Some(table) = table_of_many(snapshots, changes) else {
+        return Ok(None);
+    };
+    let place = table.place() as usize;
+    if place >= tables.len() {
+        return Ok(None);
+    }
+    let replacing = Replacing {
+        number: commit,
+        table,
+    };
+    let before = &tables[place];
+    match before.replaced(alloc, replacing, changes)? {
+        Some(made) => Ok(Some((place, made))),
+        None => Ok(None),
+    }
 }
 
 // Takes back the versions of a commit that wasn't finished.
@@ -318,10 +365,8 @@ impl<A: Allocator> Rows<A> {
         Ok(Rows { tables: opening })
     }
 
-    /// Installs the changes of a commit, whose number is above all before. Of the versions of their keys
-    /// it leaves the newest, and those that snapshots show which may still be read: none below the oldest,
-    /// and below that commit these alone. Views stay as they are.
-    pub fn install(
+    // Installs the changes of a commit one after another.
+    fn install_each(
         &mut self,
         alloc: A,
         oldest: u64,
@@ -348,6 +393,35 @@ impl<A: Allocator> Rows<A> {
                 share_all(alloc, &mut self.tables);
                 Err(refusal)
             }
+        }
+    }
+
+    /// Installs the changes of a commit, whose number is above all before. Of the versions of their keys
+    /// it leaves the newest, and those that snapshots show which may still be read: none below the oldest,
+    /// and below that commit these alone. Views stay as they are.
+    pub fn install(
+        &mut self,
+        alloc: A,
+        oldest: u64,
+        snapshots: &[u64],
+        commit: u64,
+        changes: &[Change<A>],
+    ) -> Result<(), Refusal>
+    where
+        A: Copy,
+        requires { TablesAreBelow commit self.old }
+        ensures ok { OnOk result (self.new ≡ settled (record { oldest = oldest; snapshots = snapshots.now })
+            changes.now (installed commit changes.now self.old)) }
+        ensures err { OnErr result (self.new ≡ self.old) }
+        ensures memory { IfErr result (λ e. e ≡ out_of_memory) }
+    {
+        match replaced_table(alloc, self.tables.as_slice(), snapshots, commit, changes)? {
+            Some((place, table)) => {
+                self.tables[place] = table;
+                share_written(alloc, &mut self.tables, changes);
+                Ok(())
+            }
+            None => self.install_each(alloc, oldest, snapshots, commit, changes),
         }
     }
 
@@ -427,10 +501,18 @@ impl<A: Allocator> Rows<A> {
         ensures ok { IfOk result (λ v. v ≡ shown snapshot self.now) }
         ensures err { IfErr result (λ e. e ≡ out_of_memory) }
     {
-        let mut tables = Vec::with_capacity(alloc, self.tables.len())?;
-        for table in &self.tables {
-            tables.push(table.lend(alloc)?)?;
-        }
+        let tables = lend_all(alloc, self.tables.as_slice())?;
         Ok(View::at(tables, snapshot))
+    }
+
+    /// The same tables and versions, by pages that are shared: no row is copied.
+    pub fn copy(&self, alloc: A) -> Result<Rows<A>, Refusal>
+    where
+        A: Copy,
+        ensures ok { IfOk result (λ r. r ≡ self.now) }
+        ensures err { IfErr result (λ e. e ≡ out_of_memory) }
+    {
+        let tables = lend_all(alloc, self.tables.as_slice())?;
+        Ok(Rows { tables })
     }
 }

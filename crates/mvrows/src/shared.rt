@@ -1,16 +1,19 @@
 //! A table that views may share whole, with all its pages.
 
-ghost use Rattle.std.specs.Prelude.{ℕ, ◌≡◌, OnOk, OnErr, IfOk, IfErr};
+ghost use Rattle.std.specs.Prelude.{ℕ, ◌≡◌, [], OnSome, OnOk, OnErr, IfOk, IfErr, IfSome};
 ghost use Rattle.value.specs.Refusals.{out_of_memory};
 ghost use Rattle.value.specs.declared.value.Value.{Value};
+ghost use Rattle.mvrows.specs.Versions.{IsInOrder};
 ghost use Rattle.mvrows.specs.Installing.{put_version};
 ghost use Rattle.mvrows.specs.Pruning.{pruned_rows};
 ghost use Rattle.mvrows.specs.Fresh.{IsFresh, IsFreshIn};
+ghost use Rattle.mvrows.specs.Replacing.{replaced, left};
 ghost use Rattle.mvrows.specs.Settling.{settle_key};
-ghost use Rattle.mvrows.specs.HeldRows.{rows_in, undone_in, AreUndoable, own_pruned_in, AllVersioned};
+ghost use Rattle.mvrows.specs.HeldRows.{rows_held, rows_in, undone_in, AreUndoable, own_pruned_in, AllVersioned};
 ghost use Rattle.mvrows.specs.SharedTable.{held_table};
 
 use crate::owned::Owned;
+use crate::replaced::Replacing;
 use crate::table::Table;
 use schema::changes::Change;
 use std::alloc::{Allocator, Global};
@@ -70,6 +73,30 @@ impl<A: Allocator> SharedTable<A> {
         let put = table.put(alloc, commit, change);
         self.table = Owned::Own(table);
         put
+    }
+
+    /// Another table of the same keys, with the rows of changes. Nothing, where they aren't changes of most of its keys,
+    /// each a row of this table, by rising keys.
+    pub fn replaced(
+        &self,
+        alloc: A,
+        replacing: Replacing,
+        changes: &[Change<A>],
+    ) -> Result<Option<SharedTable<A>>, Refusal>
+    where
+        A: Copy,
+        ensures rows { IfOk result (λ made. IfSome made (λ table. rows_in table ≡
+            replaced replacing.table replacing.number changes.now (rows_in self.now))) }
+        ensures left { IfOk result (λ made. OnSome made (left replacing.table changes.now (rows_in self.now) ≡ [])) }
+        ensures order { IsInOrder (rows_in self.now) }
+        ensures err { IfErr result (λ e. e ≡ out_of_memory) }
+    {
+        let table = self.table();
+        table.in_order();
+        match table.replaced(alloc, replacing, changes)? {
+            Some(made) => Ok(Some(SharedTable::of(made))),
+            None => Ok(None),
+        }
     }
 
     /// Takes back the versions of a commit that wasn't finished.
@@ -164,4 +191,19 @@ impl<A: Allocator> SharedTable<A> {
         let table = self.table.lend(alloc)?;
         Ok(SharedTable { table })
     }
+}
+
+/// A share of each table.
+pub(crate) fn lend_all<A: Allocator + Copy>(
+    alloc: A,
+    tables: &[SharedTable<A>],
+) -> Result<Vec<SharedTable<A>, A>, Refusal>
+    ensures ok { IfOk result (λ lent. rows_held lent.items ≡ rows_held tables.now) }
+    ensures err { IfErr result (λ e. e ≡ out_of_memory) }
+{
+    let mut lent = Vec::with_capacity(alloc, tables.len())?;
+    for table in tables {
+        lent.push(table.lend(alloc)?)?;
+    }
+    Ok(lent)
 }

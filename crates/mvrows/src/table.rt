@@ -1,6 +1,6 @@
 //! The pages of a table, in key order.
 
-ghost use Rattle.std.specs.Prelude.{ℕ, ◌≡◌, ◌≤◌, ◌<◌, ◌+◌, ◌++◌, [], true, false, length, take, map, filter, find, slice_index_or, slice_set, OnOk, OnErr, IfOk, IfErr, IfSome, IsTrue};
+ghost use Rattle.std.specs.Prelude.{ℕ, ◌≡◌, ◌≤◌, ◌<◌, ◌+◌, ◌++◌, [], true, false, length, take, drop, map, filter, find, slice_index_or, slice_set, OnSome, OnOk, OnErr, IfOk, IfErr, IfSome, IsTrue};
 ghost use Rattle.std.specs.List.{AllByRecursion};
 ghost use Rattle.std.specs.Option.{option_copied};
 ghost use Rattle.value.specs.Refusals.{out_of_memory};
@@ -13,6 +13,7 @@ ghost use Rattle.mvrows.specs.Installing.{opened_row, put_version};
 ghost use Rattle.mvrows.specs.Pruning.{pruned_rows};
 ghost use Rattle.mvrows.specs.Copied.{with_rows};
 ghost use Rattle.mvrows.specs.Fresh.{IsFresh, IsFreshIn};
+ghost use Rattle.mvrows.specs.Replacing.{replaced, left};
 ghost use Rattle.mvrows.specs.Settling.{settle_key};
 ghost use Rattle.mvrows.specs.HeldRows.{pages_of, rows_in, has_keys, AreLaidOut, undone, undone_in, AreUndoable, own_pruned, own_pruned_in, AllVersioned};
 
@@ -20,6 +21,7 @@ use crate::chain::Chain;
 use crate::leaf::Leaf;
 use crate::owned::Copied;
 use crate::page::Page;
+use crate::replaced::Replacing;
 use schema::catalog::TableNo;
 use schema::changes::Change;
 use schema::paged::{find_among, first_page, place_near};
@@ -32,6 +34,9 @@ use std::marker::Model;
 use value::key::Key;
 use value::refusal::Refusal;
 use value::value::Value;
+
+/// Half of the keys that a page has at most.
+const HALF_OF_PAGE: usize = 32;
 
 /// The keys of a table with their versions, page by page.
 #[derive(Drop)]
@@ -339,6 +344,49 @@ fn put_more<A: Allocator + Copy>(
     put(alloc, leaves, place, commit, change)
 }
 
+// A page with the rows of changes from a place on, which views can share.
+fn replaced_page<A: Allocator + Copy>(
+    alloc: A,
+    leaf: &Leaf<A>,
+    replacing: Replacing,
+    changes: &[Change<A>],
+    place: &mut usize,
+) -> Result<Leaf<A>, Refusal>
+    ensures page { IfOk result (λ made. made.rows ≡
+        replaced replacing.table replacing.number (drop place.old changes.now) leaf.now.rows) }
+    ensures place { OnOk result (drop place.new changes.now ≡
+        left replacing.table (drop place.old changes.now) leaf.now.rows) }
+    ensures err { IfErr result (λ e. e ≡ out_of_memory) }
+{
+    let page = leaf.page().replaced(alloc, replacing, changes, place)?;
+    let mut made = Leaf::of(page);
+    made.share(alloc);
+    Ok(made)
+}
+
+// Pages with the rows of changes from a place on.
+fn replaced_pages<A: Allocator + Copy>(
+    alloc: A,
+    leaves: &[Leaf<A>],
+    replacing: Replacing,
+    changes: &[Change<A>],
+    place: &mut usize,
+) -> Result<Vec<Leaf<A>, A>, Refusal>
+    requires { AreLaidOut leaves.now }
+    ensures rows { IfOk result (λ made. rows_in made.items ≡
+        replaced replacing.table replacing.number (drop place.old changes.now) (rows_in leaves.now)) }
+    ensures laid_out { IfOk result (λ made. AreLaidOut made.items) }
+    ensures place { OnOk result (drop place.new changes.now ≡
+        left replacing.table (drop place.old changes.now) (rows_in leaves.now)) }
+    ensures err { IfErr result (λ e. e ≡ out_of_memory) }
+{
+    let mut made = Vec::with_capacity(alloc, leaves.len())?;
+    for leaf in leaves {
+        made.push(replaced_page(alloc, leaf, replacing, changes, place)?)?;
+    }
+    Ok(made)
+}
+
 // Takes back the versions of a commit that wasn't finished, page by page.
 fn take_all_back<A: Allocator>(leaves: &mut Vec<Leaf<A>, A>, commit: u64)
     ensures { pages_of leaves.new.items ≡ map (undone commit) leaves.old.items }
@@ -561,6 +609,46 @@ impl<A: Allocator> Table<A> {
         } else {
             put_more(alloc, &mut self.leaves, &mut self.near, commit, change)
         }
+    }
+
+    // Whether changes are those of most of the keys: the last of them is of one.
+    fn has_most_of(&self, changes: &[Change<A>]) -> bool {
+        let Some(last) = changes.last() else {
+            return false;
+        };
+        self.leaves.len() <= changes.len() / HALF_OF_PAGE && self.find(last.key()).is_some()
+    }
+
+    /// Another table of the same keys, with the rows of changes. Nothing, where they aren't changes of most of its keys,
+    /// each a row of this table, by rising keys.
+    pub fn replaced(
+        &self,
+        alloc: A,
+        replacing: Replacing,
+        changes: &[Change<A>],
+    ) -> Result<Option<Table<A>>, Refusal>
+    where
+        A: Copy,
+        ensures rows { IfOk result (λ made. IfSome made (λ table. rows_in table ≡
+            replaced replacing.table replacing.number changes.now (rows_in self.now))) }
+        ensures left { IfOk result (λ made. OnSome made (left replacing.table changes.now (rows_in self.now) ≡ [])) }
+        ensures err { IfErr result (λ e. e ≡ out_of_memory) }
+    {
+        if !self.has_most_of(changes) {
+            return Ok(None);
+        }
+        let mut place = 0;
+        let leaves = replaced_pages(
+            alloc,
+            self.leaves.as_slice(),
+            replacing,
+            changes,
+            &mut place,
+        )?;
+        if place < changes.len() {
+            return Ok(None);
+        }
+        Ok(Some(Table { leaves, near: 0 }))
     }
 
     /// Takes back the versions of a commit that wasn't finished.

@@ -10,7 +10,7 @@ ghost use Rattle.mvrows.specs.Versions.{shown, shown_rows};
 ghost use Rattle.mvrows.specs.HeldRows.{rows_in, rows_held};
 
 use crate::rows::copy_all_shown;
-use crate::shared::SharedTable;
+use crate::shared::{SharedTable, lend_all};
 use crate::table::Table;
 use schema::catalog::{Catalog, TableNo};
 use schema::reader::{Bound, SnapshotReader};
@@ -106,6 +106,18 @@ impl<A: Allocator> View<A> {
 }
 
 impl<A: Allocator> View<A> {
+    /// The same tables, by pages that are shared: no row is copied.
+    pub fn copy(&self, alloc: A) -> Result<View<A>, Refusal>
+    where
+        A: Copy,
+        ensures ok { IfOk result (λ v. v ≡ self.now) }
+        ensures err { IfErr result (λ e. e ≡ out_of_memory) }
+    {
+        let versions = &self.versions;
+        let tables = lend_all(alloc, versions.tables.as_slice())?;
+        Ok(View::at(tables, versions.snapshot))
+    }
+
     /// The tables, copied.
     pub fn tables(&self, alloc: A, catalog: &Catalog<A>) -> Result<Tables<A>, Refusal>
     where

@@ -1,10 +1,13 @@
-use Rattle.std.proofs.Common.{subst, length, ◌<◌, ◌∙◌}
+use Rattle.std.proofs.Common.{sym, subst, length, ◌<◌, ◌∙◌}
 use Rattle.value.proofs.Basics.{all-get, all-set}
 use Rattle.schema.proofs.PagedLemmas.{placed, same-in, answered-ok, answered-err, answered-laid_out}
-use Rattle.mvrows.specs.HeldRows.{chain_key, undone, IsUndoable}
+use Rattle.mvrows.specs.HeldRows.{chain_key, undone, AreLaidOut, IsUndoable}
 use Rattle.mvrows.proofs.JoinedLemmas.{put-local, put-has_keys}
 use Rattle.mvrows.proofs.LeavesLemmas.{versioned-page}
 use Rattle.mvrows.proofs.table.put.Goals as goal
+
+pub place_near-place-requires-clause-laid_out : goal.place_near-place-requires-clause-laid_out
+place_near-place-requires-clause-laid_out g c = subst AreLaidOut (sym c.as_slice.ensures.value) c.requires.laid_out
 
 pub returns-clause-ok : goal.returns-clause-ok
 returns-clause-ok g c =

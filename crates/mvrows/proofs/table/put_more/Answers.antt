@@ -1,8 +1,11 @@
 use Rattle.std.proofs.Common.{ap, sym, subst, ◌∙◌}
 use Rattle.std.proofs.lemmas.Result.{on_ok_weaker, on_err_weaker}
 use Rattle.mvrows.specs.Installing.{put_version}
-use Rattle.mvrows.specs.HeldRows.{AllVersioned}
+use Rattle.mvrows.specs.HeldRows.{AllVersioned, AreLaidOut}
 use Rattle.mvrows.proofs.table.put_more.Goals as goal
+
+pub place_near-place-requires-clause-laid_out : goal.place_near-place-requires-clause-laid_out
+place_near-place-requires-clause-laid_out g c = subst AreLaidOut (sym c.as_slice.ensures.value) c.requires.laid_out
 
 pub returns-clause-ok : goal.returns-clause-ok
 returns-clause-ok g c =

@@ -7,14 +7,10 @@ use Rattle.mvrows.proofs.SettlingLemmas.{settle-in_order}
 use Rattle.mvrows.proofs.page.Page.settle.Goals as goal
 
 pub settle-requires-clause-before : goal.settle-requires-clause-before
-settle-requires-clause-before g c =
-    subst (λ ks. AllByRecursion (λ (k : KeyVersions _). is_le (value_cmp c.args.key.now k.key) ≡ false) (take c.start-place.result ks)) c.as_slice.ensures.value
-    (subst (λ x. AllByRecursion (λ (k : KeyVersions _). is_le (value_cmp x k.key) ≡ false) (take c.start-place.result c.as_slice.result.now)) c.value.ensures.value c.start-place.ensures.before)
+settle-requires-clause-before g c = subst (λ ks. AllByRecursion (λ (k : KeyVersions _). is_le (value_cmp c.args.key.now k.key) ≡ false) (take c.place-place.result ks)) (sym c.self.view_is) c.place-place.ensures.before
 
 pub settle-requires-clause-within : goal.settle-requires-clause-within
-settle-requires-clause-within g c =
-    subst (λ ks. AllByRecursion (λ (k : KeyVersions _). is_le (value_cmp c.args.key.now k.key) ≡ true) (drop c.start-place.result ks)) c.as_slice.ensures.value
-    (subst (λ x. AllByRecursion (λ (k : KeyVersions _). is_le (value_cmp x k.key) ≡ true) (drop c.start-place.result c.as_slice.result.now)) c.value.ensures.value c.start-place.ensures.within)
+settle-requires-clause-within g c = subst (λ ks. AllByRecursion (λ (k : KeyVersions _). is_le (value_cmp c.args.key.now k.key) ≡ true) (drop c.place-place.result ks)) (sym c.self.view_is) c.place-place.ensures.within
 
 pub invariant_of-self : goal.invariant_of-self
 invariant_of-self g c = subst IsInOrder (sym c.settle.ensures) (settle-in_order (record { oldest = c.args.oldest; snapshots = c.args.snapshots.now }) c.args.key.now c.self.inside.chains.items c.self.invariant)

@@ -1,7 +1,7 @@
 use Rattle.std.proofs.Common.{◌≡◌, take}
 use Rattle.mvrows.specs.HeldRows.{rows_held}
-use Rattle.mvrows.proofs.rows.Rows.view.Given as goal
+use Rattle.mvrows.proofs.shared.lend_all.Given as goal
 
 -- the tables so far
 abbrev pub invariant-loop-table : goal.invariant-loop-table
-invariant-loop-table g l = rows_held l.tables.items ≡ rows_held (take l.table-index l.table-items)
+invariant-loop-table g l = rows_held l.lent.items ≡ rows_held (take l.table-index l.tables)
