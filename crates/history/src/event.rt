@@ -1,6 +1,7 @@
 //! What sessions ask for.
 
 ghost use Rattle.std.specs.Prelude.{◌≡◌, ◌≢◌, IfOk, IfErr};
+ghost use Rattle.value.specs.Refusals.{out_of_memory};
 ghost use Rattle.history.specs.declared.event.Action.TheVariants.{Run};
 ghost use Rattle.statement.specs.declared.statement.Statement.{Statement};
 
@@ -51,6 +52,26 @@ impl<A: Allocator> Drop for Action<A> {
 }
 
 impl<A: Allocator> Action<A> {
+    /// An equal action. Out of memory is the only refusal.
+    pub fn copy(&self, alloc: A) -> Result<Action<A>, Refusal>
+    where
+        A: Copy,
+        ensures ok { IfOk result (λ copy. copy ≡ self.now) }
+        ensures err { IfErr result (λ e. e ≡ out_of_memory) }
+    {
+        Ok(match self {
+            Action::Begin(mode) => Action::Begin(*mode),
+            Action::Run(statement) => Action::Run(statement.copy(alloc)?),
+            Action::Broken(refusal) => Action::Broken(*refusal),
+            Action::Poll => Action::Poll,
+            Action::Export => Action::Export,
+            Action::Import(identifier) => Action::Import(*identifier),
+            Action::Commit => Action::Commit,
+            Action::Rollback => Action::Rollback,
+            Action::Prune => Action::Prune,
+        })
+    }
+
     /// The statement that is run; any other action comes back.
     pub fn into_statement(self) -> Result<Statement<A>, Action<A>>
         ensures ok { IfOk result (λ statement. self ≡ Run statement) }
@@ -84,5 +105,23 @@ impl<A: Allocator> Drop for Record<A> {
             action: _,
             reply: _,
         } = self;
+    }
+}
+
+impl<A: Allocator> Record<A> {
+    /// An equal record. Out of memory is the only refusal.
+    pub fn copy(&self, alloc: A) -> Result<Record<A>, Refusal>
+    where
+        A: Copy,
+        ensures ok { IfOk result (λ copy. copy ≡ self.now) }
+        ensures err { IfErr result (λ e. e ≡ out_of_memory) }
+    {
+        let action = self.action.copy(alloc)?;
+        let reply = self.reply.copy(alloc)?;
+        Ok(Record {
+            session: self.session,
+            action,
+            reply,
+        })
     }
 }

@@ -1,6 +1,6 @@
 //! A history: what a server opened with, and each event since with its reply.
 
-ghost use Rattle.std.specs.Prelude.{◌≡◌, ◌≢◌, ◌<◌, ◌≤◌, [], ◌∷◌, ◌++◌, List, length, IfOk, IfErr, IfSome, IfNone, OnOk, ◌==◌};
+ghost use Rattle.std.specs.Prelude.{◌≡◌, ◌≢◌, ◌<◌, ◌≤◌, [], ◌∷◌, ◌++◌, List, length, vec_capacity, IfOk, IfErr, IfSome, IfNone, OnOk, ◌==◌};
 ghost use Rattle.value.specs.Refusals.{out_of_memory};
 ghost use Rattle.history.specs.declared.event.Record.{Record as AnyRecord};
 ghost use Rattle.history.specs.Opening.{opening_refusal};
@@ -50,6 +50,25 @@ impl<A: Allocator> Model for History<A> {
     } };
 
     ghost invariant = { λ h. (length h.catalog ≡ length h.tables) × (length h.records.items ≤ h.most) × (h.most ≤ vec_capacity h.records) };
+}
+
+// Equal events, with room for so many.
+fn copy_records<A: Allocator + Copy>(
+    alloc: A,
+    records: &[Record<A>],
+    most: u32,
+) -> Result<Vec<Record<A>, A>, Refusal>
+    requires { length records.now ≤ most }
+    ensures ok { IfOk result (λ copy. copy.items ≡ records.now) }
+    ensures room { IfOk result (λ copy. most ≤ vec_capacity copy) }
+    ensures err { IfErr result (λ e. e ≡ out_of_memory) }
+{
+    let mut copy = Vec::with_capacity(alloc, most as usize)?;
+    for entry in records {
+        let equal = entry.copy(alloc)?;
+        copy.push_reserved(equal);
+    }
+    Ok(copy)
 }
 
 impl<A: Allocator> History<A> {
@@ -130,6 +149,25 @@ impl<A: Allocator> History<A> {
         ensures err { IfErr result (λ e. e ≡ out_of_memory) }
     {
         self.tables.tables(alloc, &self.catalog)
+    }
+
+    /// A copy, with room for as many events.
+    pub fn copy(&self, alloc: A) -> Result<History<A>, Refusal>
+    where
+        A: Copy,
+        ensures ok { IfOk result (λ copy. copy ≡ self.now) }
+        ensures err { IfErr result (λ e. e ≡ out_of_memory) }
+    {
+        let catalog = self.catalog.copy(alloc)?;
+        let tables = self.tables.copy(alloc)?;
+        let records = copy_records(alloc, self.records.as_slice(), self.most)?;
+        Ok(History {
+            catalog,
+            tables,
+            base: self.base,
+            records,
+            most: self.most,
+        })
     }
 
     /// What was counted before this history.

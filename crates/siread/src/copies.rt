@@ -46,3 +46,18 @@ pub fn copy_reading<A: Allocator + Copy>(
         extent,
     })
 }
+
+/// Equal readings.
+pub fn copy_all<A: Allocator + Copy>(
+    alloc: A,
+    readings: &[Reading<A>],
+) -> Result<Vec<Reading<A>, A>, Refusal>
+    ensures ok { IfOk result (λ copy. copy.items ≡ readings.now) }
+    ensures err { IfErr result (λ e. e ≡ out_of_memory) }
+{
+    let mut copy = Vec::with_capacity(alloc, readings.len())?;
+    for reading in readings {
+        copy.push(copy_reading(alloc, reading)?)?;
+    }
+    Ok(copy)
+}

@@ -1,6 +1,6 @@
 //! What is kept of one transaction's reads.
 
-ghost use Rattle.std.specs.Prelude.{◌≡◌, false, ◌+◌, ◌<◌, ◌≤◌, [], ◌∷◌, ◌++◌, drop, length, take, vec_capacity, vec_len, OnOk, OnErr, IfErr};
+ghost use Rattle.std.specs.Prelude.{◌≡◌, false, ◌+◌, ◌<◌, ◌≤◌, [], ◌∷◌, ◌++◌, drop, length, take, vec_capacity, vec_len, OnOk, OnErr, IfOk, IfErr};
 ghost use Rattle.value.specs.Refusals.{out_of_memory};
 ghost use Rattle.siread.specs.Adding.{Grows, Settles, adds_nothing};
 ghost use Rattle.siread.specs.Bounds.{HasFewKeys, HasFewOthers};
@@ -8,7 +8,7 @@ ghost use Rattle.siread.specs.Extents.{IsEachOnce};
 ghost use Rattle.siread.specs.Reads.{CoverAlike, all_of};
 ghost use Rattle.statement.specs.Cover.{covers, covers_value};
 
-use crate::copies::copy_reading;
+use crate::copies::{copy_all, copy_reading};
 use crate::cover::{self, adds_nothing, inner_key};
 use schema::catalog::TableNo;
 use statement::reading::Reading;
@@ -164,6 +164,20 @@ impl<A: Allocator> Held<A> {
             kept: Vec::new(alloc),
             settled: 0,
         }
+    }
+
+    /// The same reads.
+    pub fn copy(&self, alloc: A) -> Result<Held<A>, Refusal>
+    where
+        A: Copy,
+        ensures ok { IfOk result (λ copy. copy ≡ self.now) }
+        ensures err { IfErr result (λ e. e ≡ out_of_memory) }
+    {
+        let kept = copy_all(alloc, self.kept.as_slice())?;
+        Ok(Held {
+            kept,
+            settled: self.settled,
+        })
     }
 
     /// What is kept for all reads: no two are the same, and few are of one table.
