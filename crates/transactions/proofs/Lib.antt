@@ -15,3 +15,4 @@ pub mod RunLemmas
 pub mod InstallLemmas
 pub mod StepLemmas
 mod Walks
+mod ListedLemmas

@@ -29,6 +29,13 @@ impl<T> GhostList<T> {
         GhostList { of: PhantomData }
     }
 
+    /// The same list.
+    pub fn copy(&self) -> GhostList<T>
+        ensures { result.items ≡ self.now.items }
+    {
+        GhostList { of: PhantomData }
+    }
+
     /// The list, followed by one more item.
     pub fn and(&self, item: &T) -> GhostList<T>
         ensures { result.items ≡ self.now.items ++ item.now ∷ [] }

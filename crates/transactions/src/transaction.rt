@@ -1,6 +1,7 @@
 //! Transactions, as the core keeps them.
 
-ghost use Rattle.std.specs.Prelude.{◌≡◌};
+ghost use Rattle.std.specs.Prelude.{◌≡◌, IfOk, IfErr};
+ghost use Rattle.value.specs.Refusals.{out_of_memory};
 ghost use Rattle.std.specs.List.{list_any};
 ghost use Rattle.statement.specs.Cover.{covers, covers_value};
 ghost use Rattle.history.specs.Transactions as spec;
@@ -14,7 +15,7 @@ use schema::changes::Change;
 use statement::outcome::Mark;
 use std::alloc::{Allocator, Global};
 use std::marker::Model;
-use value::refusal::{Cause, Mode};
+use value::refusal::{Cause, Mode, Refusal};
 
 /// How a transaction stands.
 #[derive(Clone, Copy, Debug, PartialEq, Eq)]
@@ -144,6 +145,31 @@ impl<A: Allocator> Model for Transaction<A> {
     } };
 }
 
+// An equal mark.
+fn copy_mark<A: Allocator + Copy>(alloc: A, mark: &Mark<A>) -> Result<Mark<A>, Refusal>
+    ensures ok { IfOk result (λ copy. copy ≡ mark.now) }
+    ensures err { IfErr result (λ e. e ≡ out_of_memory) }
+{
+    let key = mark.key.copy(alloc)?;
+    Ok(Mark {
+        table: mark.table,
+        column: mark.column,
+        key,
+    })
+}
+
+// Equal marks.
+fn copy_marks<A: Allocator + Copy>(alloc: A, marks: &[Mark<A>]) -> Result<Vec<Mark<A>, A>, Refusal>
+    ensures ok { IfOk result (λ copy. copy.items ≡ marks.now) }
+    ensures err { IfErr result (λ e. e ≡ out_of_memory) }
+{
+    let mut copy = Vec::with_capacity(alloc, marks.len())?;
+    for mark in marks {
+        copy.push(copy_mark(alloc, mark)?)?;
+    }
+    Ok(copy)
+}
+
 impl<A: Allocator> Transaction<A> {
     /// A session's transaction of a number at its BEGIN, the event at a place, after so many
     /// commits.
@@ -176,6 +202,35 @@ impl<A: Allocator> Transaction<A> {
             changes: OwnChanges::new(alloc),
             marks: Vec::new(alloc),
         }
+    }
+
+    /// The same transaction.
+    pub fn copy(&self, alloc: A) -> Result<Transaction<A>, Refusal>
+    where
+        A: Copy,
+        ensures ok { IfOk result (λ copy. copy ≡ self.now) }
+        ensures err { IfErr result (λ e. e ≡ out_of_memory) }
+    {
+        let reads = self.reads.copy(alloc)?;
+        let changes = self.changes.copy(alloc)?;
+        let marks = copy_marks(alloc, self.marks.as_slice())?;
+        Ok(Transaction {
+            session: self.session,
+            number: self.number,
+            mode: self.mode,
+            begin: self.begin,
+            standing: self.standing,
+            end: self.end,
+            commit: self.commit,
+            snapshot: self.snapshot,
+            taken: self.taken,
+            imported: self.imported,
+            known: self.known,
+            asked: self.asked,
+            reads,
+            changes,
+            marks,
+        })
     }
 
     /// Whether it is deferrable, and its snapshot isn't known to be safe yet.

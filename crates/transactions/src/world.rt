@@ -1,6 +1,7 @@
 //! What is kept of a history's world.
 
-ghost use Rattle.std.specs.Prelude.{◌≡◌, ◌+◌, ◌^◌, ◌<◌, ◌≤◌, [], length};
+ghost use Rattle.std.specs.Prelude.{◌≡◌, ◌+◌, ◌^◌, ◌<◌, ◌≤◌, [], length, IfOk, IfErr};
+ghost use Rattle.value.specs.Refusals.{out_of_memory};
 ghost use Rattle.transactions.specs.Courses.{on_course};
 ghost use Rattle.transactions.specs.Ledger.{turned_at};
 
@@ -11,6 +12,7 @@ use crate::transaction::Transaction;
 use history::base::Base;
 use std::alloc::{Allocator, Global};
 use std::marker::Model;
+use value::refusal::Refusal;
 
 /// What is kept of the world that a history has come to: its numbers, the transactions that still
 /// matter, without statements and tables of their own, and the identifiers of snapshots.
@@ -68,6 +70,22 @@ pub(crate) fn turn<A: Allocator>(
     transactions[at].take(course);
 }
 
+// The same transactions.
+fn copy_all<A: Allocator + Copy>(
+    alloc: A,
+    transactions: &[Transaction<A>],
+) -> Result<Vec<Transaction<A>, A>, Refusal>
+    ensures ok { IfOk result (λ copy. copy.items ≡ transactions.now) }
+    ensures err { IfErr result (λ e. e ≡ out_of_memory) }
+{
+    let mut copy = Vec::with_capacity(alloc, transactions.len())?;
+    for transaction in transactions {
+        let equal = transaction.copy(alloc)?;
+        copy.push(equal)?;
+    }
+    Ok(copy)
+}
+
 impl<A: Allocator> World<A> {
     /// What is kept where nothing has happened since the numbers of a base.
     pub fn open(alloc: A, base: Base) -> World<A>
@@ -84,6 +102,28 @@ impl<A: Allocator> World<A> {
             past: Vec::new(alloc),
             reached: base.commits,
         }
+    }
+
+    /// The same world.
+    pub fn copy(&self, alloc: A) -> Result<World<A>, Refusal>
+    where
+        A: Copy,
+        ensures ok { IfOk result (λ copy. copy ≡ self.now) }
+        ensures err { IfErr result (λ e. e ≡ out_of_memory) }
+    {
+        let transactions = copy_all(alloc, self.transactions.as_slice())?;
+        let mut exports = Vec::with_capacity(alloc, self.exports.len())?;
+        exports.extend_from_slice(self.exports.as_slice())?;
+        let mut past = Vec::with_capacity(alloc, self.past.capacity())?;
+        past.extend_from_slice(self.past.as_slice())?;
+        Ok(World {
+            base: self.base,
+            transactions,
+            exports,
+            place: self.place,
+            past,
+            reached: self.reached,
+        })
     }
 
     /// How many commits of read-write transactions there were.

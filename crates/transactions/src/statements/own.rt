@@ -1,6 +1,7 @@
 //! What a transaction has written, and what its statements come to on tables with that put in.
 
-ghost use Rattle.std.specs.Prelude.{◌≡◌, ◌==◌, ◌≤◌, ◌++◌, ◌&&◌, [], true, length, take, drop, IsTrue, OnOk, OnErr, IfOk, IfErr};
+ghost use Rattle.std.specs.Prelude.{◌≡◌, ◌==◌, ◌≤◌, ◌++◌, ◌&&◌, [], true, length, take, drop, IsTrue, OnOk, OnErr, IfOk, IfErr, IfSome};
+ghost use Rattle.std.specs.List.{list_all};
 ghost use Rattle.std.specs.List.Sorted.{IsStrictlySortedBy};
 ghost use Rattle.value.specs.Refusals.{out_of_memory};
 ghost use Rattle.schema.specs.Changing.{change_cmp, put_change};
@@ -11,7 +12,7 @@ ghost use Rattle.statement.specs.Walk.{are_of};
 ghost use Rattle.transactions.specs.Merged.{AreInKeyOrder, AreMerged, is_changed};
 
 use crate::kept::added::{append_reserved, reserve};
-use schema::catalog::Catalog;
+use schema::catalog::{Catalog, TableNo};
 use schema::changes::{Change, Changes};
 use schema::reader::SnapshotReader;
 use schema::row::{Row, copy_all};
@@ -86,6 +87,81 @@ fn put_over<A: Allocator + Copy>(
     }
 }
 
+// Equal changes.
+fn copy_list<A: Allocator + Copy>(
+    alloc: A,
+    list: &[Change<A>],
+) -> Result<Vec<Change<A>, A>, Refusal>
+    ensures ok { IfOk result (λ copy. copy.items ≡ list.now) }
+    ensures memory { IfErr result (λ e. e ≡ out_of_memory) }
+{
+    let mut copy = Vec::with_capacity(alloc, list.len())?;
+    for change in list {
+        copy.push(change.copy(alloc)?)?;
+    }
+    Ok(copy)
+}
+
+// Whether a change is of a table.
+fn is_of<A: Allocator>(change: &Change<A>, table: TableNo) -> bool
+    ensures { result ≡ (change.now.table == table) }
+{
+    change.table() == table
+}
+
+// Whether all changes are of a table.
+fn are_of<A: Allocator>(list: &[Change<A>], table: TableNo) -> bool
+    ensures { result ≡ list_all (λ x. x.table == table) list.now }
+{
+    list.iter().all(|change| is_of(change, table))
+}
+
+// Equal changes as a list, where they are of one table.
+fn as_list<A: Allocator + Copy>(alloc: A, list: &[Change<A>]) -> Result<Option<Changes<A>>, Refusal>
+    requires { IsStrictlySortedBy change_cmp list.now }
+    ensures ok { IfOk result (λ made. IfSome made (λ changes. changes ≡ list.now)) }
+    ensures memory { IfErr result (λ e. e ≡ out_of_memory) }
+{
+    let Some(first) = list.first() else {
+        return Ok(None);
+    };
+    let one = first.table();
+    if !are_of(list, one) {
+        return Ok(None);
+    }
+    let copy = copy_list(alloc, list)?;
+    Ok(Some(Changes::of_list(one, copy)))
+}
+
+// Merges a list of which none is merged, where it is by key, of one table: then it stays a list.
+fn merge_list<A: Allocator + Copy>(
+    alloc: A,
+    merged: &mut Changes<A>,
+    count: &mut usize,
+    list: &[Change<A>],
+) -> Result<(), Refusal>
+    requires within { count.old ≤ length list.now }
+    requires merged { AreMerged merged.old (take count.old list.now) }
+    ensures within { count.new ≤ length list.now }
+    ensures merged { AreMerged merged.new (take count.new list.now) }
+    ensures memory { IfErr result (λ e. e ≡ out_of_memory) }
+{
+    if *count > 0 {
+        return Ok(());
+    }
+    if !are_by_key(list) {
+        return Ok(());
+    }
+    let made = as_list(alloc, list)?;
+    let Some(changes) = made else {
+        return Ok(());
+    };
+    let all = list.len();
+    *merged = changes;
+    *count = all;
+    Ok(())
+}
+
 // Merges the rest of a list, of which so many are merged.
 fn merge_rest<A: Allocator + Copy>(
     alloc: A,
@@ -100,6 +176,7 @@ fn merge_rest<A: Allocator + Copy>(
     ensures ok { OnOk result (count.new ≡ length list.now) }
     ensures memory { IfErr result (λ e. e ≡ out_of_memory) }
 {
+    merge_list(alloc, merged, count, list)?;
     while *count < list.len() {
         put_over(alloc, merged, &list[*count])?;
         *count += 1;
@@ -226,6 +303,22 @@ impl<A: Allocator> OwnChanges<A> {
             count: 0,
             is_by_key: false,
         }
+    }
+
+    /// The same changes.
+    pub fn copy(&self, alloc: A) -> Result<OwnChanges<A>, Refusal>
+    where
+        A: Copy,
+        ensures ok { IfOk result (λ copy. copy ≡ self.now) }
+        ensures err { IfErr result (λ e. e ≡ out_of_memory) }
+    {
+        let list = copy_list(alloc, self.list.as_slice())?;
+        Ok(OwnChanges {
+            list,
+            merged: Changes::new(alloc),
+            count: 0,
+            is_by_key: false,
+        })
     }
 
     /// The changes, in their order.

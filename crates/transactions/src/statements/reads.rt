@@ -1,6 +1,6 @@
 //! What a transaction has read, kept as few readings as cover the same.
 
-ghost use Rattle.std.specs.Prelude.{◌≡◌, ◌++◌, [], OnOk, OnErr, IfErr};
+ghost use Rattle.std.specs.Prelude.{◌≡◌, ◌++◌, [], OnOk, OnErr, IfOk, IfErr};
 ghost use Rattle.value.specs.Refusals.{out_of_memory};
 ghost use Rattle.statement.specs.Cover.{covers, covers_value};
 
@@ -52,6 +52,20 @@ impl<A: Allocator> OwnReads<A> {
             locks: Held::new(alloc),
             all: GhostList::new(),
         }
+    }
+
+    /// The same readings.
+    pub fn copy(&self, alloc: A) -> Result<OwnReads<A>, Refusal>
+    where
+        A: Copy,
+        ensures ok { IfOk result (λ copy. copy ≡ self.now) }
+        ensures err { IfErr result (λ e. e ≡ out_of_memory) }
+    {
+        let locks = self.locks.copy(alloc)?;
+        Ok(OwnReads {
+            locks,
+            all: self.all.copy(),
+        })
     }
 
     /// Whether the readings cover a key of a table. It takes no memory.
