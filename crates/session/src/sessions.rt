@@ -147,6 +147,21 @@ fn open_on<A: Allocator + Copy>(
     open_history(alloc, history, keys, rows)
 }
 
+// A copy of the keys, with room for so many.
+fn copy_keys<A: Allocator>(
+    alloc: A,
+    keys: &[(TxnNo, SerialKey)],
+    most: u32,
+) -> Result<Vec<(TxnNo, SerialKey), A>, Refusal>
+    ensures ok { IfOk result (λ copy. copy.items ≡ keys.now) }
+    ensures room { IfOk result (λ copy. most ≤ vec_capacity copy) }
+    ensures err { IfErr result (λ e. e ≡ out_of_memory) }
+{
+    let mut copy = Vec::with_capacity(alloc, most as usize)?;
+    copy.extend_from_slice(keys)?;
+    Ok(copy)
+}
+
 // Whether an action is the one by which transactions commit.
 fn is_commit<A: Allocator>(action: &Action<A>) -> bool
     ensures { result ≡ is_commit action.now }
@@ -373,6 +388,27 @@ impl<A: Allocator> Core<A> {
         ensures { AnswersOrNoMemory result (view_answer self.now.opening self.now.records session) }
     {
         self.world.view(alloc, &self.rows, session)
+    }
+
+    /// A copy, which goes on by itself. Out of memory is the only refusal.
+    pub fn copy(&self, alloc: A) -> Result<Core<A>, Refusal>
+    where
+        A: Copy,
+        ensures ok { IfOk result (λ copy. copy ≡ self.now) }
+        ensures err { IfErr result (λ e. e ≡ out_of_memory) }
+    {
+        let history = self.history.copy(alloc)?;
+        let world = self.world.copy(alloc)?;
+        let keys = copy_keys(alloc, self.keys.as_slice(), self.history.max_events())?;
+        let rows = self.rows.copy(alloc)?;
+        let unspoilt = self.unspoilt.copy();
+        Ok(Core {
+            history,
+            world,
+            keys,
+            rows,
+            unspoilt,
+        })
     }
 
     /// A core that goes on, for `max_events` events, from this one's present tables and numbers, as `checkpoint` makes

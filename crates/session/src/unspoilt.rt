@@ -1,6 +1,6 @@
 //! Snapshots that no commit has spoilt: those that can still become safe.
 
-ghost use Rattle.std.specs.Prelude.{◌≡◌, ◌==◌, ◌-◌, ◌||◌, map, replicate, slice_set};
+ghost use Rattle.std.specs.Prelude.{◌≡◌, ◌==◌, ◌-◌, ◌||◌, ℕ, false, map, replicate, slice_set};
 ghost use Rattle.std.specs.List.{list_any};
 ghost use Rattle.session.specs.Unspoilt.{AreUnspoilt, is_spoilt_by, keyed, parts, spoils, unspoilt_after, unspoilt_in_place};
 
@@ -46,6 +46,13 @@ fn any_spoils(keys: &[(TxnNo, SerialKey)], snapshot: u64) -> bool
     false
 }
 
+// Whether there is a snapshot that a commit with a key spoils.
+fn may_spoil(key: SerialKey) -> bool
+    ensures { result ≡ false → (n : ℕ) → spoils n (parts key) ≡ false }
+{
+    key.1 < 2 && key.0 < key.2
+}
+
 // A commit with a key leaves a snapshot, or, where it spoils it, that of all commits in its place.
 fn leave_unspoilt(snapshot: &mut u64, key: SerialKey, commits: u64)
     ensures { snapshot.new ≡ unspoilt_in_place (parts key) commits snapshot.old }
@@ -71,6 +78,15 @@ impl Unspoilt {
     {
         Unspoilt {
             snapshots: [commits; 64],
+        }
+    }
+
+    /// The same snapshots.
+    pub fn copy(&self) -> Unspoilt
+        ensures { result ≡ self.now }
+    {
+        Unspoilt {
+            snapshots: self.snapshots,
         }
     }
 
@@ -108,7 +124,9 @@ impl Unspoilt {
     pub fn commit(&mut self, key: SerialKey, commits: u64)
         ensures { self.new ≡ unspoilt_after (parts key) commits self.old }
     {
-        leave_all_unspoilt(&mut self.snapshots, key, commits);
+        if may_spoil(key) {
+            leave_all_unspoilt(&mut self.snapshots, key, commits);
+        }
     }
 
     /// Whether one of the commits with these keys spoils a snapshot.
