@@ -11,8 +11,8 @@ use Rattle.dumpworker.specs.Dumped.{Dumped}
 use Rattle.pass.specs.Knowing.{Known}
 use Rattle.restore.specs.Reading.{read_dump}
 use Rattle.serial.specs.Backups.{IsBackup}
-use Rattle.backup.specs.declared.fault.BackupFault.{BackupFault}
-use Rattle.backup.specs.declared.fault.BackupFault.TheVariants.{View, Dump}
+use Rattle.backup.specs.declared.fault.SafeDumpFault.{SafeDumpFault}
+use Rattle.backup.specs.declared.fault.SafeDumpFault.TheVariants.{View, Dump}
 
 module _ {A : Type 0} where
   -- the history that a pass has seen
@@ -38,7 +38,7 @@ module _ {A : Type 0} where
     pub reads_back : read_dump (dump_text h.opening.catalog tables) ≡ Ok (h.opening.catalog, tables)
 
   -- Nothing was written, since the session may view no tables, or memory was refused; or a beginning of the dump text was, and the dump says why.
-  abbrev pub IsNone : Recorded A → ℕ → List ℕ → ℕ → BackupFault → List ℕ → ℕ → Type 0
+  abbrev pub IsNone : Recorded A → ℕ → List ℕ → ℕ → SafeDumpFault → List ℕ → ℕ → Type 0
   IsNone h session taken failures (View e) taken_now failures_now = AnswersOrNoMemory (Err e) (viewed h session) × (taken_now ≡ taken) × (failures_now ≡ failures)
   IsNone h session taken failures (Dump f) taken_now failures_now =
       (X : Tables A) × (viewed h session ≡ Ok X) × Dumped (dump_text h.opening.catalog X) taken failures (Err f) taken_now failures_now

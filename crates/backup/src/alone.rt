@@ -3,7 +3,7 @@
 ghost use Rattle.std.specs.Prelude.{◌≡◌, IfErr, OnOk};
 ghost use Rattle.backup.specs.Backed.{IsNone, IsWhole};
 
-use crate::fault::BackupFault;
+use crate::fault::SafeDumpFault;
 use crate::write::view_session;
 use collector::Device;
 use dumpplan::PieceRows;
@@ -20,7 +20,7 @@ pub fn dump_session_one<A: Allocator + Copy, W: Device>(
     session: SessionId,
     piece_rows: PieceRows,
     device: &mut W,
-) -> Result<(), BackupFault>
+) -> Result<(), SafeDumpFault>
     ensures whole { OnOk result (IsWhole core.now session (W.taken device.old) (W.taken device.new)) }
     ensures same { OnOk result (W.failures device.new ≡ W.failures device.old) }
     ensures none { IfErr result (λ fault. IsNone core.now session (W.taken device.old) (W.failures device.old) fault
@@ -28,12 +28,12 @@ pub fn dump_session_one<A: Allocator + Copy, W: Device>(
 {
     let view = match view_session(alloc, core, session) {
         Ok(view) => view,
-        Err(refusal) => return Err(BackupFault::View(refusal)),
+        Err(refusal) => return Err(SafeDumpFault::View(refusal)),
     };
     core.is_legal();
     let catalog = core.history().catalog();
     match dump_one(alloc, &view, catalog, piece_rows, device) {
         Ok(()) => Ok(()),
-        Err(fault) => Err(BackupFault::Dump(fault)),
+        Err(fault) => Err(SafeDumpFault::Dump(fault)),
     }
 }

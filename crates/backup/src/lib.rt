@@ -8,6 +8,6 @@ mod safe;
 mod write;
 
 pub use alone::dump_session_one;
-pub use fault::BackupFault;
+pub use fault::SafeDumpFault;
 pub use safe::dump_safe;
 pub use write::dump_session;

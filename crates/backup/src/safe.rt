@@ -5,7 +5,7 @@ ghost use Rattle.value.specs.Refusals.{AnswersOrNoMemory};
 ghost use Rattle.pass.specs.Knowing.{HasLooked};
 ghost use Rattle.backup.specs.Backed.{IsDumpable, IsNone, IsWhole, seen_by, viewed};
 
-use crate::fault::BackupFault;
+use crate::fault::SafeDumpFault;
 use collector::Device;
 use dumpplan::{Gate, Jobs, PieceRows};
 use dumpworker::dump;
@@ -54,7 +54,7 @@ pub fn dump_safe<'w, J, A, W, G, T>(
     piece_rows: PieceRows,
     device: &mut W,
     gate: &G,
-) -> Result<(), BackupFault>
+) -> Result<(), SafeDumpFault>
 where
     J: Naming<A>,
     A: Allocator + Copy + Send + Sync,
@@ -70,11 +70,11 @@ where
 {
     let view = match view_pass(rt, alloc, server, pass) {
         Ok(view) => view,
-        Err(refusal) => return Err(BackupFault::View(refusal)),
+        Err(refusal) => return Err(SafeDumpFault::View(refusal)),
     };
     let catalog = server.catalog();
     match dump(rt, alloc, &view, catalog, jobs, piece_rows, device, gate) {
         Ok(()) => Ok(()),
-        Err(fault) => Err(BackupFault::Dump(fault)),
+        Err(fault) => Err(SafeDumpFault::Dump(fault)),
     }
 }

@@ -4,7 +4,7 @@ ghost use Rattle.std.specs.Prelude.{◌≡◌, IfOk, IfErr, OnOk};
 ghost use Rattle.value.specs.Refusals.{AnswersOrNoMemory};
 ghost use Rattle.backup.specs.Backed.{IsDumpable, IsNone, IsWhole, viewed};
 
-use crate::fault::BackupFault;
+use crate::fault::SafeDumpFault;
 use collector::Device;
 use dumpplan::{Gate, Jobs, PieceRows};
 use dumpworker::dump;
@@ -46,7 +46,7 @@ pub fn dump_session<A, W, G, T>(
     piece_rows: PieceRows,
     device: &mut W,
     gate: &G,
-) -> Result<(), BackupFault>
+) -> Result<(), SafeDumpFault>
 where
     A: Allocator + Copy + Send + Sync,
     W: Device + Send,
@@ -59,12 +59,12 @@ where
 {
     let view = match view_session(alloc, core, session) {
         Ok(view) => view,
-        Err(refusal) => return Err(BackupFault::View(refusal)),
+        Err(refusal) => return Err(SafeDumpFault::View(refusal)),
     };
     core.is_legal();
     let catalog = core.history().catalog();
     match dump(rt, alloc, &view, catalog, jobs, piece_rows, device, gate) {
         Ok(()) => Ok(()),
-        Err(fault) => Err(BackupFault::Dump(fault)),
+        Err(fault) => Err(SafeDumpFault::Dump(fault)),
     }
 }
