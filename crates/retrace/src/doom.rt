@@ -212,7 +212,7 @@ fn doom_each<A: Allocator>(runs: &mut [Run<A>], causes: &[Cause])
     }
 }
 
-/// The same, where there are any structures, which few records bring.
+/// Each transaction in the middle of one of these structures is over. Few records bring any.
 pub(crate) fn doom_all<A: Allocator>(runs: &mut Vec<Run<A>, A>, causes: &[Cause])
     ensures { runs.new.items ≡ all_doomed causes.now runs.old.items }
 {

@@ -240,7 +240,7 @@ impl<A: Allocator> Past<A> {
         self.runs.as_slice()
     }
 
-    // The same, of what is given up.
+    // The transactions, by their numbers, taken out.
     fn into_runs(self) -> Vec<Run<A>, A>
         ensures { result.items ≡ self.runs }
     {
