@@ -9,3 +9,14 @@ pub mod SeenLemmas
 pub mod TimeLemmas
 pub mod UndoLemmas
 pub mod WalkLemmas
+pub mod BagLemmas
+pub mod ChoiceLemmas
+pub mod CountLemmas
+pub mod CoverLemmas
+pub mod FieldLemmas
+pub mod LeftLemmas
+pub mod NumberLemmas
+pub mod SightLemmas
+pub mod StepLemmas
+pub mod TellLemmas
+pub mod WayLemmas

@@ -4,3 +4,6 @@ pub mod Seen
 pub mod Turns
 pub mod Undone
 pub mod Walks
+pub mod Counts
+pub mod Symbolic
+pub mod Ways

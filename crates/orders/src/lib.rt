@@ -1,5 +1,5 @@
 //! Whether some order of transactions explains what their clients were answered: each is run again alone, one after the
-//! other.
+//! other. What each may do to one row.
 
 #![tactic(auto)]
 
@@ -18,3 +18,4 @@ mod time;
 pub mod transaction;
 mod undo;
 mod walk;
+pub mod ways;

@@ -1,5 +1,0 @@
-use Rattle.ways.proofs.CoverLemmas.{no_width}
-use Rattle.ways.proofs.cover.no_columns.Goals as goal
-
-pub returns : goal.returns
-returns g c = no_width c.args.catalog.now c.args.table c.requires

@@ -1,5 +1,0 @@
-use Rattle.std.proofs.Common.{length}
-use Rattle.ways.proofs.sight.+shown_key.Given as goal
-
-abbrev pub decreases-shown_key : goal.decreases-shown_key
-decreases-shown_key g l = length l.columns.now

@@ -1,5 +1,0 @@
-use Rattle.std.proofs.Common.{length}
-use Rattle.ways.proofs.step.+assign.Given as goal
-
-abbrev pub decreases-assign : goal.decreases-assign
-decreases-assign g l = length l.assignments.now

@@ -1,6 +1,0 @@
-use Rattle.std.proofs.Common.{◌≡◌, take}
-use Rattle.ways.proofs.way.copy_numbers.Given as goal
-
--- those copied so far
-abbrev pub invariant-loop-number : goal.invariant-loop-number
-invariant-loop-number g l = l.copy.items ≡ take l.number-index l.numbers
