@@ -31,6 +31,10 @@ module _ {A : Type 0} where
   pub is_unbegun : (e : Explored A) (h : Recorded A) → beginning e ≡ Ok h → h.records ≡ []
   is_unbegun e h b = (from_nothing (turns_of e) (checkpoint_answer e.setup.opening e.setup.records (turns_of e)) h b).0
 
+  -- and as many as an interleaving has turns may come
+  pub is_most : (e : Explored A) (h : Recorded A) → beginning e ≡ Ok h → h.most ≡ turns_of e
+  is_most e h b = (from_nothing (turns_of e) (checkpoint_answer e.setup.opening e.setup.records (turns_of e)) h b).1
+
   -- there is room for as many turns as an interleaving has
   pub has_room : (e : Explored A) (h : Recorded A) (order : List ℕ) → beginning e ≡ Ok h → length order ≤ turns_of e → length h.records + length order ≤ h.most
   has_room e h order b few =

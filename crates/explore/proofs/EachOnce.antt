@@ -18,7 +18,7 @@ use Rattle.history.specs.Transactions.{World, is_quiet}
 use Rattle.history.specs.declared.event.Record.{Record}
 use Rattle.serial.proofs.legal.Histories.{run-catalog}
 use Rattle.session.specs.Core.{from_opening}
-use Rattle.tally.specs.Interleavings.{IsInterleaving, interleavings, occurrences, same_order, turns}
+use Rattle.explore.specs.Interleavings.{IsInterleaving, interleavings, occurrences, same_order, turns}
 use Rattle.explore.specs.declared.plan.Line.{Line}
 use Rattle.explore.specs.Explored.{DoesEachOnce, Explored, RunsTo, after_turn, after_turns, beginning, done, events_of, line_action, line_counts, lines_of, own_events, own_line, own_lines, place_of, schedules, session_action, sessions, this_or_later, turns_of}
 use Rattle.explore.proofs.Beginnings.{is_unbegun}

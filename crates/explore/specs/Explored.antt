@@ -11,7 +11,7 @@ use Rattle.history.specs.Answer.{IsLegal, answer, checkpoint_answer}
 use Rattle.serial.specs.Serializable.{IsSerializable}
 use Rattle.session.specs.Core.{from_opening, recorded}
 use Rattle.request.specs.Requests.{asked}
-use Rattle.tally.specs.Interleavings.{interleavings}
+use Rattle.explore.specs.Interleavings.{interleavings}
 use Rattle.explore.specs.declared.plan.Line.{Line}
 use Rattle.explore.specs.Texts.{outcome_text}
 

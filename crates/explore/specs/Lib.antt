@@ -6,3 +6,10 @@ pub mod Prepared
 pub mod Replies
 pub mod Setups
 pub mod Texts
+pub mod Trails
+pub mod Outcomes
+pub mod Interleavings
+pub mod Numbers
+pub mod Sampling
+pub mod Refusals
+pub mod Listing

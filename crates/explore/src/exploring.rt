@@ -2,9 +2,9 @@
 
 ghost use Rattle.std.specs.Prelude.{◌≡◌, ◌≤◌, ◌++◌, map, length, All, IfOk, OnOk};
 ghost use Rattle.history.specs.Answer.{IsLegal};
-ghost use Rattle.tally.specs.Interleavings.{interleavings};
-ghost use Rattle.tally.specs.Sampling.{draws};
-ghost use Rattle.tally.specs.Outcomes.{AreOf, outcomes};
+ghost use Rattle.explore.specs.Interleavings.{interleavings};
+ghost use Rattle.explore.specs.Sampling.{draws};
+ghost use Rattle.explore.specs.Outcomes.{AreOf, outcomes};
 ghost use Rattle.explore.specs.Explored.{IsExplained, RunsTo, line_counts, outcome, schedules, sessions, turns_of};
 ghost use Rattle.explore.specs.Texts.{outcome_text, state_text};
 
@@ -13,18 +13,18 @@ use crate::plan::Plan;
 use crate::replies::append_replies;
 use crate::running::do_turns;
 use crate::states::append_tables;
+use crate::tally::interleave::interleavings::Interleavings;
+use crate::tally::interleave::laws::as_many_turns;
+use crate::tally::laws::outcomes_are_counted;
+use crate::tally::outcomes::Outcome;
+use crate::tally::sample::laws::draws_have_all_turns;
+use crate::tally::sample::sampling::Sample;
+use crate::tally::workers::{count_in_turn, count_outcomes};
 use dumpplan::{Gate, NoGate};
 use serial::laws::legal_histories_are_serializable;
 use session::sessions::Core;
 use std::alloc::{AllocError, Allocator};
 use std::thread::Threads;
-use tally::interleave::interleavings::Interleavings;
-use tally::interleave::laws::as_many_turns;
-use tally::laws::outcomes_are_counted;
-use tally::outcomes::Outcome;
-use tally::sample::laws::draws_have_all_turns;
-use tally::sample::sampling::Sample;
-use tally::workers::{count_in_turn, count_outcomes};
 use value::refusal::Refusal;
 
 // Appends the committed tables of a core.
@@ -44,7 +44,10 @@ fn append_state<A: Allocator + Copy>(
 const ROOM: usize = 512;
 
 // The text of the outcome of a core's history.
-fn outcome_text<A: Allocator + Copy>(alloc: A, core: &Core<A>) -> Result<Vec<u8, A>, Refusal>
+pub(crate) fn outcome_text<A: Allocator + Copy>(
+    alloc: A,
+    core: &Core<A>,
+) -> Result<Vec<u8, A>, Refusal>
     ensures { IfOk result (λ text. text.items ≡ outcome_text core.now) }
 {
     let mut text = Vec::with_capacity(alloc, ROOM)?;
@@ -101,7 +104,11 @@ where
 {
     as_many_turns();
     outcomes_are_counted();
-    let runs = GatedPlan { plan, gate };
+    let runs = GatedPlan {
+        plan,
+        gate,
+        shares: true,
+    };
     let found = count_outcomes(rt, alloc, &runs, all, jobs)?;
     Ok(found)
 }
@@ -126,7 +133,11 @@ where
 {
     draws_have_all_turns();
     outcomes_are_counted();
-    let runs = GatedPlan { plan, gate };
+    let runs = GatedPlan {
+        plan,
+        gate,
+        shares: false,
+    };
     let found = count_outcomes(rt, alloc, &runs, sample, jobs)?;
     Ok(found)
 }
@@ -146,7 +157,11 @@ pub fn explore_in_turn<A: Allocator + Copy>(
     as_many_turns();
     outcomes_are_counted();
     let gate = NoGate;
-    let runs = GatedPlan { plan, gate: &gate };
+    let runs = GatedPlan {
+        plan,
+        gate: &gate,
+        shares: true,
+    };
     let found = count_in_turn(alloc, &runs, all)?;
     Ok(found)
 }

@@ -2,11 +2,11 @@
 
 ghost use Rattle.std.specs.Prelude.{List, ℕ, All};
 ghost use Rattle.history.specs.Opening.{Recorded};
-ghost use Rattle.tally.specs.Interleavings.{IsInterleaving};
+ghost use Rattle.explore.specs.Interleavings.{IsInterleaving};
 ghost use Rattle.explore.specs.Explored.{DoesEachOnce, Explored, RunsTo, line_counts, schedules, sessions};
 
+use crate::tally::interleave::laws::each_once;
 use std::alloc::Allocator;
-use tally::interleave::laws::each_once;
 
 /// The history that a schedule leads to does each line of each session once, in the session's order, and nothing else.
 /// So does that of every order in which each session goes as often as it has lines, as in each that is drawn.

@@ -12,3 +12,5 @@ mod replies;
 mod running;
 pub mod setup;
 mod states;
+pub mod tally;
+mod trail;

@@ -2,20 +2,20 @@
 
 ghost use Rattle.std.specs.Prelude.{◌≡◌, ◌<◌, ◌^◌, ◌+◌, ◌++◌, ◌∷◌, List, [], Ok, length, sum, ◌≤◌, IfErr, IfOk, IfSome, IfNone};
 ghost use Rattle.value.specs.Refusals.{of_code, out_of_memory};
-ghost use Rattle.tally.specs.Interleavings.{interleavings};
+ghost use Rattle.explore.specs.Interleavings.{interleavings};
 ghost use Rattle.explore.specs.Explored.{CanBegin, beginning, line_counts, lines_of, schedules, sessions};
 ghost use Rattle.explore.specs.Prepared.{ArePrepared};
 ghost use Rattle.explore.specs.Few.{IsUnexplored};
 
 use crate::asked::events_of;
+use crate::tally::interleave::interleavings::Interleavings;
+use crate::tally::sample::sampling::Sample;
 use history::event::Event;
 use history::session_id::SessionId;
 use request::request::Request;
 use session::sessions::Core;
 use std::alloc::{AllocError, Allocator, Global};
 use std::marker::Model;
-use tally::interleave::interleavings::Interleavings;
-use tally::sample::sampling::Sample;
 use value::refusal::{Code, Refusal};
 
 /// A session's line: what it asks for.

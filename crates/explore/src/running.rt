@@ -233,7 +233,7 @@ fn do_within<A: Allocator + Copy>(
 }
 
 // Does the next line of the session at a place, where it has one.
-fn do_turn<A: Allocator + Copy>(
+pub(crate) fn do_turn<A: Allocator + Copy>(
     alloc: A,
     core: &mut Core<A>,
     lines: &[Line<A>],

@@ -2,12 +2,13 @@ use Rattle.std.proofs.Common.{◌≡◌, ◌≤◌, sym, ap, ◌∙◌, subst, L
 use Rattle.std.specs.List.{All}
 use Rattle.std.proofs.lemmas.List.{length-map}
 use Rattle.std.proofs.lemmas.List.Elements.{All-weaker}
-use Rattle.tally.specs.Outcomes.{AreOf, outcomes}
-use Rattle.tally.specs.Interleavings.{interleavings}
+use Rattle.explore.specs.Outcomes.{AreOf, outcomes}
+use Rattle.explore.specs.Interleavings.{interleavings}
 use Rattle.explore.specs.Explored.{line_counts, outcome, sessions, turns_of}
 use denote.Param.Send.{sendable}
-use Rattle.tally.proofs.interleave.interleavings.Interleavings.TheSendSync as all
+use Rattle.explore.proofs.tally.interleave.interleavings.Interleavings.TheSendSync as all
 use Rattle.explore.proofs.gated.GatedPlan.TheSendSync as gated
+use Rattle.explore.proofs.trail.Trail.TheSendSync as trail
 use Rattle.explore.proofs.exploring.explore.Goals as goal
 
 pub count_outcomes-requires : goal.count_outcomes-requires
@@ -21,7 +22,7 @@ count_outcomes-requires g c κs =
     let sync_t = c.type_bounds.sync-T in
     let frees_a = c.type_bounds.frees-A-Allocator in
     let gate_sync = c.type_bounds.sync-G in
-    search (rules, sendable, gated.the_sync, all.the_sync, short) depth 60 fits 1000
+    search (rules, sendable, gated.the_sync, all.the_sync, trail.the_send, short) depth 60 fits 1000
 
 pub returns-clause-outcomes : goal.returns-clause-outcomes
 returns-clause-outcomes g c = c.in_ok-found.ensures.outcomes ∙ ap (λ (xs : List (List ℕ)). outcomes (map (outcome c.args.plan.now) xs)) c.requires

@@ -2,8 +2,8 @@ use Rattle.std.proofs.Common.{◌≡◌, ◌≤◌, sym, ap, ◌∙◌, subst, L
 use Rattle.std.specs.List.{All}
 use Rattle.std.proofs.lemmas.List.{length-map}
 use Rattle.std.proofs.lemmas.List.Elements.{All-weaker}
-use Rattle.tally.specs.Outcomes.{AreOf, outcomes}
-use Rattle.tally.specs.Interleavings.{interleavings}
+use Rattle.explore.specs.Outcomes.{AreOf, outcomes}
+use Rattle.explore.specs.Interleavings.{interleavings}
 use Rattle.explore.specs.Explored.{line_counts, outcome, sessions, turns_of}
 use Rattle.explore.proofs.exploring.explore_in_turn.Goals as goal
 

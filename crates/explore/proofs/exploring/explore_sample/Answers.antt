@@ -2,12 +2,13 @@ use Rattle.std.proofs.Common.{◌≡◌, ◌≤◌, sym, ap, subst, ℕ, length,
 use Rattle.std.specs.List.{All}
 use Rattle.std.proofs.lemmas.List.{length-map}
 use Rattle.std.proofs.lemmas.List.Elements.{All-weaker}
-use Rattle.tally.specs.Outcomes.{AreOf, outcomes}
-use Rattle.tally.specs.Sampling.{draws}
+use Rattle.explore.specs.Outcomes.{AreOf, outcomes}
+use Rattle.explore.specs.Sampling.{draws}
 use Rattle.explore.specs.Explored.{outcome, turns_of}
 use denote.Param.Send.{sendable}
-use Rattle.tally.proofs.sample.sampling.Sample.TheSendSync as drawn
+use Rattle.explore.proofs.tally.sample.sampling.Sample.TheSendSync as drawn
 use Rattle.explore.proofs.gated.GatedPlan.TheSendSync as gated
+use Rattle.explore.proofs.trail.Trail.TheSendSync as trail
 use Rattle.explore.proofs.exploring.explore_sample.Goals as goal
 
 pub count_outcomes-requires : goal.count_outcomes-requires
@@ -21,7 +22,7 @@ count_outcomes-requires g c κs =
     let sync_t = c.type_bounds.sync-T in
     let frees_a = c.type_bounds.frees-A-Allocator in
     let gate_sync = c.type_bounds.sync-G in
-    (send_a, (sync_t, (shared, (search (sendable, gated.the_sync) depth 60 fits 1000, (search (sendable, drawn.the_sync) depth 60 fits 1000, search (rules, short))))))
+    search (rules, sendable, gated.the_sync, drawn.the_sync, trail.the_send, short) depth 60 fits 1000
 
 pub returns-clause-counted : goal.returns-clause-counted
 returns-clause-counted g c =

@@ -1,5 +1,5 @@
 use Rattle.std.proofs.Common.{◌≡◌, ◌≤◌, ◌<◌, ◌^◌, IfSome, IfNone, ap, subst, ◌∙◌, List, ℕ, length}
-use Rattle.tally.specs.Interleavings.{interleavings}
+use Rattle.explore.specs.Interleavings.{interleavings}
 use Rattle.explore.specs.Explored.{line_counts, schedules, sessions}
 use Rattle.explore.proofs.Counting.{if_some}
 use Rattle.explore.proofs.plan.Plan.schedules.Goals as goal

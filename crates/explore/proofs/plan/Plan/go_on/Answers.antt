@@ -1,0 +1,24 @@
+use Rattle.std.proofs.Common.{ap, get_or, refl, subst, sym, ◌∙◌}
+use Rattle.std.proofs.lemmas.List.{get_or_default}
+use Rattle.explore.specs.Cursors.{AreCursors}
+use Rattle.explore.specs.Explored.{after_turn}
+use Rattle.explore.specs.Prepared.{ArePrepared}
+use Rattle.explore.proofs.TrailLemmas.{turn_done}
+use Rattle.explore.proofs.plan.Plan.go_on.Goals as goal
+
+pub do_turn-requires-clause-prepared : goal.do_turn-requires-clause-prepared
+do_turn-requires-clause-prepared g c =
+    subst (λ ls. ArePrepared c.args.run.now.core.opening.catalog ls c.events.result.now) (sym c.lines.ensures)
+    (subst (λ k. ArePrepared k c.args.self.now.lines c.events.result.now) (sym c.requires.saved.catalog) c.events.ensures)
+
+pub do_turn-requires-clause-before : goal.do_turn-requires-clause-before
+do_turn-requires-clause-before g c = subst (λ ls. AreCursors ls c.args.run.now.core.records c.args.run.now.cursors) (sym c.lines.ensures) c.requires.saved.cursors
+
+pub returns-clause-saved : goal.returns-clause-saved
+returns-clause-saved g c =
+    let turns = c.args.run.now.turns in
+    let place = get_or c.args.order.now turns 0 in
+    turn_done c.args.self.now c.args.order.now c.args.run.now _ place c.requires.saved c.requires.more (get_or_default c.args.order.now turns 0 place c.requires.more)
+    (c.in_ok-do_turn.ensures.done ∙ ap (λ ls. after_turn ls c.args.run.now.core place) c.lines.ensures)
+    (subst (λ ls. AreCursors ls c.do_turn.new.core.records c.do_turn.new.cursors) c.lines.ensures c.in_ok-do_turn.ensures.after)
+    c.in_ok-do_turn.ensures.few c.in_ok-do_turn.ensures.most refl

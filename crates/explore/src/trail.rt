@@ -1,0 +1,278 @@
+//! Orders that share beginnings with those before them.
+
+ghost use Rattle.std.specs.Prelude.{◌≡◌, ◌+◌, ◌<◌, ◌≤◌, List, ℕ, nat_le, filter, length, take, IfOk, IfSome, OnOk};
+ghost use Rattle.explore.specs.Explored.{Explored, IsExplained, RunsTo, outcome, turns_of};
+ghost use Rattle.explore.specs.Trails.{AreSaved, IsSaved};
+
+use crate::exploring::outcome_text;
+use crate::plan::Plan;
+use crate::running::do_turn;
+use serial::laws::legal_histories_are_serializable;
+use session::sessions::Core;
+use std::alloc::{Allocator, Global};
+use value::refusal::Refusal;
+
+/// The core that the first turns of an order lead to, and a cursor for each session.
+#[derive(Drop)]
+pub(crate) struct Saved<A: Allocator = Global> {
+    core: Core<A>,
+    cursors: [usize; 64],
+    turns: usize,
+}
+
+/// The order that was run last, and the cores after some of its beginnings, the shortest first.
+#[derive(Drop)]
+pub(crate) struct Trail<A: Allocator = Global> {
+    order: Vec<usize, A>,
+    saved: Vec<Saved<A>, A>,
+}
+
+// How many turns two orders begin with in common.
+fn common(order: &[usize], other: &[usize]) -> usize
+    ensures same { take result order.now ≡ take result other.now }
+    ensures within { result ≤ length other.now }
+{
+    match order {
+        [] => 0,
+        [turn, more @ ..] => match other {
+            [] => 0,
+            [first, rest @ ..] => {
+                if turn == first {
+                    1 + common(more, rest)
+                } else {
+                    0
+                }
+            }
+        },
+    }
+}
+
+// Whether a session above the first one goes later.
+fn leads(order: &[usize]) -> bool {
+    match order {
+        [] => false,
+        [first, more @ ..] => more.iter().any(|later| first < later),
+    }
+}
+
+// Whether orders that come later begin with the turns before a place too: behind it a session goes that is above the one
+// there.
+fn is_shared(order: &[usize], place: usize) -> bool {
+    if place < order.len() {
+        let (_, left) = order.split_at(place);
+        leads(left)
+    } else {
+        false
+    }
+}
+
+// A core is kept at each place of an order that has fewer turns than this, and at this many places, or up to twice as many,
+// of a longer one.
+const PLACES: usize = 64;
+
+// Whether a core is kept at a place, where orders that come later begin alike. A long order has few such places, since
+// each core takes memory, and looking for a later turn takes time.
+fn is_a_place(order: &[usize], place: usize) -> bool {
+    let apart = order.len() / PLACES;
+    apart == 0 || place % apart == 0
+}
+
+impl<A: Allocator> Saved<A> {
+    // A copy of what is saved, which goes on by itself.
+    fn copy(&self, alloc: A) -> Result<Saved<A>, Refusal>
+    where
+        A: Copy,
+        ensures { IfOk result (λ copy. copy ≡ self.now) }
+    {
+        let core = self.core.copy(alloc)?;
+        Ok(Saved {
+            core,
+            cursors: self.cursors,
+            turns: self.turns,
+        })
+    }
+}
+
+impl<A: Allocator> Trail<A> {
+    /// No order, and no core.
+    pub(crate) fn new(alloc: A) -> Trail<A>
+    where
+        A: Copy,
+        ensures { (e : Explored A) → AreSaved e result }
+    {
+        Trail {
+            order: Vec::new(alloc),
+            saved: Vec::new(alloc),
+        }
+    }
+
+    // Forgets the cores after more turns than this.
+    fn leave(&mut self, turns: usize)
+        ensures order { self.new.order.items ≡ self.old.order.items }
+        ensures saved { self.new.saved.items ≡ filter (λ s. nat_le s.turns turns) self.old.saved.items }
+    {
+        self.saved.retain(|saved| saved.turns <= turns);
+    }
+
+    // Notes an order.
+    fn note(&mut self, order: &[usize]) -> Result<(), Refusal>
+        ensures order { OnOk result (self.new.order.items ≡ order.now) }
+        ensures saved { self.new.saved.items ≡ self.old.saved.items }
+    {
+        self.order.truncate(0);
+        self.order.extend_from_slice(order)?;
+        Ok(())
+    }
+
+    // Goes over to another order, with the cores of their common beginnings.
+    fn follow(&mut self, order: &[usize]) -> Result<(), Refusal>
+        ensures saved { (e : Explored A) → AreSaved e self.old → OnOk result (AreSaved e self.new) }
+        ensures order { OnOk result (self.new.order.items ≡ order.now) }
+    {
+        let turns = common(self.order.as_slice(), order);
+        self.leave(turns);
+        self.note(order)?;
+        Ok(())
+    }
+
+    // Whether the last core comes after so many turns.
+    fn has_last(&self, turns: usize) -> bool {
+        match self.saved.last() {
+            Some(last) => last.turns == turns,
+            None => false,
+        }
+    }
+
+    // The last core; where orders that come later begin alike, a copy.
+    fn take_last(&mut self, alloc: A) -> Result<Option<Saved<A>>, Refusal>
+    where
+        A: Copy,
+        ensures last { (e : Explored A) → AreSaved e self.old →
+            IfOk result (λ found. IfSome found (IsSaved e self.old.order.items)) }
+        ensures saved { (e : Explored A) → AreSaved e self.old → OnOk result (AreSaved e self.new) }
+        ensures order { self.new.order.items ≡ self.old.order.items }
+    {
+        let Some(last) = self.saved.pop() else {
+            return Ok(None);
+        };
+        if !is_shared(self.order.as_slice(), last.turns) {
+            return Ok(Some(last));
+        }
+        let copy = last.copy(alloc)?;
+        self.saved.push(last)?;
+        Ok(Some(copy))
+    }
+
+    // Keeps a copy of a core of its order, where orders that come later begin alike.
+    fn keep(&mut self, alloc: A, run: &Saved<A>) -> Result<(), Refusal>
+    where
+        A: Copy,
+        ensures saved { (e : Explored A) → AreSaved e self.old → IsSaved e self.old.order.items run.now →
+            OnOk result (AreSaved e self.new) }
+        ensures order { self.new.order.items ≡ self.old.order.items }
+    {
+        let order = self.order.as_slice();
+        if self.has_last(run.turns)
+            || !is_a_place(order, run.turns)
+            || !is_shared(order, run.turns)
+        {
+            return Ok(());
+        }
+        let copy = run.copy(alloc)?;
+        self.saved.push(copy)?;
+        Ok(())
+    }
+}
+
+impl<A: Allocator + Copy> Plan<A> {
+    // The core before any turn.
+    fn unbegun(&self, alloc: A) -> Result<Saved<A>, Refusal>
+        ensures { (order : List ℕ) → IfOk result (IsSaved self.now order) }
+    {
+        let core = self.begin(alloc)?;
+        Ok(Saved {
+            core,
+            cursors: [0; 64],
+            turns: 0,
+        })
+    }
+
+    // The core from which a trail's order goes on.
+    fn resume(&self, alloc: A, trail: &mut Trail<A>) -> Result<Saved<A>, Refusal>
+        requires { AreSaved self.now trail.old }
+        ensures run { IfOk result (IsSaved self.now trail.old.order.items) }
+        ensures saved { OnOk result (AreSaved self.now trail.new) }
+        ensures order { OnOk result (trail.new.order.items ≡ trail.old.order.items) }
+    {
+        match trail.take_last(alloc)? {
+            Some(found) => Ok(found),
+            None => self.unbegun(alloc),
+        }
+    }
+
+    // Does the next turn of an order.
+    fn go_on(&self, alloc: A, run: &mut Saved<A>, order: &[usize]) -> Result<(), Refusal>
+        requires saved { IsSaved self.now order.now run.old }
+        requires more { run.old.turns < length order.now }
+        requires few { length order.now ≤ turns_of self.now }
+        ensures saved { OnOk result (IsSaved self.now order.now run.new) }
+        ensures next { OnOk result (run.new.turns ≡ run.old.turns + 1) }
+    {
+        let place = order[run.turns];
+        do_turn(
+            alloc,
+            &mut run.core,
+            self.lines(),
+            self.events(),
+            &mut run.cursors,
+            place,
+        )?;
+        run.turns += 1;
+        Ok(())
+    }
+
+    // Does the turns of a trail's order that are left, and keeps the cores that orders to come begin with.
+    fn finish(
+        &self,
+        alloc: A,
+        trail: &mut Trail<A>,
+        run: &mut Saved<A>,
+        order: &[usize],
+    ) -> Result<(), Refusal>
+        requires saved { AreSaved self.now trail.old }
+        requires order { trail.old.order.items ≡ order.now }
+        requires run { IsSaved self.now order.now run.old }
+        requires few { length order.now ≤ turns_of self.now }
+        ensures ran { OnOk result (RunsTo self.now order.now run.new.core) }
+        ensures saved { OnOk result (AreSaved self.now trail.new) }
+    {
+        'turns: while run.turns < order.len() {
+            trail.keep(alloc, run)?;
+            self.go_on(alloc, run, order)?;
+        }
+        Ok(())
+    }
+
+    /// The outcome of an order, which goes on from the cores that are kept of the order before. Out of memory is the only
+    /// refusal.
+    pub(crate) fn outcome_after(
+        &self,
+        alloc: A,
+        trail: &mut Trail<A>,
+        order: &[usize],
+    ) -> Result<Vec<u8, A>, Refusal>
+        requires short { length order.now ≤ turns_of self.now }
+        requires saved { AreSaved self.now trail.old }
+        ensures outcome { IfOk result (λ text. text.items ≡ outcome self.now order.now) }
+        ensures explained { IfOk result (λ text. IsExplained A text.items) }
+        ensures saved { OnOk result (AreSaved self.now trail.new) }
+    {
+        trail.follow(order)?;
+        let mut reached = self.resume(alloc, trail)?;
+        self.finish(alloc, trail, &mut reached, order)?;
+        reached.core.is_legal();
+        legal_histories_are_serializable::<A>();
+        let text = outcome_text(alloc, &reached.core)?;
+        Ok(text)
+    }
+}

@@ -1,5 +1,0 @@
-use Rattle.tally.proofs.Leading.{nobody_left}
-use Rattle.tally.proofs.interleave.interleavings.Rest.next.Goals as goal
-
-pub returns-clause-done : goal.returns-clause-done
-returns-clause-done g c = λ e. nobody_left _ _ e

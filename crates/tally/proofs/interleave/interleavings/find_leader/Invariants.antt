@@ -1,8 +1,0 @@
-use Rattle.std.proofs.Common.{◌≡◌, ◌<◌, [], length, slice_index_or}
-use Rattle.tally.specs.Interleavings.{interleavings}
-use Rattle.tally.proofs.Leading.{from}
-use Rattle.tally.proofs.interleave.interleavings.find_leader.Given as goal
-
-abbrev pub invariant-loop-session : goal.invariant-loop-session
-invariant-loop-session l = (l.number < length (from l.lines l.all l.session)) ×
-    (slice_index_or (interleavings l.lines) l.place [] ≡ slice_index_or (from l.lines l.all l.session) l.number [])

@@ -1,5 +1,0 @@
-use Rattle.std.proofs.Common.{◌≡◌, sum, take}
-use Rattle.tally.proofs.interleave.interleavings.sum_of.Given as goal
-
-abbrev pub invariant-loop-own : goal.invariant-loop-own
-invariant-loop-own l = l.all ≡ sum (take l.own-index l.lines)

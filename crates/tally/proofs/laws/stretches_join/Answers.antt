@@ -1,6 +1,0 @@
-use Rattle.std.proofs.Common.{refl, ◌+◌, length}
-use Rattle.tally.proofs.Joined.{stretches}
-use Rattle.tally.proofs.laws.stretches_join.Goals as goal
-
-pub returns : goal.returns
-returns c = λ n texts later. stretches n (n + length texts) texts later refl
