@@ -7,7 +7,7 @@ use Rattle.std.specs.Option.{option_map_or}
 use Rattle.value.specs.declared.value.Value.{Value}
 use Rattle.schema.specs.Plain.{is_sound}
 use Rattle.orders.specs.Explains.{Unexplained, all_fit}
-use Rattle.ways.specs.declared.way.Way.{Way}
+use Rattle.orders.specs.declared.ways.way.Way.{Way}
 use Rattle.certificate.specs.declared.certificate.Assumption.{Assumption}
 use Rattle.certificate.specs.declared.certificate.Line.{Line}
 use Rattle.certificate.specs.declared.certificate.Line.TheVariants.{Joined, Source, Later, Earlier, Common, Needless, Found, Suppose, Cycle, Sourceless, Wayless, TooMany, TooFew, Overfull, Lacking}

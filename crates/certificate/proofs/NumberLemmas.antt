@@ -16,8 +16,8 @@ use Rattle.value.proofs.Basics.{eqb-self}
 use Rattle.schema.specs.Plain.{same}
 use Rattle.statement.proofs.Suffices.{same_itself}
 use Rattle.orders.specs.Explains.{Trace}
-use Rattle.ways.specs.Counts.{number_at}
-use Rattle.ways.specs.declared.way.Way.{Way}
+use Rattle.orders.specs.Counts.{number_at}
+use Rattle.orders.specs.declared.ways.way.Way.{Way}
 use Rattle.certificate.specs.declared.known.Spot.{Spot}
 use Rattle.certificate.specs.Board.{Board}
 use Rattle.certificate.specs.Cells.{same_spot}

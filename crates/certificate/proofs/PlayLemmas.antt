@@ -22,15 +22,15 @@ use Rattle.statement.proofs.LawsLemmas.{sound_after}
 use Rattle.statement.proofs.RowsLemmas.{found_in}
 use Rattle.statement.proofs.Suffices.{same_itself}
 use Rattle.orders.specs.Explains.{Trace, Explains, InTurn, InTime, MayFollow, AreApart, Stands, precedes, alone, agrees, are_fit, all_fit}
-use Rattle.ways.specs.declared.way.Way.{Way}
-use Rattle.ways.specs.Counts.{are_apart as keys_apart, chooses, chosen_in, has, has_key, inserted_key, inserts, is_chosen, named_at, number_at}
-use Rattle.ways.specs.Ways as way
-use Rattle.ways.specs.Ways.{Holds, cell}
-use Rattle.ways.specs.Symbolic as symbolic
-use Rattle.ways.proofs.WayLemmas.{holds_allows, holds_effect}
-use Rattle.ways.proofs.CoverLemmas.{counted}
-use Rattle.ways.proofs.LeftLemmas.{absence_kept}
-use Rattle.ways.proofs.NumberLemmas.{first_answered, told_at_least, told_at_most}
+use Rattle.orders.specs.declared.ways.way.Way.{Way}
+use Rattle.orders.specs.Counts.{are_apart as keys_apart, chooses, chosen_in, has, has_key, inserted_key, inserts, is_chosen, named_at, number_at}
+use Rattle.orders.specs.Ways as way
+use Rattle.orders.specs.Ways.{Holds, cell}
+use Rattle.orders.specs.Symbolic as symbolic
+use Rattle.orders.proofs.WayLemmas.{holds_allows, holds_effect}
+use Rattle.orders.proofs.CoverLemmas.{counted}
+use Rattle.orders.proofs.LeftLemmas.{absence_kept}
+use Rattle.orders.proofs.NumberLemmas.{first_answered, told_at_least, told_at_most}
 use Rattle.certificate.specs.declared.known.Spot.{Spot}
 use Rattle.certificate.specs.Cells.{same_spot}
 use Rattle.certificate.specs.Knowledge.{are_apart}

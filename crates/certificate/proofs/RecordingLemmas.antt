@@ -14,8 +14,8 @@ use Rattle.schema.specs.Rows.{Rows, row_of}
 use Rattle.statement.specs.declared.statement.Statement.{Statement}
 use Rattle.statement.specs.declared.reply.Reply.{Reply}
 use Rattle.orders.specs.Explains.{Trace}
-use Rattle.ways.specs.Symbolic.{is_looked_at, ways_of}
-use Rattle.ways.proofs.CoverLemmas.{unlooked_ways}
+use Rattle.orders.specs.Symbolic.{is_looked_at, ways_of}
+use Rattle.orders.proofs.CoverLemmas.{unlooked_ways}
 use Rattle.certificate.specs.declared.known.Spot.{Spot}
 use Rattle.certificate.specs.Cells.{same_spot}
 use Rattle.certificate.specs.Order.{Exact}

@@ -1,8 +1,8 @@
 -- What is said of effects on a recording's board is what the rules say.
 use Rattle.std.proofs.Common.{◌≡◌, refl, ℕ, ℤ, Option, Some, None, List}
 use Rattle.value.specs.declared.value.Value.{Value}
-use Rattle.ways.specs.declared.way.Way.{Way}
-use Rattle.ways.specs.Ways as way
+use Rattle.orders.specs.declared.ways.way.Way.{Way}
+use Rattle.orders.specs.Ways as way
 use Rattle.certificate.specs.Board.{Effect, Keeps, Leaves, Adds, Unknown}
 use Rattle.certificate.specs.Cells.{found_at}
 use Rattle.certificate.specs.Knowledge as known

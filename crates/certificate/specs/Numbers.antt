@@ -6,7 +6,7 @@ use Rattle.std.specs.BTreeSet.{insert_key}
 use Rattle.value.specs.declared.value.Value.{Value}
 use Rattle.value.specs.Order.{value_cmp}
 use Rattle.schema.specs.Plain.{is_null}
-use Rattle.ways.specs.Counts.{number_at, table_at}
+use Rattle.orders.specs.Counts.{number_at, table_at}
 use Rattle.certificate.specs.declared.known.Spot.{Spot}
 use Rattle.certificate.specs.Board.{Board}
 use Rattle.certificate.specs.Knowledge.{Known, is_present}

@@ -9,11 +9,11 @@ use Rattle.schema.specs.declared.row.Row.{Row}
 use Rattle.schema.specs.Plain.{same, row_at, rows_of}
 use Rattle.statement.specs.Evaluation.{added, out_of_range}
 use Rattle.orders.specs.Explains.{Trace, precedes}
-use Rattle.ways.specs.declared.way.Way.{Way}
-use Rattle.ways.specs.Ways as way
-use Rattle.ways.specs.Counts.{has, inserted_key, named_at, number_at}
-use Rattle.ways.specs.Ways.{allows, cell}
-use Rattle.ways.specs.Symbolic.{ways_of}
+use Rattle.orders.specs.declared.ways.way.Way.{Way}
+use Rattle.orders.specs.Ways as way
+use Rattle.orders.specs.Counts.{has, inserted_key, named_at, number_at}
+use Rattle.orders.specs.Ways.{allows, cell}
+use Rattle.orders.specs.Symbolic.{ways_of}
 use Rattle.certificate.specs.declared.known.Spot.{Spot}
 use Rattle.certificate.specs.Board.{Board, Effect, Keeps, Leaves, Adds, Unknown}
 use Rattle.certificate.specs.Cells.{same_spot}

@@ -1,7 +1,7 @@
 -- What is looked at where it is asked from whom a transaction may have a cell.
 use Rattle.std.specs.Prelude.{ℕ, Bool, Option, List}
 use Rattle.value.specs.declared.value.Value.{Value}
-use Rattle.ways.specs.declared.way.Way.{Way}
+use Rattle.orders.specs.declared.ways.way.Way.{Way}
 use Rattle.certificate.specs.declared.known.Spot.{Spot}
 use Rattle.certificate.specs.Board.{Effect}
 use Rattle.certificate.specs.Knowledge.{Cell, Known, left_from, one_allows, passes}

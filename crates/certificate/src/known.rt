@@ -237,33 +237,6 @@ fn has_excluded<A: Allocator>(
     excluded.iter().any(|known| known.is_of(place, spot, way))
 }
 
-// Equal pairs.
-fn copy_pairs<A: Allocator>(
-    alloc: A,
-    pairs: &[(usize, usize)],
-) -> Result<Vec<(usize, usize), A>, Refusal>
-    ensures ok { IfOk result (λ copy. copy.items ≡ pairs.now) }
-    ensures err { IfErr result (λ e. e ≡ out_of_memory) }
-{
-    let mut copy = Vec::with_capacity(alloc, pairs.len())?;
-    for pair in pairs {
-        copy.push(*pair)?;
-    }
-    Ok(copy)
-}
-
-// Equal places.
-fn copy_places<A: Allocator>(alloc: A, places: &[usize]) -> Result<Vec<usize, A>, Refusal>
-    ensures ok { IfOk result (λ copy. copy.items ≡ places.now) }
-    ensures err { IfErr result (λ e. e ≡ out_of_memory) }
-{
-    let mut copy = Vec::with_capacity(alloc, places.len())?;
-    for place in places {
-        copy.push(*place)?;
-    }
-    Ok(copy)
-}
-
 // Equal excluded ways.
 fn copy_excluded<A: Allocator + Copy>(
     alloc: A,
@@ -353,11 +326,11 @@ impl<A: Allocator> Known<A> {
         ensures err { IfErr result (λ e. e ≡ out_of_memory) }
     {
         Ok(Known {
-            pairs: copy_pairs(alloc, self.pairs.as_slice())?,
+            pairs: Vec::from_slice(alloc, self.pairs.as_slice())?,
             excluded: copy_excluded(alloc, self.excluded.as_slice())?,
             findings: copy_findings(alloc, self.findings.as_slice())?,
-            present: copy_places(alloc, self.present.as_slice())?,
-            absent: copy_places(alloc, self.absent.as_slice())?,
+            present: Vec::from_slice(alloc, self.present.as_slice())?,
+            absent: Vec::from_slice(alloc, self.absent.as_slice())?,
         })
     }
 

@@ -6,7 +6,7 @@ ghost use Rattle.std.specs.Option.{option_copied, option_map_or};
 ghost use Rattle.value.specs.Refusals.{out_of_memory};
 ghost use Rattle.schema.specs.Plain.{rows_of};
 ghost use Rattle.schema.specs.Rows.{HasTable};
-ghost use Rattle.ways.specs.Counts as count;
+ghost use Rattle.orders.specs.Counts as count;
 ghost use Rattle.certificate.specs.Numbers as spec;
 ghost use Rattle.certificate.specs.Cells.{same_spot};
 ghost use Rattle.certificate.specs.Recorded.{board, inserted_keys, may_count};
@@ -16,6 +16,8 @@ use crate::known::{Known, Spot};
 use crate::recording::Recording;
 use crate::rules::way_at;
 use orders::transaction::{Answered, Transaction};
+use orders::ways::numbers::{has, inserted_key, is_named_at, number_at, table_at};
+use orders::ways::way::Way;
 use schema::catalog::TableNo;
 use schema::reader::{first_row, row_after};
 use schema::tables::Tables;
@@ -24,8 +26,6 @@ use std::collections::BTreeSet;
 use value::key::Key;
 use value::refusal::Refusal;
 use value::value::Value;
-use ways::numbers::{has, inserted_key, is_named_at, number_at, table_at};
-use ways::way::Way;
 
 /// The spots of a table that may ever have a row, and whether there are no others.
 #[derive(Drop)]

@@ -6,14 +6,16 @@ ghost use Rattle.value.specs.Refusals.{out_of_memory};
 ghost use Rattle.schema.specs.Plain.{field, row_at};
 ghost use Rattle.orders.specs.Explains.{ended_before, precedes};
 ghost use Rattle.schema.specs.Definition.{Catalog as AnyCatalog};
-ghost use Rattle.ways.specs.Symbolic as spec;
-ghost use Rattle.ways.specs.Symbolic.{ways_of};
-ghost use Rattle.ways.specs.Ways.{cell};
+ghost use Rattle.orders.specs.Symbolic as spec;
+ghost use Rattle.orders.specs.Symbolic.{ways_of};
+ghost use Rattle.orders.specs.Ways.{cell};
 ghost use Rattle.certificate.specs.Knowledge.{comes_before, is_present};
 ghost use Rattle.certificate.specs.Recorded.{Recording as AnyRecording, board, precedes_so};
 
 use crate::known::{Cell, Known, Spot};
 use orders::transaction::Transaction;
+use orders::ways::cover::{is_looked_at, ways_of};
+use orders::ways::way::Way;
 use schema::catalog::{Catalog, TableNo};
 use schema::reader::SnapshotReader;
 use schema::row::Row;
@@ -23,8 +25,6 @@ use std::marker::Model;
 use value::key::Key;
 use value::refusal::Refusal;
 use value::value::Value;
-use ways::cover::{is_looked_at, ways_of};
-use ways::way::Way;
 
 /// A recording: the catalog, the tables before all transactions, and what was recorded of these. To a contract it is a
 /// board, on which each transaction has its ways at each key.

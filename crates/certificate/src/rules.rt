@@ -13,10 +13,10 @@ use crate::known::{Cell, Known, Spot};
 use crate::recording::Recording;
 use crate::sources::{CellView, Origin, are_none};
 use crate::states::is_same;
+use orders::ways::way::Way;
 use std::alloc::Allocator;
 use value::refusal::Refusal;
 use value::value::Value;
-use ways::way::Way;
 
 // Whether there are no ways.
 fn is_wayless<A: Allocator>(ways: &[Way<A>]) -> bool

@@ -3,7 +3,7 @@
 ghost use Rattle.std.specs.Prelude.{◌≡◌, ◌==◌, ◌&&◌, ◌||◌, ◌++◌, ◌∷◌, not, false, [], if◌then◌else◌, OnOk, IfOk, IfErr};
 ghost use Rattle.std.specs.List.{list_all, list_any};
 ghost use Rattle.value.specs.Refusals.{out_of_memory};
-ghost use Rattle.ways.specs.Symbolic.{ways_of};
+ghost use Rattle.orders.specs.Symbolic.{ways_of};
 ghost use Rattle.certificate.specs.Board.{is_write};
 ghost use Rattle.certificate.specs.Knowledge.{comes_before, is_among, is_excluded, is_writer, left, left_from, may_be_first, may_be_from, may_leave, sources, surely_writes};
 ghost use Rattle.certificate.specs.Knowledge as spec;
@@ -14,11 +14,11 @@ ghost use Rattle.certificate.specs.Views.{asking, effect_on, leaves_state, left_
 use crate::known::{Cell, Known, Spot};
 use crate::recording::Recording;
 use crate::states::{is_left, one_allows_state, passes, writes};
+use orders::ways::way::Way;
 use std::alloc::Allocator;
 use std::marker::Model;
 use value::refusal::Refusal;
 use value::value::Value;
-use ways::way::Way;
 
 impl<'r, A: Allocator + Copy> Recording<'r, A> {
     /// The ways that are left of a transaction at a spot. Refused only for want of memory (53200).
@@ -111,7 +111,7 @@ pub(crate) struct CellView<'v, 'r, A: Allocator> {
 
 impl<'v, 'r, A: Allocator> Model for CellView<'v, 'r, A> {
     ghost use Rattle.std.specs.Prelude.{◌≡◌, []};
-    ghost use Rattle.ways.specs.Symbolic.{ways_of};
+    ghost use Rattle.orders.specs.Symbolic.{ways_of};
     ghost use Rattle.certificate.specs.Views.{View};
 
     ghost Value = { View A };

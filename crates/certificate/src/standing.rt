@@ -242,7 +242,7 @@ impl<A: Allocator + Copy> Standing<A> {
         Some(frame)
     }
 
-    // The same, where something may be supposed.
+    // Stands again where it stood before a supposition that failed; wrong where nothing was supposed.
     fn turn_at(&mut self, frame: Frame<A>, assumed: Option<Assumption>) -> Result<Step, Refusal>
         ensures ok { IfOk result (λ step. outcome_of step self.new ≡ closed (frame ∷ self.old.outer) assumed) }
         ensures err { IfErr result (λ e. e ≡ out_of_memory) }

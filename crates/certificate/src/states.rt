@@ -7,17 +7,17 @@ ghost use Rattle.schema.specs.Plain.{is_null};
 ghost use Rattle.statement.specs.Conditions.{compares, is_so};
 ghost use Rattle.statement.specs.Evaluation.{out_of_range};
 ghost use Rattle.statement.specs.Select.{column_of};
-ghost use Rattle.ways.specs.Ways.{allows, allows_value, effect, effect_from, effect_of_field, effect_on_field, value_meets};
+ghost use Rattle.orders.specs.Ways.{allows, allows_value, effect, effect_from, effect_of_field, effect_on_field, value_meets};
 ghost use Rattle.certificate.specs.Recorded.{effect_of, is_sum, leaves_same, one_allows, passes, passes_sum, same_state};
 ghost use Rattle.certificate.specs.Cells.{found_at};
 ghost use Rattle.certificate.specs.Board.{is_write};
 
 use crate::known::{Cell, Known, Spot};
+use orders::ways::way::{After, Atom, Field, Way};
 use statement::condition::{Comparison, Condition};
 use std::alloc::Allocator;
 use std::cmp::Ordering;
 use value::value::Value;
-use ways::way::{After, Atom, Field, Way};
 
 // Whether a value is null.
 fn is_null<A: Allocator>(value: &Value<A>) -> bool

@@ -1,7 +1,7 @@
 use Rattle.std.proofs.Common.{◌∙◌, ◌++◌, ap, option_to_list, arith}
 use Rattle.std.proofs.lemmas.List.{take_all}
 use Rattle.std.specs.List.{flat_map}
-use Rattle.ways.specs.Counts.{inserted_key}
+use Rattle.orders.specs.Counts.{inserted_key}
 use Rattle.certificate.proofs.numbers.push_inserted.Goals as goal
 
 pub returns-clause-ok : goal.returns-clause-ok

@@ -1,6 +1,6 @@
 use Rattle.std.proofs.Common.{◌≡◌, ◌++◌, option_to_list, take}
 use Rattle.std.specs.List.{flat_map}
-use Rattle.ways.specs.Counts.{inserted_key}
+use Rattle.orders.specs.Counts.{inserted_key}
 use Rattle.certificate.proofs.numbers.push_inserted.Given as goal
 
 -- the keys so far

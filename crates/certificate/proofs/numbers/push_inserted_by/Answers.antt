@@ -1,7 +1,7 @@
 use Rattle.std.proofs.Common.{◌≡◌, ◌∙◌, ◌++◌, ap, sym, subst, map, option_to_list, OnOk}
 use Rattle.std.proofs.lemmas.List.Folds.{flat_map-map}
 use Rattle.std.specs.List.{flat_map}
-use Rattle.ways.specs.Counts.{inserted_key}
+use Rattle.orders.specs.Counts.{inserted_key}
 use Rattle.certificate.specs.Recorded.{inserted_keys}
 use Rattle.certificate.proofs.numbers.push_inserted_by.Goals as goal
 

@@ -1,7 +1,7 @@
 use Rattle.std.proofs.Common.{sym, ap, ◌∙◌, []}
 use Rattle.std.proofs.lemmas.Bool.{not-true}
 use Rattle.std.specs.Option.{option_copied, option_map_or}
-use Rattle.ways.specs.Symbolic.{ways_of}
+use Rattle.orders.specs.Symbolic.{ways_of}
 use Rattle.certificate.proofs.RecordingLemmas.{idle-ways}
 use Rattle.certificate.proofs.recording.is_idle.Goals as goal
 

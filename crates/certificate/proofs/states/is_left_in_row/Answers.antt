@@ -1,6 +1,6 @@
 use Rattle.std.proofs.Common.{◌≡◌, sym, ap, ◌∙◌, subst}
-use Rattle.ways.specs.declared.way.After.TheVariants as comes
-use Rattle.ways.specs.Ways.{effect_from, effect_on_field}
+use Rattle.orders.specs.declared.ways.way.After.TheVariants as comes
+use Rattle.orders.specs.Ways.{effect_from, effect_on_field}
 use Rattle.certificate.specs.Cells.{found_at}
 use Rattle.certificate.specs.Recorded.{effect_of, leaves_same}
 use Rattle.certificate.proofs.StateLemmas.{row-effect}

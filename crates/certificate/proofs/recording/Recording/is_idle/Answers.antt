@@ -1,6 +1,6 @@
 use Rattle.std.proofs.Common.{◌≡◌, subst, []}
 use Rattle.std.specs.Option.{option_map_or}
-use Rattle.ways.specs.Symbolic.{ways_of}
+use Rattle.orders.specs.Symbolic.{ways_of}
 use Rattle.certificate.proofs.recording.Recording.is_idle.Goals as goal
 
 pub returns : goal.returns

@@ -1,6 +1,6 @@
 use Rattle.std.proofs.Common.{◌≡◌, subst, IfOk}
 use Rattle.schema.specs.Plain.{row_at}
-use Rattle.ways.specs.Ways.{cell}
+use Rattle.orders.specs.Ways.{cell}
 use Rattle.certificate.proofs.recording.Recording.opened.Goals as goal
 
 pub returns-clause-ok : goal.returns-clause-ok

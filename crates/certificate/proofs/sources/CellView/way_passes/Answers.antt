@@ -1,5 +1,5 @@
 use Rattle.std.proofs.Common.{◌≡◌, ◌∙◌, subst}
-use Rattle.ways.specs.Ways.{effect}
+use Rattle.orders.specs.Ways.{effect}
 use Rattle.certificate.specs.Cells.{found_at}
 use Rattle.certificate.specs.Recorded.{effect_of, passes}
 use Rattle.certificate.proofs.ViewLemmas.{way-passes}
