@@ -7,12 +7,12 @@ use crate::history::History;
 use crate::lists::{list_at, push_at};
 use crate::visits::Visit;
 use orders::transaction::{Answered, Transaction};
+use orders::ways::numbers::{number_told, shows_key, table_of};
 use schema::catalog::TableNo;
 use statement::condition::{Comparison, Condition};
 use statement::statement::Statement;
 use std::alloc::Allocator;
 use value::refusal::Refusal;
-use ways::numbers::{number_told, shows_key, table_of};
 
 /// A statement, by its transaction and its number there, and how many rows it chose of a table, by its answer.
 #[derive(Drop)]
@@ -66,15 +66,13 @@ fn shows_keys<A: Allocator>(statement: &Statement<A>) -> bool {
     }
 }
 
-impl<A: Allocator> History<A> {
+impl<A: Allocator + Copy> History<A> {
     /// Adds the statements of all transactions that tell how many rows they chose.
     pub(crate) fn add_sums(
         &mut self,
         alloc: A,
         transactions: &[Transaction<A>],
     ) -> Result<(), Refusal>
-    where
-        A: Copy,
         ensures { IfErr result (λ e. e ≡ out_of_memory) }
     {
         for (place, transaction) in transactions.iter().enumerate() {
@@ -90,8 +88,6 @@ impl<A: Allocator> History<A> {
         place: usize,
         statements: &[Answered<A>],
     ) -> Result<(), Refusal>
-    where
-        A: Copy,
         ensures { IfErr result (λ e. e ≡ out_of_memory) }
     {
         for (number, answered) in statements.iter().enumerate() {
@@ -107,8 +103,6 @@ impl<A: Allocator> History<A> {
         at: (usize, usize),
         answered: &Answered<A>,
     ) -> Result<(), Refusal>
-    where
-        A: Copy,
         ensures { IfErr result (λ e. e ≡ out_of_memory) }
     {
         let statement = &answered.statement;
@@ -134,8 +128,6 @@ impl<A: Allocator> History<A> {
         table: TableNo,
         number: usize,
     ) -> Result<(), Refusal>
-    where
-        A: Copy,
         ensures { IfErr result (λ e. e ≡ out_of_memory) }
     {
         let (place, statement) = at;

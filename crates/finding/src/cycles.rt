@@ -8,9 +8,9 @@ use certificate::certificate::Line;
 use certificate::known::{Cell, Known, Spot};
 use certificate::recording::Recording;
 use certificate::states::{one_allows_state, passes, writes};
+use orders::ways::way::Way;
 use std::alloc::Allocator;
 use value::refusal::Refusal;
-use ways::way::Way;
 
 // Adds the pair or the way that a line tells.
 fn tell<A: Allocator + Copy>(alloc: A, known: &mut Known<A>, line: &Line<A>) -> Result<(), Refusal>

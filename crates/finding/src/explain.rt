@@ -22,7 +22,7 @@ pub(crate) struct Marked<A: Allocator> {
     pub(crate) outer: Vec<Reason, A>,
 }
 
-impl<A: Allocator> Marked<A> {
+impl<A: Allocator + Copy> Marked<A> {
     // Marks a fact.
     fn mark(&mut self, fact: usize) -> Result<(), Refusal>
         ensures { IfErr result (λ e. e ≡ out_of_memory) }
@@ -69,7 +69,7 @@ struct Telling<A: Allocator> {
     joined: Vec<(usize, usize), A>,
 }
 
-impl<A: Allocator> Telling<A> {
+impl<A: Allocator + Copy> Telling<A> {
     // Joins the pairs of a path.
     fn join(&mut self, first: usize, path: &[Step]) -> Result<(), Refusal>
         ensures { IfErr result (λ e. e ≡ out_of_memory) }
@@ -100,44 +100,28 @@ impl<A: Allocator> Telling<A> {
     }
 }
 
-impl<A: Allocator> Solver<A> {
+impl<'h, A: Allocator + Copy> Solver<'h, A> {
     /// The facts on which a fact rests, those from a number on with all that they rest on in turn.
-    pub(crate) fn mark_all(
-        &self,
-        alloc: A,
-        history: &History<A>,
-        last: usize,
-        first: usize,
-    ) -> Result<Marked<A>, Refusal>
-    where
-        A: Copy,
+    pub(crate) fn mark_all(&self, last: usize, first: usize) -> Result<Marked<A>, Refusal>
         ensures { IfErr result (λ e. e ≡ out_of_memory) }
     {
         let below = last.saturating_add(1);
         let mut marked = Marked {
             first,
-            flags: repeated(alloc, below.saturating_sub(first), false)?,
-            outer: Vec::new(alloc),
+            flags: repeated(self.alloc, below.saturating_sub(first), false)?,
+            outer: Vec::new(self.alloc),
         };
         marked.mark(last)?;
         for fact in (first..below).rev() {
             if marked.has(fact) {
-                self.mark_reasons(alloc, history, fact, &mut marked)?;
+                self.mark_reasons(fact, &mut marked)?;
             }
         }
         Ok(marked)
     }
 
     // Marks what a fact rests on.
-    fn mark_reasons(
-        &self,
-        alloc: A,
-        history: &History<A>,
-        number: usize,
-        marked: &mut Marked<A>,
-    ) -> Result<(), Refusal>
-    where
-        A: Copy,
+    fn mark_reasons(&self, number: usize, marked: &mut Marked<A>) -> Result<(), Refusal>
         ensures { IfErr result (λ e. e ≡ out_of_memory) }
     {
         let Some(fact) = self.fact(number) else {
@@ -147,7 +131,7 @@ impl<A: Allocator> Solver<A> {
             match self.reason(reason) {
                 Some(Reason::Fact(other)) => marked.mark(other)?,
                 Some(Reason::Pair(first, second)) => {
-                    let path = self.path(alloc, history, (first, second), number)?;
+                    let path = self.path((first, second), number)?;
                     self.mark_path(path.as_slice(), second, marked)?;
                 }
                 None => {}
@@ -176,23 +160,19 @@ impl<A: Allocator> Solver<A> {
     /// The lines of the facts that are marked, from a number on, behind those that are there.
     pub(crate) fn tell_marked(
         &mut self,
-        alloc: A,
-        history: &History<A>,
         marked: &Marked<A>,
         last: usize,
         lines: Vec<Line<A>, A>,
     ) -> Result<Vec<Line<A>, A>, Refusal>
-    where
-        A: Copy,
         ensures { IfErr result (λ e. e ≡ out_of_memory) }
     {
         let mut telling = Telling {
             lines,
-            joined: Vec::new(alloc),
+            joined: Vec::new(self.alloc),
         };
         for fact in marked.first..last.saturating_add(1) {
             if marked.has(fact) {
-                self.tell_fact(alloc, history, fact, &mut telling)?;
+                self.tell_fact(fact, &mut telling)?;
             }
         }
         let Telling { lines, .. } = telling;
@@ -200,15 +180,7 @@ impl<A: Allocator> Solver<A> {
     }
 
     // The lines of a fact: the pairs that it rests on, and itself.
-    fn tell_fact(
-        &mut self,
-        alloc: A,
-        history: &History<A>,
-        number: usize,
-        telling: &mut Telling<A>,
-    ) -> Result<(), Refusal>
-    where
-        A: Copy,
+    fn tell_fact(&mut self, number: usize, telling: &mut Telling<A>) -> Result<(), Refusal>
         ensures { IfErr result (λ e. e ≡ out_of_memory) }
     {
         let Some(fact) = self.fact(number) else {
@@ -216,14 +188,14 @@ impl<A: Allocator> Solver<A> {
         };
         for reason in fact.first..fact.below {
             if let Some(Reason::Pair(first, second)) = self.reason(reason) {
-                let path = self.path(alloc, history, (first, second), number)?;
+                let path = self.path((first, second), number)?;
                 telling.join(first, path.as_slice())?;
             }
         }
         if let Rule::Refuted(_, refutation) = fact.rule {
-            return self.tell_refutation(alloc, refutation, telling);
+            return self.tell_refutation(refutation, telling);
         }
-        if let Some(line) = self.line(alloc, history, fact.rule)? {
+        if let Some(line) = self.line(fact.rule)? {
             telling.lines.push(line)?;
         }
         Ok(())
@@ -232,18 +204,15 @@ impl<A: Allocator> Solver<A> {
     // The lines that refute a supposition. They are told once.
     fn tell_refutation(
         &mut self,
-        alloc: A,
         refutation: usize,
         telling: &mut Telling<A>,
     ) -> Result<(), Refusal>
-    where
-        A: Copy,
         ensures { IfErr result (λ e. e ≡ out_of_memory) }
     {
         let Some(list) = self.refutations.get_mut(refutation) else {
             return Ok(());
         };
-        let lines = mem::replace(list, Vec::new(alloc));
+        let lines = mem::replace(list, Vec::new(self.alloc));
         for line in lines {
             telling.lines.push(line)?;
         }
@@ -251,11 +220,10 @@ impl<A: Allocator> Solver<A> {
     }
 
     // The line of a rule; none for what is supposed.
-    fn line(&self, alloc: A, history: &History<A>, rule: Rule) -> Result<Option<Line<A>>, Refusal>
-    where
-        A: Copy,
+    fn line(&self, rule: Rule) -> Result<Option<Line<A>>, Refusal>
         ensures { IfErr result (λ e. e ≡ out_of_memory) }
     {
+        let history = self.history;
         match rule {
             Rule::Source(_, sight)
             | Rule::Later(sight, _)
@@ -263,10 +231,10 @@ impl<A: Allocator> Solver<A> {
             | Rule::Common(_, sight)
             | Rule::Needless(sight, _)
             | Rule::Found(sight, _)
-            | Rule::Sourceless(sight) => self.line_of_sight(alloc, history, rule, sight),
+            | Rule::Sourceless(sight) => self.line_of_sight(rule, sight),
             Rule::Supposed(_) | Rule::Refuted(_, _) | Rule::Weighed => Ok(None),
             Rule::TooMany(counting, visit, way) | Rule::TooFew(counting, visit, way) => {
-                miscounted(alloc, history, rule, counting, (visit, way))
+                miscounted(self.alloc, history, rule, counting, (visit, way))
             }
             Rule::Overfull(Counting { place, statement }) => {
                 Ok(Some(Line::Overfull { place, statement }))
@@ -275,29 +243,22 @@ impl<A: Allocator> Solver<A> {
                 Ok(Some(Line::Lacking { place, statement }))
             }
             Rule::Cycle(first, second) => Ok(Some(Line::Cycle { first, second })),
-            Rule::Wayless(visit) => wayless(alloc, history, visit),
+            Rule::Wayless(visit) => wayless(self.alloc, history, visit),
         }
     }
 
     // The line of a rule on what a visit found.
-    fn line_of_sight(
-        &self,
-        alloc: A,
-        history: &History<A>,
-        rule: Rule,
-        sight: Sight,
-    ) -> Result<Option<Line<A>>, Refusal>
-    where
-        A: Copy,
+    fn line_of_sight(&self, rule: Rule, sight: Sight) -> Result<Option<Line<A>>, Refusal>
         ensures { IfErr result (λ e. e ≡ out_of_memory) }
     {
-        let Some(cell) = history.cell(alloc, sight.visit, sight.column)? else {
+        let history = self.history;
+        let Some(cell) = history.cell(self.alloc, sight.visit, sight.column)? else {
             return Ok(None);
         };
         let reader = history.place_of(sight.visit);
         match rule {
             Rule::Needless(_, way) => Ok(needless(history, sight, cell, way)),
-            Rule::Found(_, number) => self.line_of_state(alloc, reader, cell, number),
+            Rule::Found(_, number) => self.line_of_state(reader, cell, number),
             _ => Ok(line_of_pair(rule, reader, cell)),
         }
     }
@@ -305,20 +266,17 @@ impl<A: Allocator> Solver<A> {
     // The line of what was found.
     fn line_of_state(
         &self,
-        alloc: A,
         reader: usize,
         cell: Cell<A>,
         number: usize,
     ) -> Result<Option<Line<A>>, Refusal>
-    where
-        A: Copy,
         ensures { IfErr result (λ e. e ≡ out_of_memory) }
     {
         let Some(found) = self.state(number) else {
             return Ok(None);
         };
         let state = match &found.state {
-            Some(value) => Some(value.copy(alloc)?),
+            Some(value) => Some(value.copy(self.alloc)?),
             None => None,
         };
         Ok(Some(Line::Found {
@@ -359,7 +317,7 @@ fn line_of_pair<A: Allocator>(rule: Rule, reader: usize, cell: Cell<A>) -> Optio
 }
 
 // The line of a way that nobody serves, by its number among all.
-fn needless<A: Allocator>(
+fn needless<A: Allocator + Copy>(
     history: &History<A>,
     sight: Sight,
     cell: Cell<A>,
@@ -375,7 +333,7 @@ fn needless<A: Allocator>(
 }
 
 // The line of a way, by its number among all, by which a statement would have chosen too many rows, or too few.
-fn miscounted<A: Allocator>(
+fn miscounted<A: Allocator + Copy>(
     alloc: A,
     history: &History<A>,
     rule: Rule,
@@ -407,7 +365,7 @@ fn miscounted<A: Allocator>(
 }
 
 // The line of a visit without a way.
-fn wayless<A: Allocator>(
+fn wayless<A: Allocator + Copy>(
     alloc: A,
     history: &History<A>,
     visit: usize,

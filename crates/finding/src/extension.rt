@@ -37,7 +37,7 @@ struct Extension<'h, A: Allocator> {
     order: Vec<usize, A>,
 }
 
-impl<'h, A: Allocator> Extension<'h, A> {
+impl<'h, A: Allocator + Copy> Extension<'h, A> {
     // How far a transaction has come.
     fn stage(&self, place: usize) -> Stage {
         at(self.stages.as_slice(), place, Stage::Done)
@@ -135,14 +135,12 @@ impl<'h, A: Allocator> Extension<'h, A> {
     }
 }
 
-impl<A: Allocator> Solver<A> {
+impl<'h, A: Allocator + Copy> Solver<'h, A> {
     // For each transaction those that an edge puts before it.
-    fn edges_before(&self, alloc: A, count: usize) -> Result<Vec<Vec<usize, A>, A>, Refusal>
-    where
-        A: Copy,
+    fn edges_before(&self, count: usize) -> Result<Vec<Vec<usize, A>, A>, Refusal>
         ensures { IfErr result (λ e. e ≡ out_of_memory) }
     {
-        let mut before = empty_lists(alloc, count)?;
+        let mut before = empty_lists(self.alloc, count)?;
         for edge in self.edges() {
             push_at(before.as_mut_slice(), edge.to, edge.from)?;
         }
@@ -150,12 +148,10 @@ impl<A: Allocator> Solver<A> {
     }
 
     // How far transactions have come at first: those of which it isn't known that they are there never come.
-    fn stages(&self, alloc: A, count: usize) -> Result<Vec<Stage, A>, Refusal>
-    where
-        A: Copy,
+    fn stages(&self, count: usize) -> Result<Vec<Stage, A>, Refusal>
         ensures { IfErr result (λ e. e ≡ out_of_memory) }
     {
-        let mut stages = Vec::with_capacity(alloc, count)?;
+        let mut stages = Vec::with_capacity(self.alloc, count)?;
         for place in 0..count {
             stages.push(if self.is_present(place) {
                 Stage::New
@@ -167,21 +163,20 @@ impl<A: Allocator> Solver<A> {
     }
 
     /// An order of the transactions that are known to be there, near that of their ends, that keeps all that is known.
-    pub(crate) fn extension(&self, alloc: A, history: &History<A>) -> Result<Vec<usize, A>, Refusal>
-    where
-        A: Copy,
+    pub(crate) fn extension(&self) -> Result<Vec<usize, A>, Refusal>
         ensures { IfErr result (λ e. e ≡ out_of_memory) }
     {
+        let history = self.history;
         let count = history.times.count();
         let mut extension = Extension {
             times: &history.times,
-            by_end: history.times.by_end(alloc)?,
+            by_end: history.times.by_end(self.alloc)?,
             first: 0,
-            before: self.edges_before(alloc, count)?,
-            seen: repeated(alloc, count, 0)?,
-            stages: self.stages(alloc, count)?,
-            waiting: Vec::new(alloc),
-            order: Vec::with_capacity(alloc, count)?,
+            before: self.edges_before(count)?,
+            seen: repeated(self.alloc, count, 0)?,
+            stages: self.stages(count)?,
+            waiting: Vec::new(self.alloc),
+            order: Vec::with_capacity(self.alloc, count)?,
         };
         extension.go()?;
         let Extension { order, .. } = extension;

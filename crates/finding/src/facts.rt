@@ -91,7 +91,7 @@ pub(crate) struct Reasons<A: Allocator> {
     list: Vec<Reason, A>,
 }
 
-impl<A: Allocator> Reasons<A> {
+impl<A: Allocator + Copy> Reasons<A> {
     /// None.
     pub(crate) fn none(alloc: A) -> Reasons<A> {
         Reasons {

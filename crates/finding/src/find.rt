@@ -33,10 +33,10 @@ fn search<A: Allocator + Copy>(
     ensures { IfErr result (λ e. e ≡ out_of_memory) }
 {
     let mut solver = Solver::of(alloc, history, order, steps)?;
-    if let Some(lines) = solver.search(alloc, history)? {
+    if let Some(lines) = solver.search()? {
         return Ok(Conclusion::Certificate(lines));
     }
-    let order = solver.extension(alloc, history)?;
+    let order = solver.extension()?;
     Ok(Conclusion::Order(order))
 }
 

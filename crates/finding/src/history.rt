@@ -72,7 +72,7 @@ pub(crate) struct History<A: Allocator> {
     pub(crate) impossible: Vec<(usize, usize), A>,
 }
 
-impl<A: Allocator> History<A> {
+impl<A: Allocator + Copy> History<A> {
     /// The visits of those who write, and all keys; or nothing where there are too many.
     pub(crate) fn of(
         alloc: A,
@@ -80,8 +80,6 @@ impl<A: Allocator> History<A> {
         opening: &Tables<A>,
         transactions: &[Transaction<A>],
     ) -> Result<Option<History<A>>, Refusal>
-    where
-        A: Copy,
         ensures { IfErr result (λ e. e ≡ out_of_memory) }
     {
         let keys = Keys::of(alloc, catalog, opening, transactions)?;
@@ -118,8 +116,6 @@ impl<A: Allocator> History<A> {
         catalog: &Catalog<A>,
         transactions: &[Transaction<A>],
     ) -> Result<bool, Refusal>
-    where
-        A: Copy,
         ensures { IfErr result (λ e. e ≡ out_of_memory) }
     {
         let mut count = 0;
@@ -156,8 +152,6 @@ impl<A: Allocator> History<A> {
         statements: &[Answered<A>],
         keys: &[usize],
     ) -> Result<(), Refusal>
-    where
-        A: Copy,
         ensures { IfErr result (λ e. e ≡ out_of_memory) }
     {
         for key in keys {
@@ -177,8 +171,6 @@ impl<A: Allocator> History<A> {
         statements: &[Answered<A>],
         key: usize,
     ) -> Result<(), Refusal>
-    where
-        A: Copy,
         ensures { IfErr result (λ e. e ≡ out_of_memory) }
     {
         let Some(visit) = self.make_visit(alloc, catalog, statements, (place, key))? else {
@@ -201,8 +193,6 @@ impl<A: Allocator> History<A> {
         statements: &[Answered<A>],
         at: (usize, usize),
     ) -> Result<Option<Visit<A>>, Refusal>
-    where
-        A: Copy,
         ensures { IfErr result (λ e. e ≡ out_of_memory) }
     {
         let (place, key) = at;
@@ -247,8 +237,6 @@ impl<A: Allocator> History<A> {
 
     // Adds what those needed who write: whether it isn't too much.
     fn add_write_needs(&mut self, alloc: A) -> Result<bool, Refusal>
-    where
-        A: Copy,
         ensures { IfErr result (λ e. e ≡ out_of_memory) }
     {
         for visit in 0..self.visits.len() {

@@ -6,6 +6,7 @@ ghost use Rattle.value.specs.Refusals.{out_of_memory};
 use crate::lists::{at, put, repeated};
 use certificate::known::Spot;
 use orders::transaction::{Answered, Transaction};
+use orders::ways::numbers::{inserted_key, table_of};
 use schema::catalog::{Catalog, TableNo};
 use schema::reader::{SnapshotReader, first_row, row_after};
 use schema::row::Row;
@@ -18,7 +19,6 @@ use std::collections::BTreeMap;
 use value::key::Key;
 use value::refusal::Refusal;
 use value::value::Value;
-use ways::numbers::{inserted_key, table_of};
 
 /// Keys of tables, by number, and the rows that they have at first.
 #[derive(Drop)]
@@ -67,7 +67,7 @@ fn key_shown<A: Allocator>(projection: &Projection<A>) -> Option<usize> {
     }
 }
 
-impl<A: Allocator> Keys<A> {
+impl<A: Allocator + Copy> Keys<A> {
     /// The keys that a recording names, shows or makes, and those of the opening in tables of which a statement looks at
     /// more than one key.
     pub(crate) fn of(
@@ -76,8 +76,6 @@ impl<A: Allocator> Keys<A> {
         opening: &Tables<A>,
         transactions: &[Transaction<A>],
     ) -> Result<Keys<A>, Refusal>
-    where
-        A: Copy,
         ensures { IfErr result (λ e. e ≡ out_of_memory) }
     {
         let mut keys = Keys::none(alloc, catalog.len())?;
@@ -91,8 +89,6 @@ impl<A: Allocator> Keys<A> {
 
     // No key of so many tables.
     fn none(alloc: A, count: usize) -> Result<Keys<A>, Refusal>
-    where
-        A: Copy,
         ensures { IfErr result (λ e. e ≡ out_of_memory) }
     {
         let mut tables = Vec::with_capacity(alloc, count)?;
@@ -110,8 +106,6 @@ impl<A: Allocator> Keys<A> {
 
     // Adds a key of a table, if it is there.
     fn add(&mut self, alloc: A, table: TableNo, value: &Value<A>) -> Result<(), Refusal>
-    where
-        A: Copy,
         ensures { IfErr result (λ e. e ≡ out_of_memory) }
     {
         let Some(key) = Key::new(value.copy(alloc)?) else {
@@ -134,8 +128,6 @@ impl<A: Allocator> Keys<A> {
 
     // Adds the keys that statements name and their replies show.
     fn add_all(&mut self, alloc: A, statements: &[Answered<A>]) -> Result<(), Refusal>
-    where
-        A: Copy,
         ensures { IfErr result (λ e. e ≡ out_of_memory) }
     {
         for answered in statements {
@@ -148,8 +140,6 @@ impl<A: Allocator> Keys<A> {
 
     // Adds the key that a statement names, or notes that it looks at more.
     fn add_named(&mut self, alloc: A, statement: &Statement<A>) -> Result<(), Refusal>
-    where
-        A: Copy,
         ensures { IfErr result (λ e. e ≡ out_of_memory) }
     {
         let table = table_of(statement);
@@ -164,8 +154,6 @@ impl<A: Allocator> Keys<A> {
 
     // Notes that a statement puts a key in.
     fn note_inserted(&mut self, alloc: A, statement: &Statement<A>) -> Result<(), Refusal>
-    where
-        A: Copy,
         ensures { IfErr result (λ e. e ≡ out_of_memory) }
     {
         let table = table_of(statement);
@@ -184,8 +172,6 @@ impl<A: Allocator> Keys<A> {
         statement: &Statement<A>,
         reply: &Reply<A>,
     ) -> Result<(), Refusal>
-    where
-        A: Copy,
         ensures { IfErr result (λ e. e ≡ out_of_memory) }
     {
         let Statement::Select(table, projection, _) = statement else {
@@ -207,8 +193,6 @@ impl<A: Allocator> Keys<A> {
 
     // Adds the keys that scanned tables have at first.
     fn add_opening(&mut self, alloc: A, opening: &Tables<A>) -> Result<(), Refusal>
-    where
-        A: Copy,
         ensures { IfErr result (λ e. e ≡ out_of_memory) }
     {
         for place in 0..self.is_scanned.len() {
@@ -221,8 +205,6 @@ impl<A: Allocator> Keys<A> {
 
     // Adds the keys that a table has at first.
     fn add_table(&mut self, alloc: A, opening: &Tables<A>, place: usize) -> Result<(), Refusal>
-    where
-        A: Copy,
         ensures { IfErr result (λ e. e ≡ out_of_memory) }
     {
         let Ok(place) = u32::try_from(place) else {
@@ -245,8 +227,6 @@ impl<A: Allocator> Keys<A> {
 
     // Reads the rows that the keys have at first.
     fn read_opening(&mut self, alloc: A, opening: &Tables<A>) -> Result<(), Refusal>
-    where
-        A: Copy,
         ensures { IfErr result (λ e. e ≡ out_of_memory) }
     {
         for spot in &self.spots {
@@ -285,8 +265,6 @@ impl<A: Allocator> Keys<A> {
 
     // The number of a key.
     fn number(&self, alloc: A, table: TableNo, value: &Value<A>) -> Result<Option<usize>, Refusal>
-    where
-        A: Copy,
         ensures { IfErr result (λ e. e ≡ out_of_memory) }
     {
         let Some(key) = Key::new(value.copy(alloc)?) else {
@@ -308,8 +286,6 @@ impl<A: Allocator> Keys<A> {
         statement: &Statement<A>,
         numbers: &mut Vec<usize, A>,
     ) -> Result<(), Refusal>
-    where
-        A: Copy,
         ensures { IfErr result (λ e. e ≡ out_of_memory) }
     {
         let table = table_of(statement);

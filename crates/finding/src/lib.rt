@@ -17,6 +17,7 @@ mod needs;
 mod order;
 mod paths;
 mod reads;
+mod rows;
 mod rules;
 mod sets;
 mod settled;

@@ -8,10 +8,10 @@ use crate::history::{History, Need};
 use crate::solver::Solver;
 use crate::visits::Visit;
 use certificate::states::{allows, writes};
+use orders::ways::way::{After, Field, Way};
 use std::alloc::Allocator;
 use value::refusal::Refusal;
 use value::value::Value;
-use ways::way::{After, Field, Way};
 
 /// What a reader asks of a column: by one of its ways that are left, or by one way alone.
 #[derive(Clone, Copy)]
@@ -43,7 +43,7 @@ pub(crate) fn sum<A: Allocator>(value: &Value<A>, number: i64) -> Option<Value<A
     }
 }
 
-impl<A: Allocator> Solver<A> {
+impl<'h, A: Allocator + Copy> Solver<'h, A> {
     /// Whether a way of a visit is left.
     pub(crate) fn is_left(&self, visit: &Visit<A>, way: usize) -> bool {
         self.excluded_by(visit.first_way.saturating_add(way))
@@ -70,7 +70,8 @@ impl<A: Allocator> Solver<A> {
     }
 
     /// Whether a value is what a reader asks.
-    pub(crate) fn value_serves(&self, history: &History<A>, ask: Ask, value: &Value<A>) -> bool {
+    pub(crate) fn value_serves(&self, ask: Ask, value: &Value<A>) -> bool {
+        let history = self.history;
         let Some(visit) = history.visit(ask.sight.visit) else {
             return false;
         };
@@ -83,7 +84,8 @@ impl<A: Allocator> Solver<A> {
     }
 
     /// Whether the reader asks that there is no row.
-    pub(crate) fn absence_serves(&self, history: &History<A>, ask: Ask) -> bool {
+    pub(crate) fn absence_serves(&self, ask: Ask) -> bool {
+        let history = self.history;
         let Some(visit) = history.visit(ask.sight.visit) else {
             return false;
         };
@@ -96,23 +98,24 @@ impl<A: Allocator> Solver<A> {
     }
 
     // Whether what the opening has is what a reader asks.
-    fn opening_serves(&self, history: &History<A>, ask: Ask) -> bool {
+    fn opening_serves(&self, ask: Ask) -> bool {
+        let history = self.history;
         match history.opening(ask.sight.visit, ask.sight.column) {
-            Some(value) => self.value_serves(history, ask, value),
-            None => self.absence_serves(history, ask),
+            Some(value) => self.value_serves(ask, value),
+            None => self.absence_serves(ask),
         }
     }
 
     // Whether a number more than what a visit found in a column is what a reader asks.
-    fn sum_serves(&self, history: &History<A>, ask: Ask, summed: Sight, number: i64) -> bool {
+    fn sum_serves(&self, ask: Ask, summed: Sight, number: i64) -> bool {
         let Some(found) = self.found(summed) else {
             return true;
         };
         let Some(value) = &found.state else {
-            return self.absence_serves(history, ask);
+            return self.absence_serves(ask);
         };
         match sum(value, number) {
-            Some(sum) => self.value_serves(history, ask, &sum),
+            Some(sum) => self.value_serves(ask, &sum),
             None => true,
         }
     }
@@ -120,56 +123,57 @@ impl<A: Allocator> Solver<A> {
     // Whether a field that a visit leaves is what a reader asks.
     fn field_serves(
         &self,
-        history: &History<A>,
         ask: Ask,
         visit: usize,
         is_absent: bool,
         field: Option<&Field<A>>,
     ) -> bool {
         match field {
-            Some(Field::Given(value)) => self.value_serves(history, ask, value),
+            Some(Field::Given(value)) => self.value_serves(ask, value),
             Some(Field::Kept) => is_absent,
             Some(Field::Sum(column, number)) => {
                 let column = *column;
-                is_absent || self.sum_serves(history, ask, Sight { visit, column }, *number)
+                is_absent || self.sum_serves(ask, Sight { visit, column }, *number)
             }
             Some(Field::Anything) | None => true,
         }
     }
 
     // Whether the key of a visit is what a reader asks.
-    fn key_serves(&self, history: &History<A>, ask: Ask, visit: usize) -> bool {
+    fn key_serves(&self, ask: Ask, visit: usize) -> bool {
+        let history = self.history;
         match history.spot_of(visit) {
-            Some(spot) => self.value_serves(history, ask, spot.key.value()),
+            Some(spot) => self.value_serves(ask, spot.key.value()),
             None => false,
         }
     }
 
     // Whether what a way of a visit leaves is what a reader asks.
-    fn way_serves(&self, history: &History<A>, ask: Ask, visit: usize, way: &Way<A>) -> bool {
+    fn way_serves(&self, ask: Ask, visit: usize, way: &Way<A>) -> bool {
         match &way.after {
-            After::Gone => !way.is_absent && self.absence_serves(history, ask),
+            After::Gone => !way.is_absent && self.absence_serves(ask),
             After::Anything => true,
             After::Row(fields) => {
                 let column = ask.sight.column;
                 if column == 0 {
-                    way.is_absent && self.key_serves(history, ask, visit)
+                    way.is_absent && self.key_serves(ask, visit)
                 } else {
                     let place = column.saturating_sub(1) as usize;
                     let field = fields.as_slice().get(place);
-                    self.field_serves(history, ask, visit, way.is_absent, field)
+                    self.field_serves(ask, visit, way.is_absent, field)
                 }
             }
         }
     }
 
     // Whether one of the ways that are left of a writer leaves what a reader asks.
-    fn may_serve(&self, history: &History<A>, ask: Ask, writer: usize) -> bool {
+    fn may_serve(&self, ask: Ask, writer: usize) -> bool {
+        let history = self.history;
         let Some(visit) = history.visit(writer) else {
             return false;
         };
         for (number, way) in visit.ways.as_slice().iter().enumerate() {
-            if self.is_left(visit, number) && self.way_serves(history, ask, writer, way) {
+            if self.is_left(visit, number) && self.way_serves(ask, writer, way) {
                 return true;
             }
         }
@@ -179,19 +183,19 @@ impl<A: Allocator> Solver<A> {
     // Adds why a writer leaves nothing that a reader asks.
     fn push_serve_reasons(
         &self,
-        history: &History<A>,
         ask: Ask,
         writer: usize,
         reasons: &mut Reasons<A>,
     ) -> Result<(), Refusal>
         ensures { IfErr result (λ e. e ≡ out_of_memory) }
     {
+        let history = self.history;
         let Some(visit) = history.visit(writer) else {
             return Ok(());
         };
         for (number, way) in visit.ways.as_slice().iter().enumerate() {
             let excluded = self.excluded_by(visit.first_way.saturating_add(number));
-            if excluded.is_some() && self.way_serves(history, ask, writer, way) {
+            if excluded.is_some() && self.way_serves(ask, writer, way) {
                 reasons.push_any(excluded)?;
             } else if excluded.is_none() {
                 self.push_found(writer, way, ask.sight.column, reasons)?;
@@ -230,7 +234,8 @@ impl<A: Allocator> Solver<A> {
     }
 
     /// Whether a visit surely wrote a column.
-    pub(crate) fn surely_writes(&self, history: &History<A>, writer: usize, column: u32) -> bool {
+    pub(crate) fn surely_writes(&self, writer: usize, column: u32) -> bool {
+        let history = self.history;
         let (Some(visit), Some(spot)) = (history.visit(writer), history.spot_of(writer)) else {
             return false;
         };
@@ -249,13 +254,13 @@ impl<A: Allocator> Solver<A> {
     /// Adds why a visit surely wrote a column.
     pub(crate) fn push_write_reasons(
         &self,
-        history: &History<A>,
         writer: usize,
         column: u32,
         reasons: &mut Reasons<A>,
     ) -> Result<(), Refusal>
         ensures { IfErr result (λ e. e ≡ out_of_memory) }
     {
+        let history = self.history;
         let (Some(visit), Some(spot)) = (history.visit(writer), history.spot_of(writer)) else {
             return Ok(());
         };
@@ -271,17 +276,10 @@ impl<A: Allocator> Solver<A> {
     // ---- sources
 
     /// From whom a reader may have what it asks.
-    pub(crate) fn look(
-        &self,
-        alloc: A,
-        history: &History<A>,
-        need: Need,
-        only: Option<usize>,
-    ) -> Result<Look<A>, Refusal>
-    where
-        A: Copy,
+    pub(crate) fn look(&self, need: Need, only: Option<usize>) -> Result<Look<A>, Refusal>
         ensures { IfErr result (λ e. e ≡ out_of_memory) }
     {
+        let history = self.history;
         let sight = Sight {
             visit: need.visit,
             column: need.column,
@@ -289,35 +287,31 @@ impl<A: Allocator> Solver<A> {
         let ask = Ask { sight, only };
         let reader = history.place_of(need.visit);
         let mut look = Look {
-            sources: Vec::new(alloc),
+            sources: Vec::new(self.alloc),
             from_opening: false,
-            writers: self.sure_writers(alloc, history, need)?,
-            reasons: self.reader_reasons(alloc, history, ask)?,
+            writers: self.sure_writers(need)?,
+            reasons: self.reader_reasons(ask)?,
         };
-        let before = self.before(alloc, history, look.writers.as_slice(), reader)?;
+        let before = self.before(look.writers.as_slice(), reader)?;
         for number in need.first..need.below {
             let writer = history.candidate(number);
-            self.judge(history, ask, writer, before.as_slice(), &mut look)?;
+            self.judge(ask, writer, before.as_slice(), &mut look)?;
         }
-        if need.from_opening && self.opening_serves(history, ask) {
-            self.judge_opening(history, ask, before.as_slice(), &mut look)?;
+        if need.from_opening && self.opening_serves(ask) {
+            self.judge_opening(ask, before.as_slice(), &mut look)?;
         }
         Ok(look)
     }
 
     // Those of the candidates who surely write the column.
-    fn sure_writers(
-        &self,
-        alloc: A,
-        history: &History<A>,
-        need: Need,
-    ) -> Result<Vec<usize, A>, Refusal>
+    fn sure_writers(&self, need: Need) -> Result<Vec<usize, A>, Refusal>
         ensures { IfErr result (λ e. e ≡ out_of_memory) }
     {
-        let mut writers = Vec::new(alloc);
+        let history = self.history;
+        let mut writers = Vec::new(self.alloc);
         for number in need.first..need.below {
             let writer = history.candidate(number);
-            if self.surely_writes(history, writer, need.column) {
+            if self.surely_writes(writer, need.column) {
                 writers.push(writer)?;
             }
         }
@@ -325,15 +319,11 @@ impl<A: Allocator> Solver<A> {
     }
 
     // Why a reader asks no more, and is there.
-    fn reader_reasons(
-        &self,
-        alloc: A,
-        history: &History<A>,
-        ask: Ask,
-    ) -> Result<Reasons<A>, Refusal>
+    fn reader_reasons(&self, ask: Ask) -> Result<Reasons<A>, Refusal>
         ensures { IfErr result (λ e. e ≡ out_of_memory) }
     {
-        let mut reasons = Reasons::none(alloc);
+        let history = self.history;
+        let mut reasons = Reasons::none(self.alloc);
         let Some(visit) = history.visit(ask.sight.visit) else {
             return Ok(reasons);
         };
@@ -348,16 +338,11 @@ impl<A: Allocator> Solver<A> {
     }
 
     // Those of some writers who are known to come before a reader.
-    fn before(
-        &self,
-        alloc: A,
-        history: &History<A>,
-        writers: &[usize],
-        reader: usize,
-    ) -> Result<Vec<usize, A>, Refusal>
+    fn before(&self, writers: &[usize], reader: usize) -> Result<Vec<usize, A>, Refusal>
         ensures { IfErr result (λ e. e ≡ out_of_memory) }
     {
-        let mut before = Vec::new(alloc);
+        let history = self.history;
+        let mut before = Vec::new(self.alloc);
         for writer in writers {
             let place = history.place_of(*writer);
             if self.is_present(place) && self.order.has(place, reader) {
@@ -370,7 +355,6 @@ impl<A: Allocator> Solver<A> {
     // Puts a writer among the sources, or why it is none among the reasons.
     fn judge(
         &self,
-        history: &History<A>,
         ask: Ask,
         writer: usize,
         before: &[usize],
@@ -378,10 +362,11 @@ impl<A: Allocator> Solver<A> {
     ) -> Result<(), Refusal>
         ensures { IfErr result (λ e. e ≡ out_of_memory) }
     {
+        let history = self.history;
         let place = history.place_of(writer);
         let reader = history.place_of(ask.sight.visit);
-        if !self.may_serve(history, ask, writer) {
-            return self.push_serve_reasons(history, ask, writer, &mut look.reasons);
+        if !self.may_serve(ask, writer) {
+            return self.push_serve_reasons(ask, writer, &mut look.reasons);
         }
         if let Some(fact) = self.absent_by(place) {
             return look.reasons.push_fact(fact);
@@ -389,11 +374,11 @@ impl<A: Allocator> Solver<A> {
         if self.order.has(reader, place) {
             return look.reasons.push_pair(history, reader, place);
         }
-        match self.overwriter(history, place, reader, before) {
+        match self.overwriter(place, reader, before) {
             Some(other) => {
                 look.reasons
                     .push_pair(history, place, history.place_of(other))?;
-                self.push_writer_before(history, ask.sight, other, &mut look.reasons)
+                self.push_writer_before(ask.sight, other, &mut look.reasons)
             }
             None => {
                 look.sources.push(writer)?;
@@ -403,13 +388,8 @@ impl<A: Allocator> Solver<A> {
     }
 
     // One of those who write before the reader that comes after another writer; if possible one of whom time tells it.
-    fn overwriter(
-        &self,
-        history: &History<A>,
-        place: usize,
-        reader: usize,
-        before: &[usize],
-    ) -> Option<usize> {
+    fn overwriter(&self, place: usize, reader: usize, before: &[usize]) -> Option<usize> {
+        let history = self.history;
         let mut best = None;
         let mut least = usize::MAX;
         for writer in before {
@@ -430,29 +410,24 @@ impl<A: Allocator> Solver<A> {
     // Adds that a writer is there, surely writes the column, and comes before the reader.
     fn push_writer_before(
         &self,
-        history: &History<A>,
         sight: Sight,
         writer: usize,
         reasons: &mut Reasons<A>,
     ) -> Result<(), Refusal>
         ensures { IfErr result (λ e. e ≡ out_of_memory) }
     {
+        let history = self.history;
         let place = history.place_of(writer);
         reasons.push_pair(history, place, history.place_of(sight.visit))?;
         reasons.push_any(self.present_by(place))?;
-        self.push_write_reasons(history, writer, sight.column, reasons)
+        self.push_write_reasons(writer, sight.column, reasons)
     }
 
     // Puts the opening among the sources, or why it is none among the reasons.
-    fn judge_opening(
-        &self,
-        history: &History<A>,
-        ask: Ask,
-        before: &[usize],
-        look: &mut Look<A>,
-    ) -> Result<(), Refusal>
+    fn judge_opening(&self, ask: Ask, before: &[usize], look: &mut Look<A>) -> Result<(), Refusal>
         ensures { IfErr result (λ e. e ≡ out_of_memory) }
     {
+        let history = self.history;
         let reader = history.place_of(ask.sight.visit);
         let mut best = None;
         for writer in before {
@@ -461,7 +436,7 @@ impl<A: Allocator> Solver<A> {
             }
         }
         match best {
-            Some(writer) => self.push_writer_before(history, ask.sight, writer, &mut look.reasons),
+            Some(writer) => self.push_writer_before(ask.sight, writer, &mut look.reasons),
             None => {
                 look.from_opening = true;
                 Ok(())
@@ -471,7 +446,7 @@ impl<A: Allocator> Solver<A> {
 }
 
 // How many pairs that aren't told by time it takes to say that one comes before another.
-fn pairs<A: Allocator>(history: &History<A>, first: usize, second: usize) -> usize {
+fn pairs<A: Allocator + Copy>(history: &History<A>, first: usize, second: usize) -> usize {
     if history.times.precedes(first, second) {
         0
     } else {

@@ -7,10 +7,10 @@ use crate::history::{Column, History, Need};
 use crate::lists::{at, list_at, push_at};
 use crate::visits::Visit;
 use certificate::states::one_allows;
+use orders::ways::way::{After, Field, Way};
 use std::alloc::Allocator;
 use value::refusal::Refusal;
 use value::value::Value;
-use ways::way::{After, Field, Way};
 
 /// From whom a reader may have a column, as far as time tells.
 #[derive(Drop)]
@@ -87,7 +87,7 @@ fn leaves_asked<A: Allocator>(
     }
 }
 
-impl<A: Allocator> History<A> {
+impl<A: Allocator + Copy> History<A> {
     /// Adds what a visit needed; where it must be known which of its ways it went, also what time tells.
     pub(crate) fn add_needs(
         &mut self,
@@ -95,8 +95,6 @@ impl<A: Allocator> History<A> {
         visit: usize,
         must_tell: bool,
     ) -> Result<(), Refusal>
-    where
-        A: Copy,
         ensures { IfErr result (λ e. e ≡ out_of_memory) }
     {
         let columns = match self.visits.get(visit) {
@@ -117,8 +115,6 @@ impl<A: Allocator> History<A> {
         column: u32,
         must_tell: bool,
     ) -> Result<(), Refusal>
-    where
-        A: Copy,
         ensures { IfErr result (λ e. e ≡ out_of_memory) }
     {
         let Some(key) = self.key_of(visit) else {
@@ -150,8 +146,6 @@ impl<A: Allocator> History<A> {
         key: usize,
         column: u32,
     ) -> Result<usize, Refusal>
-    where
-        A: Copy,
         ensures { IfErr result (λ e. e ≡ out_of_memory) }
     {
         for number in list_at(self.columns_of.as_slice(), key) {
@@ -176,8 +170,6 @@ impl<A: Allocator> History<A> {
 
     // A column of a key, and those who may have written it.
     fn make_column(&self, alloc: A, key: usize, column: u32) -> Result<Column<A>, Refusal>
-    where
-        A: Copy,
         ensures { IfErr result (λ e. e ≡ out_of_memory) }
     {
         let mut made = Column {
@@ -222,8 +214,6 @@ impl<A: Allocator> History<A> {
         reader: usize,
         column: u32,
     ) -> Result<Window<A>, Refusal>
-    where
-        A: Copy,
         ensures { IfErr result (λ e. e ≡ out_of_memory) }
     {
         let mut back = Back {
@@ -266,8 +256,6 @@ impl<A: Allocator> History<A> {
 
     // The window of those that were found, without those that had ended before the bound.
     fn close(&self, alloc: A, back: &Back<A>) -> Result<Window<A>, Refusal>
-    where
-        A: Copy,
         ensures { IfErr result (λ e. e ≡ out_of_memory) }
     {
         let mut candidates = Vec::with_capacity(alloc, back.found.len())?;

@@ -21,11 +21,9 @@ pub(crate) enum Order<A: Allocator> {
     Sets(Sets<A>),
 }
 
-impl<A: Allocator> Order<A> {
+impl<A: Allocator + Copy> Order<A> {
     /// What time tells, or nothing where there are too many transactions.
     pub(crate) fn of(alloc: A, times: &Times<A>) -> Result<Option<Order<A>>, Refusal>
-    where
-        A: Copy,
         ensures { IfErr result (λ e. e ≡ out_of_memory) }
     {
         let most_chains = (times.count() / 64).max(16);
@@ -46,64 +44,49 @@ impl<A: Allocator> Order<A> {
         }
     }
 
-    /// Notes that the first comes before the second, where the contrary isn't known, and adds those that more is known to
-    /// come before.
-    pub(crate) fn insert(
-        &mut self,
-        alloc: A,
-        first: usize,
-        second: usize,
-        changed: &mut Vec<usize, A>,
-    ) -> Result<(), Refusal>
-    where
-        A: Copy,
+    /// Notes that the first of a pair comes before the second, where the contrary isn't known: gives those that more is known
+    /// to come before.
+    pub(crate) fn insert(&mut self, pair: (usize, usize)) -> Result<Vec<usize, A>, Refusal>
         ensures { IfErr result (λ e. e ≡ out_of_memory) }
     {
         match self {
-            Order::Clocks(clocks) => clocks.insert(alloc, first, second, changed),
-            Order::Sets(sets) => sets.insert(alloc, first, second, changed),
+            Order::Clocks(clocks) => clocks.insert(pair),
+            Order::Sets(sets) => sets.insert(pair),
         }
     }
 
     /// From now on all changes can be taken back.
     pub(crate) fn keep_trail(&mut self) {
         match self {
-            Order::Clocks(clocks) => clocks.keep_trail(),
-            Order::Sets(sets) => sets.keep_trail(),
+            Order::Clocks(clocks) => clocks.rows.keep_trail(),
+            Order::Sets(sets) => sets.rows.keep_trail(),
         }
     }
 
     /// How many changes there were.
     pub(crate) fn changes(&self) -> usize {
         match self {
-            Order::Clocks(clocks) => clocks.changes(),
-            Order::Sets(sets) => sets.changes(),
+            Order::Clocks(clocks) => clocks.rows.changes(),
+            Order::Sets(sets) => sets.rows.changes(),
         }
     }
 
     /// Takes back all but so many.
     pub(crate) fn take_back(&mut self, changes: usize) {
         match self {
-            Order::Clocks(clocks) => clocks.take_back(changes),
-            Order::Sets(sets) => sets.take_back(changes),
+            Order::Clocks(clocks) => clocks.rows.take_back(changes),
+            Order::Sets(sets) => sets.rows.take_back(changes),
         }
     }
 
     /// The last that are known to come before all of these, or are the only one of them, where they aren't known to come
     /// before another.
-    pub(crate) fn common_before(
-        &self,
-        alloc: A,
-        places: &[usize],
-        reader: usize,
-    ) -> Result<Vec<usize, A>, Refusal>
-    where
-        A: Copy,
+    pub(crate) fn common(&self, places: &[usize], reader: usize) -> Result<Vec<usize, A>, Refusal>
         ensures { IfErr result (λ e. e ≡ out_of_memory) }
     {
         match self {
-            Order::Clocks(clocks) => clocks.common_before(alloc, places, reader),
-            Order::Sets(sets) => sets.common_before(alloc, places, reader),
+            Order::Clocks(clocks) => clocks.common(places, reader),
+            Order::Sets(sets) => sets.common(places, reader),
         }
     }
 }

@@ -29,7 +29,7 @@ struct Walk<A: Allocator> {
     reached: usize,
 }
 
-impl<A: Allocator> Walk<A> {
+impl<A: Allocator + Copy> Walk<A> {
     // Reaches a transaction from another, if it wasn't reached.
     fn reach(&mut self, from: usize, place: usize, fact: Option<usize>) -> Result<(), Refusal>
     where
@@ -73,26 +73,19 @@ impl<A: Allocator> Walk<A> {
     }
 }
 
-impl<A: Allocator> Solver<A> {
+impl<'h, A: Allocator + Copy> Solver<'h, A> {
     /// The shortest path from one transaction to another that is known to come after it, by time and by facts with lower
     /// numbers than one.
-    pub(crate) fn path(
-        &self,
-        alloc: A,
-        history: &History<A>,
-        pair: (usize, usize),
-        fact: usize,
-    ) -> Result<Vec<Step, A>, Refusal>
-    where
-        A: Copy,
+    pub(crate) fn path(&self, pair: (usize, usize), fact: usize) -> Result<Vec<Step, A>, Refusal>
         ensures { IfErr result (λ e. e ≡ out_of_memory) }
     {
+        let history = self.history;
         let (first, last) = pair;
         let mut walk = Walk {
             last,
             fact,
-            came: BTreeMap::new(alloc),
-            queue: VecDeque::new(alloc),
+            came: BTreeMap::new(self.alloc),
+            queue: VecDeque::new(self.alloc),
             reached: history.by_begin.len(),
         };
         walk.reach(first, first, None)?;
@@ -100,25 +93,24 @@ impl<A: Allocator> Solver<A> {
             let Some(place) = walk.queue.pop_front() else {
                 break;
             };
-            self.go_on(history, &mut walk, place)?;
+            self.go_on(&mut walk, place)?;
             if walk.is_done() {
                 break;
             }
         }
-        walk.path(alloc, first)
+        walk.path(self.alloc, first)
     }
 
     // Reaches all that come right after a transaction.
-    fn go_on(&self, history: &History<A>, walk: &mut Walk<A>, place: usize) -> Result<(), Refusal>
-    where
-        A: Copy,
+    fn go_on(&self, walk: &mut Walk<A>, place: usize) -> Result<(), Refusal>
         ensures { IfErr result (λ e. e ≡ out_of_memory) }
     {
+        let history = self.history;
         if history.times.precedes(place, walk.last) {
             return walk.reach(place, walk.last, None);
         }
         self.go_by_facts(walk, place)?;
-        self.go_by_time(history, walk, place)
+        self.go_by_time(walk, place)
     }
 
     // Whether a path may go through a transaction.
@@ -128,8 +120,6 @@ impl<A: Allocator> Solver<A> {
 
     // Reaches those that a fact tells to come after a transaction.
     fn go_by_facts(&self, walk: &mut Walk<A>, place: usize) -> Result<(), Refusal>
-    where
-        A: Copy,
         ensures { IfErr result (λ e. e ≡ out_of_memory) }
     {
         let mut next = self.last_edge(place);
@@ -149,16 +139,10 @@ impl<A: Allocator> Solver<A> {
     }
 
     // Reaches those that began after a transaction had ended, and from which a fact goes on.
-    fn go_by_time(
-        &self,
-        history: &History<A>,
-        walk: &mut Walk<A>,
-        place: usize,
-    ) -> Result<(), Refusal>
-    where
-        A: Copy,
+    fn go_by_time(&self, walk: &mut Walk<A>, place: usize) -> Result<(), Refusal>
         ensures { IfErr result (λ e. e ≡ out_of_memory) }
     {
+        let history = self.history;
         let ranks = history.by_begin.as_slice();
         let end = history.times.end(place);
         let first = ranks.partition_point(|rank| rank.0 <= end);

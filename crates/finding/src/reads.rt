@@ -9,14 +9,14 @@ use crate::visits::{column_of, keys_of, writes_table};
 use certificate::known::Spot;
 use certificate::states::{allows, value_meets};
 use orders::transaction::{Answered, Transaction};
+use orders::ways::cover::is_looked_at;
+use orders::ways::way::{After, Field, Way};
 use schema::catalog::Catalog;
 use statement::condition::Condition;
 use statement::statement::Statement;
 use std::alloc::Allocator;
 use value::refusal::Refusal;
 use value::value::Value;
-use ways::cover::is_looked_at;
-use ways::way::{After, Field, Way};
 
 /// What is asked of a column: what a way asks, or a condition, or that there is a row.
 #[derive(Drop)]
@@ -87,7 +87,7 @@ pub(crate) fn looks<A: Allocator>(one: &[Answered<A>], spot: &Spot<A>) -> bool {
     is_looked_at(spot.table, spot.key.value(), one)
 }
 
-impl<A: Allocator> History<A> {
+impl<A: Allocator + Copy> History<A> {
     /// Adds the visits of transactions in tables that they only read, and at keys whose rows they only count, where time
     /// doesn't tell all of them: whether they aren't too many.
     pub(crate) fn add_reads(
@@ -96,8 +96,6 @@ impl<A: Allocator> History<A> {
         catalog: &Catalog<A>,
         transactions: &[Transaction<A>],
     ) -> Result<bool, Refusal>
-    where
-        A: Copy,
         ensures { IfErr result (λ e. e ≡ out_of_memory) }
     {
         for (place, transaction) in transactions.iter().enumerate() {
@@ -146,8 +144,6 @@ impl<A: Allocator> History<A> {
         statements: &[Answered<A>],
         keys: &[usize],
     ) -> Result<(), Refusal>
-    where
-        A: Copy,
         ensures { IfErr result (λ e. e ≡ out_of_memory) }
     {
         for key in keys {
@@ -169,8 +165,6 @@ impl<A: Allocator> History<A> {
         statements: &[Answered<A>],
         key: usize,
     ) -> Result<(), Refusal>
-    where
-        A: Copy,
         ensures { IfErr result (λ e. e ≡ out_of_memory) }
     {
         let Some(visit) = self.make_visit(alloc, catalog, statements, (place, key))? else {
@@ -202,8 +196,6 @@ impl<A: Allocator> History<A> {
         statements: &[Answered<A>],
         at: (usize, usize),
     ) -> Result<bool, Refusal>
-    where
-        A: Copy,
         ensures { IfErr result (λ e. e ≡ out_of_memory) }
     {
         if self.sums_of(at.0).is_empty() || !self.are_told_by_time(alloc, statements, at)? {
@@ -224,8 +216,6 @@ impl<A: Allocator> History<A> {
         statements: &[Answered<A>],
         at: (usize, usize),
     ) -> Result<bool, Refusal>
-    where
-        A: Copy,
         ensures { IfErr result (λ e. e ≡ out_of_memory) }
     {
         for (number, one) in statements.chunks(1).enumerate() {
@@ -252,8 +242,6 @@ impl<A: Allocator> History<A> {
         at: (usize, usize),
         number: usize,
     ) -> Result<bool, Refusal>
-    where
-        A: Copy,
         ensures { IfErr result (λ e. e ≡ out_of_memory) }
     {
         let Some(sum) = self.sum_at(at.0, number) else {
@@ -281,8 +269,6 @@ impl<A: Allocator> History<A> {
         at: (usize, usize),
         number: usize,
     ) -> Result<(), Refusal>
-    where
-        A: Copy,
         ensures { IfErr result (λ e. e ≡ out_of_memory) }
     {
         let (Some(sum), Some(choice)) = (self.sum_at(at.0, number), self.choice(alloc, one, at)?)
@@ -309,8 +295,6 @@ impl<A: Allocator> History<A> {
         one: &[Answered<A>],
         at: (usize, usize),
     ) -> Result<Option<Choice>, Refusal>
-    where
-        A: Copy,
         ensures { IfErr result (λ e. e ≡ out_of_memory) }
     {
         let [answered] = one else {
@@ -342,8 +326,6 @@ impl<A: Allocator> History<A> {
         at: (usize, usize),
         conditions: &[Condition<A>],
     ) -> Result<Met, Refusal>
-    where
-        A: Copy,
         ensures { IfErr result (λ e. e ≡ out_of_memory) }
     {
         let mut met = Met {
@@ -365,8 +347,6 @@ impl<A: Allocator> History<A> {
 
     // Whether there was a row, where time tells.
     fn is_there(&mut self, alloc: A, at: (usize, usize)) -> Result<Option<Choice>, Refusal>
-    where
-        A: Copy,
         ensures { IfErr result (λ e. e ≡ out_of_memory) }
     {
         let asked = Asked {
@@ -389,8 +369,6 @@ impl<A: Allocator> History<A> {
         at: (usize, usize),
         condition: &Condition<A>,
     ) -> Result<Option<bool>, Refusal>
-    where
-        A: Copy,
         ensures { IfErr result (λ e. e ≡ out_of_memory) }
     {
         let asked = Asked {
@@ -408,8 +386,6 @@ impl<A: Allocator> History<A> {
         column: u32,
         asked: &Asked<'_, A>,
     ) -> Result<Option<bool>, Refusal>
-    where
-        A: Copy,
         ensures { IfErr result (λ e. e ≡ out_of_memory) }
     {
         let (place, key) = at;

@@ -7,10 +7,10 @@ use crate::facts::{Counting, Reasons, Rule, Sight};
 use crate::history::{History, Need};
 use crate::look::{Look, sum};
 use crate::solver::Solver;
+use orders::ways::way::{After, Field, Way};
 use std::alloc::Allocator;
 use value::refusal::Refusal;
 use value::value::Value;
-use ways::way::{After, Field, Way};
 
 // What is looked at: the need, who is the reader, and what it is of.
 #[derive(Clone, Copy)]
@@ -20,23 +20,32 @@ struct Reading {
     sight: Sight,
 }
 
-impl<A: Allocator> Solver<A> {
+// What is looked at, and what was seen of it.
+#[derive(Drop)]
+struct Seen<A: Allocator> {
+    reading: Reading,
+    look: Look<A>,
+}
+
+impl<'h, A: Allocator + Copy> Solver<'h, A> {
     /// Tells what the recording tells at once: a visit that has no way, or a number of rows that can't be.
-    pub(crate) fn tell_impossible(&mut self, history: &History<A>) -> Result<Option<usize>, Refusal>
+    pub(crate) fn tell_impossible(&mut self) -> Result<Option<usize>, Refusal>
         ensures { IfErr result (λ e. e ≡ out_of_memory) }
     {
+        let history = self.history;
         for (number, visit) in history.visits.as_slice().iter().enumerate() {
             if visit.ways.is_empty() && self.is_present(visit.place) {
                 return Ok(Some(self.tell(Rule::Wayless(number), &[])?));
             }
         }
-        self.tell_impossible_number(history)
+        self.tell_impossible_number()
     }
 
     // Tells a number of rows that can't be, if there is one.
-    fn tell_impossible_number(&mut self, history: &History<A>) -> Result<Option<usize>, Refusal>
+    fn tell_impossible_number(&mut self) -> Result<Option<usize>, Refusal>
         ensures { IfErr result (λ e. e ≡ out_of_memory) }
     {
+        let history = self.history;
         for at in &history.impossible {
             let (place, statement) = *at;
             if self.is_present(place) {
@@ -48,9 +57,10 @@ impl<A: Allocator> Solver<A> {
     }
 
     /// All needs are looked at.
-    pub(crate) fn wake_all(&mut self, history: &History<A>) -> Result<(), Refusal>
+    pub(crate) fn wake_all(&mut self) -> Result<(), Refusal>
         ensures { IfErr result (λ e. e ≡ out_of_memory) }
     {
+        let history = self.history;
         for need in 0..history.needs.len().saturating_add(history.sums.len()) {
             self.wake(need)?;
         }
@@ -58,21 +68,15 @@ impl<A: Allocator> Solver<A> {
     }
 
     /// Looks at needs until nothing new comes of any: gives the fact of a contradiction, if it comes to one.
-    pub(crate) fn propagate(
-        &mut self,
-        alloc: A,
-        history: &History<A>,
-    ) -> Result<Option<usize>, Refusal>
-    where
-        A: Copy,
+    pub(crate) fn propagate(&mut self) -> Result<Option<usize>, Refusal>
         ensures { IfErr result (λ e. e ≡ out_of_memory) }
     {
         for _ in 0..self.steps {
-            let Some(need) = self.next_need(history)? else {
+            let Some(need) = self.next_need()? else {
                 return Ok(None);
             };
             self.steps = self.steps.saturating_sub(1);
-            if let Some(contradiction) = self.examine(alloc, history, need)? {
+            if let Some(contradiction) = self.examine(need)? {
                 self.forget_queue();
                 return Ok(Some(contradiction));
             }
@@ -81,19 +85,13 @@ impl<A: Allocator> Solver<A> {
     }
 
     // Looks at a need.
-    fn examine(
-        &mut self,
-        alloc: A,
-        history: &History<A>,
-        number: usize,
-    ) -> Result<Option<usize>, Refusal>
-    where
-        A: Copy,
+    fn examine(&mut self, number: usize) -> Result<Option<usize>, Refusal>
         ensures { IfErr result (λ e. e ≡ out_of_memory) }
     {
+        let history = self.history;
         let Some(need) = history.need(number) else {
             let sum = number.saturating_sub(history.needs.len());
-            return self.examine_sum(alloc, history, sum);
+            return self.examine_sum(sum);
         };
         let reading = Reading {
             need: number,
@@ -106,52 +104,38 @@ impl<A: Allocator> Solver<A> {
         if self.absent_by(reading.reader).is_some() {
             return Ok(None);
         }
-        let look = self.look(alloc, history, need, None)?;
+        let look = self.look(need, None)?;
         let is_sourceless = look.sources.is_empty() && !look.from_opening;
         if is_sourceless && self.is_present(reading.reader) {
             let fact = self.tell(Rule::Sourceless(reading.sight), look.reasons.as_slice())?;
             return Ok(Some(fact));
         }
-        let excluded = self.exclude_needless(alloc, history, need, &look)?;
+        let excluded = self.exclude_needless(need, &look)?;
         if excluded {
-            return self.wayless(alloc, history, need.visit);
+            return self.wayless(need.visit);
         }
-        self.tell_all(alloc, history, reading, &look)
+        let seen = Seen { reading, look };
+        self.tell_all(&seen)
     }
 
     // Tells what a need tells beside that.
-    fn tell_all(
-        &mut self,
-        alloc: A,
-        history: &History<A>,
-        reading: Reading,
-        look: &Look<A>,
-    ) -> Result<Option<usize>, Refusal>
-    where
-        A: Copy,
+    fn tell_all(&mut self, seen: &Seen<A>) -> Result<Option<usize>, Refusal>
         ensures { IfErr result (λ e. e ≡ out_of_memory) }
     {
-        if self.is_present(reading.reader) {
-            return self.tell_pairs(alloc, history, reading, look);
+        if self.is_present(seen.reading.reader) {
+            return self.tell_pairs(seen);
         }
-        self.tell_state(alloc, history, reading, look)?;
+        self.tell_state(seen)?;
         Ok(None)
     }
 
     // ---- ways
 
     // Excludes the ways of a reader that nobody serves: whether there are any.
-    fn exclude_needless(
-        &mut self,
-        alloc: A,
-        history: &History<A>,
-        need: Need,
-        look: &Look<A>,
-    ) -> Result<bool, Refusal>
-    where
-        A: Copy,
+    fn exclude_needless(&mut self, need: Need, look: &Look<A>) -> Result<bool, Refusal>
         ensures { IfErr result (λ e. e ≡ out_of_memory) }
     {
+        let history = self.history;
         let Some(visit) = history.visit(need.visit) else {
             return Ok(false);
         };
@@ -161,7 +145,7 @@ impl<A: Allocator> Solver<A> {
         }
         let mut is_any = false;
         for way in 0..visit.ways.len() {
-            if self.is_left(visit, way) && self.exclude_if_needless(alloc, history, need, way)? {
+            if self.is_left(visit, way) && self.exclude_if_needless(need, way)? {
                 is_any = true;
             }
         }
@@ -169,21 +153,14 @@ impl<A: Allocator> Solver<A> {
     }
 
     // Excludes a way that nobody serves: whether it is one.
-    fn exclude_if_needless(
-        &mut self,
-        alloc: A,
-        history: &History<A>,
-        need: Need,
-        way: usize,
-    ) -> Result<bool, Refusal>
-    where
-        A: Copy,
+    fn exclude_if_needless(&mut self, need: Need, way: usize) -> Result<bool, Refusal>
         ensures { IfErr result (λ e. e ≡ out_of_memory) }
     {
+        let history = self.history;
         let Some(visit) = history.visit(need.visit) else {
             return Ok(false);
         };
-        let look = self.look(alloc, history, need, Some(way))?;
+        let look = self.look(need, Some(way))?;
         if look.from_opening || !look.sources.is_empty() {
             return Ok(false);
         }
@@ -193,28 +170,22 @@ impl<A: Allocator> Solver<A> {
         };
         let number = visit.first_way.saturating_add(way);
         let fact = self.tell(Rule::Needless(sight, number), look.reasons.as_slice())?;
-        self.exclude(history, need.visit, number, fact)?;
+        self.exclude(need.visit, number, fact)?;
         Ok(true)
     }
 
     /// Tells that no way is left of a visit, if that is so.
-    pub(crate) fn wayless(
-        &mut self,
-        alloc: A,
-        history: &History<A>,
-        number: usize,
-    ) -> Result<Option<usize>, Refusal>
-    where
-        A: Copy,
+    pub(crate) fn wayless(&mut self, number: usize) -> Result<Option<usize>, Refusal>
         ensures { IfErr result (λ e. e ≡ out_of_memory) }
     {
+        let history = self.history;
         let Some(visit) = history.visit(number) else {
             return Ok(None);
         };
         if self.left(visit) > 0 || !self.is_present(visit.place) {
             return Ok(None);
         }
-        let mut reasons = Reasons::none(alloc);
+        let mut reasons = Reasons::none(self.alloc);
         reasons.push_any(self.present_by(visit.place))?;
         for way in 0..visit.ways.len() {
             reasons.push_any(self.excluded_by(visit.first_way.saturating_add(way)))?;
@@ -226,75 +197,54 @@ impl<A: Allocator> Solver<A> {
     // ---- pairs
 
     // Tells what a need tells of who comes before whom.
-    fn tell_pairs(
-        &mut self,
-        alloc: A,
-        history: &History<A>,
-        reading: Reading,
-        look: &Look<A>,
-    ) -> Result<Option<usize>, Refusal>
-    where
-        A: Copy,
+    fn tell_pairs(&mut self, seen: &Seen<A>) -> Result<Option<usize>, Refusal>
         ensures { IfErr result (λ e. e ≡ out_of_memory) }
     {
-        if let [source] = look.sources.as_slice()
-            && !look.from_opening
+        if let [source] = seen.look.sources.as_slice()
+            && !seen.look.from_opening
         {
-            let found = self.tell_source(alloc, history, reading, *source, look)?;
+            let found = self.tell_source(seen, *source)?;
             if found.is_some() {
                 return Ok(found);
             }
         }
-        let found = self.tell_writers(alloc, history, reading, look)?;
+        let found = self.tell_writers(seen)?;
         if found.is_some() {
             return Ok(found);
         }
-        let found = self.tell_common(alloc, history, reading, look)?;
+        let found = self.tell_common(seen)?;
         if found.is_some() {
             return Ok(found);
         }
-        self.tell_state(alloc, history, reading, look)?;
-        self.settle_if_done(history, reading, look)?;
+        self.tell_state(seen)?;
+        self.settle_if_done(seen)?;
         Ok(None)
     }
 
     // Tells the only source.
-    fn tell_source(
-        &mut self,
-        alloc: A,
-        history: &History<A>,
-        reading: Reading,
-        source: usize,
-        look: &Look<A>,
-    ) -> Result<Option<usize>, Refusal>
-    where
-        A: Copy,
+    fn tell_source(&mut self, seen: &Seen<A>, source: usize) -> Result<Option<usize>, Refusal>
         ensures { IfErr result (λ e. e ≡ out_of_memory) }
     {
+        let history = self.history;
         let place = history.place_of(source);
-        if self.is_present(place) && self.order.has(place, reading.reader) {
+        if self.is_present(place) && self.order.has(place, seen.reading.reader) {
             return Ok(None);
         }
-        let fact = self.tell(Rule::Source(place, reading.sight), look.reasons.as_slice())?;
-        self.set_present(history, place, fact)?;
-        self.link(alloc, history, (place, reading.reader), fact)
+        let fact = self.tell(
+            Rule::Source(place, seen.reading.sight),
+            seen.look.reasons.as_slice(),
+        )?;
+        self.set_present(place, fact)?;
+        self.link((place, seen.reading.reader), fact)
     }
 
     // Tells of each who surely writes whether it comes after the reader, or before the only source.
-    fn tell_writers(
-        &mut self,
-        alloc: A,
-        history: &History<A>,
-        reading: Reading,
-        look: &Look<A>,
-    ) -> Result<Option<usize>, Refusal>
-    where
-        A: Copy,
+    fn tell_writers(&mut self, seen: &Seen<A>) -> Result<Option<usize>, Refusal>
         ensures { IfErr result (λ e. e ≡ out_of_memory) }
     {
-        for writer in &look.writers {
-            if !look.sources.as_slice().contains(writer) {
-                let found = self.tell_writer(alloc, history, reading, *writer, look)?;
+        for writer in &seen.look.writers {
+            if !seen.look.sources.as_slice().contains(writer) {
+                let found = self.tell_writer(seen, *writer)?;
                 if found.is_some() {
                     return Ok(found);
                 }
@@ -304,35 +254,28 @@ impl<A: Allocator> Solver<A> {
     }
 
     // Tells it of one who is no source.
-    fn tell_writer(
-        &mut self,
-        alloc: A,
-        history: &History<A>,
-        reading: Reading,
-        writer: usize,
-        look: &Look<A>,
-    ) -> Result<Option<usize>, Refusal>
-    where
-        A: Copy,
+    fn tell_writer(&mut self, seen: &Seen<A>, writer: usize) -> Result<Option<usize>, Refusal>
         ensures { IfErr result (λ e. e ≡ out_of_memory) }
     {
+        let history = self.history;
         let place = history.place_of(writer);
-        if self.order.has(reading.reader, place) {
+        if self.order.has(seen.reading.reader, place) {
             return Ok(None);
         }
-        if self.is_after_all(history, look, place) {
-            return self.tell_later(alloc, history, reading, writer, look);
+        if self.is_after_all(&seen.look, place) {
+            return self.tell_later(seen, writer);
         }
-        match look.sources.as_slice() {
-            [source] if !look.from_opening && self.order.has(place, reading.reader) => {
-                self.tell_earlier(alloc, history, reading, (writer, *source), look)
+        match seen.look.sources.as_slice() {
+            [source] if !seen.look.from_opening && self.order.has(place, seen.reading.reader) => {
+                self.tell_earlier(seen, (writer, *source))
             }
             _ => Ok(None),
         }
     }
 
     // Whether a transaction comes after all sources.
-    fn is_after_all(&self, history: &History<A>, look: &Look<A>, place: usize) -> bool {
+    fn is_after_all(&self, look: &Look<A>, place: usize) -> bool {
+        let history = self.history;
         for source in &look.sources {
             if !self.order.has(history.place_of(*source), place) {
                 return false;
@@ -342,85 +285,57 @@ impl<A: Allocator> Solver<A> {
     }
 
     // Tells that a reader comes before a writer.
-    fn tell_later(
-        &mut self,
-        alloc: A,
-        history: &History<A>,
-        reading: Reading,
-        writer: usize,
-        look: &Look<A>,
-    ) -> Result<Option<usize>, Refusal>
-    where
-        A: Copy,
+    fn tell_later(&mut self, seen: &Seen<A>, writer: usize) -> Result<Option<usize>, Refusal>
         ensures { IfErr result (λ e. e ≡ out_of_memory) }
     {
+        let history = self.history;
         let place = history.place_of(writer);
-        let mut reasons = look.reasons.copy(alloc)?;
-        for source in &look.sources {
+        let mut reasons = seen.look.reasons.copy(self.alloc)?;
+        for source in &seen.look.sources {
             reasons.push_pair(history, history.place_of(*source), place)?;
         }
-        self.push_write_reasons(history, writer, reading.sight.column, &mut reasons)?;
-        let fact = self.tell(Rule::Later(reading.sight, place), reasons.as_slice())?;
-        self.link(alloc, history, (reading.reader, place), fact)
+        self.push_write_reasons(writer, seen.reading.sight.column, &mut reasons)?;
+        let fact = self.tell(Rule::Later(seen.reading.sight, place), reasons.as_slice())?;
+        self.link((seen.reading.reader, place), fact)
     }
 
     // Tells that a writer comes before the only source.
     fn tell_earlier(
         &mut self,
-        alloc: A,
-        history: &History<A>,
-        reading: Reading,
+        seen: &Seen<A>,
         pair: (usize, usize),
-        look: &Look<A>,
     ) -> Result<Option<usize>, Refusal>
-    where
-        A: Copy,
         ensures { IfErr result (λ e. e ≡ out_of_memory) }
     {
+        let history = self.history;
         let (writer, source) = pair;
         let (place, other) = (history.place_of(writer), history.place_of(source));
         if !self.is_present(place) || self.order.has(place, other) {
             return Ok(None);
         }
-        let mut reasons = look.reasons.copy(alloc)?;
-        reasons.push_pair(history, place, reading.reader)?;
-        self.push_write_reasons(history, writer, reading.sight.column, &mut reasons)?;
-        let rule = Rule::Earlier(place, other, reading.sight);
+        let mut reasons = seen.look.reasons.copy(self.alloc)?;
+        reasons.push_pair(history, place, seen.reading.reader)?;
+        self.push_write_reasons(writer, seen.reading.sight.column, &mut reasons)?;
+        let rule = Rule::Earlier(place, other, seen.reading.sight);
         let fact = self.tell(rule, reasons.as_slice())?;
-        self.link(alloc, history, (place, other), fact)
+        self.link((place, other), fact)
     }
 
     // Tells who comes before all sources, and so before the reader.
-    fn tell_common(
-        &mut self,
-        alloc: A,
-        history: &History<A>,
-        reading: Reading,
-        look: &Look<A>,
-    ) -> Result<Option<usize>, Refusal>
-    where
-        A: Copy,
+    fn tell_common(&mut self, seen: &Seen<A>) -> Result<Option<usize>, Refusal>
         ensures { IfErr result (λ e. e ≡ out_of_memory) }
     {
-        if look.from_opening || look.sources.len() < 2 {
+        let history = self.history;
+        if seen.look.from_opening || seen.look.sources.len() < 2 {
             return Ok(None);
         }
-        let mut places = Vec::with_capacity(alloc, look.sources.len())?;
-        for source in &look.sources {
+        let mut places = Vec::with_capacity(self.alloc, seen.look.sources.len())?;
+        for source in &seen.look.sources {
             places.push(history.place_of(*source))?;
         }
-        let common = self
-            .order
-            .common_before(alloc, places.as_slice(), reading.reader)?;
+        let common = self.order.common(places.as_slice(), seen.reading.reader)?;
         for first in &common {
-            let found = self.tell_common_one(
-                alloc,
-                history,
-                reading,
-                *first,
-                places.as_slice(),
-                look,
-            )?;
+            let found = self.tell_common_one(seen, *first, places.as_slice())?;
             if found.is_some() {
                 return Ok(found);
             }
@@ -431,62 +346,50 @@ impl<A: Allocator> Solver<A> {
     // Tells that one who comes before all sources comes before the reader.
     fn tell_common_one(
         &mut self,
-        alloc: A,
-        history: &History<A>,
-        reading: Reading,
+        seen: &Seen<A>,
         first: usize,
         sources: &[usize],
-        look: &Look<A>,
     ) -> Result<Option<usize>, Refusal>
-    where
-        A: Copy,
         ensures { IfErr result (λ e. e ≡ out_of_memory) }
     {
-        if first == reading.reader || !self.is_present(first) {
+        let history = self.history;
+        if first == seen.reading.reader || !self.is_present(first) {
             return Ok(None);
         }
-        let mut reasons = look.reasons.copy(alloc)?;
+        let mut reasons = seen.look.reasons.copy(self.alloc)?;
         for source in sources {
             if *source != first {
                 reasons.push_pair(history, first, *source)?;
             }
         }
-        let fact = self.tell(Rule::Common(first, reading.sight), reasons.as_slice())?;
-        self.link(alloc, history, (first, reading.reader), fact)
+        let fact = self.tell(Rule::Common(first, seen.reading.sight), reasons.as_slice())?;
+        self.link((first, seen.reading.reader), fact)
     }
 
     // ---- states
 
     // Tells the state that a reader found in a column that it adds to, where all sources leave the same.
-    fn tell_state(
-        &mut self,
-        alloc: A,
-        history: &History<A>,
-        reading: Reading,
-        look: &Look<A>,
-    ) -> Result<(), Refusal>
-    where
-        A: Copy,
+    fn tell_state(&mut self, seen: &Seen<A>) -> Result<(), Refusal>
         ensures { IfErr result (λ e. e ≡ out_of_memory) }
     {
-        let Some(visit) = history.visit(reading.sight.visit) else {
+        let history = self.history;
+        let Some(visit) = history.visit(seen.reading.sight.visit) else {
             return Ok(());
         };
-        if !visit.sums(reading.sight.column) || self.found(reading.sight).is_some() {
+        if !visit.sums(seen.reading.sight.column) || self.found(seen.reading.sight).is_some() {
             return Ok(());
         }
-        let Some(state) = self.only_state(alloc, history, reading.sight, look)? else {
+        let Some(state) = self.only_state(seen.reading.sight, &seen.look)? else {
             return Ok(());
         };
-        let mut reasons = look.reasons.copy(alloc)?;
-        self.push_state_reasons(history, reading.sight.column, look, &mut reasons)?;
-        self.tell_found(history, reading.sight, Some(state), reasons.as_slice())
+        let mut reasons = seen.look.reasons.copy(self.alloc)?;
+        self.push_state_reasons(seen.reading.sight.column, &seen.look, &mut reasons)?;
+        self.tell_found(seen.reading.sight, Some(state), reasons.as_slice())
     }
 
     // Adds why all sources leave the same.
     fn push_state_reasons(
         &self,
-        history: &History<A>,
         column: u32,
         look: &Look<A>,
         reasons: &mut Reasons<A>,
@@ -494,7 +397,7 @@ impl<A: Allocator> Solver<A> {
         ensures { IfErr result (λ e. e ≡ out_of_memory) }
     {
         for source in &look.sources {
-            self.push_left_reasons(history, *source, column, reasons)?;
+            self.push_left_reasons(*source, column, reasons)?;
         }
         Ok(())
     }
@@ -502,13 +405,13 @@ impl<A: Allocator> Solver<A> {
     // Adds why a writer leaves in a column what it does: its ways that are out of the question, and what it found.
     fn push_left_reasons(
         &self,
-        history: &History<A>,
         writer: usize,
         column: u32,
         reasons: &mut Reasons<A>,
     ) -> Result<(), Refusal>
         ensures { IfErr result (λ e. e ≡ out_of_memory) }
     {
+        let history = self.history;
         let Some(visit) = history.visit(writer) else {
             return Ok(());
         };
@@ -524,26 +427,19 @@ impl<A: Allocator> Solver<A> {
     }
 
     // The value that all sources leave in a column of a row, if they all leave the same.
-    fn only_state(
-        &self,
-        alloc: A,
-        history: &History<A>,
-        sight: Sight,
-        look: &Look<A>,
-    ) -> Result<Option<Value<A>>, Refusal>
-    where
-        A: Copy,
+    fn only_state(&self, sight: Sight, look: &Look<A>) -> Result<Option<Value<A>>, Refusal>
         ensures { IfErr result (λ e. e ≡ out_of_memory) }
     {
+        let history = self.history;
         let mut only = None;
         if look.from_opening {
             let Some(value) = history.opening(sight.visit, sight.column) else {
                 return Ok(None);
             };
-            only = Some(value.copy(alloc)?);
+            only = Some(value.copy(self.alloc)?);
         }
         for source in &look.sources {
-            let Some(value) = self.state_left(alloc, history, *source, sight.column)? else {
+            let Some(value) = self.state_left(*source, sight.column)? else {
                 return Ok(None);
             };
             if is_other(&only, &value) {
@@ -555,17 +451,10 @@ impl<A: Allocator> Solver<A> {
     }
 
     // The value that the only way that is left of a writer leaves in a column.
-    fn state_left(
-        &self,
-        alloc: A,
-        history: &History<A>,
-        writer: usize,
-        column: u32,
-    ) -> Result<Option<Value<A>>, Refusal>
-    where
-        A: Copy,
+    fn state_left(&self, writer: usize, column: u32) -> Result<Option<Value<A>>, Refusal>
         ensures { IfErr result (λ e. e ≡ out_of_memory) }
     {
+        let history = self.history;
         let Some(visit) = history.visit(writer) else {
             return Ok(None);
         };
@@ -574,7 +463,7 @@ impl<A: Allocator> Solver<A> {
         }
         for (number, way) in visit.ways.as_slice().iter().enumerate() {
             if self.is_left(visit, number) {
-                return self.value_left(alloc, writer, way, column);
+                return self.value_left(writer, way, column);
             }
         }
         Ok(None)
@@ -583,17 +472,14 @@ impl<A: Allocator> Solver<A> {
     // The value that a way of a writer leaves in a column, if it is known.
     fn value_left(
         &self,
-        alloc: A,
         writer: usize,
         way: &Way<A>,
         column: u32,
     ) -> Result<Option<Value<A>>, Refusal>
-    where
-        A: Copy,
         ensures { IfErr result (λ e. e ≡ out_of_memory) }
     {
         match field_left(way, column) {
-            Some(Field::Given(value)) => Ok(Some(value.copy(alloc)?)),
+            Some(Field::Given(value)) => Ok(Some(value.copy(self.alloc)?)),
             Some(Field::Sum(summed, number)) if !way.is_absent => {
                 let summed = Sight {
                     visit: writer,
@@ -616,39 +502,30 @@ impl<A: Allocator> Solver<A> {
 
     // Settles a need of which nothing more can come: it has a source alone, and it is known of all who write whether
     // they come before that or after the reader.
-    fn settle_if_done(
-        &mut self,
-        history: &History<A>,
-        reading: Reading,
-        look: &Look<A>,
-    ) -> Result<(), Refusal>
+    fn settle_if_done(&mut self, seen: &Seen<A>) -> Result<(), Refusal>
         ensures { IfErr result (λ e. e ≡ out_of_memory) }
     {
-        let Some(visit) = history.visit(reading.sight.visit) else {
+        let history = self.history;
+        let Some(visit) = history.visit(seen.reading.sight.visit) else {
             return Ok(());
         };
-        if self.left(visit) > 1 || visit.sums(reading.sight.column) {
+        if self.left(visit) > 1 || visit.sums(seen.reading.sight.column) {
             return Ok(());
         }
-        for writer in &look.writers {
-            if !self.is_placed(history, reading.reader, history.place_of(*writer), look) {
+        for writer in &seen.look.writers {
+            if !self.is_placed(seen.reading.reader, history.place_of(*writer), &seen.look) {
                 return Ok(());
             }
         }
-        match (look.sources.as_slice(), look.from_opening) {
-            ([], true) | ([_], false) => self.settle(reading.need),
+        match (seen.look.sources.as_slice(), seen.look.from_opening) {
+            ([], true) | ([_], false) => self.settle(seen.reading.need),
             _ => Ok(()),
         }
     }
 
     // Whether it is known of a writer that it comes after the reader, or before the only source, or is that.
-    fn is_placed(
-        &self,
-        history: &History<A>,
-        reader: usize,
-        writer: usize,
-        look: &Look<A>,
-    ) -> bool {
+    fn is_placed(&self, reader: usize, writer: usize, look: &Look<A>) -> bool {
+        let history = self.history;
         if self.order.has(reader, writer) {
             return true;
         }

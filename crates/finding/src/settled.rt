@@ -10,11 +10,11 @@ use crate::visits::{Visit, counts, may_count};
 use certificate::certificate::Line;
 use certificate::known::Cell;
 use orders::transaction::Transaction;
+use orders::ways::way::Way;
 use schema::catalog::Catalog;
 use std::alloc::Allocator;
 use std::collections::BTreeSet;
 use value::refusal::Refusal;
-use ways::way::Way;
 
 /// A statement of which it must be told how many rows it chose at least, or at most.
 #[derive(Clone, Copy, PartialEq, Eq)]
@@ -113,7 +113,7 @@ fn joined<A: Allocator>(
     Ok(all)
 }
 
-impl<A: Allocator> History<A> {
+impl<A: Allocator + Copy> History<A> {
     // Adds the lines for one statement.
     fn push_settled(
         &mut self,
@@ -123,8 +123,6 @@ impl<A: Allocator> History<A> {
         wanted: Wanted,
         front: &mut Front<A>,
     ) -> Result<(), Refusal>
-    where
-        A: Copy,
         ensures { IfErr result (λ e. e ≡ out_of_memory) }
     {
         let Some(transaction) = transactions.get(wanted.place) else {
@@ -138,8 +136,6 @@ impl<A: Allocator> History<A> {
 
     // The keys at which a statement may have chosen rows, and no visit of its transaction is kept.
     fn settled_keys(&self, alloc: A, wanted: Wanted) -> Result<Vec<usize, A>, Refusal>
-    where
-        A: Copy,
         ensures { IfErr result (λ e. e ≡ out_of_memory) }
     {
         let mut keys = Vec::new(alloc);
@@ -162,8 +158,6 @@ impl<A: Allocator> History<A> {
 
     // The keys at which visits are kept that count a statement.
     fn visited_keys(&self, alloc: A, sum: &Sum<A>) -> Result<BTreeSet<usize, A>, Refusal>
-    where
-        A: Copy,
         ensures { IfErr result (λ e. e ≡ out_of_memory) }
     {
         let mut visited = BTreeSet::new(alloc);
@@ -185,8 +179,6 @@ impl<A: Allocator> History<A> {
         key: usize,
         front: &mut Front<A>,
     ) -> Result<(), Refusal>
-    where
-        A: Copy,
         ensures { IfErr result (λ e. e ≡ out_of_memory) }
     {
         let statements = transaction.statements.as_slice();
@@ -222,8 +214,6 @@ impl<A: Allocator> History<A> {
         columns: &[u32],
         front: &mut Front<A>,
     ) -> Result<(), Refusal>
-    where
-        A: Copy,
         ensures { IfErr result (λ e. e ≡ out_of_memory) }
     {
         let at = (visit.place, visit.key);
@@ -245,8 +235,6 @@ impl<A: Allocator> History<A> {
         columns: &[u32],
         front: &mut Front<A>,
     ) -> Result<(), Refusal>
-    where
-        A: Copy,
         ensures { IfErr result (λ e. e ≡ out_of_memory) }
     {
         for column in columns {

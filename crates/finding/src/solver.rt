@@ -33,7 +33,9 @@ pub(crate) struct Level {
 
 /// Facts, what they tell, and which needs have still to be looked at. Numbers behind those of needs are those of sums.
 #[derive(Drop)]
-pub(crate) struct Solver<A: Allocator> {
+pub(crate) struct Solver<'h, A: Allocator> {
+    pub(crate) alloc: A,
+    pub(crate) history: &'h History<A>,
     pub(crate) order: Order<A>,
     pub(crate) facts: Vec<Fact, A>,
     reasons: Vec<Reason, A>,
@@ -57,21 +59,21 @@ pub(crate) struct Solver<A: Allocator> {
     pub(crate) steps: u64,
 }
 
-impl<A: Allocator> Solver<A> {
+impl<'h, A: Allocator + Copy> Solver<'h, A> {
     /// Nothing is found yet but what time tells.
     pub(crate) fn of(
         alloc: A,
-        history: &History<A>,
+        history: &'h History<A>,
         order: Order<A>,
         steps: u64,
-    ) -> Result<Solver<A>, Refusal>
-    where
-        A: Copy,
+    ) -> Result<Solver<'h, A>, Refusal>
         ensures { IfErr result (λ e. e ≡ out_of_memory) }
     {
         let count = history.times.count();
         let asked = history.needs.len().saturating_add(history.sums.len());
         Ok(Solver {
+            alloc,
+            history,
             order,
             facts: Vec::new(alloc),
             reasons: Vec::new(alloc),
@@ -202,9 +204,10 @@ impl<A: Allocator> Solver<A> {
     }
 
     // All needs that hang on a transaction are looked at again.
-    fn wake_watchers(&mut self, history: &History<A>, place: usize) -> Result<(), Refusal>
+    fn wake_watchers(&mut self, place: usize) -> Result<(), Refusal>
         ensures { IfErr result (λ e. e ≡ out_of_memory) }
     {
+        let history = self.history;
         for need in history.watchers(place) {
             self.wake(*need)?;
         }
@@ -212,20 +215,22 @@ impl<A: Allocator> Solver<A> {
     }
 
     // All needs that hang on a transaction are looked at again, also where they seemed settled, and its sums.
-    fn stir(&mut self, history: &History<A>, place: usize) -> Result<(), Refusal>
+    fn stir(&mut self, place: usize) -> Result<(), Refusal>
         ensures { IfErr result (λ e. e ≡ out_of_memory) }
     {
+        let history = self.history;
         for need in history.watchers(place) {
             put(self.is_settled.as_mut_slice(), *need, false);
             self.wake(*need)?;
         }
-        self.wake_sums(history, place)
+        self.wake_sums(place)
     }
 
     // All sums of a transaction are looked at again.
-    fn wake_sums(&mut self, history: &History<A>, place: usize) -> Result<(), Refusal>
+    fn wake_sums(&mut self, place: usize) -> Result<(), Refusal>
         ensures { IfErr result (λ e. e ≡ out_of_memory) }
     {
+        let history = self.history;
         for sum in history.sums_of(place) {
             self.wake(history.needs.len().saturating_add(*sum))?;
         }
@@ -251,12 +256,12 @@ impl<A: Allocator> Solver<A> {
     }
 
     // All needs that hang on those that have moved are looked at again.
-    fn wake_moved(&mut self, history: &History<A>) -> Result<(), Refusal>
+    fn wake_moved(&mut self) -> Result<(), Refusal>
         ensures { IfErr result (λ e. e ≡ out_of_memory) }
     {
         for _ in 0..self.moved.len() {
             if let Some(place) = self.pop_moved() {
-                self.wake_watchers(history, place)?;
+                self.wake_watchers(place)?;
             }
         }
         Ok(())
@@ -270,11 +275,11 @@ impl<A: Allocator> Solver<A> {
     }
 
     /// The next need to be looked at. What hangs on transactions that have moved comes once nothing else is left.
-    pub(crate) fn next_need(&mut self, history: &History<A>) -> Result<Option<usize>, Refusal>
+    pub(crate) fn next_need(&mut self) -> Result<Option<usize>, Refusal>
         ensures { IfErr result (λ e. e ≡ out_of_memory) }
     {
         if self.queue.is_empty() {
-            self.wake_moved(history)?;
+            self.wake_moved()?;
         }
         Ok(self.pop_need())
     }
@@ -330,13 +335,9 @@ impl<A: Allocator> Solver<A> {
     /// A fact tells that the first comes before the second: the fact of a contradiction, where the contrary is known.
     pub(crate) fn link(
         &mut self,
-        alloc: A,
-        history: &History<A>,
         pair: (usize, usize),
         fact: usize,
     ) -> Result<Option<usize>, Refusal>
-    where
-        A: Copy,
         ensures { IfErr result (λ e. e ≡ out_of_memory) }
     {
         let (first, second) = pair;
@@ -344,7 +345,7 @@ impl<A: Allocator> Solver<A> {
             return Ok(None);
         }
         if self.order.has(second, first) {
-            return self.tell_cycle(alloc, history, (first, second), fact);
+            return self.tell_cycle((first, second), fact);
         }
         let next = self.last_edge(first);
         put(self.last_edge.as_mut_slice(), first, Some(self.edges.len()));
@@ -354,8 +355,7 @@ impl<A: Allocator> Solver<A> {
             fact,
             next,
         })?;
-        let mut changed = Vec::new(alloc);
-        self.order.insert(alloc, first, second, &mut changed)?;
+        let changed = self.order.insert(pair)?;
         for place in &changed {
             self.move_later(*place)?;
         }
@@ -363,19 +363,12 @@ impl<A: Allocator> Solver<A> {
     }
 
     // Tells that each of two comes before the other.
-    fn tell_cycle(
-        &mut self,
-        alloc: A,
-        history: &History<A>,
-        pair: (usize, usize),
-        fact: usize,
-    ) -> Result<Option<usize>, Refusal>
-    where
-        A: Copy,
+    fn tell_cycle(&mut self, pair: (usize, usize), fact: usize) -> Result<Option<usize>, Refusal>
         ensures { IfErr result (λ e. e ≡ out_of_memory) }
     {
+        let history = self.history;
         let (first, second) = pair;
-        let mut reasons = Reasons::none(alloc);
+        let mut reasons = Reasons::none(self.alloc);
         reasons.push_fact(fact)?;
         reasons.push_pair(history, second, first)?;
         reasons.push_any(self.present_by(first))?;
@@ -385,61 +378,46 @@ impl<A: Allocator> Solver<A> {
     }
 
     /// A fact tells that a transaction is there, where that isn't known.
-    pub(crate) fn set_present(
-        &mut self,
-        history: &History<A>,
-        place: usize,
-        fact: usize,
-    ) -> Result<(), Refusal>
+    pub(crate) fn set_present(&mut self, place: usize, fact: usize) -> Result<(), Refusal>
         ensures { IfErr result (λ e. e ≡ out_of_memory) }
     {
         if self.is_open(place) {
             put(self.presence.as_mut_slice(), place, Presence::Present(fact));
-            self.stir(history, place)?;
+            self.stir(place)?;
         }
         Ok(())
     }
 
     /// A fact tells that a transaction isn't there.
-    pub(crate) fn set_absent(
-        &mut self,
-        history: &History<A>,
-        place: usize,
-        fact: usize,
-    ) -> Result<(), Refusal>
+    pub(crate) fn set_absent(&mut self, place: usize, fact: usize) -> Result<(), Refusal>
         ensures { IfErr result (λ e. e ≡ out_of_memory) }
     {
         if self.is_open(place) {
             put(self.presence.as_mut_slice(), place, Presence::Absent(fact));
-            self.stir(history, place)?;
+            self.stir(place)?;
         }
         Ok(())
     }
 
     /// A fact tells that a way, by its number among all, is none in which a visit was made.
-    pub(crate) fn exclude(
-        &mut self,
-        history: &History<A>,
-        visit: usize,
-        way: usize,
-        fact: usize,
-    ) -> Result<(), Refusal>
+    pub(crate) fn exclude(&mut self, visit: usize, way: usize, fact: usize) -> Result<(), Refusal>
         ensures { IfErr result (λ e. e ≡ out_of_memory) }
     {
+        let history = self.history;
         put(self.excluded.as_mut_slice(), way, Some(fact));
-        self.stir(history, history.place_of(visit))
+        self.stir(history.place_of(visit))
     }
 
     /// Tells what a visit found in a column.
     pub(crate) fn tell_found(
         &mut self,
-        history: &History<A>,
         sight: Sight,
         state: Option<Value<A>>,
         reasons: &[Reason],
     ) -> Result<(), Refusal>
         ensures { IfErr result (λ e. e ≡ out_of_memory) }
     {
+        let history = self.history;
         let number = self.states.len();
         let fact = self.tell(Rule::Found(sight, number), reasons)?;
         let next = at(self.last_state.as_slice(), sight.visit, None);
@@ -450,7 +428,7 @@ impl<A: Allocator> Solver<A> {
             next,
         })?;
         put(self.last_state.as_mut_slice(), sight.visit, Some(number));
-        self.stir(history, history.place_of(sight.visit))
+        self.stir(history.place_of(sight.visit))
     }
 
     // ---- suppositions

@@ -8,9 +8,9 @@ use crate::facts::{Counting, Reason, Reasons, Rule};
 use crate::history::History;
 use crate::solver::Solver;
 use crate::visits::{Visit, counts, may_count};
+use orders::ways::way::Way;
 use std::alloc::Allocator;
 use value::refusal::Refusal;
-use ways::way::Way;
 
 /// How many rows a statement chose at least, and at most.
 #[derive(Clone, Copy)]
@@ -19,47 +19,42 @@ struct Bounds {
     most: usize,
 }
 
-impl<A: Allocator> Solver<A> {
+impl<'h, A: Allocator + Copy> Solver<'h, A> {
     /// Looks at a statement whose answer tells how many rows it chose.
-    pub(crate) fn examine_sum(
-        &mut self,
-        alloc: A,
-        history: &History<A>,
-        number: usize,
-    ) -> Result<Option<usize>, Refusal>
-    where
-        A: Copy,
+    pub(crate) fn examine_sum(&mut self, number: usize) -> Result<Option<usize>, Refusal>
         ensures { IfErr result (λ e. e ≡ out_of_memory) }
     {
+        let history = self.history;
         let Some(sum) = history.sums.get(number) else {
             return Ok(None);
         };
         if self.absent_by(sum.place).is_some() {
             return Ok(None);
         }
-        let bounds = self.bounds(history, sum);
+        let bounds = self.bounds(sum);
         if bounds.least > sum.number && self.is_present(sum.place) {
             let rule = Rule::Overfull(counting(sum));
-            return self.tell_number(alloc, history, sum, true, rule);
+            return self.tell_number(sum, true, rule);
         }
         if bounds.most < sum.number && self.is_present(sum.place) {
             let rule = Rule::Lacking(counting(sum));
-            return self.tell_number(alloc, history, sum, false, rule);
+            return self.tell_number(sum, false, rule);
         }
         if bounds.least == bounds.most {
             return Ok(None);
         }
         if bounds.least == sum.number {
-            return self.exclude_all(alloc, history, sum, true);
+            return self.exclude_all(sum, true);
         }
         if bounds.most == sum.number {
-            return self.exclude_all(alloc, history, sum, false);
+            return self.exclude_all(sum, false);
         }
         Ok(None)
     }
 
     // How many rows a statement chose, by the ways that are left.
-    fn bounds(&self, history: &History<A>, sum: &Sum<A>) -> Bounds {
+    fn bounds(&self, sum: &Sum<A>) -> Bounds {
+        let history = self.history;
         let mut bounds = Bounds {
             least: sum.least,
             most: sum.most,
@@ -98,16 +93,11 @@ impl<A: Allocator> Solver<A> {
     }
 
     // Why a statement chose no fewer rows, or no more.
-    fn number_reasons(
-        &self,
-        alloc: A,
-        history: &History<A>,
-        sum: &Sum<A>,
-        is_least: bool,
-    ) -> Result<Reasons<A>, Refusal>
+    fn number_reasons(&self, sum: &Sum<A>, is_least: bool) -> Result<Reasons<A>, Refusal>
         ensures { IfErr result (λ e. e ≡ out_of_memory) }
     {
-        let mut reasons = Reasons::none(alloc);
+        let history = self.history;
+        let mut reasons = Reasons::none(self.alloc);
         for number in &sum.visits {
             if let Some(visit) = history.visit(*number)
                 && self.is_weighed(visit, sum.statement, is_least)
@@ -153,15 +143,13 @@ impl<A: Allocator> Solver<A> {
     // Tells that a statement chose too many rows, or can't have chosen enough.
     fn tell_number(
         &mut self,
-        alloc: A,
-        history: &History<A>,
         sum: &Sum<A>,
         is_least: bool,
         rule: Rule,
     ) -> Result<Option<usize>, Refusal>
         ensures { IfErr result (λ e. e ≡ out_of_memory) }
     {
-        let mut reasons = self.number_reasons(alloc, history, sum, is_least)?;
+        let mut reasons = self.number_reasons(sum, is_least)?;
         reasons.push_any(self.present_by(sum.place))?;
         let fact = self.tell(rule, reasons.as_slice())?;
         Ok(Some(fact))
@@ -169,22 +157,14 @@ impl<A: Allocator> Solver<A> {
 
     // Excludes the ways by which a statement would have chosen more rows than it did, or fewer: gives a contradiction,
     // where no way is left.
-    fn exclude_all(
-        &mut self,
-        alloc: A,
-        history: &History<A>,
-        sum: &Sum<A>,
-        is_least: bool,
-    ) -> Result<Option<usize>, Refusal>
-    where
-        A: Copy,
+    fn exclude_all(&mut self, sum: &Sum<A>, is_least: bool) -> Result<Option<usize>, Refusal>
         ensures { IfErr result (λ e. e ≡ out_of_memory) }
     {
-        let reasons = self.number_reasons(alloc, history, sum, is_least)?;
+        let reasons = self.number_reasons(sum, is_least)?;
         let base = self.tell(Rule::Weighed, reasons.as_slice())?;
         for number in &sum.visits {
-            if self.exclude_at(history, sum, *number, is_least, base)? {
-                let found = self.wayless(alloc, history, *number)?;
+            if self.exclude_at(sum, *number, is_least, base)? {
+                let found = self.wayless(*number)?;
                 if found.is_some() {
                     return Ok(found);
                 }
@@ -196,7 +176,6 @@ impl<A: Allocator> Solver<A> {
     // Excludes those of a visit: whether there are any.
     fn exclude_at(
         &mut self,
-        history: &History<A>,
         sum: &Sum<A>,
         number: usize,
         is_least: bool,
@@ -204,6 +183,7 @@ impl<A: Allocator> Solver<A> {
     ) -> Result<bool, Refusal>
         ensures { IfErr result (λ e. e ≡ out_of_memory) }
     {
+        let history = self.history;
         let Some(visit) = history.visit(number) else {
             return Ok(false);
         };
@@ -216,7 +196,7 @@ impl<A: Allocator> Solver<A> {
                 let way = visit.first_way.saturating_add(way);
                 let rule = rule_of(sum, number, way, is_least);
                 let fact = self.tell(rule, &[Reason::Fact(base)])?;
-                self.exclude(history, number, way, fact)?;
+                self.exclude(number, way, fact)?;
                 is_any = true;
             }
         }

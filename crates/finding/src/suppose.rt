@@ -28,34 +28,28 @@ struct Rests {
     before: Option<usize>,
 }
 
-impl<A: Allocator> Solver<A> {
+impl<'h, A: Allocator + Copy> Solver<'h, A> {
     /// A certificate, if one is found within the steps.
-    pub(crate) fn search(
-        &mut self,
-        alloc: A,
-        history: &History<A>,
-    ) -> Result<Option<Vec<Line<A>, A>>, Refusal>
-    where
-        A: Copy,
+    pub(crate) fn search(&mut self) -> Result<Option<Vec<Line<A>, A>>, Refusal>
         ensures { IfErr result (λ e. e ≡ out_of_memory) }
     {
-        let mut found = self.tell_impossible(history)?;
+        let mut found = self.tell_impossible()?;
         if found.is_none() {
-            self.wake_all(history)?;
-            found = self.propagate(alloc, history)?;
+            self.wake_all()?;
+            found = self.propagate()?;
         }
         for _ in 0..self.steps {
             if self.steps == 0 {
                 return Ok(None);
             }
             found = match found {
-                Some(contradiction) => match self.resolve(alloc, history, contradiction)? {
+                Some(contradiction) => match self.resolve(contradiction)? {
                     Resolved::Certificate(lines) => return Ok(Some(lines)),
                     Resolved::Refuted(Some(other)) => Some(other),
-                    Resolved::Refuted(None) => self.propagate(alloc, history)?,
+                    Resolved::Refuted(None) => self.propagate()?,
                 },
-                None => match self.next_split(alloc, history)? {
-                    Some(assumption) => self.suppose(alloc, history, assumption)?,
+                None => match self.next_split()? {
+                    Some(assumption) => self.suppose(assumption)?,
                     None => return Ok(None),
                 },
             };
@@ -64,49 +58,34 @@ impl<A: Allocator> Solver<A> {
     }
 
     // Supposes something, and looks what comes of it.
-    fn suppose(
-        &mut self,
-        alloc: A,
-        history: &History<A>,
-        assumption: Assumption,
-    ) -> Result<Option<usize>, Refusal>
-    where
-        A: Copy,
+    fn suppose(&mut self, assumption: Assumption) -> Result<Option<usize>, Refusal>
         ensures { IfErr result (λ e. e ≡ out_of_memory) }
     {
         self.begin_level()?;
-        let mut reasons = Reasons::none(alloc);
+        let mut reasons = Reasons::none(self.alloc);
         if let Assumption::Before(first, second) = assumption {
             reasons.push_any(self.present_by(first))?;
             reasons.push_any(self.present_by(second))?;
         }
         let fact = self.tell(Rule::Supposed(assumption), reasons.as_slice())?;
-        match self.assume(alloc, history, assumption, fact)? {
+        match self.assume(assumption, fact)? {
             Some(contradiction) => Ok(Some(contradiction)),
-            None => self.propagate(alloc, history),
+            None => self.propagate(),
         }
     }
 
     // A fact tells what is assumed.
-    fn assume(
-        &mut self,
-        alloc: A,
-        history: &History<A>,
-        assumption: Assumption,
-        fact: usize,
-    ) -> Result<Option<usize>, Refusal>
-    where
-        A: Copy,
+    fn assume(&mut self, assumption: Assumption, fact: usize) -> Result<Option<usize>, Refusal>
         ensures { IfErr result (λ e. e ≡ out_of_memory) }
     {
         match assumption {
-            Assumption::Before(first, second) => self.link(alloc, history, (first, second), fact),
+            Assumption::Before(first, second) => self.link((first, second), fact),
             Assumption::Present(place) => {
-                self.set_present(history, place, fact)?;
+                self.set_present(place, fact)?;
                 Ok(None)
             }
             Assumption::Absent(place) => {
-                self.set_absent(history, place, fact)?;
+                self.set_absent(place, fact)?;
                 Ok(None)
             }
         }
@@ -115,19 +94,12 @@ impl<A: Allocator> Solver<A> {
     // ---- contradictions
 
     // What comes of a contradiction.
-    fn resolve(
-        &mut self,
-        alloc: A,
-        history: &History<A>,
-        contradiction: usize,
-    ) -> Result<Resolved<A>, Refusal>
-    where
-        A: Copy,
+    fn resolve(&mut self, contradiction: usize) -> Result<Resolved<A>, Refusal>
         ensures { IfErr result (λ e. e ≡ out_of_memory) }
     {
         let rests = match self.levels.as_slice().first() {
             Some(level) => {
-                let marked = self.mark_all(alloc, history, contradiction, level.fact)?;
+                let marked = self.mark_all(contradiction, level.fact)?;
                 self.rests_on(&marked)
             }
             None => Rests {
@@ -138,13 +110,13 @@ impl<A: Allocator> Solver<A> {
         match rests.last {
             Some(level) => {
                 let kept = rests.before.map_or(0, |before| before.saturating_add(1));
-                let other = self.refute(alloc, history, contradiction, level, kept)?;
+                let other = self.refute(contradiction, level, kept)?;
                 Ok(Resolved::Refuted(other))
             }
             None => {
-                let marked = self.mark_all(alloc, history, contradiction, 0)?;
-                let lines = Vec::new(alloc);
-                let lines = self.tell_marked(alloc, history, &marked, contradiction, lines)?;
+                let marked = self.mark_all(contradiction, 0)?;
+                let lines = Vec::new(self.alloc);
+                let lines = self.tell_marked(&marked, contradiction, lines)?;
                 Ok(Resolved::Certificate(lines))
             }
         }
@@ -169,29 +141,25 @@ impl<A: Allocator> Solver<A> {
     // other levels but the first so many.
     fn refute(
         &mut self,
-        alloc: A,
-        history: &History<A>,
         contradiction: usize,
         level: usize,
         kept: usize,
     ) -> Result<Option<usize>, Refusal>
-    where
-        A: Copy,
         ensures { IfErr result (λ e. e ≡ out_of_memory) }
     {
         let (Some(assumption), Some(first)) = (self.assumed(level), self.first_fact(kept)) else {
             return Ok(None);
         };
-        let marked = self.mark_all(alloc, history, contradiction, first)?;
-        let mut lines = Vec::new(alloc);
+        let marked = self.mark_all(contradiction, first)?;
+        let mut lines = Vec::new(self.alloc);
         lines.push(Line::Suppose(assumption))?;
-        let lines = self.tell_marked(alloc, history, &marked, contradiction, lines)?;
+        let lines = self.tell_marked(&marked, contradiction, lines)?;
         self.end_levels(kept);
         let number = self.refutations.len();
         self.refutations.push(lines)?;
         let rule = Rule::Refuted(assumption, number);
         let fact = self.tell(rule, marked.outer.as_slice())?;
-        self.assume(alloc, history, contrary(assumption), fact)
+        self.assume(contrary(assumption), fact)
     }
 
     // What is supposed at a level.
@@ -211,18 +179,17 @@ impl<A: Allocator> Solver<A> {
     // ---- what to suppose
 
     // What may be supposed next: the first need of which it isn't known from whom the reader had what it found.
-    fn next_split(&mut self, alloc: A, history: &History<A>) -> Result<Option<Assumption>, Refusal>
-    where
-        A: Copy,
+    fn next_split(&mut self) -> Result<Option<Assumption>, Refusal>
         ensures { IfErr result (λ e. e ≡ out_of_memory) }
     {
+        let history = self.history;
         for number in self.cursor..history.needs.len() {
             self.cursor = number;
             if let Some(need) = history.need(number)
                 && !self.is_settled(number)
             {
                 self.steps = self.steps.saturating_sub(1);
-                let split = self.split_of(alloc, history, need)?;
+                let split = self.split_of(need)?;
                 if split.is_some() {
                     return Ok(split);
                 }
@@ -233,32 +200,27 @@ impl<A: Allocator> Solver<A> {
     }
 
     // What may be supposed of a need.
-    fn split_of(
-        &self,
-        alloc: A,
-        history: &History<A>,
-        need: Need,
-    ) -> Result<Option<Assumption>, Refusal>
-    where
-        A: Copy,
+    fn split_of(&self, need: Need) -> Result<Option<Assumption>, Refusal>
         ensures { IfErr result (λ e. e ≡ out_of_memory) }
     {
+        let history = self.history;
         let reader = history.place_of(need.visit);
         if !self.is_present(reader) {
             return Ok(None);
         }
-        let look = self.look(alloc, history, need, None)?;
-        if let Some(place) = self.open_source(history, &look) {
+        let look = self.look(need, None)?;
+        if let Some(place) = self.open_source(&look) {
             return Ok(Some(Assumption::Absent(place)));
         }
-        if let Some(split) = self.unordered_source(history, reader, &look) {
+        if let Some(split) = self.unordered_source(reader, &look) {
             return Ok(Some(split));
         }
-        Ok(self.unordered_writer(history, reader, &look))
+        Ok(self.unordered_writer(reader, &look))
     }
 
     // A source of which it isn't known whether it is there.
-    fn open_source(&self, history: &History<A>, look: &Look<A>) -> Option<usize> {
+    fn open_source(&self, look: &Look<A>) -> Option<usize> {
+        let history = self.history;
         for source in &look.sources {
             let place = history.place_of(*source);
             if self.is_open(place) {
@@ -274,12 +236,8 @@ impl<A: Allocator> Solver<A> {
     }
 
     // That a source comes before the reader, or before another source, where that isn't known.
-    fn unordered_source(
-        &self,
-        history: &History<A>,
-        reader: usize,
-        look: &Look<A>,
-    ) -> Option<Assumption> {
+    fn unordered_source(&self, reader: usize, look: &Look<A>) -> Option<Assumption> {
+        let history = self.history;
         for source in &look.sources {
             let place = history.place_of(*source);
             if self.are_unordered(place, reader) {
@@ -296,19 +254,15 @@ impl<A: Allocator> Solver<A> {
     }
 
     // That one who writes comes after the reader, or before a source, where that isn't known.
-    fn unordered_writer(
-        &self,
-        history: &History<A>,
-        reader: usize,
-        look: &Look<A>,
-    ) -> Option<Assumption> {
+    fn unordered_writer(&self, reader: usize, look: &Look<A>) -> Option<Assumption> {
+        let history = self.history;
         for writer in &look.writers {
             let place = history.place_of(*writer);
             if self.is_present(place) && !self.order.has(reader, place) {
                 if self.are_unordered(reader, place) {
                     return Some(Assumption::Before(reader, place));
                 }
-                if let Some(source) = self.unordered_with(history, place, look) {
+                if let Some(source) = self.unordered_with(place, look) {
                     return Some(Assumption::Before(place, source));
                 }
             }
@@ -317,7 +271,8 @@ impl<A: Allocator> Solver<A> {
     }
 
     // A source that isn't known to come before or after a transaction.
-    fn unordered_with(&self, history: &History<A>, place: usize, look: &Look<A>) -> Option<usize> {
+    fn unordered_with(&self, place: usize, look: &Look<A>) -> Option<usize> {
+        let history = self.history;
         for source in &look.sources {
             let source = history.place_of(*source);
             if self.are_unordered(place, source) {

@@ -36,11 +36,9 @@ fn end_of<A: Allocator>(transaction: &Transaction<A>) -> u64 {
     }
 }
 
-impl<A: Allocator> Times<A> {
+impl<A: Allocator + Copy> Times<A> {
     /// Those of a recording.
     pub(crate) fn of(alloc: A, transactions: &[Transaction<A>]) -> Result<Times<A>, Refusal>
-    where
-        A: Copy,
         ensures { IfErr result (λ e. e ≡ out_of_memory) }
     {
         let mut begins = Vec::with_capacity(alloc, transactions.len())?;
@@ -89,6 +87,20 @@ impl<A: Allocator> Times<A> {
         ensures { IfErr result (λ e. e ≡ out_of_memory) }
     {
         ranked(alloc, self.ends.as_slice())
+    }
+
+    /// When transactions began and ended, in turn: each time with whether it is an end, and whose. What began at a time
+    /// comes before what ended at it.
+    pub(crate) fn moments(&self, alloc: A) -> Result<Vec<(u64, bool, usize), A>, Refusal>
+        ensures { IfErr result (λ e. e ≡ out_of_memory) }
+    {
+        let mut moments = Vec::new(alloc);
+        for place in 0..self.count() {
+            moments.push((self.begin(place), false, place))?;
+            moments.push((self.end(place), true, place))?;
+        }
+        moments.sort()?;
+        Ok(moments)
     }
 }
 

@@ -7,13 +7,13 @@ use crate::keys::Keys;
 use certificate::known::Spot;
 use certificate::states::writes;
 use orders::transaction::{Answered, Transaction};
+use orders::ways::cover::{is_looked_at, ways_of};
+use orders::ways::numbers::{has, table_of};
+use orders::ways::way::{After, Field, Way};
 use schema::catalog::Catalog;
 use statement::condition::Condition;
 use std::alloc::Allocator;
 use value::refusal::Refusal;
-use ways::cover::{is_looked_at, ways_of};
-use ways::numbers::{has, table_of};
-use ways::way::{After, Field, Way};
 
 /// A transaction at a key that it looks at: the ways in which it may have been there. Ways are numbered through all
 /// visits, these from the first on.

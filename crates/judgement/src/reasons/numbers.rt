@@ -4,18 +4,18 @@ ghost use Rattle.std.specs.Prelude.{◌≡◌, IfErr};
 ghost use Rattle.value.specs.Refusals.{out_of_memory};
 
 use crate::reasons::account::Account;
-use crate::reasons::phrases::{append_line, append_number, append_word};
+use crate::reasons::phrases::Telling;
 use certificate::certificate::Line;
 use certificate::known::Spot;
 use copytext::write_field;
 use orders::transaction::Answered;
+use orders::ways::numbers::{number_told, table_of};
 use schema::catalog::TableNo;
 use statement::condition::{Comparison, Condition};
 use statement::statement::Statement;
 use std::alloc::Allocator;
 use value::refusal::Refusal;
 use value::value::Value;
-use ways::numbers::{number_told, table_of};
 
 // What a statement did with the rows that it chose.
 fn verb<A: Allocator>(statement: &Statement<A>) -> &'static str {
@@ -46,16 +46,6 @@ fn sign(comparison: Comparison) -> &'static str {
         Comparison::LessOrEqual => " <= ",
         Comparison::Greater => " > ",
         Comparison::GreaterOrEqual => " >= ",
-    }
-}
-
-// Appends a value; null as `null`.
-fn append_value<A: Allocator>(value: &Value<A>, text: &mut Vec<u8, A>) -> Result<(), Refusal>
-    ensures memory { IfErr result (λ e. e ≡ out_of_memory) }
-{
-    match value {
-        Value::Null => append_word("null", text),
-        _ => write_field(value, text),
     }
 }
 
@@ -97,114 +87,6 @@ fn is_of_other<A: Allocator>(line: &Line<A>, place: usize, statement: usize) -> 
 }
 
 impl<A: Allocator> Account<'_, A> {
-    // Appends a condition, as in `v = 0`.
-    fn append_condition(
-        &self,
-        table: TableNo,
-        condition: &Condition<A>,
-        text: &mut Vec<u8, A>,
-    ) -> Result<(), Refusal>
-        ensures memory { IfErr result (λ e. e ≡ out_of_memory) }
-    {
-        match condition {
-            Condition::Compare(column, comparison, value) => {
-                append_word(self.column(table, *column), text)?;
-                append_word(sign(*comparison), text)?;
-                append_value(value, text)
-            }
-            Condition::Between(column, low, high) => {
-                append_word(self.column(table, *column), text)?;
-                append_word(" between ", text)?;
-                append_value(low, text)?;
-                append_word(" and ", text)?;
-                append_value(high, text)
-            }
-            Condition::IsNull(column) => {
-                append_word(self.column(table, *column), text)?;
-                append_word(" is null", text)
-            }
-            Condition::IsNotNull(column) => {
-                append_word(self.column(table, *column), text)?;
-                append_word(" is not null", text)
-            }
-        }
-    }
-
-    // Appends conditions, as in ` where v = 0 and id > 3`.
-    fn append_conditions(
-        &self,
-        table: TableNo,
-        conditions: &[Condition<A>],
-        text: &mut Vec<u8, A>,
-    ) -> Result<(), Refusal>
-        ensures memory { IfErr result (λ e. e ≡ out_of_memory) }
-    {
-        let mut word = " where ";
-        for condition in conditions {
-            append_word(word, text)?;
-            self.append_condition(table, condition, text)?;
-            word = " and ";
-        }
-        Ok(())
-    }
-
-    // Appends how many rows a statement chose, by its reply, as in `9 counted 3 rows of t where v = 0`.
-    fn append_chosen(
-        &self,
-        place: usize,
-        answered: &Answered<A>,
-        text: &mut Vec<u8, A>,
-    ) -> Result<(), Refusal>
-        ensures memory { IfErr result (λ e. e ≡ out_of_memory) }
-    {
-        let statement = &answered.statement;
-        let table = table_of(statement);
-        let number = number_told(table, statement, &answered.reply).unwrap_or(0);
-        self.append_party(place, text)?;
-        append_word(verb(statement), text)?;
-        append_number(number, text)?;
-        append_word(if number == 1 { " row of " } else { " rows of " }, text)?;
-        append_word(self.table(table), text)?;
-        self.append_conditions(table, conditions_of(statement), text)
-    }
-
-    // Appends how many rows a statement of a transaction chose, and in which line.
-    fn append_number_at(
-        &self,
-        place: usize,
-        statement: usize,
-        text: &mut Vec<u8, A>,
-    ) -> Result<(), Refusal>
-        ensures memory { IfErr result (λ e. e ≡ out_of_memory) }
-    {
-        if let Some(transaction) = self.transactions.get(place)
-            && let Some(answered) = transaction.statements.get(statement)
-        {
-            self.append_chosen(place, answered, text)?;
-        }
-        match self.statement_line(place, statement) {
-            Some(line) => append_line(line, text),
-            None => Ok(()),
-        }
-    }
-
-    /// Appends how many rows a statement of a transaction chose, and whether a spot's was among them.
-    pub(crate) fn append_counted(
-        &self,
-        place: usize,
-        statement: usize,
-        spot: &Spot<A>,
-        how: &str,
-        text: &mut Vec<u8, A>,
-    ) -> Result<(), Refusal>
-        ensures memory { IfErr result (λ e. e ≡ out_of_memory) }
-    {
-        self.append_number_at(place, statement, text)?;
-        append_word(", ", text)?;
-        self.append_spot(spot, text)?;
-        append_word(how, text)
-    }
-
     /// Whether the line before one says the same of a statement and a spot.
     pub(crate) fn is_counted_again(&self, place: usize, line: &Line<A>) -> bool {
         if place == 0 {
@@ -223,24 +105,130 @@ impl<A: Allocator> Account<'_, A> {
             .take(before)
             .any(|line| is_of_other(line, place, statement))
     }
+}
+
+impl<A: Allocator + Copy> Telling<'_, A> {
+    // Appends a value; null as `null`.
+    fn append_value(&mut self, value: &Value<A>) -> Result<(), Refusal>
+        ensures memory { IfErr result (λ e. e ≡ out_of_memory) }
+    {
+        match value {
+            Value::Null => self.append_word("null"),
+            _ => write_field(value, &mut self.text),
+        }
+    }
+
+    // Appends a condition, as in `v = 0`.
+    fn append_condition(&mut self, table: TableNo, condition: &Condition<A>) -> Result<(), Refusal>
+        ensures memory { IfErr result (λ e. e ≡ out_of_memory) }
+    {
+        let account = self.account;
+        match condition {
+            Condition::Compare(column, comparison, value) => {
+                self.append_word(account.column(table, *column))?;
+                self.append_word(sign(*comparison))?;
+                self.append_value(value)
+            }
+            Condition::Between(column, low, high) => {
+                self.append_word(account.column(table, *column))?;
+                self.append_word(" between ")?;
+                self.append_value(low)?;
+                self.append_word(" and ")?;
+                self.append_value(high)
+            }
+            Condition::IsNull(column) => {
+                self.append_word(account.column(table, *column))?;
+                self.append_word(" is null")
+            }
+            Condition::IsNotNull(column) => {
+                self.append_word(account.column(table, *column))?;
+                self.append_word(" is not null")
+            }
+        }
+    }
+
+    // Appends conditions, as in ` where v = 0 and id > 3`.
+    fn append_conditions(
+        &mut self,
+        table: TableNo,
+        conditions: &[Condition<A>],
+    ) -> Result<(), Refusal>
+        ensures memory { IfErr result (λ e. e ≡ out_of_memory) }
+    {
+        let mut word = " where ";
+        for condition in conditions {
+            self.append_word(word)?;
+            self.append_condition(table, condition)?;
+            word = " and ";
+        }
+        Ok(())
+    }
+
+    // Appends how many rows a statement chose, by its reply, as in `9 counted 3 rows of t where v = 0`.
+    fn append_chosen(&mut self, place: usize, answered: &Answered<A>) -> Result<(), Refusal>
+        ensures memory { IfErr result (λ e. e ≡ out_of_memory) }
+    {
+        let account = self.account;
+        let statement = &answered.statement;
+        let table = table_of(statement);
+        let number = number_told(table, statement, &answered.reply).unwrap_or(0);
+        self.append_party(place)?;
+        self.append_word(verb(statement))?;
+        self.append_number(number)?;
+        self.append_word(if number == 1 { " row of " } else { " rows of " })?;
+        self.append_word(account.table(table))?;
+        self.append_conditions(table, conditions_of(statement))
+    }
+
+    // Appends how many rows a statement of a transaction chose, and in which line.
+    fn append_number_at(&mut self, place: usize, statement: usize) -> Result<(), Refusal>
+        ensures memory { IfErr result (λ e. e ≡ out_of_memory) }
+    {
+        let account = self.account;
+        if let Some(transaction) = account.transactions.get(place)
+            && let Some(answered) = transaction.statements.get(statement)
+        {
+            self.append_chosen(place, answered)?;
+        }
+        match account.statement_line(place, statement) {
+            Some(line) => self.append_line(line),
+            None => Ok(()),
+        }
+    }
+
+    /// Appends how many rows a statement of a transaction chose, and whether a spot's was among them.
+    pub(crate) fn append_counted(
+        &mut self,
+        place: usize,
+        statement: usize,
+        spot: &Spot<A>,
+        how: &str,
+    ) -> Result<(), Refusal>
+        ensures memory { IfErr result (λ e. e ≡ out_of_memory) }
+    {
+        self.append_number_at(place, statement)?;
+        self.append_word(", ")?;
+        self.append_spot(spot)?;
+        self.append_word(how)
+    }
 
     /// Appends that a statement of a transaction can't have chosen as many rows as its reply tells, and why. Where another
     /// number of its transaction has a part in that, as the lines before a place say, it is a phantom.
     pub(crate) fn append_miscount(
-        &self,
+        &mut self,
         before: usize,
         place: usize,
         statement: usize,
         why: &str,
-        text: &mut Vec<u8, A>,
     ) -> Result<(), Refusal>
         ensures memory { IfErr result (λ e. e ≡ out_of_memory) }
     {
-        self.append_number_at(place, statement, text)?;
-        append_word(why, text)?;
-        if self.has_other_number(before, place, statement) {
-            append_word(": phantom", text)?;
+        let account = self.account;
+        self.append_number_at(place, statement)?;
+        self.append_word(why)?;
+        if account.has_other_number(before, place, statement) {
+            self.append_word(": phantom")?;
         }
-        append_word("\n", text)
+        self.append_word("\n")
     }
 }

@@ -11,30 +11,12 @@ use schema::catalog::TableNo;
 use std::alloc::Allocator;
 use value::refusal::Refusal;
 
-/// Appends a word.
-pub(crate) fn append_word<A: Allocator>(word: &str, text: &mut Vec<u8, A>) -> Result<(), Refusal>
-    ensures memory { IfErr result (λ e. e ≡ out_of_memory) }
-{
-    text.extend_from_slice(word.as_bytes())?;
-    Ok(())
-}
-
-/// Appends a number's decimal text.
-pub(crate) fn append_number<A: Allocator>(number: u64, text: &mut Vec<u8, A>) -> Result<(), Refusal>
-    ensures memory { IfErr result (λ e. e ≡ out_of_memory) }
-{
-    let mut buffer = Buffer::new();
-    text.extend_from_slice(buffer.format(number).as_bytes())?;
-    Ok(())
-}
-
-/// Appends a line's number, in brackets.
-pub(crate) fn append_line<A: Allocator>(line: u64, text: &mut Vec<u8, A>) -> Result<(), Refusal>
-    ensures memory { IfErr result (λ e. e ≡ out_of_memory) }
-{
-    append_word(" (line ", text)?;
-    append_number(line, text)?;
-    append_word(")", text)
+/// An account, and what is told of it so far.
+#[derive(Drop)]
+pub(crate) struct Telling<'r, A: Allocator> {
+    pub(crate) account: Account<'r, A>,
+    pub(crate) alloc: A,
+    pub(crate) text: Vec<u8, A>,
 }
 
 impl<A: Allocator> Account<'_, A> {
@@ -44,13 +26,6 @@ impl<A: Allocator> Account<'_, A> {
             Some(name) => name.number,
             None => 0,
         }
-    }
-
-    /// Appends the number of the transaction at a place.
-    pub(crate) fn append_party(&self, place: usize, text: &mut Vec<u8, A>) -> Result<(), Refusal>
-        ensures memory { IfErr result (λ e. e ≡ out_of_memory) }
-    {
-        append_number(self.number(place), text)
     }
 
     /// The name of a table.
@@ -72,27 +47,66 @@ impl<A: Allocator> Account<'_, A> {
             None => "?",
         }
     }
+}
 
-    /// Appends a table's name and a key, as in `t id = 1`.
-    pub(crate) fn append_spot(&self, spot: &Spot<A>, text: &mut Vec<u8, A>) -> Result<(), Refusal>
+impl<A: Allocator + Copy> Telling<'_, A> {
+    /// Appends a word.
+    pub(crate) fn append_word(&mut self, word: &str) -> Result<(), Refusal>
         ensures memory { IfErr result (λ e. e ≡ out_of_memory) }
     {
-        append_word(self.table(spot.table), text)?;
-        append_word(" ", text)?;
-        append_word(self.column(spot.table, 0), text)?;
-        append_word(" = ", text)?;
-        write_field(spot.key.value(), text)
+        self.text.extend_from_slice(word.as_bytes())?;
+        Ok(())
+    }
+
+    /// Appends a number's decimal text.
+    pub(crate) fn append_number(&mut self, number: u64) -> Result<(), Refusal>
+        ensures memory { IfErr result (λ e. e ≡ out_of_memory) }
+    {
+        let mut buffer = Buffer::new();
+        self.text
+            .extend_from_slice(buffer.format(number).as_bytes())?;
+        Ok(())
+    }
+
+    /// Appends a line's number, in brackets.
+    pub(crate) fn append_line(&mut self, line: u64) -> Result<(), Refusal>
+        ensures memory { IfErr result (λ e. e ≡ out_of_memory) }
+    {
+        self.append_word(" (line ")?;
+        self.append_number(line)?;
+        self.append_word(")")
+    }
+
+    /// Appends the number of the transaction at a place.
+    pub(crate) fn append_party(&mut self, place: usize) -> Result<(), Refusal>
+        ensures memory { IfErr result (λ e. e ≡ out_of_memory) }
+    {
+        let account = self.account;
+        self.append_number(account.number(place))
+    }
+
+    /// Appends a table's name and a key, as in `t id = 1`.
+    pub(crate) fn append_spot(&mut self, spot: &Spot<A>) -> Result<(), Refusal>
+        ensures memory { IfErr result (λ e. e ≡ out_of_memory) }
+    {
+        let account = self.account;
+        self.append_word(account.table(spot.table))?;
+        self.append_word(" ")?;
+        self.append_word(account.column(spot.table, 0))?;
+        self.append_word(" = ")?;
+        write_field(spot.key.value(), &mut self.text)
     }
 
     /// Appends a spot, and a column's name beside the key, as in `t id = 1 v`.
-    pub(crate) fn append_cell(&self, cell: &Cell<A>, text: &mut Vec<u8, A>) -> Result<(), Refusal>
+    pub(crate) fn append_cell(&mut self, cell: &Cell<A>) -> Result<(), Refusal>
         ensures memory { IfErr result (λ e. e ≡ out_of_memory) }
     {
-        self.append_spot(&cell.spot, text)?;
+        let account = self.account;
+        self.append_spot(&cell.spot)?;
         if cell.column == 0 {
             return Ok(());
         }
-        append_word(" ", text)?;
-        append_word(self.column(cell.spot.table, cell.column), text)
+        self.append_word(" ")?;
+        self.append_word(account.column(cell.spot.table, cell.column))
     }
 }

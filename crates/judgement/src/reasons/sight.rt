@@ -4,18 +4,18 @@ ghost use Rattle.std.specs.Prelude.{◌≡◌, IfErr};
 ghost use Rattle.value.specs.Refusals.{out_of_memory};
 
 use crate::reasons::account::Account;
-use crate::reasons::phrases::{append_line, append_word};
+use crate::reasons::phrases::Telling;
 use certificate::certificate::Line;
 use certificate::known::{Cell, Spot};
 use copytext::write_field;
 use orders::transaction::{Answered, Transaction};
+use orders::ways::cover::{is_looked_at, ways_of};
+use orders::ways::way::{Atom, Way};
 use statement::condition::{Comparison, Condition};
 use statement::statement::{Assignment, Source, Statement};
 use std::alloc::{Allocator, Global};
 use value::refusal::Refusal;
 use value::value::Value;
-use ways::cover::{is_looked_at, ways_of};
-use ways::way::{Atom, Way};
 
 /// What a transaction found in a cell, as far as its replies tell.
 #[derive(Drop)]
@@ -202,48 +202,6 @@ impl<A: Allocator> Account<'_, A> {
         let statement = first_look(transaction.statements.as_slice(), spot, writes)?;
         self.statement_line(place, statement)
     }
-
-    /// Appends the line where a transaction first looked at a spot, or wrote there.
-    pub(crate) fn append_line_at(
-        &self,
-        place: usize,
-        spot: &Spot<A>,
-        writes: bool,
-        text: &mut Vec<u8, A>,
-    ) -> Result<(), Refusal>
-        ensures memory { IfErr result (λ e. e ≡ out_of_memory) }
-    {
-        match self.line_at(place, spot, writes) {
-            Some(line) => append_line(line, text),
-            None => Ok(()),
-        }
-    }
-
-    /// Appends what a transaction read in a cell, as in `2 read t id = 1 v as 5 (line 12)`.
-    pub(crate) fn append_seen(
-        &self,
-        alloc: A,
-        place: usize,
-        cell: &Cell<A>,
-        text: &mut Vec<u8, A>,
-    ) -> Result<(), Refusal>
-    where
-        A: Copy,
-        ensures memory { IfErr result (λ e. e ≡ out_of_memory) }
-    {
-        let Some(transaction) = self.transactions.get(place) else {
-            return Ok(());
-        };
-        let sight = self.sight(alloc, transaction, place, cell)?;
-        self.append_party(place, text)?;
-        append_word(" read ", text)?;
-        match sight {
-            Sight::Absent => self.append_spot(&cell.spot, text)?,
-            _ => self.append_cell(cell, text)?,
-        }
-        append_sight(&sight, text)?;
-        self.append_line_at(place, &cell.spot, false, text)
-    }
 }
 
 // Whether a source gives a value.
@@ -346,18 +304,55 @@ impl<A: Allocator + Copy> Account<'_, A> {
     }
 }
 
-// Appends what was found.
-fn append_sight<A: Allocator>(sight: &Sight<A>, text: &mut Vec<u8, A>) -> Result<(), Refusal>
-    ensures memory { IfErr result (λ e. e ≡ out_of_memory) }
-{
-    match sight {
-        Sight::Absent => append_word(" as absent", text),
-        Sight::There => append_word(" as there", text),
-        Sight::Value(Value::Null) => append_word(" as null", text),
-        Sight::Value(value) => {
-            append_word(" as ", text)?;
-            write_field(value, text)
+impl<A: Allocator + Copy> Telling<'_, A> {
+    /// Appends the line where a transaction first looked at a spot, or wrote there.
+    pub(crate) fn append_line_at(
+        &mut self,
+        place: usize,
+        spot: &Spot<A>,
+        writes: bool,
+    ) -> Result<(), Refusal>
+        ensures memory { IfErr result (λ e. e ≡ out_of_memory) }
+    {
+        let account = self.account;
+        match account.line_at(place, spot, writes) {
+            Some(line) => self.append_line(line),
+            None => Ok(()),
         }
-        Sight::Unknown => Ok(()),
+    }
+
+    /// Appends what a transaction read in a cell, as in `2 read t id = 1 v as 5 (line 12)`.
+    pub(crate) fn append_seen(&mut self, place: usize, cell: &Cell<A>) -> Result<(), Refusal>
+        ensures memory { IfErr result (λ e. e ≡ out_of_memory) }
+    {
+        let account = self.account;
+        let Some(transaction) = account.transactions.get(place) else {
+            return Ok(());
+        };
+        let sight = account.sight(self.alloc, transaction, place, cell)?;
+        self.append_party(place)?;
+        self.append_word(" read ")?;
+        match sight {
+            Sight::Absent => self.append_spot(&cell.spot)?,
+            _ => self.append_cell(cell)?,
+        }
+        self.append_sight(&sight)?;
+        self.append_line_at(place, &cell.spot, false)
+    }
+
+    // Appends what was found.
+    fn append_sight(&mut self, sight: &Sight<A>) -> Result<(), Refusal>
+        ensures memory { IfErr result (λ e. e ≡ out_of_memory) }
+    {
+        match sight {
+            Sight::Absent => self.append_word(" as absent"),
+            Sight::There => self.append_word(" as there"),
+            Sight::Value(Value::Null) => self.append_word(" as null"),
+            Sight::Value(value) => {
+                self.append_word(" as ")?;
+                write_field(value, &mut self.text)
+            }
+            Sight::Unknown => Ok(()),
+        }
     }
 }
