@@ -24,7 +24,7 @@ use Rattle.serial.proofs.legal.Numbers.{replaced-new}
 use Rattle.serial.proofs.order.SerialTheorem.{IsGood, good_world}
 use Rattle.serial.proofs.structures.Dooms.{done-In}
 use Rattle.orders.specs.Explains.{Trace}
-use Rattle.traces.specs.Traces.{AreToldBy, IsToldBy}
+use Rattle.recording.specs.Traces.{AreToldBy, IsToldBy}
 use Rattle.transcript.specs.Reading.{trace_of}
 use Rattle.transcript.specs.Recorded.{Recorded}
 use Rattle.transcript.specs.Sessions.{nothing_but}

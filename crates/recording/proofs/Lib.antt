@@ -1,3 +1,7 @@
+pub mod PlacesLemmas
+pub mod AnswersLemmas
+pub mod RecordedLemmas
+pub mod ExplainsLemmas
 pub mod Names
 pub mod TextLemmas
 pub mod LinesLemmas

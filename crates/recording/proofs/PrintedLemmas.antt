@@ -23,8 +23,8 @@ use Rattle.restore.proofs.faults.Whole.{dump_agrees}
 use Rattle.restore.proofs.stepwise.Reading.{empty_is_sound}
 use Rattle.restore.proofs.stepwise.Sound.{dump_good}
 use Rattle.dumpworker.specs.declared.fault.DumpFault.TheVariants.{Device, Memory}
-use Rattle.backup.specs.declared.fault.BackupFault.{BackupFault}
-use Rattle.backup.specs.declared.fault.BackupFault.TheVariants.{Dump, View}
+use Rattle.backup.specs.declared.fault.SafeDumpFault.{SafeDumpFault}
+use Rattle.backup.specs.declared.fault.SafeDumpFault.TheVariants.{Dump, View}
 use Rattle.request.specs.declared.request.Request.{Request}
 use Rattle.request.specs.declared.request.Request.TheVariants.{Poll}
 use Rattle.request.specs.Requests.{asked as action_of}
@@ -73,7 +73,7 @@ some_text t = Some t
 texts_same : (s t : List ℕ) → some_text s ≡ some_text t → s ≡ t
 texts_same s t e = cc
 
-dumped : (A : Type 0) (s : ℕ) (text : List ℕ) (done : Result (Unit {0}) BackupFault) → dump_text s done ≡ Some text → (text ≡ done_text s) ⊎ ((e : Refusal) × (text ≡ reply_text {A = A} s (Refused e)))
+dumped : (A : Type 0) (s : ℕ) (text : List ℕ) (done : Result (Unit {0}) SafeDumpFault) → dump_text s done ≡ Some text → (text ≡ done_text s) ⊎ ((e : Refusal) × (text ≡ reply_text {A = A} s (Refused e)))
 dumped A s text (Ok u) e = inl (sym (texts_same (done_text s) text e))
 dumped A s text (Err (View x)) e = inr (x, sym (texts_same (reply_text {A = A} s (Refused x)) text e))
 dumped A s text (Err (Dump Memory)) e = inr (out_of_memory, sym (texts_same (reply_text {A = A} s (Refused out_of_memory)) text e))

@@ -26,8 +26,8 @@ use Rattle.history.specs.declared.event.Record.{Record}
 use Rattle.serial.proofs.legal.Histories.{run-catalog}
 use Rattle.serial.proofs.legal.Later.{legal_begins}
 use Rattle.orders.specs.Explains.{Trace, all_fit}
-use Rattle.traces.specs.Traces.{AreToldBy, IsRecording}
-use Rattle.traces.proofs.ExplainsLemmas.{all_fitting}
+use Rattle.recording.specs.Traces.{AreToldBy, IsRecording}
+use Rattle.recording.proofs.ExplainsLemmas.{all_fitting}
 use Rattle.sqltext.specs.Parsed.{parsed}
 use Rattle.statement.specs.declared.statement.Statement.{Statement}
 use Rattle.request.specs.Requests.{asked as action_of, spoken}

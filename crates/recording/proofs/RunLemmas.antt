@@ -26,7 +26,7 @@ use Rattle.history.specs.declared.event.Record.{Record}
 use Rattle.serial.proofs.legal.AlwaysSound.{own_sound}
 use Rattle.serial.proofs.legal.Histories.{run-catalog}
 use Rattle.serial.proofs.legal.Legal.{current_in}
-use Rattle.traces.specs.Traces.{AreToldBy}
+use Rattle.recording.specs.Traces.{AreToldBy}
 use Rattle.copytext.specs.Writing.{line_text}
 use Rattle.script.specs.Printing.{reply_text, tag}
 use Rattle.script.specs.Transcribing.{answered, asked, lines, marked}

@@ -19,7 +19,7 @@ use Rattle.recording.specs.Runs.{IsSmall, IsTranscript}
 use Rattle.script.specs.Scripts.{Said, said}
 use Rattle.script.specs.declared.schedule.Schedule.TheVariants.{InOrder}
 use Rattle.script.specs.declared.script.Line.{Line}
-use Rattle.traces.specs.Traces.{IsRecording}
+use Rattle.recording.specs.Traces.{IsRecording}
 use Rattle.transcript.specs.Reading.{Named, traces}
 
 -- the type of a definition's fourth argument

@@ -6,7 +6,7 @@ ghost use Rattle.orders.specs.Explains.{Trace as AnyTrace, Unexplained};
 ghost use Rattle.program.specs.Files.{writing_of};
 ghost use Rattle.recording.specs.Printed.{OfTheDone, OfTheStopped};
 ghost use Rattle.recording.specs.Runs.{AreOpened, AreRead, OfTranscripts};
-ghost use Rattle.traces.specs.Traces.{IsRecording};
+ghost use Rattle.recording.specs.Traces.{IsRecording};
 
 use program::files::Stored;
 use sqltext::laws::the_first_fault_is_refused;

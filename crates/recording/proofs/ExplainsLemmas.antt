@@ -24,10 +24,10 @@ use Rattle.history.specs.declared.event.Record.{Record}
 use Rattle.history.proofs.Alone.{Along, In-filter}
 use Rattle.orders.specs.Explains.{Explains, InTime, InTurn, MayFollow, Trace, Unexplained, all_fit, alone, are_fit, ended_before, precedes}
 use Rattle.serial.proofs.order.SerialTheorem.{IsGood, good_world, legal_serial}
-use Rattle.traces.proofs.AnswersLemmas.{alone_agrees}
-use Rattle.traces.proofs.PlacesLemmas.{In-permuted, In-place, Placed, heads, placed}
-use Rattle.traces.proofs.RecordedLemmas.{AllAnswered, run_answered}
-use Rattle.traces.specs.Traces.{AreToldBy, IsExplainedBy, IsRecording, IsToldBy, trace_of, traces}
+use Rattle.recording.proofs.AnswersLemmas.{alone_agrees}
+use Rattle.recording.proofs.PlacesLemmas.{In-permuted, In-place, Placed, heads, placed}
+use Rattle.recording.proofs.RecordedLemmas.{AllAnswered, run_answered}
+use Rattle.recording.specs.Traces.{AreToldBy, IsExplainedBy, IsRecording, IsToldBy, trace_of, traces}
 
 module _ {A : Type 0} where
   -- ---- what is recorded, place by place

@@ -14,7 +14,7 @@ use Rattle.history.specs.declared.event.Action.TheVariants.{Begin, Broken, Commi
 use Rattle.history.specs.declared.event.Record.{Record}
 use Rattle.serial.proofs.legal.Numbers.{In-replaced, polled_keeps}
 use Rattle.serial.proofs.structures.Dooms.{Fate, In-doomed, Over, Spared}
-use Rattle.traces.proofs.AnswersLemmas.{AreAnswered}
+use Rattle.recording.proofs.AnswersLemmas.{AreAnswered}
 
 module _ {A : Type 0} where
   push_answered : (qs : List (Statement A × Reply A)) (q : Statement A × Reply A) → AreAnswered qs → is_refused q.1 ≡ false → AreAnswered (qs ++ q ∷ [])

@@ -1,6 +1,6 @@
 use Rattle.history.specs.Events.{world_of}
-use Rattle.traces.proofs.ExplainsLemmas.{all_fitting, is_recording, never_no}
-use Rattle.traces.proofs.laws.recordings_are_explained.Goals as goal
+use Rattle.recording.proofs.ExplainsLemmas.{all_fitting, is_recording, never_no}
+use Rattle.recording.proofs.traces.recordings_are_explained.Goals as goal
 
 pub returns-clause-explained : goal.returns-clause-explained
 returns-clause-explained g c = λ o es l rs told none. never_no o es l rs told none

@@ -5,7 +5,7 @@ ghost use Rattle.history.specs.Serial.{IsSerial};
 ghost use Rattle.history.specs.Transactions.{Txn, World};
 ghost use Rattle.orders.specs.Explains.{Trace as AnyTrace, Unexplained, all_fit};
 ghost use Rattle.serial.specs.Laws.{AfterLegal};
-ghost use Rattle.traces.specs.Traces.{IsExplainedBy, IsRecording, traces};
+ghost use Rattle.recording.specs.Traces.{IsExplainedBy, IsRecording, traces};
 
 use std::alloc::Allocator;
 

@@ -1,4 +1,0 @@
-pub mod PlacesLemmas
-pub mod AnswersLemmas
-pub mod RecordedLemmas
-pub mod ExplainsLemmas

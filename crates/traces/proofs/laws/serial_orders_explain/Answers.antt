@@ -1,5 +1,0 @@
-use Rattle.traces.proofs.ExplainsLemmas.{serial_explains}
-use Rattle.traces.proofs.laws.serial_orders_explain.Goals as goal
-
-pub returns : goal.returns
-returns g c = λ o es l order h. serial_explains o es l order h
