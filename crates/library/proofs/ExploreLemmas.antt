@@ -4,9 +4,9 @@ use Rattle.schema.specs.Definition.{Catalog}
 use Rattle.history.specs.Opening.{Recorded}
 use Rattle.script.specs.declared.script.Line.{Line}
 use Rattle.script.specs.Scripts.{Said}
-use Rattle.tally.specs.Listing.{IsListed}
-use Rattle.tally.specs.Outcomes.{Counted, outcomes}
-use Rattle.tally.specs.declared.listing.heading.Heading.TheVariants.{Every}
+use Rattle.explore.specs.Listing.{IsListed}
+use Rattle.explore.specs.Outcomes.{Counted, outcomes}
+use Rattle.explore.specs.declared.tally.listing.heading.Heading.TheVariants.{Every}
 use Rattle.explore.specs.Explored.{Explored, outcome, schedules}
 use Rattle.explore.specs.Few.{IsUnexplored}
 use Rattle.explore.specs.Setups.{SetsUp}

@@ -5,3 +5,4 @@ pub mod EmptyLemmas
 pub mod ExploreLemmas
 pub mod LinesLemmas
 pub mod OutputLemmas
+pub mod StandingLemmas

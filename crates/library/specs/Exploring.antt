@@ -6,9 +6,9 @@ use Rattle.history.specs.Opening.{Recorded}
 use Rattle.script.specs.declared.schedule.Schedule.TheVariants.{InOrder}
 use Rattle.script.specs.declared.script.Line.{Line}
 use Rattle.script.specs.Scripts.{Said, said}
-use Rattle.tally.specs.Outcomes.{outcomes}
-use Rattle.tally.specs.Listing.{IsListed}
-use Rattle.tally.specs.declared.listing.heading.Heading.TheVariants.{Every}
+use Rattle.explore.specs.Outcomes.{outcomes}
+use Rattle.explore.specs.Listing.{IsListed}
+use Rattle.explore.specs.declared.tally.listing.heading.Heading.TheVariants.{Every}
 use Rattle.explore.specs.Explored.{Explored, outcome, schedules}
 use Rattle.explore.specs.Setups.{SetsUp}
 use Rattle.explore.specs.declared.plan.Unexplored.{Unexplored}

@@ -3,6 +3,9 @@ pub mod Doing
 pub mod Embedding
 pub mod Endings
 pub mod Exploring
+pub mod Filling
+pub mod FillingLaws
 pub mod Memory
+pub mod Preparing
 pub mod Restoring
 pub mod Scripts

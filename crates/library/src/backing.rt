@@ -12,7 +12,7 @@ ghost use Rattle.library.specs.Embedding.{IsDump, IsUnviewed};
 use crate::embedded::Embedded;
 use crate::tape::Tape;
 use audit::ordering::order_text;
-use backup::{BackupFault, dump_session_one};
+use backup::{SafeDumpFault, dump_session_one};
 use dumpplan::PieceRows;
 use history::session_id::SessionId;
 use schema::catalog::Catalog;
@@ -48,8 +48,8 @@ fn dump_core<A: Allocator + Copy>(
     let mut tape = Tape::new(alloc);
     match dump_session_one(alloc, core, session, piece_rows(), &mut tape) {
         Ok(()) => Ok(tape.into_bytes()),
-        Err(BackupFault::View(refusal)) => Err(refusal),
-        Err(BackupFault::Dump(_)) => Err(Refusal::of_code(Code::OutOfMemory)),
+        Err(SafeDumpFault::View(refusal)) => Err(refusal),
+        Err(SafeDumpFault::Dump(_)) => Err(Refusal::of_code(Code::OutOfMemory)),
     }
 }
 

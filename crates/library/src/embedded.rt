@@ -26,7 +26,7 @@ use value::refusal::{Code, Refusal};
 pub struct Embedded<A: Allocator = Global> {
     // The lines so far that create tables, until the server runs.
     created: Vec<u8, A>,
-    core: Option<Core<A>>,
+    pub(crate) core: Option<Core<A>>,
     most_events: u32,
 }
 

@@ -1,7 +1,7 @@
 //! A script's bytes in, the outcomes of every interleaving of its sessions out.
 
 ghost use Rattle.std.specs.Prelude.{◌≡◌, ◌⊎◌, true, Ok, IfOk};
-ghost use Rattle.tally.specs.Interleavings.{interleavings};
+ghost use Rattle.explore.specs.Interleavings.{interleavings};
 ghost use Rattle.explore.specs.Explored.{schedules};
 ghost use Rattle.library.specs.Exploring as spec;
 ghost use Rattle.library.specs.Exploring.{AreListed, Explores, ExploresFrom, ExploresOn, ExploresOpened, ExploresPlan, ExploresSaid, ExploresText};
@@ -12,14 +12,14 @@ use crate::output::{Output, is_text, open_core};
 use explore::exploring::explore_in_turn;
 use explore::plan::{Plan, Unexplored};
 use explore::setup::{Unplanned, set_up};
+use explore::tally::interleave::interleavings::Interleavings;
+use explore::tally::listing::heading::Heading;
+use explore::tally::listing::text::listing_text;
 use schema::catalog::Catalog;
 use script::schedule::Schedule;
 use script::script::{Line, Script, read_script};
 use session::sessions::Core;
 use std::alloc::{AllocError, Allocator};
-use tally::interleave::interleavings::Interleavings;
-use tally::listing::heading::Heading;
-use tally::listing::text::listing_text;
 
 /// How a script is explored: for how many events its setup's history has room, and how many schedules are run at most.
 #[derive(Clone, Copy)]

@@ -12,6 +12,8 @@ pub mod exploring;
 mod lines;
 pub mod manner;
 pub mod output;
+pub mod prepared;
+mod preparing;
 mod printing;
 pub mod restored;
 mod tape;

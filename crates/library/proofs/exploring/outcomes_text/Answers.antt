@@ -1,5 +1,5 @@
 use Rattle.std.proofs.lemmas.Result.{IfOk-weaker}
-use Rattle.tally.specs.Interleavings.{interleavings}
+use Rattle.explore.specs.Interleavings.{interleavings}
 use Rattle.library.proofs.ExploreLemmas.{are_listed}
 use Rattle.library.proofs.exploring.outcomes_text.Goals as goal
 
