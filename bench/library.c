@@ -1,6 +1,6 @@
-/* library.c: transactions of INSERT, SELECT and UPDATE by key, through a handle of libpgserial, and by prepared statements of
- * sqlite3 in memory: the processor seconds of each, the least of some runs that come in turn. `bench/library` compiles and
- * runs it.
+/* library.c: transactions of INSERT, SELECT and UPDATE by key, through a handle of libpgserial, by lines that are read once and
+ * as texts, and by prepared statements of sqlite3 in memory: the processor seconds of each, the least of some runs that come
+ * in turn. `bench/library` compiles and runs it.
  */
 #include <sqlite3.h>
 #include <stdio.h>
@@ -40,7 +40,7 @@ static void ask(struct pgserial_handle *handle, const char *line, const char *wa
         fail(line);
 }
 
-static double by_pgserial(void)
+static double by_lines(void)
 {
     struct pgserial_handle handle = PGSERIAL_SHUT;
     char line[128];
@@ -57,6 +57,65 @@ static double by_pgserial(void)
         snprintf(line, sizeof line, "1 UPDATE t SET v = v + 1 WHERE id = %d;", key);
         ask(&handle, line, "1 UPDATE 1\n");
         ask(&handle, "1 COMMIT;", "1 COMMIT\n");
+    }
+    if (pgserial_close(&handle) != PGSERIAL_DONE)
+        fail("pgserial_close");
+    return processor_seconds() - begun;
+}
+
+static size_t read_once(struct pgserial_handle *handle, const char *line)
+{
+    struct pgserial_report report;
+    if (pgserial_prepare(handle, line, strlen(line), &report) != PGSERIAL_DONE)
+        fail(line);
+    return (size_t)report.line;
+}
+
+static void execute(struct pgserial_handle *handle, size_t number, uint64_t rows)
+{
+    struct pgserial_report report;
+    if (pgserial_execute(handle, number, &report) != PGSERIAL_DONE || report.line != rows)
+        fail("a line that was read once");
+}
+
+static void bind(struct pgserial_handle *handle, size_t number, size_t place, int key)
+{
+    if (pgserial_bind_bigint(handle, number, place, key) != PGSERIAL_DONE)
+        fail("pgserial_bind_bigint");
+}
+
+static void read_row(struct pgserial_handle *handle)
+{
+    struct pgserial_report report;
+    char answer[256];
+    if (pgserial_reply(handle, answer, sizeof answer, &report) != PGSERIAL_DONE
+        || memcmp(answer, "1 SELECT 1\n1 | ", 15) != 0)
+        fail("pgserial_reply");
+}
+
+static double by_lines_read_once(void)
+{
+    struct pgserial_handle handle = PGSERIAL_SHUT;
+    double begun = processor_seconds();
+    if (pgserial_open(&handle, TRANSACTIONS * LINES + 2) != PGSERIAL_DONE)
+        fail("pgserial_open");
+    ask(&handle, TABLE, "CREATE TABLE\n");
+    ask(&handle, "1 BEGIN;", "1 BEGIN\n");
+    ask(&handle, "1 ROLLBACK;", "1 ROLLBACK\n");
+    size_t begin = read_once(&handle, "1 BEGIN;"), commit = read_once(&handle, "1 COMMIT;");
+    size_t insert = read_once(&handle, "1 INSERT INTO t VALUES (0, 1, 'a');");
+    size_t select = read_once(&handle, "1 SELECT * FROM t WHERE id = 0;");
+    size_t update = read_once(&handle, "1 UPDATE t SET v = v + 1 WHERE id = 0;");
+    for (int key = 0; key < TRANSACTIONS; key++) {
+        execute(&handle, begin, 0);
+        bind(&handle, insert, 1, key);
+        execute(&handle, insert, 1);
+        bind(&handle, select, 1, key);
+        execute(&handle, select, 1);
+        read_row(&handle);
+        bind(&handle, update, 2, key);
+        execute(&handle, update, 1);
+        execute(&handle, commit, 0);
     }
     if (pgserial_close(&handle) != PGSERIAL_DONE)
         fail("pgserial_close");
@@ -112,12 +171,13 @@ static double least(double one, double other)
 
 int main(void)
 {
-    double ours = 1e9, theirs = 1e9;
+    double once = 1e9, text = 1e9, theirs = 1e9;
     for (int run = 0; run < RUNS; run++) {
-        ours = least(ours, by_pgserial());
+        once = least(once, by_lines_read_once());
         theirs = least(theirs, by_sqlite3());
+        text = least(text, by_lines());
     }
-    printf("%d transactions of INSERT, SELECT, UPDATE through a handle: %.3f; sqlite3 %s, prepared: %.3f, so %.2f times\n",
-           TRANSACTIONS, ours, sqlite3_libversion(), theirs, ours / theirs);
+    printf("%d transactions of INSERT, SELECT, UPDATE through a handle, by lines that are read once: %.3f; as texts: %.3f; sqlite3 %s, prepared: "
+           "%.3f, so %.2f and %.2f times\n", TRANSACTIONS, once, text, sqlite3_libversion(), theirs, once / theirs, text / theirs);
     return 0;
 }

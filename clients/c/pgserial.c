@@ -18,6 +18,13 @@ uint32_t pgserial_do_open_dump(struct pgserial_handle *, const uint8_t *, size_t
 uint32_t pgserial_do_dump(struct pgserial_handle *, uint32_t, struct pgserial_report *);
 uint32_t pgserial_do_serial_order(struct pgserial_handle *, struct pgserial_report *);
 uint32_t pgserial_do_tables(struct pgserial_handle *, struct pgserial_report *);
+uint32_t pgserial_do_prepare(struct pgserial_handle *, const uint8_t *, size_t, struct pgserial_report *);
+uint32_t pgserial_do_bind_bigint(struct pgserial_handle *, size_t, size_t, int64_t);
+uint32_t pgserial_do_bind_text(struct pgserial_handle *, size_t, size_t, const uint8_t *, size_t);
+uint32_t pgserial_do_bind_bytea(struct pgserial_handle *, size_t, size_t, const uint8_t *, size_t);
+uint32_t pgserial_do_bind_null(struct pgserial_handle *, size_t, size_t);
+uint32_t pgserial_do_execute(struct pgserial_handle *, size_t, struct pgserial_report *);
+uint32_t pgserial_do_forget(struct pgserial_handle *);
 
 /* Where a length is 0, a pointer leads here. */
 static uint8_t nothing[1];
@@ -146,4 +153,51 @@ int pgserial_serial_order(struct pgserial_handle *handle, struct pgserial_report
 int pgserial_tables(struct pgserial_handle *handle, struct pgserial_report *report)
 {
     return may_be_used(handle, NULL, 0, report) ? (int)pgserial_do_tables(handle, report) : PGSERIAL_MISUSE;
+}
+
+int pgserial_prepare(struct pgserial_handle *handle, const char *line, size_t line_length, struct pgserial_report *report)
+{
+    if (!may_be_used(handle, line, line_length, report))
+        return PGSERIAL_MISUSE;
+    return (int)pgserial_do_prepare(handle, bytes(line, line_length), line_length, report);
+}
+
+int pgserial_bind_bigint(struct pgserial_handle *handle, size_t number, size_t place, int64_t value)
+{
+    return may_be_handle(handle) ? (int)pgserial_do_bind_bigint(handle, number, place, value) : PGSERIAL_MISUSE;
+}
+
+int pgserial_bind_null(struct pgserial_handle *handle, size_t number, size_t place)
+{
+    return may_be_handle(handle) ? (int)pgserial_do_bind_null(handle, number, place) : PGSERIAL_MISUSE;
+}
+
+/* Whether these bytes may be given to a handle's line. */
+static int may_be_bound(const struct pgserial_handle *handle, const char *value, size_t length)
+{
+    return may_be_handle(handle) && may_be_memory(value, length) && !overlap(value, length, handle, sizeof *handle);
+}
+
+int pgserial_bind_text(struct pgserial_handle *handle, size_t number, size_t place, const char *text, size_t length)
+{
+    if (!may_be_bound(handle, text, length))
+        return PGSERIAL_MISUSE;
+    return (int)pgserial_do_bind_text(handle, number, place, bytes(text, length), length);
+}
+
+int pgserial_bind_bytea(struct pgserial_handle *handle, size_t number, size_t place, const char *value, size_t length)
+{
+    if (!may_be_bound(handle, value, length))
+        return PGSERIAL_MISUSE;
+    return (int)pgserial_do_bind_bytea(handle, number, place, bytes(value, length), length);
+}
+
+int pgserial_execute(struct pgserial_handle *handle, size_t number, struct pgserial_report *report)
+{
+    return may_be_used(handle, NULL, 0, report) ? (int)pgserial_do_execute(handle, number, report) : PGSERIAL_MISUSE;
+}
+
+int pgserial_forget(struct pgserial_handle *handle)
+{
+    return may_be_handle(handle) ? (int)pgserial_do_forget(handle) : PGSERIAL_MISUSE;
 }

@@ -31,7 +31,7 @@ extern "C" {
 #endif
 
 /* Rises where a declaration below changes its meaning: pgserial_abi() answers the library's own. */
-#define PGSERIAL_ABI 2
+#define PGSERIAL_ABI 3
 
 /* For how many events `pgserial run` has room where nothing is said. It takes 16 MB. */
 #define PGSERIAL_MOST_EVENTS 100000
@@ -41,7 +41,7 @@ extern "C" {
 
 enum pgserial_status {
     PGSERIAL_DONE = 0,       /* all was done, refused statements included */
-    PGSERIAL_REFUSED = 1,    /* the line `report->line` may not stand where it stands */
+    PGSERIAL_REFUSED = 1,    /* the line `report->line` may not stand where it stands; of an execute: the reply is a refusal */
     PGSERIAL_NEEDS_ROOM = 2, /* the room is below `report->length` */
     PGSERIAL_FULL = 3,       /* there is to be room for no event: 54000 */
     PGSERIAL_MEMORY = 4,     /* out of memory: 53200 */
@@ -56,7 +56,8 @@ enum pgserial_status {
 
 struct pgserial_report {
     size_t length; /* how many bytes the answer has */
-    uint64_t line; /* the line that a status speaks of, counted from 1; else 0 */
+    uint64_t line; /* the line that a status speaks of, counted from 1; else 0. What is read or done of lines that are kept says
+                      what it means there */
 };
 
 /* The version of the declarations that the library was made with. */
@@ -133,6 +134,34 @@ int pgserial_tables(struct pgserial_handle *handle, struct pgserial_report *repo
 /* The last answer; empty before the first. PGSERIAL_NEEDS_ROOM where the room is too small, PGSERIAL_MEMORY where its text has
  * still to be made and can't be; it can be asked again. */
 int pgserial_reply(struct pgserial_handle *handle, char *out, size_t room, struct pgserial_report *report);
+
+/* ---- lines that are read once
+ *
+ * A session's line, as `1 INSERT INTO t VALUES (0, 'a');` or `1 COMMIT;`, can be read once, kept by its handle, and done many
+ * times. Each of its literals is a place, counted from 1 as they are written, of an UPDATE those behind SET first; of a sum, as
+ * `v + 1`, the number that is added, -1 of `v - 1`. A place has the literal that was written until it is given another value.
+ * What is done is what the line says with these values for its literals, and so is its reply.
+ */
+
+/* Reads a line once, which stands here without its newline: `report->line` is its number, counted from 1 since the handle was
+ * opened or its lines were forgotten, and `report->length` is how many places it has. Nothing is done of it yet.
+ * PGSERIAL_REFUSED where it is no line of a session, or the server doesn't run: before, it takes lines that create tables. */
+int pgserial_prepare(struct pgserial_handle *handle, const char *line, size_t line_length, struct pgserial_report *report);
+
+/* Give a place of the line with a number a value. PGSERIAL_MISUSE where there is no such line or place, or a text isn't UTF-8. */
+int pgserial_bind_bigint(struct pgserial_handle *handle, size_t number, size_t place, int64_t value);
+int pgserial_bind_text(struct pgserial_handle *handle, size_t number, size_t place, const char *text, size_t length);
+int pgserial_bind_bytea(struct pgserial_handle *handle, size_t number, size_t place, const char *value, size_t length);
+int pgserial_bind_null(struct pgserial_handle *handle, size_t number, size_t place);
+
+/* Does what the line with a number says with the values of its places. PGSERIAL_DONE, or PGSERIAL_REFUSED where the reply is a
+ * refusal; `report->line` is how many rows are shown or were changed. The reply is the last answer, whose text pgserial_reply
+ * makes, and `report->length` is 0. PGSERIAL_MISUSE where there is no such line, or a value isn't of its column's kind: nothing
+ * is done then. */
+int pgserial_execute(struct pgserial_handle *handle, size_t number, struct pgserial_report *report);
+
+/* Forgets the lines that were read once. */
+int pgserial_forget(struct pgserial_handle *handle);
 
 /* Shuts a handle, and gives back its memory; PGSERIAL_MISUSE where it is shut. */
 int pgserial_close(struct pgserial_handle *handle);

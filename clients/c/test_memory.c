@@ -48,6 +48,7 @@ void *__wrap_realloc(void *at, size_t size)
 #define DUMP "dump of 2"
 #define ORDER "order"
 #define TABLES "tables"
+#define ONCE "once "
 static const char *const asked[] = {
     "CREATE TABLE t (id bigint PRIMARY KEY, v text);", "CREATE TABLE", TABLES, ORDER, "-- nothing",
     "1 BEGIN;", "1 INSERT INTO t VALUES (7, 'a');", "1 INSERT INTO t VALUES (8, NULL);", "1 UPDATE t SET v = 'b' WHERE id >= 7;",
@@ -55,8 +56,21 @@ static const char *const asked[] = {
     "1 EXPORT;", "1 INSERT INTO t VALUES (7, 'c');", "1 ROLLBACK;", "1 BEGIN;", "1 INSERT INTO t VALUES (9, 'z');", "1 COMMIT;",
     "3 COMMIT;", "no line", "1 DUMP 1 1 d;", "OPEN d;", "CREATE TABLE u (id text PRIMARY KEY);", DUMP,
     "2 BEGIN READ ONLY DEFERRABLE;", "2 POLL;", DUMP, "CHECKPOINT;", "2 PRUNE;", "2 COMMIT;", ORDER, TABLES, "CHECKPOINT;", ORDER,
-    "1 BEGIN;", "1 DELETE FROM t WHERE id = 7;", "1 SELECT id FROM t;", "1 COMMIT;", ORDER};
+    "1 BEGIN;", "1 DELETE FROM t WHERE id = 7;", "1 SELECT id FROM t;", "1 COMMIT;", ORDER,
+    ONCE "1 BEGIN;", ONCE "1 INSERT INTO t VALUES (11, 'a');", ONCE "1 UPDATE t SET v = 'a' WHERE id BETWEEN 10 AND 12;",
+    ONCE "1 SELECT * FROM t WHERE id = 11 AND v IS NOT NULL;", ONCE "1 DELETE FROM t WHERE id = 11;", ONCE "1 SELECT * FROM nothing;",
+    ONCE "1 COMMIT;", ORDER};
 #define ASKED (sizeof asked / sizeof asked[0])
+
+/* Reads a line once, gives its second place a text where it has two, and does it. */
+static int ask_once(struct pgserial_handle *handle, const char *line, struct pgserial_report *report)
+{
+    int status = pgserial_prepare(handle, line, strlen(line), report);
+    size_t number = (size_t)report->line;
+    if (status == PGSERIAL_DONE && report->length == 2)
+        status = pgserial_bind_text(handle, number, 2, "another text", 12);
+    return status == PGSERIAL_DONE ? pgserial_execute(handle, number, report) : status;
+}
 
 static int ask(struct pgserial_handle *handle, const char *what, struct pgserial_report *report)
 {
@@ -66,6 +80,8 @@ static int ask(struct pgserial_handle *handle, const char *what, struct pgserial
         return pgserial_serial_order(handle, report);
     if (strcmp(what, TABLES) == 0)
         return pgserial_tables(handle, report);
+    if (strncmp(what, ONCE, strlen(ONCE)) == 0)
+        return ask_once(handle, what + strlen(ONCE), report);
     return pgserial_call(handle, what, strlen(what), report);
 }
 

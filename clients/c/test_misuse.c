@@ -242,6 +242,72 @@ static void dumps(void)
     check(pgserial_close(&other) == PGSERIAL_MISUSE, "a handle on a faulty dump");
 }
 
+/* The line of a number is done, and its reply is this. */
+static void executes(struct pgserial_handle *handle, size_t number, int wanted, uint64_t rows, const char *text)
+{
+    struct pgserial_report report = {1, 2};
+    check(pgserial_execute(handle, number, &report) == wanted && report.length == 0 && report.line == rows, text);
+    is_answer(handle, text, text);
+}
+
+/* Reads a line once: it has this number and so many places. */
+static void reads(struct pgserial_handle *handle, const char *line, size_t number, size_t places)
+{
+    struct pgserial_report report = {1, 2};
+    check(pgserial_prepare(handle, line, strlen(line), &report) == PGSERIAL_DONE && report.line == number && report.length == places, line);
+}
+
+/* What lines that are read once do, and what is wrong with them. */
+static void prepared(void)
+{
+    static const char select[] = "1 SELECT * FROM t WHERE id = 0 AND v BETWEEN -9 AND 9 AND n IS NOT NULL;";
+    struct pgserial_handle handle = PGSERIAL_SHUT;
+    struct pgserial_report report = {1, 2};
+    check(pgserial_prepare(&handle, "1 BEGIN;", 8, &report) == PGSERIAL_MISUSE, "a line of a shut handle");
+    check(pgserial_execute(&handle, 1, &report) == PGSERIAL_MISUSE && pgserial_forget(&handle) == PGSERIAL_MISUSE, "a shut handle's line");
+    check(pgserial_bind_bigint(&handle, 1, 1, 1) == PGSERIAL_MISUSE && pgserial_bind_null(NULL, 1, 1) == PGSERIAL_MISUSE, "a shut handle's place");
+    check(pgserial_open(&handle, EVENTS) == PGSERIAL_DONE, "a handle that is opened");
+    answers(&handle, "CREATE TABLE t (id bigint PRIMARY KEY, v bigint, n text, b bytea);", "CREATE TABLE\n");
+    check(pgserial_prepare(&handle, "1 BEGIN;", 8, &report) == PGSERIAL_REFUSED, "a line that is read before the server runs");
+    answers(&handle, "2 BEGIN;", "2 BEGIN\n");
+    check(pgserial_prepare(&handle, "CHECKPOINT;", 11, &report) == PGSERIAL_REFUSED, "a checkpoint that is read");
+    check(pgserial_prepare(&handle, "no line", 7, &report) == PGSERIAL_REFUSED && report.length == 1 && report.line == 2, "no line that is read");
+    check(pgserial_prepare(&handle, "1 BEGIN;\n", 9, &report) == PGSERIAL_MISUSE, "a line that is read with its newline");
+    check(pgserial_execute(&handle, 1, &report) == PGSERIAL_MISUSE && pgserial_execute(&handle, 0, &report) == PGSERIAL_MISUSE, "no line that is done");
+    is_answer(&handle, "2 BEGIN\n", "what reading leaves");
+    reads(&handle, "1 BEGIN;", 1, 0);
+    reads(&handle, "1 INSERT INTO t VALUES (7, 1, 'a', NULL);", 2, 4);
+    reads(&handle, select, 3, 3);
+    reads(&handle, "1 UPDATE t SET v = v - 1, n = 'x' WHERE id >= 7;", 4, 3);
+    reads(&handle, "1 DELETE FROM t WHERE id = 7;", 5, 1);
+    reads(&handle, "1 SELECT * FROM u;", 6, 0);
+    executes(&handle, 2, PGSERIAL_REFUSED, 0, "1 ERROR 25P01\n");
+    executes(&handle, 1, PGSERIAL_DONE, 0, "1 BEGIN\n");
+    executes(&handle, 2, PGSERIAL_DONE, 1, "1 INSERT 0 1\n");
+    check(pgserial_bind_bigint(&handle, 2, 1, -8) == PGSERIAL_DONE && pgserial_bind_text(&handle, 2, 3, "b\xc3\xa4", 3) == PGSERIAL_DONE, "values");
+    check(pgserial_bind_bytea(&handle, 2, 4, "\xff\0", 2) == PGSERIAL_DONE && pgserial_bind_null(&handle, 2, 2) == PGSERIAL_DONE, "more values");
+    executes(&handle, 2, PGSERIAL_DONE, 1, "1 INSERT 0 1\n");
+    executes(&handle, 3, PGSERIAL_DONE, 0, "1 SELECT 0\n");
+    check(pgserial_bind_bigint(&handle, 3, 1, 7) == PGSERIAL_DONE, "another key");
+    executes(&handle, 3, PGSERIAL_DONE, 1, "1 SELECT 1\n1 | 7\t1\ta\t\\N\n");
+    check(pgserial_bind_bigint(&handle, 4, 1, 5) == PGSERIAL_DONE && pgserial_bind_text(&handle, 4, 2, "", 0) == PGSERIAL_DONE, "values of SET");
+    executes(&handle, 4, PGSERIAL_DONE, 1, "1 UPDATE 1\n");
+    executes(&handle, 3, PGSERIAL_DONE, 1, "1 SELECT 1\n1 | 7\t6\t\t\\N\n");
+    check(pgserial_bind_null(&handle, 4, 1) == PGSERIAL_DONE && pgserial_bind_bigint(&handle, 4, 3, -8) == PGSERIAL_DONE, "a sum with null");
+    executes(&handle, 4, PGSERIAL_DONE, 2, "1 UPDATE 2\n");
+    answers(&handle, "1 SELECT * FROM t;", "1 SELECT 2\n1 | -8\t\\N\t\t\\\\xff00\n1 | 7\t\\N\t\t\\N\n");
+    executes(&handle, 5, PGSERIAL_DONE, 1, "1 DELETE 1\n");
+    check(pgserial_bind_text(&handle, 5, 1, "a", 1) == PGSERIAL_DONE && pgserial_execute(&handle, 5, &report) == PGSERIAL_MISUSE, "a key of another kind");
+    is_answer(&handle, "1 DELETE 1\n", "what a value of another kind leaves");
+    executes(&handle, 6, PGSERIAL_REFUSED, 0, "1 ERROR 42P01 byte 14\n");
+    check(pgserial_bind_bigint(&handle, 5, 2, 1) == PGSERIAL_MISUSE && pgserial_bind_bigint(&handle, 5, 0, 1) == PGSERIAL_MISUSE, "no place");
+    check(pgserial_bind_bigint(&handle, 7, 1, 1) == PGSERIAL_MISUSE && pgserial_bind_bigint(&handle, 0, 1, 1) == PGSERIAL_MISUSE, "no line's place");
+    check(pgserial_bind_text(&handle, 2, 3, "\xff", 1) == PGSERIAL_MISUSE && pgserial_bind_text(&handle, 2, 3, NULL, 1) == PGSERIAL_MISUSE, "no text");
+    check(pgserial_forget(&handle) == PGSERIAL_DONE && pgserial_execute(&handle, 1, &report) == PGSERIAL_MISUSE, "lines that are forgotten");
+    reads(&handle, "1 COMMIT;", 1, 0);
+    check(pgserial_close(&handle) == PGSERIAL_DONE, "a handle that is closed");
+}
+
 int main(void)
 {
     char out[64];
@@ -254,6 +320,7 @@ int main(void)
     threads();
     handles();
     dumps();
+    prepared();
     check(pgserial_audit(script, sizeof script - 1, EVENTS, out, 64, &report) == PGSERIAL_DONE && report.length == 26
           && memcmp(out, "txn 1 key 1 1 1\ncheck yes\n", 26) == 0, "the order");
     return faults;

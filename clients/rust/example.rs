@@ -38,6 +38,7 @@ fn main() -> Result<(), Box<dyn Error>> {
     print!("{}", pgserial::audit(&script, pgserial::MOST_EVENTS)?);
     let mut conversation = pgserial::Conversation::open(pgserial::MOST_EVENTS)?;
     assert_eq!(conversation.ask("CREATE TABLE t (id bigint PRIMARY KEY);")?, "CREATE TABLE\n");
+    assert_eq!(conversation.ask("CREATE TABLE u (id bigint PRIMARY KEY, v text, b bytea);")?, "CREATE TABLE\n");
     assert_eq!(conversation.ask("1 BEGIN READ ONLY DEFERRABLE;")?, "1 BEGIN\n");
     assert_eq!(conversation.dump(1).unwrap_err().text, "1 ERROR 55000\n");
     assert_eq!(conversation.ask("1 POLL;")?, "1 SAFE 0\n");
@@ -49,6 +50,18 @@ fn main() -> Result<(), Box<dyn Error>> {
     let faulty = pgserial::Conversation::open_dump(&dump[1..], pgserial::MOST_EVENTS);
     assert_eq!(faulty.err().map(|error| error.text), Some("ERROR 22P04 line 1\n".to_string()));
     assert_eq!(std::thread::spawn(move || restored.ask("1 BEGIN;")).join().unwrap()?, "1 BEGIN\n");
+    conversation.ask("1 COMMIT;")?;
+    conversation.ask("1 BEGIN;")?;
+    let insert = conversation.prepare("1 INSERT INTO u VALUES (0, NULL, NULL);")?;
+    let values = [pgserial::Value::Null, pgserial::Value::Text("it's"), pgserial::Value::Bytes(&[0xff])];
+    for (key, value) in values.into_iter().enumerate() {
+        conversation.bind(insert, 1, pgserial::Value::Int(key as i64))?;
+        conversation.bind(insert, if key == 2 { insert.places } else { 2 }, value)?;
+        assert_eq!(conversation.execute(insert)?, 1);
+    }
+    assert_eq!(conversation.execute(insert).unwrap_err().text, "1 ERROR 23505 column 1\n");
+    conversation.forget()?;
+    assert!(conversation.execute(insert).is_err());
     let (answer, _reasons) = pgserial::check(SKEWED, true)?;
     assert_eq!(answer, pgserial::Answer::No);
     let script = "1 BEGIN;\n1 COMMIT;\n2 BEGIN;\n2 COMMIT;\n";

@@ -13,7 +13,7 @@ pub const MOST_EVENTS: u32 = 100_000;
 /// How many schedules `pgserial explore` runs at most, where nothing is said.
 pub const MOST_SCHEDULES: u64 = 1_000_000;
 
-const ABI: u32 = 2;
+const ABI: u32 = 3;
 const DONE: i32 = 0;
 const REFUSED: i32 = 1;
 const NEEDS_ROOM: i32 = 2;
@@ -90,6 +90,30 @@ extern "C" {
     fn pgserial_serial_order(handle: *mut Handle, report: *mut Report) -> i32;
     fn pgserial_tables(handle: *mut Handle, report: *mut Report) -> i32;
     fn pgserial_reply(handle: *mut Handle, out: *mut u8, room: usize, report: *mut Report) -> i32;
+    fn pgserial_prepare(
+        handle: *mut Handle,
+        line: *const u8,
+        line_length: usize,
+        report: *mut Report,
+    ) -> i32;
+    fn pgserial_bind_bigint(handle: *mut Handle, number: usize, place: usize, value: i64) -> i32;
+    fn pgserial_bind_text(
+        handle: *mut Handle,
+        number: usize,
+        place: usize,
+        text: *const u8,
+        length: usize,
+    ) -> i32;
+    fn pgserial_bind_bytea(
+        handle: *mut Handle,
+        number: usize,
+        place: usize,
+        value: *const u8,
+        length: usize,
+    ) -> i32;
+    fn pgserial_bind_null(handle: *mut Handle, number: usize, place: usize) -> i32;
+    fn pgserial_execute(handle: *mut Handle, number: usize, report: *mut Report) -> i32;
+    fn pgserial_forget(handle: *mut Handle) -> i32;
     fn pgserial_close(handle: *mut Handle) -> i32;
 }
 
@@ -100,6 +124,22 @@ pub enum Answer {
     No,
     /// The steps ran out, which says nothing.
     Unknown,
+}
+
+/// A value for a place of a line that is read once.
+#[derive(Clone, Copy, Debug, PartialEq, Eq)]
+pub enum Value<'v> {
+    Null,
+    Int(i64),
+    Text(&'v str),
+    Bytes(&'v [u8]),
+}
+
+/// A line that a conversation has read once: its number there, and how many places it has, which are its literals.
+#[derive(Clone, Copy, Debug, PartialEq, Eq)]
+pub struct Prepared {
+    number: usize,
+    pub places: usize,
 }
 
 /// Why a text wasn't done.
@@ -300,6 +340,51 @@ impl Conversation {
     /// The answer to the last line, once more: where there was no memory for its text.
     pub fn last(&mut self) -> Result<String, Error> {
         self.told(DONE, Report { length: 0, line: 0 })
+    }
+
+    /// Reads a session's line once, which has no newline. Its literals are its places, counted from 1.
+    pub fn prepare(&mut self, line: &str) -> Result<Prepared, Error> {
+        let mut report = Report { length: 0, line: 0 };
+        // SAFETY: as in `ask`.
+        let status = unsafe { pgserial_prepare(&mut self.handle, line.as_ptr(), line.len(), &mut report) };
+        let prepared = Prepared { number: report.line as usize, places: report.length };
+        done((status, Report { length: 0, line: 0 }, String::new()))?;
+        Ok(prepared)
+    }
+
+    /// Gives a place of a line that this conversation has read a value.
+    pub fn bind(&mut self, line: Prepared, place: usize, value: Value<'_>) -> Result<(), Error> {
+        let (handle, number): (*mut Handle, usize) = (&mut self.handle, line.number);
+        // SAFETY: the handle is this one's alone; texts and bytes are lent for the call.
+        let status = unsafe {
+            match value {
+                Value::Null => pgserial_bind_null(handle, number, place),
+                Value::Int(value) => pgserial_bind_bigint(handle, number, place, value),
+                Value::Text(text) => pgserial_bind_text(handle, number, place, text.as_ptr(), text.len()),
+                Value::Bytes(value) => pgserial_bind_bytea(handle, number, place, value.as_ptr(), value.len()),
+            }
+        };
+        done((status, Report { length: 0, line: 0 }, String::new())).map(|_| ())
+    }
+
+    /// Does what a line that this conversation has read says with the values of its places: how many rows it shows or has
+    /// changed. `last` has the reply, and of a refusal the error.
+    pub fn execute(&mut self, line: Prepared) -> Result<u64, Error> {
+        let mut report = Report { length: 0, line: 0 };
+        // SAFETY: as in `ask`.
+        let status = unsafe { pgserial_execute(&mut self.handle, line.number, &mut report) };
+        if status == DONE {
+            return Ok(report.line);
+        }
+        report.line = 0;
+        self.told(status, report).map(|_| 0)
+    }
+
+    /// Forgets the lines that were read once.
+    pub fn forget(&mut self) -> Result<(), Error> {
+        // SAFETY: the handle is this one's alone.
+        let status = unsafe { pgserial_forget(&mut self.handle) };
+        done((status, Report { length: 0, line: 0 }, String::new())).map(|_| ())
     }
 
     /// A dump of the safe snapshot of a session's transaction.

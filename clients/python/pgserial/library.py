@@ -16,7 +16,7 @@ import ctypes
 import os
 from typing import NamedTuple
 
-ABI = 2
+ABI = 3
 MOST_EVENTS = 100_000
 MOST_SCHEDULES = 1_000_000
 DONE, REFUSED, NEEDS_ROOM, FULL, MEMORY, NO_TEXT, DEVICE, MISUSE, UNPRINTED, NO_ORDER, UNKNOWN, TOO_MANY = range(12)
@@ -58,6 +58,13 @@ class _Report(ctypes.Structure):
 
 class _Handle(ctypes.Structure):
     _fields_ = [("at", ctypes.c_void_p), ("is_open", ctypes.c_ubyte)]
+
+
+class Prepared(NamedTuple):
+    """A line that a conversation has read once: its number there, and how many places it has, which are its literals."""
+
+    number: int
+    places: int
 
 
 class Conversation:
@@ -111,6 +118,48 @@ class Conversation:
         """The answer to a line, which has no newline."""
         return self.ask_bytes(_bytes(line)).decode("utf-8", "backslashreplace")
 
+    def prepare(self, line):
+        """A Prepared: a session's line, which has no newline, read once."""
+        given, (handle, report) = _bytes(line), self._words
+        status = self._loaded.pgserial_prepare(handle, given, len(given), report)
+        if status != DONE:
+            raise LibraryError(status, 0, "")
+        return Prepared(self._report.line, self._report.length)
+
+    def _bind(self, number, place, value):
+        handle = self._words[0]
+        if value is None:
+            return self._loaded.pgserial_bind_null(handle, number, place)
+        if isinstance(value, int):
+            if not -(1 << 63) <= value < 1 << 63:
+                return MISUSE
+            return self._loaded.pgserial_bind_bigint(handle, number, place, value)
+        given = _bytes(value)
+        bind = self._loaded.pgserial_bind_text if isinstance(value, str) else self._loaded.pgserial_bind_bytea
+        return bind(handle, number, place, given, len(given))
+
+    def execute(self, line, *values):
+        """How many rows a Prepared of this conversation shows or has changed, with these values (None, an int, a str or bytes) for
+        its first places; the others have those that they had last. `answer` has its reply."""
+        for place, value in enumerate(values, 1):
+            status = self._bind(line.number, place, value)
+            if status != DONE:
+                raise LibraryError(status, 0, "")
+        status = self._loaded.pgserial_execute(self._words[0], line.number, self._words[1])
+        if status == DONE:
+            return self._report.line
+        if status != REFUSED:
+            raise LibraryError(status, 0, "")
+        raise LibraryError(status, 0, self.answer())
+
+    def answer(self):
+        """The last answer."""
+        return self._answer(DONE).decode("utf-8", "backslashreplace")
+
+    def forget(self):
+        """Forgets the lines that were read once."""
+        self._check(self._loaded.pgserial_forget(self._words[0]))
+
     def dump(self, session):
         """A dump of the safe snapshot of a session's transaction."""
         handle, report = self._words
@@ -155,6 +204,14 @@ class Library:
         self._loaded.pgserial_dump.argtypes = [handle, ctypes.c_uint32, report]
         self._loaded.pgserial_serial_order.argtypes = [handle, report]
         self._loaded.pgserial_tables.argtypes = [handle, report]
+        number = ctypes.c_size_t
+        self._loaded.pgserial_prepare.argtypes = [handle, ctypes.c_char_p, ctypes.c_size_t, report]
+        self._loaded.pgserial_bind_bigint.argtypes = [handle, number, number, ctypes.c_int64]
+        self._loaded.pgserial_bind_text.argtypes = [handle, number, number, ctypes.c_char_p, ctypes.c_size_t]
+        self._loaded.pgserial_bind_bytea.argtypes = [handle, number, number, ctypes.c_char_p, ctypes.c_size_t]
+        self._loaded.pgserial_bind_null.argtypes = [handle, number, number]
+        self._loaded.pgserial_execute.argtypes = [handle, number, report]
+        self._loaded.pgserial_forget.argtypes = [handle]
 
     def _call(self, name, *numbers):
         """A function of the library that takes a text and such numbers."""

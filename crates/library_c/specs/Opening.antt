@@ -10,9 +10,9 @@ use Rattle.library_c.specs.Handing.{Hands}
 use Rattle.library_c.specs.declared.Report.{Report}
 use Rattle.library_c.specs.declared.kept.Kept.{Kept}
 
--- A handle that was shut keeps a server that is this, and no answer; or memory was refused, and it is shut.
+-- A handle that was shut keeps a server that is this, no answer and no lines; or memory was refused, and it is shut.
 abbrev pub Begins : (Kept → Type 0) → Option Kept → ℕ → Type 0
-Begins is w status = ((k : Kept) × (w ≡ Some k) × is k × (answer_text k.answer ≡ []) × (status ≡ 0)) ⊎ ((w ≡ None) × (status ≡ 4))
+Begins is w status = ((k : Kept) × (w ≡ Some k) × is k × (answer_text k.answer ≡ []) × (k.prepared.items ≡ []) × (status ≡ 0)) ⊎ ((w ≡ None) × (status ≡ 4))
 
 -- A handle was opened with room for so many events: one that is open stays as it was; else it keeps a new server, or memory was refused.
 abbrev pub Opens : Option Kept → ℕ → Option Kept → ℕ → Type 0

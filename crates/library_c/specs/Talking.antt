@@ -40,7 +40,7 @@ module _ {A : Type 0} where
 
 -- A line was answered, as `shell` says, and the answer kept; or memory was refused, and all stays.
 abbrev pub AnswersLine : Kept → List ℕ → Kept → Report → Report → ℕ → Type 0
-AnswersLine k line q before after status = (Answers k.server line q.server (answer_text q.answer) × IsReported q.answer after × (status ≡ line_status q.answer)) ⊎ Stays k q before after status
+AnswersLine k line q before after status = (Answers k.server line q.server (answer_text q.answer) × (q.prepared ≡ k.prepared) × IsReported q.answer after × (status ≡ line_status q.answer)) ⊎ Stays k q before after status
 
 -- what a call on a handle does with a line
 abbrev pub Calls : Option Kept → List ℕ → Option Kept → Report → Report → ℕ → Type 0
@@ -55,9 +55,9 @@ abbrev pub HandsMade : Option (List ℕ) → List ℕ → List ℕ → List ℕ 
 HandsMade None text room left before after status = HandsPrinted text room left before after status
 HandsMade (Some made) text room left before after status = Hands Done text room left after status
 
--- The server and its last answer stay, whose text may have been made.
+-- The server, its last answer and the lines that were read once stay; the answer's text may have been made.
 abbrev pub IsSame : Kept → Kept → Type 0
-IsSame k q = (q.server ≡ k.server) × (answer_text q.answer ≡ answer_text k.answer)
+IsSame k q = (q.server ≡ k.server) × (answer_text q.answer ≡ answer_text k.answer) × (q.prepared ≡ k.prepared)
 
 -- The last answer was handed over.
 abbrev pub RepliesIn : Kept → Kept → List ℕ → List ℕ → Report → Report → ℕ → Type 0

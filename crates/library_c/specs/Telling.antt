@@ -9,9 +9,9 @@ use Rattle.library_c.specs.Talking.{IsReported, OnOpen, Stays}
 use Rattle.library_c.specs.declared.Report.{Report}
 use Rattle.library_c.specs.declared.kept.Kept.{Kept}
 
--- The text is the last answer now, and its length is reported; the server is as it was.
+-- The text is the last answer now, and its length is reported; the server and the lines that were read once are as they were.
 abbrev pub KeepsText : Kept → List ℕ → Kept → Report → ℕ → Type 0
-KeepsText k text q after status = (q.server ≡ k.server) × (answer_text q.answer ≡ text) × (after.length ≡ length text) × (after.line ≡ 0) × (status ≡ 0)
+KeepsText k text q after status = (q.server ≡ k.server) × (q.prepared ≡ k.prepared) × (answer_text q.answer ≡ text) × (after.length ≡ length text) × (after.line ≡ 0) × (status ≡ 0)
 
 -- The text is the last answer now; or memory was refused, and all stays.
 abbrev pub Tells : Kept → List ℕ → Kept → Report → Report → ℕ → Type 0
@@ -19,7 +19,7 @@ Tells k text q before after status = KeepsText k text q after status ⊎ Stays k
 
 -- The line of a session's refused dump is the last answer now; the server is as it was.
 abbrev pub KeepsRefusal : Kept → ℕ → Refusal → Kept → Report → ℕ → Type 0
-KeepsRefusal k s e q after status = (q.server ≡ k.server) × (answer_text q.answer ≡ reply_text {A = Unit {0}} s (Refused e)) × IsReported q.answer after × (status ≡ 1)
+KeepsRefusal k s e q after status = (q.server ≡ k.server) × (q.prepared ≡ k.prepared) × (answer_text q.answer ≡ reply_text {A = Unit {0}} s (Refused e)) × IsReported q.answer after × (status ≡ 1)
 
 -- The last answer is a whole dump of the session's safe snapshot; or why the session may view no tables; or memory was refused, and all stays.
 abbrev pub DumpsIn : Kept → ℕ → Kept → Report → Report → ℕ → Type 0

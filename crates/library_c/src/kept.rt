@@ -2,11 +2,13 @@
 
 use library::answer::Answer;
 use library::embedded::Embedded;
+use library::prepared::Prepared;
 use std::alloc::Global;
 
-/// A server that answers lines, and its last answer.
+/// A server that answers lines, its last answer, and the lines that were read once.
 #[derive(Drop)]
 pub struct Kept {
     pub(crate) server: Embedded<Global>,
     pub(crate) answer: Answer<Global>,
+    pub(crate) prepared: Vec<Prepared<Global>>,
 }

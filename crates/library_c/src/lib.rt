@@ -7,6 +7,7 @@ mod handle;
 mod kept;
 mod loose;
 mod opening;
+mod preparing;
 mod status;
 mod talking;
 mod telling;
@@ -17,12 +18,15 @@ ghost use Rattle.library_c.specs.Talking.{Calls, Replies, shut_status};
 ghost use Rattle.library_c.specs.Opening.{IsUntold, Opens, OpensDump};
 ghost use Rattle.library_c.specs.Telling.{Dumps, TellsOrder, TellsTables};
 ghost use Rattle.library_c.specs.Handing.{Answers};
+ghost use Rattle.library_c.specs.Preparing.{Binds, BindsBytes, BindsText, Executes, Forgets, Prepares};
+ghost use Rattle.value.specs.declared.value.Value.TheVariants as literal;
 ghost use Rattle.library_c.specs.Judging.{AnswersCheck, AnswersExploration};
 ghost use Rattle.library.specs.declared.manner.Shown.TheVariants as shown;
 
 use crate::handing::hand_over;
 use crate::handle::Handle;
 use crate::opening::{begin_in, restore_in};
+use crate::preparing::{bytes_value, execute, give, prepare, text_value};
 use crate::status::{DONE, FULL, MISUSE};
 use crate::talking::{answer_line, hand_answer, put, take};
 use crate::telling::{keep_dump, keep_order, keep_tables};
@@ -33,6 +37,7 @@ use library::exploring::{Exploration, exploration_output};
 use library::manner::{Manner, Shown};
 use library::output::script_output;
 use std::alloc::Global;
+use value::value::Value;
 
 /// How many bytes an answer has, and the line at which it ended; 0 where that is no line's matter.
 #[derive(Clone, Copy)]
@@ -161,6 +166,13 @@ pub extern "C" fn pgserial_do_open_dump(
     restore_in(alloc, handle, dump, most, out, report)
 }
 
+// Whether a line has a newline in it.
+fn has_newline(line: &[u8]) -> bool
+    ensures { result ≡ list_any (λ b. b == 10) line.now }
+{
+    line.contains(&b'\n')
+}
+
 /// Answers a line, which stands here without its newline. The answer is kept, and its length reported. Where memory is
 /// refused, nothing has changed.
 #[unsafe(no_mangle)]
@@ -175,7 +187,7 @@ pub extern "C" fn pgserial_do_call(
     ensures answer { list_any (λ b. b == 10) line.now ≡ false →
         Calls handle.old.value line.now handle.new.value report.old report.new result }
 {
-    if line.contains(&b'\n') {
+    if has_newline(line) {
         return MISUSE;
     }
     let Some(mut kept) = take(alloc, handle) else {
@@ -238,6 +250,140 @@ pub extern "C" fn pgserial_do_tables(alloc: Global, handle: &mut Handle, report:
     let status = keep_tables(alloc, &mut kept, report);
     put(alloc, handle, kept);
     status
+}
+
+/// Reads a line once, and keeps it: its number is reported, and how many places it has.
+#[unsafe(no_mangle)]
+pub extern "C" fn pgserial_do_prepare(
+    alloc: Global,
+    handle: &mut Handle,
+    line: &[u8],
+    report: &mut Report,
+) -> u32
+    ensures misuse { list_any (λ b. b == 10) line.now ≡ true →
+        (handle.new.value ≡ handle.old.value) × (report.new ≡ report.old) × (result ≡ 7) }
+    ensures prepared { list_any (λ b. b == 10) line.now ≡ false →
+        Prepares handle.old.value line.now handle.new.value report.old report.new result }
+{
+    if has_newline(line) {
+        return MISUSE;
+    }
+    let Some(mut kept) = take(alloc, handle) else {
+        return MISUSE;
+    };
+    let status = prepare(alloc, &mut kept, line, report);
+    put(alloc, handle, kept);
+    status
+}
+
+// Gives a place of a kept line a value.
+fn bind(
+    alloc: Global,
+    handle: &mut Handle,
+    number: usize,
+    place: usize,
+    value: Value<Global>,
+) -> u32
+    ensures { Binds handle.old.value number place value handle.new.value result }
+{
+    let Some(mut kept) = take(alloc, handle) else {
+        return MISUSE;
+    };
+    let status = give(&mut kept, number, place, value);
+    put(alloc, handle, kept);
+    status
+}
+
+/// Gives a place of a kept line a bigint.
+#[unsafe(no_mangle)]
+pub extern "C" fn pgserial_do_bind_bigint(
+    alloc: Global,
+    handle: &mut Handle,
+    number: usize,
+    place: usize,
+    value: i64,
+) -> u32
+    ensures { Binds handle.old.value number place (literal.Int value) handle.new.value result }
+{
+    bind(alloc, handle, number, place, Value::Int(value))
+}
+
+/// Gives a place of a kept line null.
+#[unsafe(no_mangle)]
+pub extern "C" fn pgserial_do_bind_null(
+    alloc: Global,
+    handle: &mut Handle,
+    number: usize,
+    place: usize,
+) -> u32
+    ensures { Binds handle.old.value number place literal.Null handle.new.value result }
+{
+    bind(alloc, handle, number, place, Value::Null)
+}
+
+/// Gives a place of a kept line a text.
+#[unsafe(no_mangle)]
+pub extern "C" fn pgserial_do_bind_text(
+    alloc: Global,
+    handle: &mut Handle,
+    number: usize,
+    place: usize,
+    text: &[u8],
+) -> u32
+    ensures { BindsText handle.old.value number place text.now handle.new.value result }
+{
+    match text_value(alloc, text) {
+        Ok(value) => bind(alloc, handle, number, place, value),
+        Err(status) => status,
+    }
+}
+
+/// Gives a place of a kept line a bytea.
+#[unsafe(no_mangle)]
+pub extern "C" fn pgserial_do_bind_bytea(
+    alloc: Global,
+    handle: &mut Handle,
+    number: usize,
+    place: usize,
+    bytes: &[u8],
+) -> u32
+    ensures { BindsBytes handle.old.value number place bytes.now handle.new.value result }
+{
+    match bytes_value(alloc, bytes) {
+        Ok(value) => bind(alloc, handle, number, place, value),
+        Err(status) => status,
+    }
+}
+
+/// Does what a kept line asks for, with the values of its places.
+#[unsafe(no_mangle)]
+pub extern "C" fn pgserial_do_execute(
+    alloc: Global,
+    handle: &mut Handle,
+    number: usize,
+    report: &mut Report,
+) -> u32
+    ensures { Executes handle.old.value number handle.new.value report.old report.new result }
+{
+    let Some(mut kept) = take(alloc, handle) else {
+        return MISUSE;
+    };
+    let status = execute(alloc, &mut kept, number, report);
+    put(alloc, handle, kept);
+    status
+}
+
+/// Forgets the lines that were read once.
+#[unsafe(no_mangle)]
+pub extern "C" fn pgserial_do_forget(alloc: Global, handle: &mut Handle) -> u32
+    ensures { Forgets handle.old.value handle.new.value result }
+{
+    let Some(mut kept) = take(alloc, handle) else {
+        return MISUSE;
+    };
+    kept.prepared = Vec::new(alloc);
+    put(alloc, handle, kept);
+    DONE
 }
 
 /// The last answer, in `out` where it has room there.

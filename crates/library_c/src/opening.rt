@@ -21,10 +21,12 @@ use std::alloc::Global;
 fn boxed(alloc: Global, server: Embedded<Global>) -> Option<Box<Kept>>
     ensures server { IfSome result (λ b. b.value.server ≡ server) }
     ensures answer { IfSome result (λ b. answer_text b.value.answer ≡ []) }
+    ensures lines { IfSome result (λ b. b.value.prepared.items ≡ []) }
 {
     let kept = Kept {
         server,
         answer: Answer::Text(Vec::new(alloc)),
+        prepared: Vec::new(alloc),
     };
     match Box::new(alloc, kept) {
         Ok(kept) => Some(kept),
