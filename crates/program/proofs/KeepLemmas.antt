@@ -3,8 +3,8 @@ use Rattle.std.proofs.Common.{◌≡◌, ◌≢◌, ◌⊎◌, ℕ, List, [], So
 use Rattle.std.specs.Result.{is_ok}
 use Rattle.history.specs.Opening.{Recorded}
 use Rattle.backup.specs.Backed.{IsWhole}
-use Rattle.backup.specs.declared.fault.BackupFault.{BackupFault}
-use Rattle.backup.specs.declared.fault.BackupFault.TheVariants.{Dump, View}
+use Rattle.backup.specs.declared.fault.SafeDumpFault.{SafeDumpFault}
+use Rattle.backup.specs.declared.fault.SafeDumpFault.TheVariants.{Dump, View}
 use Rattle.dumpworker.specs.declared.fault.DumpFault.TheVariants.{Device, Memory}
 use Rattle.program.specs.Dumps.{IsDumped, IsDumpedAt, TellsDumpAt, dump_text}
 use Rattle.program.specs.Files.{IsFileFault, Writing, writing_of}
@@ -13,11 +13,11 @@ use Rattle.program.specs.declared.fault.Fault.TheVariants as fault
 
 module _ {A : Type 0} where
   -- a dump that was whole, and of which it is known whether it was kept for the path that its file was made for
-  pub dumped_at : {Out : Type 0} (path_of kept : Out → List ℕ) (failures : Out → ℕ) (h : Recorded A) (s : ℕ) (path : List ℕ) (d r : Result (Unit {0}) BackupFault) (made file : Out) (taken : List ℕ)
+  pub dumped_at : {Out : Type 0} (path_of kept : Out → List ℕ) (failures : Out → ℕ) (h : Recorded A) (s : ℕ) (path : List ℕ) (d r : Result (Unit {0}) SafeDumpFault) (made file : Out) (taken : List ℕ)
       → path_of made ≡ path → kept made ≡ [] → failures made ≡ 0 → IsDumped h s d → OnOk d (IsWhole h s [] taken) → OnOk r (kept file ≡ taken) → (r ≡ d) ⊎ (d ≡ Ok tt) × (r ≡ Err (Dump Device)) → (r ≡ Err (Dump Device) → failures file ≢ 0) → IsDumpedAt (writing_of path_of kept failures) h s path r
   dumped_at path_of kept failures h s path d r made file taken at empty sound dumped whole now how fails = go d r dumped whole now how fails
     where
-      go : (d r : Result (Unit {0}) BackupFault) → IsDumped h s d → OnOk d (IsWhole h s [] taken) → OnOk r (kept file ≡ taken) → (r ≡ d) ⊎ (d ≡ Ok tt) × (r ≡ Err (Dump Device)) → (r ≡ Err (Dump Device) → failures file ≢ 0) → IsDumpedAt (writing_of path_of kept failures) h s path r
+      go : (d r : Result (Unit {0}) SafeDumpFault) → IsDumped h s d → OnOk d (IsWhole h s [] taken) → OnOk r (kept file ≡ taken) → (r ≡ d) ⊎ (d ≡ Ok tt) × (r ≡ Err (Dump Device)) → (r ≡ Err (Dump Device) → failures file ≢ 0) → IsDumpedAt (writing_of path_of kept failures) h s path r
       go (Ok x) (Ok y) dumped whole now how fails = (taken, whole, (made, at, empty, file, now))
       go (Err f) (Ok y) dumped whole now (inl same) fails = absurd (true≢false (ap is_ok same))
       go (Err f) (Ok y) dumped whole now (inr failed) fails = absurd (true≢false (sym (ap is_ok failed.0)))
@@ -29,13 +29,13 @@ module _ {A : Type 0} where
       go (Err f) (Err (Dump Device)) dumped whole now (inr failed) fails = absurd (true≢false (sym (ap is_ok failed.0)))
 
   -- a dump ends its script where its file has failed
-  pub dump_ends : (writes : Writing) (h : Recorded A) (s : ℕ) (path : List ℕ) (d : Result (Unit {0}) BackupFault) (f g : Fault)
+  pub dump_ends : (writes : Writing) (h : Recorded A) (s : ℕ) (path : List ℕ) (d : Result (Unit {0}) SafeDumpFault) (f g : Fault)
       → IsDumpedAt writes h s path d → IsFileFault path g → (f ≡ fault.ScriptOutOfMemory) ⊎ (f ≡ g) × (d ≡ Err (Dump Device)) → (f ≡ fault.ScriptOutOfMemory) ⊎ (IsFileFault path f × IsDumpedAt writes h s path (Err (Dump Device)))
   dump_ends writes h s path d f g dumped at (inl memory) = inl memory
   dump_ends writes h s path d f g dumped at (inr device) = inr (subst (IsFileFault path) (sym device.0) at, subst (λ z. IsDumpedAt writes h s path z) device.1 dumped)
 
   -- where only the dump is told
-  pub dump_ends_it : (writes : Writing) (h : Recorded A) (s : ℕ) (path : List ℕ) (d : Result (Unit {0}) BackupFault) (f g : Fault)
+  pub dump_ends_it : (writes : Writing) (h : Recorded A) (s : ℕ) (path : List ℕ) (d : Result (Unit {0}) SafeDumpFault) (f g : Fault)
       → IsDumpedAt writes h s path d → IsFileFault path g → (f ≡ fault.ScriptOutOfMemory) ⊎ (f ≡ g) × (d ≡ Err (Dump Device)) → (f ≡ fault.ScriptOutOfMemory) ⊎ (IsFileFault path f × IsDumped h s (Err (Dump Device)))
   dump_ends_it writes h s path d f g dumped at why = elim (dump_ends writes h s path d f g dumped at why) [
     | inl memory ↦ inl memory
@@ -43,5 +43,5 @@ module _ {A : Type 0} where
   ]
 
   -- the result of a dump, and what is printed of it
-  pub dump_is_told : (writes : Writing) (h : Recorded A) (s t : ℕ) (path text : List ℕ) (d : Result (Unit {0}) BackupFault) → t ≡ s → IsDumpedAt writes h t path d → dump_text s d ≡ Some text → TellsDumpAt writes h s path text
+  pub dump_is_told : (writes : Writing) (h : Recorded A) (s t : ℕ) (path text : List ℕ) (d : Result (Unit {0}) SafeDumpFault) → t ≡ s → IsDumpedAt writes h t path d → dump_text s d ≡ Some text → TellsDumpAt writes h s path text
   dump_is_told writes h s t path text d same dumped told = (d, subst (λ n. IsDumpedAt writes h n path d) same dumped, told)

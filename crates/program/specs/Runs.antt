@@ -12,7 +12,7 @@ use Rattle.history.specs.Opening.{Recorded, zero_base}
 use Rattle.schema.specs.Definition.{Catalog}
 use Rattle.schema.specs.declared.tables.Tables.{Tables}
 use Rattle.dumpworker.specs.declared.fault.DumpFault.TheVariants.{Device}
-use Rattle.backup.specs.declared.fault.BackupFault.TheVariants.{Dump}
+use Rattle.backup.specs.declared.fault.SafeDumpFault.TheVariants.{Dump}
 use Rattle.session.specs.Core.{IsCheckpoint}
 use Rattle.request.specs.declared.request.Request.TheVariants as ask
 use Rattle.script.specs.declared.command.Command.{Command}

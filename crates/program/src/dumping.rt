@@ -11,7 +11,7 @@ use crate::fault::Fault;
 use crate::files::{Files, Placed};
 use crate::keeping::keep_dumped;
 use crate::machine::Machine;
-use backup::{BackupFault, dump_session, dump_session_one};
+use backup::{SafeDumpFault, dump_session, dump_session_one};
 use dumpplan::NoGate;
 use dumpworker::DumpFault;
 use history::session_id::SessionId;
@@ -30,7 +30,7 @@ fn refused_text<'p, A: Allocator>(
     session: SessionId,
     refusal: Refusal,
 ) -> Result<Vec<u8, A>, Fault<'p>>
-    ensures text { IfOk result (λ text. spec.dump_text session (Err (BackupFault.View refusal)) ≡ Some text.items) }
+    ensures text { IfOk result (λ text. spec.dump_text session (Err (SafeDumpFault.View refusal)) ≡ Some text.items) }
     ensures memory { IfErr result (λ f. f ≡ Fault.ScriptOutOfMemory) }
 {
     match reply_text(alloc, session, &Reply::Refused(refusal)) {
@@ -56,19 +56,19 @@ pub(crate) fn dump_text<'p, A: Allocator>(
     alloc: A,
     session: SessionId,
     path: &'p str,
-    done: Result<(), BackupFault>,
+    done: Result<(), SafeDumpFault>,
 ) -> Result<Vec<u8, A>, Fault<'p>>
     ensures text { IfOk result (λ text. spec.dump_text session done ≡ Some text.items) }
     ensures fault { IfErr result (λ f. (f ≡ Fault.ScriptOutOfMemory) ⊎ (f ≡ Fault.Device path.entry) ×
-        (done ≡ Err (BackupFault.Dump DumpFault.Device))) }
+        (done ≡ Err (SafeDumpFault.Dump DumpFault.Device))) }
 {
     match done {
         Ok(()) => whole_text(alloc, session),
-        Err(BackupFault::View(refusal)) => refused_text(alloc, session, refusal),
-        Err(BackupFault::Dump(DumpFault::Memory)) => {
+        Err(SafeDumpFault::View(refusal)) => refused_text(alloc, session, refusal),
+        Err(SafeDumpFault::Dump(DumpFault::Memory)) => {
             refused_text(alloc, session, Refusal::of_code(Code::OutOfMemory))
         }
-        Err(BackupFault::Dump(DumpFault::Device)) => Err(Fault::Device { path }),
+        Err(SafeDumpFault::Dump(DumpFault::Device)) => Err(Fault::Device { path }),
     }
 }
 
@@ -86,13 +86,13 @@ where
         session: SessionId,
         request: &DumpRequest<A>,
         file: &mut F::Out,
-    ) -> Result<(), BackupFault>
+    ) -> Result<(), SafeDumpFault>
         requires empty { F.Out.taken file.old ≡ [] }
         requires sound { F.Out.failures file.old ≡ 0 }
         ensures dumped { IsDumped core.now session result }
         ensures whole { OnOk result (IsWhole core.now session [] (F.Out.taken file.new)) }
         ensures sound { OnOk result (F.Out.failures file.new ≡ 0) }
-        ensures failed { result ≡ Err (BackupFault.Dump DumpFault.Device) → F.Out.failures file.new ≢ 0 }
+        ensures failed { result ≡ Err (SafeDumpFault.Dump DumpFault.Device) → F.Out.failures file.new ≢ 0 }
     {
         let (jobs, rows) = (request.jobs, request.rows);
         dump_session(
@@ -106,11 +106,11 @@ where
         core: &Core<A>,
         session: SessionId,
         request: &DumpRequest<A>,
-    ) -> Result<(), BackupFault>
+    ) -> Result<(), SafeDumpFault>
         ensures { IsDumpedAt (writing_of F.Out.path F.Out.kept F.Out.failures) core.now session request.now.path result }
     {
         let Ok(mut file) = self.files.create(self.alloc, request.path.as_str()) else {
-            return Err(BackupFault::Dump(DumpFault::Memory));
+            return Err(SafeDumpFault::Dump(DumpFault::Memory));
         };
         let dumped = self.write_dump(core, session, request, &mut file);
         keep_dumped(&mut file, dumped)
@@ -126,7 +126,7 @@ where
         ensures told { IfOk result (λ text.
             TellsDumpAt (writing_of F.Out.path F.Out.kept F.Out.failures) core.now session request.entry.now.path text.items) }
         ensures fault { IfErr result (λ f. (f ≡ Fault.ScriptOutOfMemory) ⊎ (IsFileFault request.entry.now.path f ×
-            IsDumped core.now session (Err (BackupFault.Dump DumpFault.Device)))) }
+            IsDumped core.now session (Err (SafeDumpFault.Dump DumpFault.Device)))) }
     {
         let done = self.dump_to_file(core, session, request);
         dump_text(self.alloc, session, request.path.as_str(), done)
@@ -140,13 +140,13 @@ fn write_dump_alone<A: Allocator + Copy, O: Placed>(
     session: SessionId,
     request: &DumpRequest<A>,
     file: &mut O,
-) -> Result<(), BackupFault>
+) -> Result<(), SafeDumpFault>
     requires empty { O.taken file.old ≡ [] }
     requires sound { O.failures file.old ≡ 0 }
     ensures dumped { IsDumped core.now session result }
     ensures whole { OnOk result (IsWhole core.now session [] (O.taken file.new)) }
     ensures sound { OnOk result (O.failures file.new ≡ 0) }
-    ensures failed { result ≡ Err (BackupFault.Dump DumpFault.Device) → O.failures file.new ≢ 0 }
+    ensures failed { result ≡ Err (SafeDumpFault.Dump DumpFault.Device) → O.failures file.new ≢ 0 }
 {
     dump_session_one(alloc, core, session, request.rows, file)
 }
@@ -162,12 +162,12 @@ where
         core: &Core<A>,
         session: SessionId,
         request: &DumpRequest<A>,
-    ) -> Result<(), BackupFault>
+    ) -> Result<(), SafeDumpFault>
         ensures { IsDumpedAt (writing_of F.Out.path F.Out.kept F.Out.failures) core.now session request.now.path result }
     {
         let path = request.path.as_str();
         let Ok(mut file) = self.files.create(self.alloc, path) else {
-            return Err(BackupFault::Dump(DumpFault::Memory));
+            return Err(SafeDumpFault::Dump(DumpFault::Memory));
         };
         let dumped = write_dump_alone(self.alloc, core, session, request, &mut file);
         keep_dumped(&mut file, dumped)
@@ -185,7 +185,7 @@ where
             TellsDumpAt (writing_of F.Out.path F.Out.kept F.Out.failures) core.now session request.entry.now.path text.items) }
         ensures fault { IfErr result (λ f. (f ≡ Fault.ScriptOutOfMemory) ⊎ (IsFileFault request.entry.now.path f ×
             IsDumpedAt (writing_of F.Out.path F.Out.kept F.Out.failures) core.now session request.entry.now.path
-            (Err (BackupFault.Dump DumpFault.Device)))) }
+            (Err (SafeDumpFault.Dump DumpFault.Device)))) }
     {
         let done = self.dump_alone(core, session, request);
         dump_text(self.alloc, session, request.path.as_str(), done)

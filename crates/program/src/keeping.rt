@@ -5,7 +5,7 @@ ghost use Rattle.program.specs.Files.{IsFileFault, IsWritten};
 
 use crate::fault::Fault;
 use crate::files::{Files, Placed};
-use backup::BackupFault;
+use backup::SafeDumpFault;
 use collector::write_all;
 use dumpworker::DumpFault;
 use std::alloc::Allocator;
@@ -44,18 +44,18 @@ pub fn write_file<'p, A: Allocator, F: Files<A>>(
 /// Keeps the file of a dump that is whole. One that can't be kept fails.
 pub(crate) fn keep_dumped<O: Placed>(
     file: &mut O,
-    dumped: Result<(), BackupFault>,
-) -> Result<(), BackupFault>
+    dumped: Result<(), SafeDumpFault>,
+) -> Result<(), SafeDumpFault>
     requires sound { OnOk dumped (O.failures file.old ≡ 0) }
-    requires failed { dumped ≡ Err (BackupFault.Dump DumpFault.Device) → O.failures file.old ≢ 0 }
+    requires failed { dumped ≡ Err (SafeDumpFault.Dump DumpFault.Device) → O.failures file.old ≢ 0 }
     ensures kept { OnOk result (O.kept file.new ≡ O.taken file.old) }
-    ensures result { (result ≡ dumped) ⊎ (dumped ≡ Ok tt) × (result ≡ Err (BackupFault.Dump DumpFault.Device)) }
-    ensures failed { result ≡ Err (BackupFault.Dump DumpFault.Device) → O.failures file.new ≢ 0 }
+    ensures result { (result ≡ dumped) ⊎ (dumped ≡ Ok tt) × (result ≡ Err (SafeDumpFault.Dump DumpFault.Device)) }
+    ensures failed { result ≡ Err (SafeDumpFault.Dump DumpFault.Device) → O.failures file.new ≢ 0 }
 {
     match dumped {
         Ok(()) => match file.keep() {
             Ok(()) => Ok(()),
-            Err(_) => Err(BackupFault::Dump(DumpFault::Device)),
+            Err(_) => Err(SafeDumpFault::Dump(DumpFault::Device)),
         },
         Err(fault) => Err(fault),
     }

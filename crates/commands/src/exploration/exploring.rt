@@ -5,15 +5,15 @@ use crate::exploration::task::{Draw, Task};
 use explore::exploring::{explore, explore_sample};
 use explore::plan::{Plan, Unexplored};
 use explore::setup::Setup;
+use explore::tally::listing::heading::Heading;
+use explore::tally::listing::text::listing_text;
+use explore::tally::runs::Schedules;
 use program::files::Files;
 use program::machine::Machine;
 use program::progress::Stage;
 use std::alloc::Allocator;
 use std::sync::Wait;
 use std::thread::Threads;
-use tally::listing::heading::Heading;
-use tally::listing::text::listing_text;
-use tally::runs::Schedules;
 
 // The fault of a plan whose schedules aren't all run.
 fn fault_of<'p>(unexplored: Unexplored, most: u64) -> Fault<'p> {

@@ -13,7 +13,7 @@ use crate::dumping::dump_text;
 use crate::fault::Fault;
 use crate::free::sinks::Sinks;
 use crate::keeping::keep_dumped;
-use backup::{BackupFault, dump_safe};
+use backup::{SafeDumpFault, dump_safe};
 use dumpplan::NoGate;
 use dumpworker::DumpFault;
 use history::session_id::SessionId;
@@ -103,14 +103,14 @@ where
         pass: &mut Pass<'w, J>,
         request: &DumpRequest,
         file: &mut S::Out,
-    ) -> Result<(), BackupFault>
+    ) -> Result<(), SafeDumpFault>
         requires empty { S.Out.taken file.old ≡ [] }
         requires sound { S.Out.failures file.old ≡ 0 }
         ensures dumped { IsDumped (seen_by J.opening J.most pass.new) pass.new.session result }
         ensures whole { OnOk result (IsWhole (seen_by J.opening J.most pass.new) pass.new.session []
             (S.Out.taken file.new)) }
         ensures sound { OnOk result (S.Out.failures file.new ≡ 0) }
-        ensures failed { result ≡ Err (BackupFault.Dump DumpFault.Device) → S.Out.failures file.new ≢ 0 }
+        ensures failed { result ≡ Err (SafeDumpFault.Dump DumpFault.Device) → S.Out.failures file.new ≢ 0 }
         ensures session { pass.new.session ≡ pass.old.session }
         ensures mine { pass.new.mine ≡ pass.old.mine }
     {
@@ -128,14 +128,18 @@ where
     }
 
     // Dumps the safe snapshot of a pass's session to a path's file, which is kept where it is whole.
-    fn dump_to_file(&self, pass: &mut Pass<'w, J>, request: &DumpRequest) -> Result<(), BackupFault>
+    fn dump_to_file(
+        &self,
+        pass: &mut Pass<'w, J>,
+        request: &DumpRequest,
+    ) -> Result<(), SafeDumpFault>
         ensures dumped { IsDumpedAt (writing_of S.Out.path S.Out.kept S.Out.failures) (seen_by J.opening J.most pass.new)
             pass.new.session request.now.path result }
         ensures session { pass.new.session ≡ pass.old.session }
         ensures mine { pass.new.mine ≡ pass.old.mine }
     {
         let Ok(mut file) = self.sinks.create(self.alloc, request.path.as_str()) else {
-            return Err(BackupFault::Dump(DumpFault::Memory));
+            return Err(SafeDumpFault::Dump(DumpFault::Memory));
         };
         let dumped = self.write_dump(pass, request, &mut file);
         keep_dumped(&mut file, dumped)
@@ -151,7 +155,7 @@ where
             request.entry.now.path text.items pass.new) }
         ensures fault { IfErr result (λ f. (f ≡ Fault.ScriptOutOfMemory) ⊎ (IsFileFault request.entry.now.path f ×
             IsDumped (seen_by J.opening J.most pass.new) pass.old.session
-            (Err (BackupFault.Dump DumpFault.Device)))) }
+            (Err (SafeDumpFault.Dump DumpFault.Device)))) }
     {
         let session = pass.session();
         let done = self.dump_to_file(pass, request);
