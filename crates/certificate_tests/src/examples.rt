@@ -2,35 +2,19 @@
 //! those in which a line is changed, left out or more, with the place of the line that is refused.
 
 use crate::recorded::judge;
+use crate::recordings::{ONE_ROW, TWO_ROWS};
 use value::refusal::Refusal;
 
 // Both read 0 and write the row: the first update is lost.
 const LOST_UPDATE: &str = "\
-> CREATE TABLE t (id bigint PRIMARY KEY, v bigint);
-> 1 BEGIN;
-  1 BEGIN
-> 1 INSERT INTO t VALUES (1, 0);
-  1 INSERT 0 1
-> 1 COMMIT;
-  1 COMMIT
-> 1 BEGIN;
-  1 BEGIN
-> 2 BEGIN;
-  2 BEGIN
-> 1 SELECT v FROM t WHERE id = 1;
-  1 SELECT 1
-  1 | 0
-> 2 SELECT v FROM t WHERE id = 1;
-  2 SELECT 1
-  2 | 0
-> 1 UPDATE t SET v = 1 WHERE id = 1;
-  1 UPDATE 1
-> 1 COMMIT;
-  1 COMMIT
-> 2 UPDATE t SET v = 2 WHERE id = 1;
-  2 UPDATE 1
-> 2 COMMIT;
-  2 COMMIT
+1 BEGIN
+2 BEGIN
+1 SELECT v FROM t WHERE id = 1 -> SELECT 1 / | 0
+2 SELECT v FROM t WHERE id = 1 -> SELECT 1 / | 0
+1 UPDATE t SET v = 1 WHERE id = 1
+1 COMMIT
+2 UPDATE t SET v = 2 WHERE id = 1
+2 COMMIT
 ";
 
 #[test]
@@ -56,44 +40,21 @@ suppose before 1 2; later 2 1 1.1; cycle 1 2: 3
 suppose before 1 1; cycle 1 1: 0
 suppose absent 1; later 2 1 1.1; later 1 2 1.1; cycle 1 2; cycle 1 2: 4
 ";
-    judge(&rt, rt.alloc(), LOST_UPDATE, cases)
+    judge(&rt, rt.alloc(), (ONE_ROW, LOST_UPDATE), cases)
 }
 
 // Each reads both rows and writes one.
-const WRITE_SKEW: &str = "\
-> CREATE TABLE t (id bigint PRIMARY KEY, v bigint);
-> 1 BEGIN;
-  1 BEGIN
-> 1 INSERT INTO t VALUES (1, 0);
-  1 INSERT 0 1
-> 1 INSERT INTO t VALUES (2, 0);
-  1 INSERT 0 1
-> 1 COMMIT;
-  1 COMMIT
-> 1 BEGIN;
-  1 BEGIN
-> 2 BEGIN;
-  2 BEGIN
-> 1 SELECT v FROM t WHERE id = 1;
-  1 SELECT 1
-  1 | 0
-> 1 SELECT v FROM t WHERE id = 2;
-  1 SELECT 1
-  1 | 0
-> 2 SELECT v FROM t WHERE id = 1;
-  2 SELECT 1
-  2 | 0
-> 2 SELECT v FROM t WHERE id = 2;
-  2 SELECT 1
-  2 | 0
-> 1 UPDATE t SET v = 1 WHERE id = 1;
-  1 UPDATE 1
-> 2 UPDATE t SET v = 1 WHERE id = 2;
-  2 UPDATE 1
-> 1 COMMIT;
-  1 COMMIT
-> 2 COMMIT;
-  2 COMMIT
+pub(crate) const WRITE_SKEW: &str = "\
+1 BEGIN
+2 BEGIN
+1 SELECT v FROM t WHERE id = 1 -> SELECT 1 / | 0
+1 SELECT v FROM t WHERE id = 2 -> SELECT 1 / | 0
+2 SELECT v FROM t WHERE id = 1 -> SELECT 1 / | 0
+2 SELECT v FROM t WHERE id = 2 -> SELECT 1 / | 0
+1 UPDATE t SET v = 1 WHERE id = 1
+2 UPDATE t SET v = 1 WHERE id = 2
+1 COMMIT
+2 COMMIT
 ";
 
 #[test]
@@ -104,38 +65,19 @@ later 1 2 1.1; later 2 1 1.1; cycle 1 2: 0
 later 1 2 2.1; later 2 1 2.1; cycle 1 2: 1
 later 1 2 2.1; later 2 1 1.1; cycle 0 2: 2
 ";
-    judge(&rt, rt.alloc(), WRITE_SKEW, cases)
+    judge(&rt, rt.alloc(), (TWO_ROWS, WRITE_SKEW), cases)
 }
 
 // The reader finds one row as it was before the writer, and one as it is after it.
 const READ_SKEW: &str = "\
-> CREATE TABLE t (id bigint PRIMARY KEY, v bigint);
-> 1 BEGIN;
-  1 BEGIN
-> 1 INSERT INTO t VALUES (1, 0);
-  1 INSERT 0 1
-> 1 INSERT INTO t VALUES (2, 0);
-  1 INSERT 0 1
-> 1 COMMIT;
-  1 COMMIT
-> 1 BEGIN;
-  1 BEGIN
-> 1 SELECT v FROM t WHERE id = 1;
-  1 SELECT 1
-  1 | 0
-> 2 BEGIN;
-  2 BEGIN
-> 2 UPDATE t SET v = 5 WHERE id = 1;
-  2 UPDATE 1
-> 2 UPDATE t SET v = 5 WHERE id = 2;
-  2 UPDATE 1
-> 2 COMMIT;
-  2 COMMIT
-> 1 SELECT v FROM t WHERE id = 2;
-  1 SELECT 1
-  1 | 5
-> 1 COMMIT;
-  1 COMMIT
+1 BEGIN
+1 SELECT v FROM t WHERE id = 1 -> SELECT 1 / | 0
+2 BEGIN
+2 UPDATE t SET v = 5 WHERE id = 1
+2 UPDATE t SET v = 5 WHERE id = 2
+2 COMMIT
+1 SELECT v FROM t WHERE id = 2 -> SELECT 1 / | 5
+1 COMMIT
 ";
 
 #[test]
@@ -147,31 +89,17 @@ source 0 2 2.1; later 2 1 1.1; cycle 1 2: 0
 later 2 1 1.1; source 1 2 1.1; cycle 1 2: 1
 later 2 1 1.1; source 1 2 2.1; cycle 0 1: 2
 ";
-    judge(&rt, rt.alloc(), READ_SKEW, cases)
+    judge(&rt, rt.alloc(), (TWO_ROWS, READ_SKEW), cases)
 }
 
 // A transaction begins after an update was committed, and finds the row as it was.
-const STALE_READ: &str = "\
-> CREATE TABLE t (id bigint PRIMARY KEY, v bigint);
-> 1 BEGIN;
-  1 BEGIN
-> 1 INSERT INTO t VALUES (1, 0);
-  1 INSERT 0 1
-> 1 COMMIT;
-  1 COMMIT
-> 1 BEGIN;
-  1 BEGIN
-> 1 UPDATE t SET v = 1 WHERE id = 1;
-  1 UPDATE 1
-> 1 COMMIT;
-  1 COMMIT
-> 2 BEGIN;
-  2 BEGIN
-> 2 SELECT v FROM t WHERE id = 1;
-  2 SELECT 1
-  2 | 0
-> 2 COMMIT;
-  2 COMMIT
+pub(crate) const STALE_READ: &str = "\
+1 BEGIN
+1 UPDATE t SET v = 1 WHERE id = 1
+1 COMMIT
+2 BEGIN
+2 SELECT v FROM t WHERE id = 1 -> SELECT 1 / | 0
+2 COMMIT
 ";
 
 #[test]
@@ -183,37 +111,20 @@ sourceless 2 1.0: 0
 sourceless 0 1.0: 0
 sourceless 3 1.1: 0
 ";
-    judge(&rt, rt.alloc(), STALE_READ, cases)
+    judge(&rt, rt.alloc(), (ONE_ROW, STALE_READ), cases)
 }
 
 // The COMMIT of the last one had no reply, but what it wrote was read; later it wasn't there.
 const UNANSWERED_COMMIT: &str = "\
-> CREATE TABLE t (id bigint PRIMARY KEY, v bigint);
-> 1 BEGIN;
-  1 BEGIN
-> 1 INSERT INTO t VALUES (1, 0);
-  1 INSERT 0 1
-> 1 COMMIT;
-  1 COMMIT
-> 3 BEGIN;
-  3 BEGIN
-> 3 UPDATE t SET v = 5 WHERE id = 1;
-  3 UPDATE 1
-> 3 COMMIT;
-> 1 BEGIN;
-  1 BEGIN
-> 1 SELECT v FROM t WHERE id = 1;
-  1 SELECT 1
-  1 | 5
-> 1 COMMIT;
-  1 COMMIT
-> 1 BEGIN;
-  1 BEGIN
-> 1 SELECT v FROM t WHERE id = 1;
-  1 SELECT 1
-  1 | 0
-> 1 COMMIT;
-  1 COMMIT
+3 BEGIN
+3 UPDATE t SET v = 5 WHERE id = 1
+3 COMMIT -> nothing
+1 BEGIN
+1 SELECT v FROM t WHERE id = 1 -> SELECT 1 / | 5
+1 COMMIT
+1 BEGIN
+1 SELECT v FROM t WHERE id = 1 -> SELECT 1 / | 0
+1 COMMIT
 ";
 
 #[test]
@@ -229,37 +140,20 @@ joined 3 1 2; sourceless 2 1.1: 0
 sourceless 2 1.1: 0
 suppose present 3; sourceless 1 1.1: 1
 ";
-    judge(&rt, rt.alloc(), UNANSWERED_COMMIT, cases)
+    judge(&rt, rt.alloc(), (ONE_ROW, UNANSWERED_COMMIT), cases)
 }
 
 // Two add 1 to 0 one after the other, and 1 is found.
 const LOST_INCREMENT: &str = "\
-> CREATE TABLE t (id bigint PRIMARY KEY, v bigint);
-> 1 BEGIN;
-  1 BEGIN
-> 1 INSERT INTO t VALUES (1, 0);
-  1 INSERT 0 1
-> 1 COMMIT;
-  1 COMMIT
-> 1 BEGIN;
-  1 BEGIN
-> 1 UPDATE t SET v = v + 1 WHERE id = 1;
-  1 UPDATE 1
-> 1 COMMIT;
-  1 COMMIT
-> 1 BEGIN;
-  1 BEGIN
-> 1 UPDATE t SET v = v + 1 WHERE id = 1;
-  1 UPDATE 1
-> 1 COMMIT;
-  1 COMMIT
-> 1 BEGIN;
-  1 BEGIN
-> 1 SELECT v FROM t WHERE id = 1;
-  1 SELECT 1
-  1 | 1
-> 1 COMMIT;
-  1 COMMIT
+1 BEGIN
+1 UPDATE t SET v = v + 1 WHERE id = 1
+1 COMMIT
+1 BEGIN
+1 UPDATE t SET v = v + 1 WHERE id = 1
+1 COMMIT
+1 BEGIN
+1 SELECT v FROM t WHERE id = 1 -> SELECT 1 / | 1
+1 COMMIT
 ";
 
 #[test]
@@ -273,24 +167,14 @@ found 1 1.1 0; found 2 1.1 1; sourceless 2 1.1: 2
 found 2 1.1 1; sourceless 3 1.1: 0
 found 1 1.1 0; sourceless 3 1.1: 1
 ";
-    judge(&rt, rt.alloc(), LOST_INCREMENT, cases)
+    judge(&rt, rt.alloc(), (ONE_ROW, LOST_INCREMENT), cases)
 }
 
 // An update finds no row of key 1 with 0, though there is one.
 const MISSED_ROW: &str = "\
-> CREATE TABLE t (id bigint PRIMARY KEY, v bigint);
-> 1 BEGIN;
-  1 BEGIN
-> 1 INSERT INTO t VALUES (1, 0);
-  1 INSERT 0 1
-> 1 COMMIT;
-  1 COMMIT
-> 1 BEGIN;
-  1 BEGIN
-> 1 UPDATE t SET v = 9 WHERE id = 1 AND v = 0;
-  1 UPDATE 0
-> 1 COMMIT;
-  1 COMMIT
+1 BEGIN
+1 UPDATE t SET v = 9 WHERE id = 1 AND v = 0 -> UPDATE 0
+1 COMMIT
 ";
 
 #[test]
@@ -305,44 +189,22 @@ needless 1 1.0 0; needless 1 1.1 1; wayless 1 2: 2
 needless 1 1.0 0; wayless 1 1: 1
 needless 1 1.0 2; wayless 1 1: 0
 ";
-    judge(&rt, rt.alloc(), MISSED_ROW, cases)
+    judge(&rt, rt.alloc(), (ONE_ROW, MISSED_ROW), cases)
 }
 
 // The second writes row 1 after the first, whose row 2 it read, but what the first wrote is found.
 const OVERTAKEN_WRITE: &str = "\
-> CREATE TABLE t (id bigint PRIMARY KEY, v bigint);
-> 1 BEGIN;
-  1 BEGIN
-> 1 INSERT INTO t VALUES (1, 0);
-  1 INSERT 0 1
-> 1 INSERT INTO t VALUES (2, 0);
-  1 INSERT 0 1
-> 1 COMMIT;
-  1 COMMIT
-> 1 BEGIN;
-  1 BEGIN
-> 2 BEGIN;
-  2 BEGIN
-> 2 UPDATE t SET v = 2 WHERE id = 1;
-  2 UPDATE 1
-> 2 UPDATE t SET v = 7 WHERE id = 2;
-  2 UPDATE 1
-> 2 COMMIT;
-  2 COMMIT
-> 1 SELECT v FROM t WHERE id = 2;
-  1 SELECT 1
-  1 | 7
-> 1 UPDATE t SET v = 1 WHERE id = 1;
-  1 UPDATE 1
-> 1 COMMIT;
-  1 COMMIT
-> 1 BEGIN;
-  1 BEGIN
-> 1 SELECT v FROM t WHERE id = 1;
-  1 SELECT 1
-  1 | 2
-> 1 COMMIT;
-  1 COMMIT
+1 BEGIN
+2 BEGIN
+2 UPDATE t SET v = 2 WHERE id = 1
+2 UPDATE t SET v = 7 WHERE id = 2
+2 COMMIT
+1 SELECT v FROM t WHERE id = 2 -> SELECT 1 / | 7
+1 UPDATE t SET v = 1 WHERE id = 1
+1 COMMIT
+1 BEGIN
+1 SELECT v FROM t WHERE id = 1 -> SELECT 1 / | 2
+1 COMMIT
 ";
 
 #[test]
@@ -355,48 +217,24 @@ source 1 2 2.1; earlier 2 1 3 2.1; cycle 1 2: 1
 source 1 2 2.1; earlier 1 1 3 1.1; cycle 1 2: 1
 source 1 2 2.1; earlier 2 1 3 1.1; cycle 1 3: 2
 ";
-    judge(&rt, rt.alloc(), OVERTAKEN_WRITE, cases)
+    judge(&rt, rt.alloc(), (TWO_ROWS, OVERTAKEN_WRITE), cases)
 }
 
 // One of two writers was seen, both of which began after a third, of which nothing was seen.
 const COMMON_CAUSE: &str = "\
-> CREATE TABLE t (id bigint PRIMARY KEY, v bigint);
-> 1 BEGIN;
-  1 BEGIN
-> 1 INSERT INTO t VALUES (1, 0);
-  1 INSERT 0 1
-> 1 INSERT INTO t VALUES (2, 0);
-  1 INSERT 0 1
-> 1 COMMIT;
-  1 COMMIT
-> 4 BEGIN;
-  4 BEGIN
-> 1 BEGIN;
-  1 BEGIN
-> 1 UPDATE t SET v = 5 WHERE id = 2;
-  1 UPDATE 1
-> 1 COMMIT;
-  1 COMMIT
-> 2 BEGIN;
-  2 BEGIN
-> 3 BEGIN;
-  3 BEGIN
-> 2 UPDATE t SET v = 1 WHERE id = 1;
-  2 UPDATE 1
-> 2 COMMIT;
-  2 COMMIT
-> 3 UPDATE t SET v = 1 WHERE id = 1;
-  3 UPDATE 1
-> 3 COMMIT;
-  3 COMMIT
-> 4 SELECT v FROM t WHERE id = 2;
-  4 SELECT 1
-  4 | 0
-> 4 SELECT v FROM t WHERE id = 1;
-  4 SELECT 1
-  4 | 1
-> 4 COMMIT;
-  4 COMMIT
+4 BEGIN
+1 BEGIN
+1 UPDATE t SET v = 5 WHERE id = 2
+1 COMMIT
+2 BEGIN
+3 BEGIN
+2 UPDATE t SET v = 1 WHERE id = 1
+2 COMMIT
+3 UPDATE t SET v = 1 WHERE id = 1
+3 COMMIT
+4 SELECT v FROM t WHERE id = 2 -> SELECT 1 / | 0
+4 SELECT v FROM t WHERE id = 1 -> SELECT 1 / | 1
+4 COMMIT
 ";
 
 #[test]
@@ -408,5 +246,5 @@ common 1 4 2.1; later 4 1 2.1; cycle 1 4: 0
 common 1 4 1.1; later 4 2 2.1; cycle 1 4: 1
 common 1 4 1.1; later 4 1 2.1; cycle 1 2: 2
 ";
-    judge(&rt, rt.alloc(), COMMON_CAUSE, cases)
+    judge(&rt, rt.alloc(), (TWO_ROWS, COMMON_CAUSE), cases)
 }

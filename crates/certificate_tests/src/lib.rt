@@ -15,4 +15,6 @@ mod found;
 #[cfg(test)]
 mod recorded;
 #[cfg(test)]
+mod recordings;
+#[cfg(test)]
 mod words;

@@ -240,21 +240,61 @@ fn the_opening_is_lent(rt: HostRuntime) -> Result<(), Refusal> {
     assert_opening(&rt, &memory, &memory)
 }
 
-// Orders of the two transactions, with whether they are serial: the second has read what the first has written, and each
-// stands once.
-const ORDERS: [([TxnNo; 2], bool); 4] = [
-    ([TxnNo(1), TxnNo(2)], true),
-    ([TxnNo(2), TxnNo(1)], false),
-    ([TxnNo(1), TxnNo(1)], false),
-    ([TxnNo(1), TxnNo(3)], false),
+// Two transactions have committed, one after the other, of which neither has read what the other has written.
+const APART: &str = "\
+> 1 BEGIN
+1 BEGIN
+> 1 INSERT INTO p VALUES (1, 'a name')
+1 INSERT 0 1
+> 1 COMMIT
+1 COMMIT
+> 2 BEGIN
+2 BEGIN
+> 2 INSERT INTO n VALUES ('the one', 1)
+2 INSERT 0 1
+> 2 COMMIT
+2 COMMIT
+";
+
+// Two transactions have committed, side by side, of which the first has read what was there before the second wrote.
+const BESIDE: &str = "\
+> 1 BEGIN
+1 BEGIN
+> 2 BEGIN
+2 BEGIN
+> 1 SELECT * FROM n
+1 SELECT 0
+> 2 INSERT INTO n VALUES ('the one', 1)
+2 INSERT 0 1
+> 2 COMMIT
+2 COMMIT
+> 1 INSERT INTO p VALUES (1, 'a name')
+1 INSERT 0 1
+> 1 COMMIT
+1 COMMIT
+";
+
+// Orders of the two transactions, with whether they are serial. The second of QUIET has read what the first has written,
+// the first of APART had ended before the second began, and the first of BESIDE gets another answer behind the second.
+// Each stands once.
+const ORDERS: [(&str, &[TxnNo], bool); 9] = [
+    (QUIET, &[TxnNo(1), TxnNo(2)], true),
+    (QUIET, &[TxnNo(2), TxnNo(1)], false),
+    (QUIET, &[TxnNo(1)], false),
+    (QUIET, &[TxnNo(1), TxnNo(2), TxnNo(2)], false),
+    (QUIET, &[TxnNo(1), TxnNo(2), TxnNo(3)], false),
+    (APART, &[TxnNo(1), TxnNo(2)], true),
+    (APART, &[TxnNo(2), TxnNo(1)], false),
+    (BESIDE, &[TxnNo(1), TxnNo(2)], true),
+    (BESIDE, &[TxnNo(2), TxnNo(1)], false),
 ];
 
 #[test]
 fn a_wrong_order_is_no_serial_order(rt: HostRuntime) -> Result<(), Refusal> {
-    let core = core_after(rt.alloc(), QUIET)?;
-    core.is_legal();
-    for (order, is_serial) in ORDERS {
-        let found = check_order(rt.alloc(), core.history(), order.as_slice())?;
+    for (script, order, is_serial) in ORDERS {
+        let core = core_after(rt.alloc(), script)?;
+        core.is_legal();
+        let found = check_order(rt.alloc(), core.history(), order)?;
         assert!(rt; found == is_serial, "{order:?}");
     }
     Ok(())

@@ -28,7 +28,7 @@ const BEFORE: &str = "\
 1 INSERT INTO t VALUES (2, 'another')
 1 COMMIT";
 
-/// The script after the checkpoint: the number of a commit goes on, and sessions begin anew.
+/// The script after the checkpoint: the numbers of transactions and commits go on, and sessions begin anew.
 pub const AFTER: &str = "\
 CREATE TABLE t (id bigint PRIMARY KEY, name text NOT NULL);
 > 2 BEGIN DEFERRABLE
@@ -59,6 +59,8 @@ COPY t (id, name) FROM stdin;
 > 1 SELECT name FROM t WHERE id = 2
 1 SELECT 1
 1 | another
+= txn 4 key 3 1 3
+= check yes
 ";
 
 // A core of no events since a checkpoint.

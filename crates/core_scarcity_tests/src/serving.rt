@@ -6,9 +6,9 @@ ghost use Rattle.history.specs.Opening.{zero_base};
 
 use crate::driver::Memory;
 use crate::fixture::{append_audit, append_history, not_asked, opening, out_of_memory};
-use crate::trial::{Keeping, Trial, refusal_of};
+use crate::trial::{Trial, refusal_of};
 use crate::worked::script_at;
-use backup::{BackupFault, dump_safe};
+use backup::{SafeDumpFault, dump_safe};
 use dumpplan::{Jobs, NoGate, PieceRows};
 use dumpworker::dump_one;
 use history::base::Base;
@@ -16,6 +16,7 @@ use mvrows::view::View;
 use pass::token::Pass;
 use pass::word::{FirstSeat, HistoryWord, Naming};
 use request::request::Request;
+use scarce::tape::Tape;
 use schema::catalog::Catalog;
 use schema::tables::Tables;
 use script::printing::reply_text;
@@ -23,7 +24,6 @@ use serial::laws::views_are_sound;
 use server::shared::Server;
 use std::alloc::{Allocator, Global};
 use std::marker::Brand;
-use std::process::Abort;
 use std::sync::Wait;
 use std::thread::Threads;
 use value::refusal::{Mode, Refusal};
@@ -81,8 +81,7 @@ fn view_of<'w, J: Naming<A>, A: Allocator + Copy, R: Wait>(
 }
 
 // The dump of a view, by the calling thread alone.
-fn text_of<'w, J: Naming<A>, A: Allocator + Copy, R: Abort>(
-    rt: &R,
+fn text_of<'w, J: Naming<A>, A: Allocator + Copy>(
     memory: &Memory,
     alloc: A,
     server: &Server<'w, J, A>,
@@ -91,15 +90,15 @@ fn text_of<'w, J: Naming<A>, A: Allocator + Copy, R: Abort>(
     requires { length view.now ≡ length J.opening.catalog }
 {
     let piece_rows = PieceRows::new(9).ok_or(not_asked())?;
-    let mut device = Keeping::new(rt, memory.inner);
+    let mut device = Tape::new(memory.inner);
     match dump_one(alloc, view, server.catalog(), piece_rows, &mut device) {
         Ok(()) => Ok(device.taken),
-        Err(fault) => Err(refusal_of(BackupFault::Dump(fault))),
+        Err(fault) => Err(refusal_of(SafeDumpFault::Dump(fault))),
     }
 }
 
 // What a view of a session's safe snapshot shows. A view takes memory.
-fn viewed<'w, J: Naming<A>, A: Allocator + Copy, R: Abort + Wait>(
+fn viewed<'w, J: Naming<A>, A: Allocator + Copy, R: Wait>(
     rt: &R,
     (memory, alloc): (&Memory, A),
     server: &Server<'w, J, A>,
@@ -112,7 +111,7 @@ fn viewed<'w, J: Naming<A>, A: Allocator + Copy, R: Abort + Wait>(
         return Err(not_asked());
     }
     match view {
-        Ok(view) => text_of(rt, memory, alloc, server, &view),
+        Ok(view) => text_of(memory, alloc, server, &view),
         Err(refusal) => Err(refusal),
     }
 }
@@ -128,11 +127,11 @@ fn dumped<'w, J, A, R>(
 where
     J: Naming<A>,
     A: Allocator + Copy + Send + Sync,
-    R: Abort + Threads + Wait + Sync,
+    R: Threads + Wait + Sync,
 {
     let jobs = Jobs::new(2).ok_or(not_asked())?;
     let piece_rows = PieceRows::new(1).ok_or(not_asked())?;
-    let mut device = Keeping::new(rt, memory.inner);
+    let mut device = Tape::new(memory.inner);
     let start = trial.begin(memory);
     let done = dump_safe(
         rt,
@@ -174,7 +173,7 @@ impl Told {
 }
 
 // Appends how many events a session knows of, and what its snapshot shows where it is safe.
-fn append_shown<'w, J: Naming<A>, A: Allocator + Copy, R: Abort + Wait>(
+fn append_shown<'w, J: Naming<A>, A: Allocator + Copy, R: Wait>(
     rt: &R,
     (memory, alloc): (&Memory, A),
     server: &Server<'w, J, A>,
@@ -184,14 +183,14 @@ fn append_shown<'w, J: Naming<A>, A: Allocator + Copy, R: Abort + Wait>(
     let line = format!(in memory.inner; "{} events\n", pass.stamp())?;
     state.extend_from_slice(line.as_bytes())?;
     if let Ok(view) = view_of(rt, alloc, server, pass) {
-        let text = text_of(rt, memory, alloc, server, &view)?;
+        let text = text_of(memory, alloc, server, &view)?;
         state.extend_from_slice(text.as_slice())?;
     }
     Ok(())
 }
 
 // The state: how many events there are, and what each safe session shows.
-fn state_of<'w, J: Naming<A>, A: Allocator + Copy, R: Abort + Wait>(
+fn state_of<'w, J: Naming<A>, A: Allocator + Copy, R: Wait>(
     rt: &R,
     (memory, alloc): (&Memory, A),
     server: &Server<'w, J, A>,
@@ -216,7 +215,7 @@ fn answer<'w, J, A, R>(
 where
     J: Naming<A>,
     A: Allocator + Copy + Send + Sync,
-    R: Abort + Threads + Wait + Sync,
+    R: Threads + Wait + Sync,
 {
     if asked == "DUMP" {
         let shown = viewed(rt, (memory, alloc), server, pass, trial)?;
@@ -244,7 +243,7 @@ fn ask<'w, J, A, R>(
 where
     J: Naming<A>,
     A: Allocator + Copy + Send + Sync,
-    R: Abort + Threads + Wait + Sync,
+    R: Threads + Wait + Sync,
 {
     let (number, asked) = line.split_once(' ').ok_or(not_asked())?;
     let number = number.parse::<usize>().ok().ok_or(not_asked())?;
@@ -264,7 +263,7 @@ fn ask_at_last<'w, J, A, R>(
 where
     J: Naming<A>,
     A: Allocator + Copy + Send + Sync,
-    R: Abort + Threads + Wait + Sync,
+    R: Threads + Wait + Sync,
 {
     match ask(rt, (memory, alloc), server, passes, line, (told, trial)) {
         Err(refusal) => {
@@ -280,7 +279,7 @@ where
 }
 
 // Appends the state.
-fn append_state<'w, J: Naming<A>, A: Allocator + Copy, R: Abort + Wait>(
+fn append_state<'w, J: Naming<A>, A: Allocator + Copy, R: Wait>(
     rt: &R,
     given: (&Memory, A),
     server: &Server<'w, J, A>,
@@ -304,7 +303,7 @@ fn ask_all<'w, J, A, R>(
 where
     J: Naming<A>,
     A: Allocator + Copy + Send + Sync,
-    R: Abort + Threads + Wait + Sync,
+    R: Threads + Wait + Sync,
 {
     append_state(rt, (memory, alloc), server, passes, told)?;
     for line in script.lines() {
@@ -330,7 +329,7 @@ pub fn play<'w, J, A, R>(
 where
     J: Naming<A>,
     A: Allocator + Copy + Send + Sync,
-    R: Abort + Threads + Wait + Sync,
+    R: Threads + Wait + Sync,
 {
     let given = (memory, alloc);
     ask_all(rt, given, &server, &mut passes, script, (told, trial))?;
@@ -354,7 +353,7 @@ fn serve<J, A, R>(
 where
     J: Naming<A>,
     A: Allocator + Copy + Send + Sync,
-    R: Abort + Threads + Wait + Sync,
+    R: Threads + Wait + Sync,
     requires word { named.0.now ≡ record { table = J.table; opening = J.opening } }
     requires first { named.1 ≡ J.table }
     requires opening { J.opening ≡ record { catalog = opening.0; tables = opening.1; base = zero_base } }
@@ -381,7 +380,7 @@ where
 }
 
 // Plays a script on a server and a word of its own.
-fn serve_anew<R: Abort + Threads + Wait + Sync>(
+fn serve_anew<R: Threads + Wait + Sync>(
     rt: &R,
     memory: &Memory,
     place: usize,
@@ -395,7 +394,7 @@ fn serve_anew<R: Abort + Threads + Wait + Sync>(
 
 /// What comes of the script at a place, played on a server while one request is refused; where that is one of its
 /// opening, it is opened again.
-pub fn serve_at_last<R: Abort + Threads + Wait + Sync>(
+pub fn serve_at_last<R: Threads + Wait + Sync>(
     rt: &R,
     memory: &Memory,
     place: usize,

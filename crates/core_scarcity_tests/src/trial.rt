@@ -1,54 +1,17 @@
-//! What a script is played with while one request for memory is refused: a device, and the count of requests.
+//! What a script is played with while one request for memory is refused: the count of requests.
 
 use crate::driver::Memory;
 use crate::fixture::not_asked;
-use backup::BackupFault;
-use collector::{Device, DeviceError};
+use backup::SafeDumpFault;
 use dumpworker::DumpFault;
-use std::alloc::Global;
-use std::process::Abort;
 use value::refusal::{Code, Refusal};
 
-/// A device that keeps what it is given, in ample memory.
-#[derive(Drop)]
-pub struct Keeping<'r, R: Abort> {
-    rt: &'r R,
-    pub taken: Vec<u8>,
-    failures: u64,
-}
-
-impl<'r, R: Abort> Keeping<'r, R> {
-    /// A device that has been given nothing.
-    pub fn new(rt: &'r R, ample: Global) -> Keeping<'r, R> {
-        Keeping {
-            rt,
-            taken: Vec::new(ample),
-            failures: 0,
-        }
-    }
-}
-
-impl<'r, R: Abort> Device for Keeping<'r, R> {
-    ghost taken = { λ d. d.taken.items };
-
-    ghost failures = { λ d. d.failures };
-
-    fn write(&mut self, bytes: &[u8]) -> Result<usize, DeviceError> {
-        if self.taken.extend_from_slice(bytes).is_ok() {
-            return Ok(bytes.len());
-        }
-        assert!(self.rt; self.failures < 9);
-        self.failures += 1;
-        Err(DeviceError)
-    }
-}
-
 /// Why there is no dump: the view's refusal, or out of memory.
-pub fn refusal_of(fault: BackupFault) -> Refusal {
+pub fn refusal_of(fault: SafeDumpFault) -> Refusal {
     match fault {
-        BackupFault::View(refusal) => refusal,
-        BackupFault::Dump(DumpFault::Memory) => Refusal::of_code(Code::OutOfMemory),
-        BackupFault::Dump(DumpFault::Device) => not_asked(),
+        SafeDumpFault::View(refusal) => refusal,
+        SafeDumpFault::Dump(DumpFault::Memory) => Refusal::of_code(Code::OutOfMemory),
+        SafeDumpFault::Dump(DumpFault::Device) => not_asked(),
     }
 }
 

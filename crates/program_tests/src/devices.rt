@@ -1,7 +1,8 @@
 //! Files that fail, and a standard output that does.
 
 use crate::driver::{Given, assert_ends, status_of};
-use crate::dumps::{EXAMPLE, WRITTEN};
+use crate::dumps::OLD_EXAMPLE;
+use scarce::dumps::EXAMPLE;
 use std::process::Abort;
 use std::sync::Wait;
 use std::test::Fail;
@@ -18,10 +19,10 @@ OPEN d;
 // A script whose file takes only a beginning of the dump: the replies before it stay.
 #[test]
 fn a_dump_to_a_full_file(rt: HostRuntime) -> Result<(), Fail> {
-    let whole = WRITTEN.as_bytes();
+    let whole = EXAMPLE.as_bytes();
     for most in [0, 1, 9, 60, 200, 253] {
         let given = Given {
-            files: &[("d", EXAMPLE.as_bytes())],
+            files: &[("d", OLD_EXAMPLE.as_bytes())],
             room: &whole[..whole.len().min(most)],
             ..Given::of("run -", DUMPED)
         };
@@ -96,7 +97,7 @@ fn files_without_memory(rt: HostRuntime) -> Result<(), Fail> {
         ),
         (
             "restore - --out scarce",
-            EXAMPLE,
+            OLD_EXAMPLE,
             (1, "", "dump line 0: 53200\n"),
         ),
     ] {

@@ -1,10 +1,11 @@
 //! Dumps that are restored, and written by a script.
 
 use crate::driver::{Given, assert_ends};
+use scarce::dumps::EXAMPLE;
 use std::test::Fail;
 
 // A dump of four rows, as version 1 has it.
-pub const EXAMPLE: &str = "\
+pub const OLD_EXAMPLE: &str = "\
 -- dump 1
 CREATE TABLE p (id bigint PRIMARY KEY, name text NOT NULL);
 CREATE TABLE c (id bigint PRIMARY KEY, p bigint REFERENCES p, raw bytea);
@@ -19,24 +20,6 @@ COPY c (id, p, raw) FROM stdin;
 -- end
 ";
 
-/// The dump as version 2 has it.
-pub const WRITTEN: &str = "\
--- dump 2
-CREATE TABLE p (id bigint PRIMARY KEY, name text NOT NULL);
-CREATE TABLE c (id bigint PRIMARY KEY, p bigint REFERENCES p, raw bytea);
-COPY p (id, name) FROM stdin;
-1\ta
-2\tx\\ty
-\\.
--- rows 2
-COPY c (id, p, raw) FROM stdin;
--5\t2\t\\\\x00ff
-7\t\\N\t\\N
-\\.
--- rows 2
--- end
-";
-
 #[test]
 fn restored(rt: HostRuntime) -> Result<(), Fail> {
     for (words, out) in [
@@ -44,10 +27,10 @@ fn restored(rt: HostRuntime) -> Result<(), Fail> {
         ("restore - --out out --jobs 1", "out"),
         ("restore --jobs=8 --out=- -", "-"),
     ] {
-        for input in [EXAMPLE, WRITTEN] {
+        for input in [OLD_EXAMPLE, EXAMPLE] {
             let given = Given {
                 out,
-                room: WRITTEN.as_bytes(),
+                room: EXAMPLE.as_bytes(),
                 ..Given::of(words, input)
             };
             assert_ends(&rt, given, (0, "RESTORE 2 tables 4 rows\n", ""))?;

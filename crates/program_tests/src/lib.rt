@@ -1,9 +1,11 @@
-//! Tests alone: the program's words over files in memory, against what it prints and how it ends.
+//! Tests alone: the program's words over files in memory, against what it prints and how it ends; drawn interleavings.
 
 #![tactic(auto)]
 
 #[cfg(test)]
 mod devices;
+#[cfg(test)]
+mod draws;
 #[cfg(test)]
 mod driver;
 #[cfg(test)]

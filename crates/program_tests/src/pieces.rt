@@ -1,6 +1,7 @@
 //! In how many pieces a DUMP line writes its dump.
 
 use crate::driver::{Given, status_of};
+use scarce::dumps::SEVEN_KEYS_AND_NONE;
 use std::process::Abort;
 use std::sync::Wait;
 use std::test::Fail;
@@ -23,26 +24,6 @@ CREATE TABLE u (id bigint PRIMARY KEY);
 1 POLL;
 ";
 
-const DUMPED: &str = "\
--- dump 2
-CREATE TABLE t (id bigint PRIMARY KEY);
-CREATE TABLE u (id bigint PRIMARY KEY);
-COPY t (id) FROM stdin;
-1
-2
-3
-4
-5
-6
-7
-\\.
--- rows 7
-COPY u (id) FROM stdin;
-\\.
--- rows 0
--- end
-";
-
 // How often something is written at a DUMP line.
 fn writes_of<R: Abort + AllocGlobal + Sync + Threads + Wait>(
     rt: &R,
@@ -51,7 +32,7 @@ fn writes_of<R: Abort + AllocGlobal + Sync + Threads + Wait>(
 ) -> Result<u64, Fail> {
     let script = format!(in rt.alloc(); "{SEVEN}{dump}")?;
     let given = Given {
-        room: DUMPED.as_bytes(),
+        room: SEVEN_KEYS_AND_NONE.as_bytes(),
         ..Given::of(words, script.as_str())
     };
     let mut out = Vec::new(rt.alloc());

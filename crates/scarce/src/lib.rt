@@ -1,10 +1,12 @@
-//! An allocator for tests: it counts the requests for memory, and refuses one of them.
+//! An allocator for tests: it counts the requests for memory, and refuses one of them. A device for tests, and dumps.
 
 #![tactic(auto)]
 
 ghost use Rattle.std.specs.Prelude.{◌≡◌};
 
+pub mod dumps;
 mod naming;
+pub mod tape;
 #[cfg(test)]
 mod tests;
 

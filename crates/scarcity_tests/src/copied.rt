@@ -6,6 +6,7 @@ use crate::fixture::{Database, not_asked};
 use dumpplan::{Jobs, NoGate};
 use restore::{RestoreFault, restore, restore_one};
 use scarce::Scarce;
+use scarce::dumps::EXAMPLE;
 use schema::catalog::Catalog;
 use schema::tables::Tables;
 use std::alloc::{Allocator, Global};
@@ -45,23 +46,6 @@ impl<'d, A: Allocator + Copy> Call for RestoreOne<'d, A> {
         database(restore_one(self.alloc, self.dump.as_bytes()))
     }
 }
-
-// Texts, a bytea, nulls and a reference.
-const DUMP: &str = "-- dump 2
-CREATE TABLE p (id bigint PRIMARY KEY, name text NOT NULL);
-CREATE TABLE c (id bigint PRIMARY KEY, p bigint REFERENCES p, raw bytea);
-COPY p (id, name) FROM stdin;
-1\ta
-2\tx\\ty
-\\.
--- rows 2
-COPY c (id, p, raw) FROM stdin;
--5\t2\t\\\\x00ff
-7\t\\N\t\\N
-\\.
--- rows 2
--- end
-";
 
 // The dump of so many numbers, each in a row with itself: a row takes a list of what stands behind its key.
 fn numbers(alloc: Global, count: u32) -> Result<String, Refusal> {
@@ -155,7 +139,7 @@ fn dumps_restored_by_one_thread(rt: HostRuntime) -> Result<(), Refusal> {
     let memory = Scarce::new(rt.alloc());
     let alloc = &memory;
     let many = numbers(rt.alloc(), 200)?;
-    for (dump, least) in [(DUMP, 12), (many.as_str(), 200)] {
+    for (dump, least) in [(EXAMPLE, 12), (many.as_str(), 200)] {
         assert_needs(&rt, &memory, &RestoreOne { alloc, dump }, least)?;
     }
     Ok(())

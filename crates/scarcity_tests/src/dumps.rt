@@ -4,10 +4,10 @@ ghost use Rattle.std.specs.Prelude.{◌≡◌, true, length};
 
 use crate::driver::{Memory, is_out_of_memory};
 use crate::fixture::{Database, not_asked, some_tables};
-use collector::{Device, DeviceError};
 use dumpplan::{Jobs, NoGate, PieceRows};
 use dumpworker::{DumpFault, dump};
 use scarce::Scarce;
+use scarce::tape::Tape;
 use schema::catalog::{Catalog, TableNo};
 use schema::reader::SnapshotReader;
 use schema::row::Row;
@@ -19,40 +19,6 @@ use value::key::Key;
 use value::refusal::{Code, Refusal};
 use value::text::Text;
 use value::value::Value;
-
-/// A device that keeps what it is given, in ample memory.
-#[derive(Drop)]
-pub struct Keeping<'r, R: Abort> {
-    rt: &'r R,
-    pub taken: Vec<u8>,
-    failures: u64,
-}
-
-impl<'r, R: Abort> Device for Keeping<'r, R> {
-    ghost taken = { λ d. d.taken.items };
-
-    ghost failures = { λ d. d.failures };
-
-    fn write(&mut self, bytes: &[u8]) -> Result<usize, DeviceError> {
-        if self.taken.extend_from_slice(bytes).is_ok() {
-            return Ok(bytes.len());
-        }
-        assert!(self.rt; self.failures < 9);
-        self.failures += 1;
-        Err(DeviceError)
-    }
-}
-
-impl<'r, R: Abort> Keeping<'r, R> {
-    /// A device that was given nothing.
-    pub fn new(rt: &'r R, alloc: Global) -> Keeping<'r, R> {
-        Keeping {
-            rt,
-            taken: Vec::new(alloc),
-            failures: 0,
-        }
-    }
-}
 
 // The tables, with so many numbered names more.
 fn with_names<A: Allocator + Copy>(alloc: A, count: u8) -> Result<Database<A>, Refusal> {
@@ -124,12 +90,12 @@ pub fn dump_text<A: Allocator + Copy + Send + Sync, R, T: SnapshotReader<A> + Sy
     text: &[u8],
 ) -> Result<Vec<u8>, Refusal>
 where
-    R: Abort + Threads + Wait + Sync,
+    R: Threads + Wait + Sync,
     requires { length (T.tables reader.now) ≡ length catalog.now }
 {
     let (ample, alloc) = given;
     let piece_rows = PieceRows::new(7).ok_or(not_asked())?;
-    let mut device = Keeping::new(rt, ample);
+    let mut device = Tape::new(ample);
     match dump(
         rt,
         alloc,
@@ -149,7 +115,7 @@ where
 }
 
 /// The dump text of tables, by so many workers. What is written before a refusal is a beginning of `text`.
-pub fn dumped<A: Allocator + Copy + Send + Sync, R: Abort + Threads + Wait + Sync>(
+pub fn dumped<A: Allocator + Copy + Send + Sync, R: Threads + Wait + Sync>(
     rt: &R,
     (ample, alloc): (Global, A),
     (lent, jobs): (&Database<A>, Jobs),

@@ -1,12 +1,11 @@
 //! Tests of dumps: by how many workers, with which pieces held back, to devices that fail; and by the calling thread alone.
 
-use crate::dumped::{
-    EXAMPLE, NOTHING, SEVEN_KEYS, SEVEN_KEYS_AND_NONE, SIX_KEYS, check, tables_of,
-};
+use crate::dumped::{NOTHING, SEVEN_KEYS, SIX_KEYS, check, tables_of};
 use crate::flaky::Flaky;
 use crate::gates::{Counting, Holding, Meeting};
 use dumpplan::{Gate, Jobs, NoGate, PieceRows};
 use dumpworker::{DumpFault, dump, dump_one};
+use scarce::dumps::{EXAMPLE, SEVEN_KEYS_AND_NONE};
 use schema::catalog::Catalog;
 use schema::tables::Tables;
 use std::alloc::Global;

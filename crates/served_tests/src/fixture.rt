@@ -1,15 +1,13 @@
-//! What the tests share: an opening, a device that keeps what it is given, and a barrier between threads.
+//! What the tests share: an opening, and a barrier between threads.
 
 ghost use Rattle.std.specs.Prelude.{◌≡◌, true, IfOk};
 ghost use Rattle.schema.specs.Plain.{is_sound};
 
-use collector::{Device, DeviceError};
 use dumpplan::Gate;
 use schema::catalog::Catalog;
 use schema::tables::Tables;
 use sqltext::create::parse_create;
 use std::alloc::Global;
-use std::process::Abort;
 use std::sync::atomic::{AtomicBool, Ordering};
 use std::thread;
 use value::refusal::{Code, Refusal};
@@ -33,39 +31,6 @@ pub(crate) fn opening(alloc: Global, names: &[&str]) -> Result<(Catalog, Tables)
         return Err(not_asked());
     }
     Ok((catalog, tables))
-}
-
-/// A device that takes all that it is given.
-#[derive(Drop)]
-pub(crate) struct Tape<'r, R: Abort> {
-    rt: &'r R,
-    pub(crate) taken: Vec<u8>,
-    failures: u64,
-}
-
-impl<'r, R: Abort> Tape<'r, R> {
-    pub(crate) fn new(rt: &'r R, alloc: Global) -> Tape<'r, R> {
-        Tape {
-            rt,
-            taken: Vec::new(alloc),
-            failures: 0,
-        }
-    }
-}
-
-impl<'r, R: Abort> Device for Tape<'r, R> {
-    ghost taken = { λ d. d.taken.items };
-
-    ghost failures = { λ d. d.failures };
-
-    fn write(&mut self, bytes: &[u8]) -> Result<usize, DeviceError> {
-        if self.taken.extend_from_slice(bytes).is_ok() {
-            return Ok(bytes.len());
-        }
-        assert!(self.rt; self.failures < 9);
-        self.failures += 1;
-        Err(DeviceError)
-    }
 }
 
 /// How often a thread yields before a wait is given up: some seconds.

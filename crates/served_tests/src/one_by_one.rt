@@ -1,9 +1,10 @@
 //! A dump of what gives rows one by one alone.
 
-use crate::dumped::{EXAMPLE, SEVEN_KEYS, check, tables_of};
+use crate::dumped::{SEVEN_KEYS, check, tables_of};
 use crate::flaky::Flaky;
 use dumpplan::PieceRows;
 use dumpworker::dump_one;
+use scarce::dumps::EXAMPLE;
 use schema::catalog::TableNo;
 use schema::reader::{Bound, SnapshotReader};
 use schema::row::Row;

@@ -152,112 +152,10 @@ const SCRIPTS: &str = "\
 2 INSERT INTO a VALUES (1): inserted
 2 COMMIT: committed
 2 OPEN: done
+";
 
-1 BEGIN: begun
-1 INSERT INTO a VALUES (9): inserted
-1 INSERT INTO a VALUES (1): inserted
-1 INSERT INTO a VALUES (8): inserted
-1 INSERT INTO a VALUES (3): inserted
-1 INSERT INTO a VALUES (7): inserted
-1 INSERT INTO a VALUES (4): inserted
-1 INSERT INTO a VALUES (6): inserted
-1 COMMIT: committed
-3 AFTER 9: seen
-3 BEGIN READ ONLY DEFERRABLE: begun
-3 WAIT: safe
-3 SHUT: done
-3 DUMP 1: seven rows
-2 REACH: reached
-2 BEGIN: begun
-2 INSERT INTO a VALUES (2): inserted
-2 DELETE FROM a WHERE id = 9: deleted
-2 COMMIT: committed
-2 OPEN: done
-
-1 BEGIN: begun
-1 INSERT INTO a VALUES (9): inserted
-1 INSERT INTO a VALUES (1): inserted
-1 INSERT INTO a VALUES (8): inserted
-1 INSERT INTO a VALUES (3): inserted
-1 INSERT INTO a VALUES (7): inserted
-1 INSERT INTO a VALUES (4): inserted
-1 INSERT INTO a VALUES (6): inserted
-1 COMMIT: committed
-3 AFTER 9: seen
-3 BEGIN READ ONLY DEFERRABLE: begun
-3 WAIT: safe
-3 SHUT: done
-3 DUMP 2: seven rows
-2 REACH: reached
-2 BEGIN: begun
-2 INSERT INTO a VALUES (2): inserted
-2 DELETE FROM a WHERE id = 9: deleted
-2 COMMIT: committed
-2 OPEN: done
-
-1 BEGIN: begun
-1 INSERT INTO a VALUES (9): inserted
-1 INSERT INTO a VALUES (1): inserted
-1 INSERT INTO a VALUES (8): inserted
-1 INSERT INTO a VALUES (3): inserted
-1 INSERT INTO a VALUES (7): inserted
-1 INSERT INTO a VALUES (4): inserted
-1 INSERT INTO a VALUES (6): inserted
-1 COMMIT: committed
-3 AFTER 9: seen
-3 BEGIN READ ONLY DEFERRABLE: begun
-3 WAIT: safe
-3 SHUT: done
-3 DUMP 8: seven rows
-2 REACH: reached
-2 BEGIN: begun
-2 INSERT INTO a VALUES (2): inserted
-2 DELETE FROM a WHERE id = 9: deleted
-2 COMMIT: committed
-2 OPEN: done
-
-1 BEGIN: begun
-1 INSERT INTO a VALUES (9): inserted
-1 INSERT INTO a VALUES (1): inserted
-1 INSERT INTO a VALUES (8): inserted
-1 INSERT INTO a VALUES (3): inserted
-1 INSERT INTO a VALUES (7): inserted
-1 INSERT INTO a VALUES (4): inserted
-1 INSERT INTO a VALUES (6): inserted
-1 COMMIT: committed
-3 AFTER 9: seen
-3 BEGIN READ ONLY DEFERRABLE: begun
-3 WAIT: safe
-3 SHUT: done
-3 DUMP 1 BY 3: seven rows
-2 REACH: reached
-2 BEGIN: begun
-2 INSERT INTO a VALUES (2): inserted
-2 DELETE FROM a WHERE id = 9: deleted
-2 COMMIT: committed
-2 OPEN: done
-
-1 BEGIN: begun
-1 INSERT INTO a VALUES (9): inserted
-1 INSERT INTO a VALUES (1): inserted
-1 INSERT INTO a VALUES (8): inserted
-1 INSERT INTO a VALUES (3): inserted
-1 INSERT INTO a VALUES (7): inserted
-1 INSERT INTO a VALUES (4): inserted
-1 INSERT INTO a VALUES (6): inserted
-1 COMMIT: committed
-3 AFTER 9: seen
-3 BEGIN READ ONLY DEFERRABLE: begun
-3 WAIT: safe
-3 SHUT: done
-3 DUMP 2 BY 3: seven rows
-2 REACH: reached
-2 BEGIN: begun
-2 INSERT INTO a VALUES (2): inserted
-2 DELETE FROM a WHERE id = 9: deleted
-2 COMMIT: committed
-2 OPEN: done
-
+// A COMMIT while a dump is held, which doesn't show it.
+const HELD: &str = "\
 1 BEGIN: begun
 1 INSERT INTO a VALUES (9): inserted
 1 INSERT INTO a VALUES (1): inserted
@@ -280,6 +178,15 @@ const SCRIPTS: &str = "\
 2 OPEN: done
 ";
 
+// The dumps that are also held so.
+const HELD_TOO: &str = "\
+DUMP 1: seven rows
+DUMP 2: seven rows
+DUMP 8: seven rows
+DUMP 1 BY 3: seven rows
+DUMP 2 BY 3: seven rows
+";
+
 // Whether each line is one of the three sessions.
 fn are_played(script: &str) -> bool {
     script
@@ -287,20 +194,37 @@ fn are_played(script: &str) -> bool {
         .all(|line| matches!(line.get(..2), Some("1 " | "2 " | "3 ")))
 }
 
-// The script at a place.
-fn script_at(place: usize) -> &'static str {
-    SCRIPTS.split("\n\n").nth(place).unwrap_or("no script")
+// Plays a script on a server of its own.
+fn play_anew<R: Threads + Wait + Abort + Sync>(
+    rt: &R,
+    alloc: Global,
+    script: String,
+) -> Result<(), Refusal> {
+    assert!(rt; are_played(script.as_str()), "{script}");
+    let (catalog, tables) = opening(alloc, &["a", "b"])?;
+    let (word, first) = HistoryWord::new(alloc, &catalog, &tables, Base::zero())?;
+    play_script::<Brand, _>(rt, alloc, &word, first, (catalog, tables), script);
+    Ok(())
 }
 
-// Each script on a server of its own.
 #[test]
 fn sessions_on_threads(rt: HostRuntime) -> Result<(), Refusal> {
     let alloc = rt.alloc();
-    for (place, script) in SCRIPTS.split("\n\n").enumerate() {
-        assert!(rt; are_played(script), "{script}");
-        let (catalog, tables) = opening(alloc, &["a", "b"])?;
-        let (word, first) = HistoryWord::new(alloc, &catalog, &tables, Base::zero())?;
-        play_script::<Brand, _>(&rt, alloc, &word, first, (catalog, tables), place);
+    for script in SCRIPTS.split("\n\n") {
+        play_anew(&rt, alloc, String::from_str(alloc, script)?)?;
+    }
+    Ok(())
+}
+
+#[test]
+fn dumps_beside_a_commit(rt: HostRuntime) -> Result<(), Refusal> {
+    let alloc = rt.alloc();
+    play_anew(&rt, alloc, String::from_str(alloc, HELD)?)?;
+    let (before, after) = HELD
+        .split_once("DUMP 8 BY 3: seven rows")
+        .ok_or(not_asked())?;
+    for dump in HELD_TOO.lines() {
+        play_anew(&rt, alloc, format!(in alloc; "{before}{dump}{after}")?)?;
     }
     Ok(())
 }
@@ -340,14 +264,14 @@ fn play_opened<'w, J: Naming<Global> + Send + Sync, R: Threads + Wait + Abort + 
     assert!(rt; core.history().records().len() as u64 == events, "{script}");
 }
 
-// Plays the script at a place on a server of this word.
+// Plays a script on a server of this word.
 fn play_script<J: Naming<Global> + Send + Sync, R: Threads + Wait + Abort + Sync>(
     rt: &R,
     alloc: Global,
     word: &HistoryWord,
     first: FirstSeat,
     opening: (Catalog, Tables),
-    place: usize,
+    script: String,
 )
     requires word { word.now ≡ record { table = J.table; opening = J.opening } }
     requires first { first ≡ J.table }
@@ -357,7 +281,7 @@ fn play_script<J: Naming<Global> + Send + Sync, R: Threads + Wait + Abort + Sync
 {
     let (catalog, tables) = opening;
     match Server::<J>::open(alloc, word, first, catalog, tables, 100, 3) {
-        Ok(opened) => play_opened(rt, alloc, opened, script_at(place)),
+        Ok(opened) => play_opened(rt, alloc, opened, script.as_str()),
         Err(_) => panic!(rt; "no server"),
     }
 }

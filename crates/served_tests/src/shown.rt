@@ -2,17 +2,17 @@
 
 ghost use Rattle.std.specs.Prelude.{◌≡◌, length, IfOk};
 
-use crate::fixture::{Barrier, Tape};
+use crate::fixture::Barrier;
 use backup::dump_safe;
 use dumpplan::{Jobs, PieceRows};
 use dumpworker::dump;
 use mvrows::view::View;
 use pass::token::Pass;
 use pass::word::Naming;
+use scarce::tape::Tape;
 use serial::laws::views_are_sound;
 use server::shared::Server;
 use std::alloc::Global;
-use std::process::Abort;
 use std::sync::Wait;
 use std::thread::Threads;
 use value::refusal::Refusal;
@@ -78,7 +78,7 @@ fn word_of(text: &[u8]) -> &'static str {
 
 /// What a dump of the session's snapshot says, by these numbers of jobs and of rows a piece; its pieces wait at the
 /// barrier.
-pub(crate) fn dumped<'w, J: Naming<Global>, R: Threads + Wait + Abort + Sync>(
+pub(crate) fn dumped<'w, J: Naming<Global>, R: Threads + Wait + Sync>(
     rt: &R,
     alloc: Global,
     server: &Server<'w, J>,
@@ -90,7 +90,7 @@ pub(crate) fn dumped<'w, J: Naming<Global>, R: Threads + Wait + Abort + Sync>(
     let (Some(jobs), Some(piece_rows)) = (Jobs::new(jobs), PieceRows::new(rows)) else {
         return "no jobs";
     };
-    let mut tape = Tape::new(rt, alloc);
+    let mut tape = Tape::new(alloc);
     match dump_safe(
         rt, alloc, server, pass, jobs, piece_rows, &mut tape, barrier,
     ) {
@@ -113,7 +113,7 @@ fn view_of<'w, J: Naming<Global>, R: Wait>(
 }
 
 /// What a view of the session's snapshot shows, which is read once the barrier lets it.
-pub(crate) fn viewed<'w, J: Naming<Global>, R: Threads + Wait + Abort + Sync>(
+pub(crate) fn viewed<'w, J: Naming<Global>, R: Threads + Wait + Sync>(
     rt: &R,
     alloc: Global,
     server: &Server<'w, J>,
@@ -126,7 +126,7 @@ pub(crate) fn viewed<'w, J: Naming<Global>, R: Threads + Wait + Abort + Sync>(
     let (Some(jobs), Some(piece_rows)) = (Jobs::new(1), PieceRows::new(9)) else {
         return "no jobs";
     };
-    let mut tape = Tape::new(rt, alloc);
+    let mut tape = Tape::new(alloc);
     let catalog = server.catalog();
     match dump(
         rt, alloc, &view, catalog, jobs, piece_rows, &mut tape, barrier,

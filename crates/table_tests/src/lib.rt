@@ -1,4 +1,4 @@
-//! Tests alone: values, references between tables, versions of rows, the tracker of conflicts, and drawn interleavings.
+//! Tests alone: values, references between tables, versions of rows, and the tracker of conflicts.
 
 #![tactic(auto)]
 
@@ -6,8 +6,6 @@
 mod cases;
 #[cfg(test)]
 mod conflicts;
-#[cfg(test)]
-mod draws;
 #[cfg(test)]
 mod locks;
 #[cfg(test)]

@@ -1,11 +1,11 @@
 //! That each interleaving is drawn with the same chance: Pearson's test. A bound is passed by one seed in a thousand.
 //! What the statistic is was worked out outside, from the generator's and the shuffle's definitions.
 
+use explore::tally::interleave::interleavings::Interleavings;
+use explore::tally::runs::Schedules;
+use explore::tally::sample::sampling::Sample;
 use std::alloc::Global;
 use std::test::Fail;
-use tally::interleave::interleavings::Interleavings;
-use tally::runs::Schedules;
-use tally::sample::sampling::Sample;
 
 // How many draws an interleaving has on average.
 const EXPECTED: u64 = 1000;

@@ -1,4 +1,4 @@
-use Rattle.served_tests.proofs.servers.sessions_on_threads.Given as goal
+use Rattle.served_tests.proofs.servers.play_anew.Given as goal
 
 -- the word that was just made
 abbrev pub ghosts-play_script : goal.ghosts-play_script
