@@ -9,7 +9,7 @@ use Rattle.schema.specs.Definition.{Catalog}
 use Rattle.schema.specs.declared.tables.Tables.{Tables}
 use Rattle.history.specs.Events.{world}
 use Rattle.history.specs.Opening.{Recorded}
-use Rattle.backup.specs.declared.fault.BackupFault.TheVariants.{Dump}
+use Rattle.backup.specs.declared.fault.SafeDumpFault.TheVariants.{Dump}
 use Rattle.dumpworker.specs.declared.fault.DumpFault.TheVariants.{Device}
 use Rattle.script.specs.Scripts.{is_passed_over, said}
 use Rattle.script.specs.declared.schedule.Schedule.TheVariants.{InOrder}

@@ -1,5 +1,5 @@
 -- A session's transaction status, as its prompt shows it (PostgreSQL manual, psql, `%x` of the prompt; the number of the session is ours).
-use Rattle.std.specs.Prelude.{ℕ, ◌-◌, ◌/◌, Bool, Option, Some, None, Result, Ok, Err, List, [], ◌++◌, length, codes, nat_le}
+use Rattle.std.specs.Prelude.{ℕ, ◌-◌, ◌/◌, Bool, true, false, Option, Some, None, Result, Ok, Err, List, [], ◌++◌, length, codes, nat_le}
 use Rattle.std.specs.Fmt.{decimal}
 use Rattle.value.specs.declared.refusal.Code.{Code}
 use Rattle.value.specs.declared.refusal.Code.TheVariants as code
@@ -32,7 +32,7 @@ module _ {A : Type 0} where
   mark_in p s = mark_on p.core s
 
   abbrev pub is_near_on : Option (Recorded A) → Bool
-  is_near_on None = Bool.false
+  is_near_on None = false
   is_near_on (Some h) = nat_le (h.most - length h.records) (h.most / 10)
 
   -- a tenth of the room for events is left, or less
@@ -45,6 +45,11 @@ mark_text mark.Idle = []
 mark_text mark.Open = codes "*"
 mark_text mark.Failed = codes "!"
 
+-- how a prompt ends, and one at which a line goes on from those before it
+abbrev pub end_text : Bool → List ℕ
+end_text true = codes "-> "
+end_text false = codes "=> "
+
 -- the prompt of a session that stands so
-abbrev pub prompt_text : ℕ → Mark → List ℕ
-prompt_text s m = decimal s ++ mark_text m ++ codes "=> "
+abbrev pub prompt_text : ℕ → Mark → Bool → List ℕ
+prompt_text s m goes_on = decimal s ++ mark_text m ++ end_text goes_on

@@ -1,8 +1,8 @@
 -- What a typed line is taken for, and what is shown where it is refused (PostgreSQL manual, psql: `help`, `exit`, `quit`, `\timing`; the others are ours).
-use Rattle.std.specs.Prelude.{ℕ, ◌==◌, ◌&&◌, not, Bool, true, false, List, ◌++◌, Option, Some, None, length, codes, take, nat_le, unwrap_or, if◌then◌else◌}
+use Rattle.std.specs.Prelude.{ℕ, ◌==◌, ◌&&◌, ◌||◌, not, Bool, true, false, List, ◌++◌, Option, Some, None, length, codes, take, nat_le, unwrap_or, if◌then◌else◌}
 use Rattle.std.specs.List.{list_any}
 use Rattle.std.specs.Str.{str_eq_ignore_ascii_case}
-use Rattle.terminal.specs.Typing.{behind_word, typed_as}
+use Rattle.terminal.specs.Typing.{begins, behind_word, text_in, typed_as}
 use Rattle.terminal.specs.declared.typing.Typed.{Typed}
 use Rattle.terminal.specs.declared.typing.Typed.TheVariants as typed
 
@@ -45,13 +45,20 @@ nameless_text word = word ++ codes " FILE: a file's name is due\n"
 abbrev pub starts : List ℕ → List ℕ → Bool
 starts word text = str_eq_ignore_ascii_case (take (length word) text) word
 
--- whether a text begins to create a table, but ends no list of columns
-abbrev pub is_unended_table : List ℕ → Bool
-is_unended_table text = starts (codes "create ") text && starts (codes "table") (behind_word text) && not (list_any (λ b. b == 41) text)
+-- whether lines end a list of columns, or a command
+abbrev pub has_end : List ℕ → Bool
+has_end lines = list_any (λ b. b == 41) lines || list_any (λ b. b == 59) lines
 
--- what is shown of a line that begins to create a table, and doesn't end it
-abbrev pub unended_table_text : List ℕ
-unended_table_text = codes "ERROR 42601: CREATE TABLE stands on one line: CREATE TABLE name (name kind PRIMARY KEY, name kind, ..)\n"
+-- whether lines begin to create a table, and the next line goes on from them
+abbrev pub goes_on : List ℕ → Bool
+goes_on lines = starts (codes "create ") (text_in lines) && starts (codes "table") (behind_word (text_in lines)) && not (has_end lines)
+
+-- These lines with one more. A word with a backslash gives them up, and a comment adds nothing.
+abbrev pub with_line : List ℕ → List ℕ → List ℕ
+with_line begun line =
+    if length begun == 0 || begins (codes "\\") (text_in line) then line
+    else if begins (codes "--") (text_in line) then begun
+    else begun ++ codes " " ++ line
 
 -- whether answers are timed from then on, by what follows `\timing`: `on`, `off`, or the other way where there is nothing
 abbrev pub timing_after : Bool → List ℕ → Option Bool

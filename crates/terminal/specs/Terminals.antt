@@ -12,14 +12,14 @@ use Rattle.terminal.specs.Drawn.{drawn, shown}
 use Rattle.terminal.specs.Headers.{header_of}
 use Rattle.terminal.specs.Marks.{is_near, mark_in, prompt_text}
 use Rattle.terminal.specs.Refused.{worded}
-use Rattle.terminal.specs.Taken.{asks_for, cut_text, is_cut, is_unended_table, lacks_file, nameless_text, no_timing_text, timing_after, unended_table_text}
+use Rattle.terminal.specs.Taken.{asks_for, cut_text, goes_on, is_cut, lacks_file, nameless_text, no_timing_text, timing_after, with_line}
 use Rattle.terminal.specs.declared.attended.Aside.{Aside}
 use Rattle.terminal.specs.declared.attended.Aside.TheVariants as aside
 use Rattle.terminal.specs.declared.marks.Mark.TheVariants as mark
 
 -- what may be typed
 abbrev pub help_text : List ℕ
-help_text = codes "SELECT .., INSERT .., UPDATE .., DELETE ..   a statement of this session\nBEGIN [READ ONLY [DEFERRABLE]]               begins a transaction; COMMIT and ROLLBACK end it\nPOLL, EXPORT, IMPORT n, PRUNE, DUMP ..       other commands; CHECKPOINT makes room for events\nCREATE TABLE .., OPEN path                   on one line, before the first line of a session\n2                                            goes to session 2, of 64\n2 BEGIN                                      a line of session 2\n\\d [NAME]                                    the tables, or one of them\n\\serial                                      the committed transactions in their serial order\n\\why                                         why a transaction was refused last\n\\draw FILE                                   a picture of the transactions\n\\dump FILE                                   a dump of a safe snapshot\n\\i FILE                                      the lines of a file\n\\timing [on|off]                             tells how long answers take, or no longer\n\\?, help                                     this\n\\q, exit, quit                               ends the shell\n"
+help_text = codes "SELECT .., INSERT .., UPDATE .., DELETE ..   a statement of this session\nBEGIN [READ ONLY [DEFERRABLE]]               begins a transaction; COMMIT and ROLLBACK end it\nPOLL, EXPORT, IMPORT n, PRUNE, DUMP ..       other commands; CHECKPOINT makes room for events\nCREATE TABLE .., OPEN path                   before the first line of a session\n2                                            goes to session 2, of 64\n2 BEGIN                                      a line of session 2\n\\d [NAME]                                    the tables, or one of them\n\\serial                                      the committed transactions in their serial order\n\\why                                         why a transaction was refused last\n\\draw FILE                                   a picture of the transactions\n\\dump FILE                                   a dump of a safe snapshot\n\\i FILE                                      the lines of a file\n\\timing [on|off]                             tells how long answers take, or no longer\n\\?, help                                     this\n\\q, exit, quit                               ends the shell\n"
 
 -- what is shown where there is no such word
 abbrev pub unknown_text : List ℕ
@@ -77,12 +77,13 @@ module _ {A H : Type 0} where
   abbrev pub Dumps : (H → List ℕ → H → List ℕ → Type 0) → (H → Held A) → List ℕ → H → H → List ℕ → Type 0
   Dumps answers held path p q told = ((s : ℕ) × (mark_in (held p) s ≡ mark.Idle) × DumpsBy answers s path p q told) ⊎ ((q ≡ p) × (told ≡ no_session_text))
 
--- What a terminal knows: the handler, the session of the prompt, whether it shows how long answers take, and whether it was asked to end.
+-- What a terminal knows: the handler, the session of the prompt, whether it shows how long answers take, whether it was asked to end, and the lines that the next one goes on from, if any.
 pub record At (H : Type 0) : Type 0 where
   pub attended : H
   pub session : ℕ
   pub is_timed : Bool
   pub has_quit : Bool
+  pub begun : List ℕ
 
 -- the terminal p, whose handler has become h
 abbrev pub with : {H : Type 0} → At H → H → At H
@@ -92,6 +93,15 @@ with p h = record p { attended = h }
 abbrev pub OrRefused : {H : Type 0} → Bool → List ℕ → At H → At H → List ℕ → Type 0 → Type 0
 OrRefused true words p q told Done = (q ≡ p) × (told ≡ words)
 OrRefused false words p q told Done = Done
+
+-- Where the next line goes on from these, they are kept, and nothing is shown; else this was done.
+abbrev pub OrKept : {H : Type 0} → Bool → List ℕ → At H → At H → List ℕ → Type 0 → Type 0
+OrKept true lines p q told Done = (q ≡ record p { begun = lines }) × (told ≡ [])
+OrKept false lines p q told Done = Done
+
+-- the terminal p, which no line goes on from
+abbrev pub afresh : {H : Type 0} → At H → At H
+afresh p = record p { begun = [] }
 
 -- ---- how long an answer took
 
@@ -148,7 +158,7 @@ is_file other = false
 module _ {A H : Type 0} (held : H → Held A) where
   -- the prompt
   abbrev pub prompt_of : At H → List ℕ
-  prompt_of p = prompt_text p.session (mark_in (held p.attended) p.session)
+  prompt_of p = prompt_text p.session (mark_in (held p.attended) p.session) (not (length p.begun == 0))
 
   -- What follows the text that is shown: a warning, and the next prompt, unless the conversation is to end.
   abbrev pub behind : Bool → At H → List ℕ
@@ -181,15 +191,19 @@ module _ {A H : Type 0} (answers : H → List ℕ → H → List ℕ → Type 0)
   DoesAlone typed.Word p text q told = (h : H) × AsksPlainly answers p.attended text h told × (q ≡ with p h)
   DoesAlone typed.File p text q told = (q ≡ p) × (told ≡ nested_text)
   DoesAlone typed.Unknown p text q told = (q ≡ p) × (told ≡ unknown_text)
-  DoesAlone typed.Command p text q told = OrRefused (is_unended_table text) unended_table_text p q told (DoesCommand p text q told)
+  DoesAlone typed.Command p text q told = DoesCommand p text q told
 
   -- What a text alone asks for was done, and this is shown; where a file's name is missing, it is refused.
   abbrev pub DoesTextAlone : At H → List ℕ → At H → List ℕ → Type 0
   DoesTextAlone p text q told = OrRefused (lacks_file (asks_for text) text) (nameless_text text) p q told (DoesAlone (asks_for text) p text q told)
 
+  -- The next line goes on from these lines; or what they ask for was done, and this is shown.
+  abbrev pub DoesLinesAlone : At H → List ℕ → At H → List ℕ → Type 0
+  DoesLinesAlone p lines q told = OrKept (goes_on lines) lines p q told (DoesTextAlone p (text_in lines) q told)
+
   -- A file's line was typed after the prompt, which is shown with it, and what it asks for was done.
   abbrev pub PlaysLine : List ℕ → At H → At H → List ℕ → Type 0
-  PlaysLine line p q told = (text : List ℕ) × DoesTextAlone p (text_in line) q text × (told ≡ prompt_of held p ++ shown line ++ codes "\n" ++ text)
+  PlaysLine line p q told = (text : List ℕ) × DoesLinesAlone (afresh p) (with_line p.begun line) q text × (told ≡ prompt_of held p ++ shown line ++ codes "\n" ++ text)
 
   -- A file's line was typed, unless the conversation is to end: then nothing more is.
   abbrev pub PlaysUnless : Bool → List ℕ → At H → At H → List ℕ → Type 0
@@ -218,9 +232,13 @@ module _ {A H : Type 0} (answers : H → List ℕ → H → List ℕ → Type 0)
   abbrev pub DoesText : At H → List ℕ → At H → List ℕ → Type 0
   DoesText p text q told = OrRefused (lacks_file (asks_for text) text) (nameless_text text) p q told (Does (asks_for text) p text q told)
 
-  -- What a typed line asks for was done, unless it may be cut off.
+  -- The next line goes on from these lines; or what they ask for was done, and this is shown.
+  abbrev pub DoesLines : At H → List ℕ → At H → List ℕ → Type 0
+  DoesLines p lines q told = OrKept (goes_on lines) lines p q told (DoesText p (text_in lines) q told)
+
+  -- What a typed line asks for, with those that it goes on from, was done, unless it may be cut off.
   abbrev pub DoesLine : At H → List ℕ → At H → List ℕ → Type 0
-  DoesLine p line q told = OrRefused (is_cut line) cut_text p q told (DoesText p (text_in line) q told)
+  DoesLine p line q told = OrRefused (is_cut line) cut_text p q told (DoesLines (afresh p) (with_line p.begun line) q told)
 
   -- A line was typed at a terminal p, which has become q, and this text is shown: what the line asks for, and the next prompt.
   abbrev pub Types : At H → List ℕ → At H → List ℕ → Type 0

@@ -13,21 +13,19 @@ use crate::answering::{ask_command, ask_plainly};
 use crate::attended::{Aside, Attended};
 use crate::describing::describe;
 use crate::dumping::dump;
-use crate::taking::{asks_for, is_unended_table, lacks_file, timing_after};
+use crate::taking::{asks_for, lacks_file, timing_after};
 use crate::terminal::{Prompt, Terminal};
 use crate::typing::{Typed, behind_word, session_in};
-use crate::wording::{
-    help_text, nested_text, no_timing_text, timing_text, unended_table_text, unknown_text,
-};
+use crate::wording::{help_text, nested_text, no_timing_text, timing_text, unknown_text};
 use std::alloc::Allocator;
 use value::refusal::Refusal;
 
 /// A terminal that stays as it is, and shows a text.
 pub(crate) fn tell<A: Allocator, H: Drop>(
     alloc: A,
-    terminal: Terminal<H>,
+    terminal: Terminal<H, A>,
     text: &[u8],
-) -> Result<(Terminal<H>, Vec<u8, A>), Refusal>
+) -> Result<(Terminal<H, A>, Vec<u8, A>), Refusal>
     ensures same { IfOk result (λ x. x.0 ≡ terminal) }
     ensures told { IfOk result (λ x. x.1.items ≡ text.now) }
     ensures memory { IfErr result (λ e. e ≡ out_of_memory) }
@@ -39,9 +37,9 @@ pub(crate) fn tell<A: Allocator, H: Drop>(
 // Goes to the session of which a text is the number.
 fn go_to<A: Allocator, H: Drop>(
     alloc: A,
-    terminal: Terminal<H>,
+    terminal: Terminal<H, A>,
     text: &[u8],
-) -> (Terminal<H>, Vec<u8, A>)
+) -> (Terminal<H, A>, Vec<u8, A>)
     ensures terminal { result.0 ≡ record terminal { session = unwrap_or (session_in text.now) terminal.session } }
     ensures told { result.1.items ≡ [] }
 {
@@ -52,7 +50,7 @@ fn go_to<A: Allocator, H: Drop>(
 }
 
 // Ends the conversation.
-fn quit<A: Allocator, H: Drop>(alloc: A, terminal: Terminal<H>) -> (Terminal<H>, Vec<u8, A>)
+fn quit<A: Allocator, H: Drop>(alloc: A, terminal: Terminal<H, A>) -> (Terminal<H, A>, Vec<u8, A>)
     ensures terminal { result.0 ≡ record terminal { has_quit = true } }
     ensures told { result.1.items ≡ [] }
 {
@@ -67,9 +65,9 @@ fn quit<A: Allocator, H: Drop>(alloc: A, terminal: Terminal<H>) -> (Terminal<H>,
 // Shows from now on how long answers take, or no longer does.
 fn set_timing<A: Allocator, H: Drop>(
     alloc: A,
-    terminal: Terminal<H>,
+    terminal: Terminal<H, A>,
     is_timed: bool,
-) -> Result<(Terminal<H>, Vec<u8, A>), Refusal>
+) -> Result<(Terminal<H, A>, Vec<u8, A>), Refusal>
     ensures terminal { IfOk result (λ x. x.0 ≡ record terminal { is_timed = is_timed }) }
     ensures told { IfOk result (λ x. x.1.items ≡ spec.timing_text is_timed) }
     ensures memory { IfErr result (λ e. e ≡ out_of_memory) }
@@ -83,9 +81,9 @@ fn set_timing<A: Allocator, H: Drop>(
 // Shows how long answers take, or no longer does, as the text after the word says.
 fn turn_timing<A: Allocator, H: Drop>(
     alloc: A,
-    terminal: Terminal<H>,
+    terminal: Terminal<H, A>,
     text: &[u8],
-) -> Result<(Terminal<H>, Vec<u8, A>), Refusal>
+) -> Result<(Terminal<H, A>, Vec<u8, A>), Refusal>
     ensures done { IfOk result (λ x.
         Times (taken.timing_after terminal.is_timed text.now) terminal x.0 x.1.items) }
     ensures memory { IfErr result (λ e. e ≡ out_of_memory) }
@@ -99,9 +97,9 @@ fn turn_timing<A: Allocator, H: Drop>(
 // Makes a dump to a path.
 fn dump_at<A: Allocator + Copy, H: Attended<A>>(
     alloc: A,
-    terminal: Terminal<H>,
+    terminal: Terminal<H, A>,
     path: &[u8],
-) -> Result<(Terminal<H>, Vec<u8, A>), Refusal>
+) -> Result<(Terminal<H, A>, Vec<u8, A>), Refusal>
     ensures done { IfOk result (λ x. (h : H) × Dumps H.answers H.held path.now terminal.attended h x.1.items ×
         (x.0 ≡ record terminal { attended = h })) }
     ensures memory { IfErr result (λ e. e ≡ out_of_memory) }
@@ -114,9 +112,9 @@ fn dump_at<A: Allocator + Copy, H: Attended<A>>(
 // Asks a word, whose answer stands as it is.
 fn word_at<A: Allocator + Copy, H: Attended<A>>(
     alloc: A,
-    terminal: Terminal<H>,
+    terminal: Terminal<H, A>,
     word: &[u8],
-) -> Result<(Terminal<H>, Vec<u8, A>), Refusal>
+) -> Result<(Terminal<H, A>, Vec<u8, A>), Refusal>
     ensures done { IfOk result (λ x. (h : H) × AsksPlainly H.answers terminal.attended word.now h x.1.items ×
         (x.0 ≡ record terminal { attended = h })) }
     ensures memory { IfErr result (λ e. e ≡ out_of_memory) }
@@ -129,9 +127,9 @@ fn word_at<A: Allocator + Copy, H: Attended<A>>(
 // Asks the line that a command stands for.
 fn ask_at<A: Allocator + Copy, H: Attended<A>>(
     alloc: A,
-    terminal: Terminal<H>,
+    terminal: Terminal<H, A>,
     command: &[u8],
-) -> Result<(Terminal<H>, Vec<u8, A>), Refusal>
+) -> Result<(Terminal<H, A>, Vec<u8, A>), Refusal>
     ensures done { IfOk result (λ x. DoesCommand H.answers H.held H.tells terminal command.now x.0 x.1.items) }
     ensures memory { IfErr result (λ e. e ≡ out_of_memory) }
 {
@@ -140,30 +138,12 @@ fn ask_at<A: Allocator + Copy, H: Attended<A>>(
     Ok((Terminal { attended, prompt }, told))
 }
 
-// Asks the line that a command stands for, unless it begins to create a table and doesn't end it.
-fn command_at<A: Allocator + Copy, H: Attended<A>>(
-    alloc: A,
-    terminal: Terminal<H>,
-    command: &[u8],
-) -> Result<(Terminal<H>, Vec<u8, A>), Refusal>
-    ensures done { IfOk result (λ x.
-        OrRefused (taken.is_unended_table command.now) taken.unended_table_text terminal x.0 x.1.items
-        (DoesCommand H.answers H.held H.tells terminal command.now x.0 x.1.items)) }
-    ensures memory { IfErr result (λ e. e ≡ out_of_memory) }
-{
-    if is_unended_table(command) {
-        tell(alloc, terminal, unended_table_text())
-    } else {
-        ask_at(alloc, terminal, command)
-    }
-}
-
 // Shows the table of a name.
 fn columns_at<A: Allocator + Copy, H: Attended<A>>(
     alloc: A,
-    terminal: Terminal<H>,
+    terminal: Terminal<H, A>,
     name: &[u8],
-) -> Result<(Terminal<H>, Vec<u8, A>), Refusal>
+) -> Result<(Terminal<H, A>, Vec<u8, A>), Refusal>
     ensures same { IfOk result (λ x. x.0 ≡ terminal) }
     ensures told { IfOk result (λ x. x.1.items ≡ table_described (catalog_of (H.held terminal.attended)) name.now) }
     ensures memory { IfErr result (λ e. e ≡ out_of_memory) }
@@ -175,10 +155,10 @@ fn columns_at<A: Allocator + Copy, H: Attended<A>>(
 // Shows something besides the answers, as a text asks.
 fn aside_at<A: Allocator + Copy, H: Attended<A>>(
     alloc: A,
-    terminal: Terminal<H>,
+    terminal: Terminal<H, A>,
     aside: Aside,
     text: &[u8],
-) -> Result<(Terminal<H>, Vec<u8, A>), Refusal>
+) -> Result<(Terminal<H, A>, Vec<u8, A>), Refusal>
     ensures done { IfOk result (λ x. TellsBeside H.answers H.held H.tells aside terminal text.now x.0 x.1.items) }
     ensures memory { IfErr result (λ e. e ≡ out_of_memory) }
 {
@@ -190,10 +170,10 @@ fn aside_at<A: Allocator + Copy, H: Attended<A>>(
 /// Does what a text asks for. It refuses to type the lines of a file.
 pub(crate) fn do_alone<A: Allocator + Copy, H: Attended<A>>(
     alloc: A,
-    terminal: Terminal<H>,
+    terminal: Terminal<H, A>,
     typed: Typed,
     text: &[u8],
-) -> Result<(Terminal<H>, Vec<u8, A>), Refusal>
+) -> Result<(Terminal<H, A>, Vec<u8, A>), Refusal>
     ensures done { IfOk result (λ x. DoesAlone H.answers H.held H.tells typed terminal text.now x.0 x.1.items) }
     ensures memory { IfErr result (λ e. e ≡ out_of_memory) }
 {
@@ -210,16 +190,16 @@ pub(crate) fn do_alone<A: Allocator + Copy, H: Attended<A>>(
         Typed::Word => word_at(alloc, terminal, text),
         Typed::File => tell(alloc, terminal, nested_text()),
         Typed::Unknown => tell(alloc, terminal, unknown_text()),
-        Typed::Command => command_at(alloc, terminal, text),
+        Typed::Command => ask_at(alloc, terminal, text),
     }
 }
 
 /// What is shown where a file's name is due after a word.
 pub(crate) fn tell_nameless<A: Allocator, H: Drop>(
     alloc: A,
-    terminal: Terminal<H>,
+    terminal: Terminal<H, A>,
     word: &[u8],
-) -> Result<(Terminal<H>, Vec<u8, A>), Refusal>
+) -> Result<(Terminal<H, A>, Vec<u8, A>), Refusal>
     ensures same { IfOk result (λ x. x.0 ≡ terminal) }
     ensures told { IfOk result (λ x. x.1.items ≡ taken.nameless_text word.now) }
     ensures memory { IfErr result (λ e. e ≡ out_of_memory) }
@@ -232,9 +212,9 @@ pub(crate) fn tell_nameless<A: Allocator, H: Drop>(
 /// Does what a text asks for, unless a file's name is due. It refuses to type the lines of a file.
 pub(crate) fn do_text_alone<A: Allocator + Copy, H: Attended<A>>(
     alloc: A,
-    terminal: Terminal<H>,
+    terminal: Terminal<H, A>,
     text: &[u8],
-) -> Result<(Terminal<H>, Vec<u8, A>), Refusal>
+) -> Result<(Terminal<H, A>, Vec<u8, A>), Refusal>
     ensures done { IfOk result (λ x. DoesTextAlone H.answers H.held H.tells terminal text.now x.0 x.1.items) }
     ensures memory { IfErr result (λ e. e ≡ out_of_memory) }
 {

@@ -3,13 +3,14 @@
 ghost use Rattle.std.specs.Prelude.{◌≡◌, true, IfOk, IfErr};
 ghost use Rattle.value.specs.Refusals.{out_of_memory};
 ghost use Rattle.terminal.specs.Terminals as spec;
-ghost use Rattle.terminal.specs.Terminals.{Does, DoesLine, DoesText, Types};
+ghost use Rattle.terminal.specs.Terminals.{Does, DoesLine, DoesLines, DoesText, Types};
 
 use crate::attended::Attended;
 use crate::doing::{do_alone, tell, tell_nameless};
-use crate::marks::{is_near, prompt};
+use crate::lines::{keep_lines, prompt_of, take_lines};
+use crate::marks::is_near;
 use crate::playing::play_file;
-use crate::taking::{asks_for, is_cut, lacks_file};
+use crate::taking::{asks_for, goes_on, is_cut, lacks_file};
 use crate::terminal::Terminal;
 use crate::typing::{Typed, behind_word, text_in};
 use crate::wording::{cut_text, near_text};
@@ -30,10 +31,10 @@ fn is_file(typed: Typed) -> bool
 // Does what a text asks for.
 fn do_typed<A: Allocator + Copy, H: Attended<A>>(
     alloc: A,
-    terminal: Terminal<H>,
+    terminal: Terminal<H, A>,
     typed: Typed,
     text: &[u8],
-) -> Result<(Terminal<H>, Vec<u8, A>), Refusal>
+) -> Result<(Terminal<H, A>, Vec<u8, A>), Refusal>
     ensures done { IfOk result (λ x.
         Does H.answers H.held H.tells H.files typed terminal text.now x.0 x.1.items) }
     ensures memory { IfErr result (λ e. e ≡ out_of_memory) }
@@ -48,9 +49,9 @@ fn do_typed<A: Allocator + Copy, H: Attended<A>>(
 // Does what a text asks for, unless a file's name is due.
 fn do_text<A: Allocator + Copy, H: Attended<A>>(
     alloc: A,
-    terminal: Terminal<H>,
+    terminal: Terminal<H, A>,
     text: &[u8],
-) -> Result<(Terminal<H>, Vec<u8, A>), Refusal>
+) -> Result<(Terminal<H, A>, Vec<u8, A>), Refusal>
     ensures done { IfOk result (λ x.
         DoesText H.answers H.held H.tells H.files terminal text.now x.0 x.1.items) }
     ensures memory { IfErr result (λ e. e ≡ out_of_memory) }
@@ -63,21 +64,38 @@ fn do_text<A: Allocator + Copy, H: Attended<A>>(
     }
 }
 
-// Does what a line asks for, unless it may be cut off.
+// Keeps lines that the next one goes on from, or does what they ask for.
+fn do_lines<A: Allocator + Copy, H: Attended<A>>(
+    alloc: A,
+    terminal: Terminal<H, A>,
+    lines: Vec<u8, A>,
+) -> Result<(Terminal<H, A>, Vec<u8, A>), Refusal>
+    ensures done { IfOk result (λ x.
+        DoesLines H.answers H.held H.tells H.files terminal lines.items x.0 x.1.items) }
+    ensures memory { IfErr result (λ e. e ≡ out_of_memory) }
+{
+    if goes_on(lines.as_slice()) {
+        Ok(keep_lines(alloc, terminal, lines))
+    } else {
+        do_text(alloc, terminal, text_in(lines.as_slice()))
+    }
+}
+
+// Does what a line asks for, with those that it goes on from, unless it may be cut off.
 fn do_line<A: Allocator + Copy, H: Attended<A>>(
     alloc: A,
-    terminal: Terminal<H>,
+    terminal: Terminal<H, A>,
     line: &[u8],
-) -> Result<(Terminal<H>, Vec<u8, A>), Refusal>
+) -> Result<(Terminal<H, A>, Vec<u8, A>), Refusal>
     ensures done { IfOk result (λ x.
         DoesLine H.answers H.held H.tells H.files terminal line.now x.0 x.1.items) }
     ensures memory { IfErr result (λ e. e ≡ out_of_memory) }
 {
     if is_cut(line) {
-        tell(alloc, terminal, cut_text())
-    } else {
-        do_text(alloc, terminal, text_in(line))
+        return tell(alloc, terminal, cut_text());
     }
+    let (terminal, lines) = take_lines(alloc, terminal, line)?;
+    do_lines(alloc, terminal, lines)
 }
 
 // What is shown where little room is left now, and more was before.
@@ -95,7 +113,7 @@ fn warning(was_near: bool, is_near: bool) -> &'static [u8]
 fn behind<A: Allocator + Copy, H: Attended<A>>(
     alloc: A,
     was_near: bool,
-    terminal: &Terminal<H>,
+    terminal: &Terminal<H, A>,
 ) -> Result<Vec<u8, A>, Refusal>
     ensures text { IfOk result (λ t. t.items ≡ spec.behind H.held was_near terminal.now) }
     ensures memory { IfErr result (λ e. e ≡ out_of_memory) }
@@ -103,9 +121,9 @@ fn behind<A: Allocator + Copy, H: Attended<A>>(
     if terminal.prompt.has_quit {
         return Ok(Vec::new(alloc));
     }
-    let shell = terminal.attended.shell();
-    let prompt = prompt(alloc, shell, terminal.prompt.session)?;
-    let mut text = Vec::from_slice(alloc, warning(was_near, is_near(shell)))?;
+    let prompt = prompt_of(alloc, terminal)?;
+    let is_near = is_near(terminal.attended.shell());
+    let mut text = Vec::from_slice(alloc, warning(was_near, is_near))?;
     text.extend_from_slice(prompt.as_slice())?;
     Ok(text)
 }
@@ -113,9 +131,9 @@ fn behind<A: Allocator + Copy, H: Attended<A>>(
 // Answers a typed line.
 fn answer_typed<A: Allocator + Copy, H: Attended<A>>(
     alloc: A,
-    terminal: Terminal<H>,
+    terminal: Terminal<H, A>,
     line: &[u8],
-) -> Result<(Terminal<H>, Vec<u8, A>), Refusal>
+) -> Result<(Terminal<H, A>, Vec<u8, A>), Refusal>
     ensures told { IfOk result (λ x. Types H.answers H.held H.tells H.files terminal line.now x.0 x.1.items) }
     ensures memory { IfErr result (λ e. e ≡ out_of_memory) }
 {
@@ -126,9 +144,9 @@ fn answer_typed<A: Allocator + Copy, H: Attended<A>>(
     Ok((next, told))
 }
 
-impl<H: Drop> Terminal<H> {
+impl<H: Drop, A: Allocator + Copy> Terminal<H, A> {
     /// What stands before the first line: the prompt.
-    pub fn greeting<A: Allocator + Copy>(&self, alloc: A) -> Result<Vec<u8, A>, Refusal>
+    pub fn greeting(&self, alloc: A) -> Result<Vec<u8, A>, Refusal>
     where
         H: Attended<A>,
         ensures text { IfOk result (λ t. t.items ≡ spec.behind H.held true self.now) }
@@ -138,12 +156,12 @@ impl<H: Drop> Terminal<H> {
     }
 }
 
-impl<A: Allocator + Copy, H: Attended<A>> Handler<A> for Terminal<H> {
+impl<A: Allocator + Copy, H: Attended<A>> Handler<A> for Terminal<H, A> {
     ghost use Rattle.terminal.specs.Terminals.{Types};
 
     ghost answers = { Types H.answers H.held H.tells H.files };
 
-    fn answer(self, alloc: A, line: &[u8]) -> Result<(Terminal<H>, Vec<u8, A>), Refusal> {
+    fn answer(self, alloc: A, line: &[u8]) -> Result<(Terminal<H, A>, Vec<u8, A>), Refusal> {
         answer_typed(alloc, self, line)
     }
 

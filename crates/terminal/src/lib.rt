@@ -11,6 +11,7 @@ pub mod drawing;
 mod dumping;
 mod handling;
 mod header;
+mod lines;
 mod marks;
 mod playing;
 mod refused;

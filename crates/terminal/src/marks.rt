@@ -87,20 +87,29 @@ fn mark_text(mark: Mark) -> &'static [u8]
     }
 }
 
-/// The prompt of a session.
+// How a prompt ends.
+fn end_text(goes_on: bool) -> &'static [u8]
+    ensures { result.now ≡ spec.end_text goes_on }
+{
+    if goes_on { b"-> " } else { b"=> " }
+}
+
+/// The prompt of a session, at which a line may go on from those before it.
 pub(crate) fn prompt<A: Allocator + Copy>(
     alloc: A,
     shell: &Shell<A>,
     session: SessionId,
+    goes_on: bool,
 ) -> Result<Vec<u8, A>, Refusal>
-    ensures text { IfOk result (λ t. t.items ≡ spec.prompt_text session (spec.mark_in shell.now session)) }
+    ensures text { IfOk result (λ t. t.items ≡
+        spec.prompt_text session (spec.mark_in shell.now session) goes_on) }
     ensures memory { IfErr result (λ e. e ≡ out_of_memory) }
 {
     let mark = mark_in(alloc, shell, session)?;
     let mut digits = Buffer::new();
     let mut text = Vec::from_slice(alloc, digits.format(session.number()).as_bytes())?;
     text.extend_from_slice(mark_text(mark))?;
-    text.extend_from_slice(b"=> ")?;
+    text.extend_from_slice(end_text(goes_on))?;
     Ok(text)
 }
 

@@ -7,11 +7,9 @@ ghost use Rattle.terminal.specs.Terminals as spec;
 ghost use Rattle.terminal.specs.Terminals.{Plays, PlaysFile, PlaysLine, PlaysUnless};
 
 use crate::attended::Attended;
-use crate::doing::do_text_alone;
 use crate::drawing::{parts_of, shown};
-use crate::marks::prompt;
+use crate::lines::{do_lines_alone, prompt_of, take_lines};
 use crate::terminal::Terminal;
-use crate::typing::text_in;
 use std::alloc::Allocator;
 use value::refusal::Refusal;
 
@@ -30,14 +28,14 @@ fn unended(text: &[u8]) -> &[u8]
 // A line as it is shown after the prompt.
 fn typed_line<A: Allocator + Copy, H: Attended<A>>(
     alloc: A,
-    terminal: &Terminal<H>,
+    terminal: &Terminal<H, A>,
     line: &[u8],
 ) -> Result<Vec<u8, A>, Refusal>
     ensures text { IfOk result (λ t. t.items ≡
         spec.prompt_of H.held terminal.now ++ drawn.shown line.now ++ codes "\n") }
     ensures memory { IfErr result (λ e. e ≡ out_of_memory) }
 {
-    let mut text = prompt(alloc, terminal.attended.shell(), terminal.prompt.session)?;
+    let mut text = prompt_of(alloc, terminal)?;
     let line = shown(alloc, line)?;
     text.extend_from_slice(line.as_slice())?;
     text.push(b'\n')?;
@@ -47,14 +45,15 @@ fn typed_line<A: Allocator + Copy, H: Attended<A>>(
 // Types a line of a file.
 fn play_line<A: Allocator + Copy, H: Attended<A>>(
     alloc: A,
-    terminal: Terminal<H>,
+    terminal: Terminal<H, A>,
     line: &[u8],
-) -> Result<(Terminal<H>, Vec<u8, A>), Refusal>
+) -> Result<(Terminal<H, A>, Vec<u8, A>), Refusal>
     ensures done { IfOk result (λ x. PlaysLine H.answers H.held H.tells line.now terminal x.0 x.1.items) }
     ensures memory { IfErr result (λ e. e ≡ out_of_memory) }
 {
     let mut told = typed_line(alloc, &terminal, line)?;
-    let (next, answer) = do_text_alone(alloc, terminal, text_in(line))?;
+    let (terminal, lines) = take_lines(alloc, terminal, line)?;
+    let (next, answer) = do_lines_alone(alloc, terminal, lines)?;
     told.extend_from_slice(answer.as_slice())?;
     Ok((next, told))
 }
@@ -62,9 +61,9 @@ fn play_line<A: Allocator + Copy, H: Attended<A>>(
 // Types a line of a file, unless the conversation is to end.
 fn play_unless<A: Allocator + Copy, H: Attended<A>>(
     alloc: A,
-    terminal: Terminal<H>,
+    terminal: Terminal<H, A>,
     line: &[u8],
-) -> Result<(Terminal<H>, Vec<u8, A>), Refusal>
+) -> Result<(Terminal<H, A>, Vec<u8, A>), Refusal>
     ensures done { IfOk result (λ x.
         PlaysUnless H.answers H.held H.tells terminal.has_quit line.now terminal x.0 x.1.items) }
     ensures memory { IfErr result (λ e. e ≡ out_of_memory) }
@@ -79,9 +78,9 @@ fn play_unless<A: Allocator + Copy, H: Attended<A>>(
 // Types the lines of a file.
 fn play<A: Allocator + Copy, H: Attended<A>>(
     alloc: A,
-    terminal: Terminal<H>,
+    terminal: Terminal<H, A>,
     lines: &[&[u8]],
-) -> Result<(Terminal<H>, Vec<u8, A>), Refusal>
+) -> Result<(Terminal<H, A>, Vec<u8, A>), Refusal>
     ensures done { IfOk result (λ x.
         Plays H.answers H.held H.tells (map (λ l. l.now) lines.now) terminal x.0 x.1.items) }
     ensures memory { IfErr result (λ e. e ≡ out_of_memory) }
@@ -99,9 +98,9 @@ fn play<A: Allocator + Copy, H: Attended<A>>(
 // Types the lines of a file's text.
 fn play_text<A: Allocator + Copy, H: Attended<A>>(
     alloc: A,
-    terminal: Terminal<H>,
+    terminal: Terminal<H, A>,
     text: &[u8],
-) -> Result<(Terminal<H>, Vec<u8, A>), Refusal>
+) -> Result<(Terminal<H, A>, Vec<u8, A>), Refusal>
     ensures done { IfOk result (λ x.
         Plays H.answers H.held H.tells (spec.lines_in text.now) terminal x.0 x.1.items) }
     ensures memory { IfErr result (λ e. e ≡ out_of_memory) }
@@ -123,9 +122,9 @@ fn unread_text<A: Allocator>(alloc: A, path: &[u8]) -> Result<Vec<u8, A>, Refusa
 /// Types the lines of a path's file, or shows that it can't be read.
 pub(crate) fn play_file<A: Allocator + Copy, H: Attended<A>>(
     alloc: A,
-    terminal: Terminal<H>,
+    terminal: Terminal<H, A>,
     path: &[u8],
-) -> Result<(Terminal<H>, Vec<u8, A>), Refusal>
+) -> Result<(Terminal<H, A>, Vec<u8, A>), Refusal>
     ensures done { IfOk result (λ x.
         PlaysFile H.answers H.held H.tells H.files path.now terminal x.0 x.1.items) }
     ensures memory { IfErr result (λ e. e ≡ out_of_memory) }

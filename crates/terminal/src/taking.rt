@@ -1,10 +1,9 @@
 //! What a typed line is taken for.
 
-ghost use Rattle.std.specs.Prelude.{◌≡◌, ◌==◌, take};
-ghost use Rattle.std.specs.List.{list_any};
+ghost use Rattle.std.specs.Prelude.{◌≡◌, take};
 ghost use Rattle.terminal.specs.Taken as spec;
 
-use crate::typing::{Typed, behind_word, typed_as};
+use crate::typing::{Typed, behind_word, text_in, typed_as};
 
 // The least number of bytes, without its newline, of a line that a terminal may have cut off.
 const LEAST_CUT: usize = 4095;
@@ -72,18 +71,19 @@ pub(crate) fn starts(word: &[u8], text: &[u8]) -> bool
     first_bytes(word.len(), text).eq_ignore_ascii_case(word)
 }
 
-// Whether a text has an end of a list.
-fn has_end(text: &[u8]) -> bool
-    ensures { result ≡ list_any (λ b. b == 41) text.now }
+// Whether lines end a list of columns, or a command.
+fn has_end(lines: &[u8]) -> bool
+    ensures { result ≡ spec.has_end lines.now }
 {
-    text.contains(&b')')
+    lines.contains(&b')') || lines.contains(&b';')
 }
 
-/// Whether a text begins to create a table, but ends no list of columns.
-pub(crate) fn is_unended_table(text: &[u8]) -> bool
-    ensures { result ≡ spec.is_unended_table text.now }
+/// Whether lines begin to create a table, and the next line goes on from them.
+pub(crate) fn goes_on(lines: &[u8]) -> bool
+    ensures { result ≡ spec.goes_on lines.now }
 {
-    starts(b"create ", text) && starts(b"table", behind_word(text)) && !has_end(text)
+    let text = text_in(lines);
+    starts(b"create ", text) && starts(b"table", behind_word(text)) && !has_end(lines)
 }
 
 /// Whether answers are timed from then on, where a text says it after `\timing`.

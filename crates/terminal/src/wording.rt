@@ -13,7 +13,7 @@ pub(crate) fn help_text() -> &'static [u8]
       SELECT .., INSERT .., UPDATE .., DELETE ..   a statement of this session\n\
       BEGIN [READ ONLY [DEFERRABLE]]               begins a transaction; COMMIT and ROLLBACK end it\n\
       POLL, EXPORT, IMPORT n, PRUNE, DUMP ..       other commands; CHECKPOINT makes room for events\n\
-      CREATE TABLE .., OPEN path                   on one line, before the first line of a session\n\
+      CREATE TABLE .., OPEN path                   before the first line of a session\n\
       2                                            goes to session 2, of 64\n\
       2 BEGIN                                      a line of session 2\n\
       \\d [NAME]                                    the tables, or one of them\n\
@@ -86,13 +86,6 @@ pub(crate) fn cut_text() -> &'static [u8]
     ensures { result.now ≡ taken.cut_text }
 {
     b"ERROR 54000: the line is longer than a terminal passes on; use \\i FILE\n"
-}
-
-/// What is shown of a table that a line begins to create and doesn't end.
-pub(crate) fn unended_table_text() -> &'static [u8]
-    ensures { result.now ≡ taken.unended_table_text }
-{
-    b"ERROR 42601: CREATE TABLE stands on one line: CREATE TABLE name (name kind PRIMARY KEY, name kind, ..)\n"
 }
 
 /// What is shown where `\timing` is neither on nor off.

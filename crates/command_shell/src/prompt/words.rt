@@ -46,7 +46,7 @@ fn terminal_of<'s, 'm, A, F, T, K>(
     machine: &'s Machine<'m, F, T, A>,
     served: Served<'s, 'm, F, T, A>,
     clock: &'s K,
-) -> Terminal<Prompted<'s, 'm, F, T, K, A>>
+) -> Terminal<Prompted<'s, 'm, F, T, K, A>, A>
 where
     A: Allocator + Copy,
     F: Files<A>,
@@ -54,11 +54,11 @@ where
     ensures { result ≡ at_first machine.now.files.now served.entry }
 {
     let prompted = Prompted::new(machine.alloc, served, machine.files, clock);
-    Terminal::new(prompted, first_session())
+    Terminal::new(machine.alloc, prompted, first_session())
 }
 
 // Shows the first prompt.
-fn greet<A, H, C>(alloc: A, terminal: &Terminal<H>, conversation: &mut C) -> Result<(), End>
+fn greet<A, H, C>(alloc: A, terminal: &Terminal<H, A>, conversation: &mut C) -> Result<(), End>
 where
     A: Allocator + Copy,
     H: Attended<A>,

@@ -1,7 +1,7 @@
 use Rattle.std.proofs.Common.{◌≡◌, ◌⊎◌, ◌∙◌, ap, subst, inl, inr, ℕ, List, Err, Bor}
 use Rattle.std.proofs.lemmas.Result.{IfOk-weaker}
 use Rattle.history.specs.Opening.{Recorded}
-use Rattle.backup.specs.declared.fault.BackupFault.TheVariants.{Dump}
+use Rattle.backup.specs.declared.fault.SafeDumpFault.TheVariants.{Dump}
 use Rattle.dumpworker.specs.declared.fault.DumpFault.TheVariants.{Device}
 use Rattle.program.specs.Dumps.{IsDumpedAt}
 use Rattle.program.specs.Files.{IsFileFault, Writing, writing_of}
