@@ -32,19 +32,11 @@ fn common(order: &[usize], other: &[usize]) -> usize
     ensures same { take result order.now ≡ take result other.now }
     ensures within { result ≤ length other.now }
 {
-    match order {
-        [] => 0,
-        [turn, more @ ..] => match other {
-            [] => 0,
-            [first, rest @ ..] => {
-                if turn == first {
-                    1 + common(more, rest)
-                } else {
-                    0
-                }
-            }
-        },
+    let mut turns = 0;
+    while turns < order.len() && turns < other.len() && order[turns] == other[turns] {
+        turns += 1;
     }
+    turns
 }
 
 // Whether a session above the first one goes later.
