@@ -1,14 +1,16 @@
 -- The lines of a text, byte by byte; and sessions, one by one.
 use Rattle.std.proofs.Common.{◌≡◌, refl, sym, ap, ◌∙◌, ℕ, zero, suc, ◌+◌, ◌-◌, ◌<◌, ◌≤◌, Bool, true, false, ◌||◌, cond, bytes_eq, List, [], ◌∷◌, ◌++◌, map, length, get_or, take, drop, slice_range, append_assoc, arith}
+use Rattle.std.specs.Prelude.{slice_get}
 use Rattle.std.specs.List.{filter, list_any, range_with_len}
 use Rattle.std.proofs.lemmas.Bool.{eq-eqb, ne_eqb}
-use Rattle.std.proofs.lemmas.List.{append-nil, drop_more, get_or-drop, length-drop, map_push, take_more}
+use Rattle.std.proofs.lemmas.List.{append-nil, drop_more, get_or-drop, length-append, length-drop, map_push, take_more}
 use Rattle.std.proofs.lemmas.List.Elements.{filter-append}
 use Rattle.std.proofs.lemmas.List.Folds.{list_any-append, list_any_at}
 use Rattle.std.proofs.lemmas.List.FromFn.{get_or-range_with_len, length-range_with_len}
 use denote.Ref.{Bor}
 use Rattle.std.specs.Fmt.{decimal}
-use Rattle.explore.specs.Refusals.{cause_reply, is_told, lines, lines_from, refusals, refuses, row_reply, sessions}
+use Rattle.explore.specs.Refusals.{cause_reply, ends_so, is_told, lines, lines_from, may_refuse, refusals, refuses, row_reply, sessions}
+use Rattle.explore.proofs.Joined.{same}
 
 -- ---- lines
 
@@ -121,11 +123,68 @@ line_kept text start next i xs ys s h d n y inv = (
       ∙ inv,
 )
 
--- what is found in a text's lines is what the text says
-pub refusals_are : (text : List ℕ) (ls : List (List ℕ)) (ss : List ℕ) (r c : Bool) → ls ≡ lines text → ss ≡ filter (refuses ls) sessions → r ≡ list_any (is_told row_reply ls) sessions → c ≡ list_any (is_told cause_reply ls) sessions →
+-- ---- lines that may refuse
+
+get-behind : (xs ys : List ℕ) (n : ℕ) → slice_get (xs ++ ys) (length xs + n) ≡ slice_get ys n
+get-behind [] ys n = let none : 0 + n ≡ n = omega arith in ap (slice_get ys) none
+get-behind (x ∷ xs) ys n = let next : suc (length xs) + n ≡ suc (length xs + n) = omega arith in ap (slice_get (x ∷ xs ++ ys)) next ∙ get-behind xs ys n
+
+last-behind : (xs ys : List ℕ) (n : ℕ) → length ys ≡ suc n → slice_get (xs ++ ys) (length (xs ++ ys) - 1) ≡ slice_get ys n
+last-behind xs ys n e =
+    let end : length (xs ++ ys) - 1 ≡ length xs + n = omega (arith, length-append xs ys, e) in
+    ap (slice_get (xs ++ ys)) end ∙ get-behind xs ys n
+
+-- a reply that refuses is among them
+may-row : (s : ℕ) (l : List ℕ) → bytes_eq l (decimal s ++ row_reply) ≡ true → may_refuse l ≡ true
+may-row s l e = ap may_refuse (same l (decimal s ++ row_reply) e) ∙ ap ends_so (last-behind (decimal s) row_reply 15 refl)
+
+may-cause : (s : ℕ) (l : List ℕ) → bytes_eq l (decimal s ++ cause_reply) ≡ true → may_refuse l ≡ true
+may-cause s l e = ap may_refuse (same l (decimal s ++ cause_reply) e) ∙ ap ends_so (last-behind (decimal s) cause_reply 17 refl)
+
+-- what is looked for is among what is left
+any-among : (p q : List ℕ → Bool) (ls : List (List ℕ)) → ((l : List ℕ) → p l ≡ true → q l ≡ true) → list_any p (filter q ls) ≡ list_any p ls
+any-among p q [] all = refl
+any-among p q (l ∷ ls) all = go (q l) refl (any-among p q ls all)
+  where
+    never : (b : Bool) → p l ≡ b → q l ≡ false → list_any p ls ≡ (b || list_any p ls)
+    never true e f = let both : true ≡ false = sym (all l e) ∙ f in cc
+    never false e f = refl
+
+    go : (b : Bool) → q l ≡ b → list_any p (filter q ls) ≡ list_any p ls → list_any p (cond b (l ∷ filter q ls) (filter q ls)) ≡ (p l || list_any p ls)
+    go true e rest = ap (λ b. p l || b) rest
+    go false e rest = rest ∙ never (p l) refl e
+
+told-row : (ls : List (List ℕ)) (s : ℕ) → is_told row_reply (filter may_refuse ls) s ≡ is_told row_reply ls s
+told-row ls s = any-among (λ l. bytes_eq l (decimal s ++ row_reply)) may_refuse ls (may-row s)
+
+told-cause : (ls : List (List ℕ)) (s : ℕ) → is_told cause_reply (filter may_refuse ls) s ≡ is_told cause_reply ls s
+told-cause ls s = any-among (λ l. bytes_eq l (decimal s ++ cause_reply)) may_refuse ls (may-cause s)
+
+filter-same : (p q : ℕ → Bool) (xs : List ℕ) → ((x : ℕ) → p x ≡ q x) → filter p xs ≡ filter q xs
+filter-same p q [] e = refl
+filter-same p q (x ∷ xs) e = ap (λ b. cond b (x ∷ filter p xs) (filter p xs)) (e x) ∙ ap (λ l. cond (q x) (x ∷ l) l) (filter-same p q xs e)
+
+any-same : (p q : ℕ → Bool) (xs : List ℕ) → ((x : ℕ) → p x ≡ q x) → list_any p xs ≡ list_any q xs
+any-same p q [] e = refl
+any-same p q (x ∷ xs) e = ap (λ b. b || list_any p xs) (e x) ∙ ap (λ b. q x || b) (any-same p q xs e)
+
+refuses-same : (ls : List (List ℕ)) (s : ℕ) → refuses (filter may_refuse ls) s ≡ refuses ls s
+refuses-same ls s = ap (λ b. b || is_told cause_reply (filter may_refuse ls) s) (told-row ls s) ∙ ap (λ b. is_told row_reply ls s || b) (told-cause ls s)
+
+pub map-filter : (found : List (Bor (List ℕ))) → texts (filter (λ l. may_refuse l.now) found) ≡ filter may_refuse (texts found)
+map-filter [] = refl
+map-filter (l ∷ found) = go (may_refuse l.now) (map-filter found)
+  where
+    go : (b : Bool) → texts (filter (λ l. may_refuse l.now) found) ≡ filter may_refuse (texts found) → texts (cond b (l ∷ filter (λ l. may_refuse l.now) found) (filter (λ l. may_refuse l.now) found)) ≡ cond b (l.now ∷ filter may_refuse (texts found)) (filter may_refuse (texts found))
+    go true rest = ap (λ ls. l.now ∷ ls) rest
+    go false rest = rest
+
+-- what is found in a text's lines that may refuse is what the text says
+pub refusals_are : (text : List ℕ) (ls : List (List ℕ)) (ss : List ℕ) (r c : Bool) → ls ≡ filter may_refuse (lines text) → ss ≡ filter (refuses ls) sessions → r ≡ list_any (is_told row_reply ls) sessions → c ≡ list_any (is_told cause_reply ls) sessions →
     record { sessions = ss; by_row = r; by_cause = c } ≡ refusals text
 refusals_are text ls ss r c e a b d =
-    let s : ss ≡ filter (refuses (lines text)) sessions = a ∙ ap (λ (x : List (List ℕ)). filter (refuses x) sessions) e in
-    let p : r ≡ list_any (is_told row_reply (lines text)) sessions = b ∙ ap (λ (x : List (List ℕ)). list_any (is_told row_reply x) sessions) e in
-    let q : c ≡ list_any (is_told cause_reply (lines text)) sessions = d ∙ ap (λ (x : List (List ℕ)). list_any (is_told cause_reply x) sessions) e in
+    let all = lines text in
+    let s : ss ≡ filter (refuses all) sessions = a ∙ ap (λ (x : List (List ℕ)). filter (refuses x) sessions) e ∙ filter-same (refuses (filter may_refuse all)) (refuses all) sessions (refuses-same all) in
+    let p : r ≡ list_any (is_told row_reply all) sessions = b ∙ ap (λ (x : List (List ℕ)). list_any (is_told row_reply x) sessions) e ∙ any-same (is_told row_reply (filter may_refuse all)) (is_told row_reply all) sessions (told-row all) in
+    let q : c ≡ list_any (is_told cause_reply all) sessions = d ∙ ap (λ (x : List (List ℕ)). list_any (is_told cause_reply x) sessions) e ∙ any-same (is_told cause_reply (filter may_refuse all)) (is_told cause_reply all) sessions (told-cause all) in
     λ i. record { sessions = s i; by_row = p i; by_cause = q i }

@@ -4,13 +4,16 @@ use Rattle.std.specs.Prelude.{IfSome, OnOk, nat_le, filter}
 use Rattle.std.specs.List.{AllByRecursion}
 use Rattle.std.specs.Option.{option_to_list}
 use Rattle.std.proofs.lemmas.Bool.{leb-true}
+use Rattle.std.proofs.lemmas.List.{get_or_past}
 use Rattle.value.proofs.Basics.{all-parts}
 use Rattle.value.specs.declared.refusal.Refusal.{Refusal}
+use Rattle.history.specs.declared.event.Record.{Record}
 use Rattle.history.specs.Opening.{Recorded}
 use Rattle.explore.specs.declared.plan.Line.{Line}
 use Rattle.explore.specs.declared.trail.Saved.{Saved}
 use Rattle.explore.specs.Cursors.{AreCursors}
-use Rattle.explore.specs.Explored.{Explored, RunsTo, after_turn, after_turns, beginning, sessions, turns_of}
+use Rattle.explore.specs.Explored.{Explored, RunsTo, after_turn, after_turns, beginning, done, events_of, own_line, sessions, turns_of}
+use Rattle.explore.specs.Replies.{AreReplies}
 use Rattle.explore.specs.Trails.{IsSaved}
 use Rattle.explore.proofs.Beginnings.{is_unbegun, is_most}
 use Rattle.explore.proofs.CursorLemmas.{begin}
@@ -43,6 +46,10 @@ take_whole (suc n) [] le = refl
 take_whole zero (x ∷ xs) le = absurd (omega arith)
 take_whole (suc n) (x ∷ xs) le = ap (λ ys. x ∷ ys) (take_whole n xs (omega arith))
 
+take_first : {X : Type 0} (xs ys : List X) → take (length xs) (xs ++ ys) ≡ xs
+take_first [] ys = refl
+take_first (x ∷ xs) ys = ap (λ zs. x ∷ zs) (take_first xs ys)
+
 module _ {A : Type 0} where
   turns_more : (lines : List (Line A)) (h : Recorded A) (order : List ℕ) (i p : ℕ) → i < length order → p ≡ get_or order i p → after_turns lines h (take (suc i) order) ≡ after_turn lines (after_turns lines h (take i order)) p
   turns_more lines h [] i p lt at = absurd (omega arith)
@@ -53,7 +60,7 @@ module _ {A : Type 0} where
   follows : (e : Explored A) (old new : List ℕ) (n : ℕ) (s : Saved A) → take n old ≡ take n new → n ≤ length new → IsSaved e old s → s.turns ≤ n → IsSaved e new s
   follows e old new n s same within is few =
       let firsts : take s.turns old ≡ take s.turns new = sym (take_within s.turns n old few) ∙ ap (take s.turns) same ∙ take_within s.turns n new few in
-      record { within = omega (arith, few, within); ran = subst (λ turns. RunsTo e turns s.core) firsts is.ran; cursors = is.cursors; few = is.few; most = is.most; catalog = is.catalog }
+      record { within = omega (arith, few, within); ran = subst (λ turns. RunsTo e turns s.core) firsts is.ran; told = is.told; cursors = is.cursors; few = is.few; most = is.most; catalog = is.catalog }
 
   pub all_follow : (e : Explored A) (old new : List ℕ) (n : ℕ) (saved : List (Saved A)) → take n old ≡ take n new → n ≤ length new → AllByRecursion (IsSaved e old) saved → AllByRecursion (IsSaved e new) (filter (λ s. nat_le s.turns n) saved)
   all_follow e old new n [] same within all = tt
@@ -66,15 +73,33 @@ module _ {A : Type 0} where
       go true few rest = (follows e old new n s same within all.0 (leb-true s.turns n few), rest)
       go false few rest = rest
 
+  -- nobody is told anything before the first event
+  no_replies : (es : List (Record A)) → es ≡ [] → AreReplies es []
+  no_replies es none = subst (λ (xs : List (Record A)). AreReplies xs []) (sym none) (omega arith, λ p. get_or_past [] p [] (omega arith))
+
+  before_done : (h : Recorded A) (o : Option (Line A)) → take (length h.records) (done h o).records ≡ h.records
+  before_done h None = take_whole (length h.records) h.records (omega arith)
+  before_done h (Some l) = take_first h.records _
+
+  -- what was told before a turn
+  pub told_before : (lines : List (Line A)) (h k : Recorded A) (p n : ℕ) (es : List (Record A)) (ts : List (List ℕ)) → k ≡ after_turn lines h p → n ≡ length h.records → es ≡ k.records → AreReplies h.records ts → AreReplies (take n es) ts
+  told_before lines h k p n es ts came count same are =
+      let firsts : take n es ≡ h.records =
+      ap (take n) (same ∙ ap (λ (x : Recorded A). x.records) came)
+      ∙ ap (λ (m : ℕ). take m (after_turn lines h p).records) count
+      ∙ before_done h (own_line p (events_of p h.records) lines) in
+      subst (λ xs. AreReplies xs ts) (sym firsts) are
+
   -- the next turn is done
   pub turn_done : (e : Explored A) (order : List ℕ) (s t : Saved A) (p : ℕ) → IsSaved e order s → s.turns < length order → p ≡ get_or order s.turns p → t.core ≡ after_turn e.lines s.core p → AreCursors e.lines t.core.records t.cursors
-      → length t.core.records ≤ length s.core.records + 1 → t.core.most ≡ s.core.most → t.turns ≡ s.turns + 1 → IsSaved e order t
-  turn_done e order s t p is lt at done cursors few most turns =
+      → length t.core.records ≤ length s.core.records + 1 → t.core.most ≡ s.core.most → t.turns ≡ s.turns + 1 → AreReplies t.core.records t.told → IsSaved e order t
+  turn_done e order s t p is lt at done cursors few most turns told =
       let next : t.turns ≡ suc s.turns = omega (arith, turns) in
       let came : t.core ≡ after_turns e.lines is.ran.0 (take (suc s.turns) order) = done ∙ ap (λ (h : Recorded A). after_turn e.lines h p) is.ran.2 ∙ sym (turns_more e.lines is.ran.0 order s.turns p lt at) in
       record {
         within = omega (arith, turns, lt);
         ran = subst (λ n. RunsTo e (take n order) t.core) (sym next) (is.ran.0, is.ran.1, came);
+        told = told;
         cursors = cursors;
         few = omega (arith, few, is.few, turns);
         most = most ∙ is.most;
@@ -82,13 +107,14 @@ module _ {A : Type 0} where
       }
 
   -- no turn is done
-  pub none_done : (e : Explored A) (order : List ℕ) (s : Saved A) → beginning e ≡ Ok s.core → s.cursors ≡ replicate sessions 0 → s.turns ≡ 0 → IsSaved e order s
-  none_done e order s begun cursors none =
+  pub none_done : (e : Explored A) (order : List ℕ) (s : Saved A) → beginning e ≡ Ok s.core → s.told ≡ [] → s.cursors ≡ replicate sessions 0 → s.turns ≡ 0 → IsSaved e order s
+  none_done e order s begun told cursors none =
       let unbegun = is_unbegun e s.core begun in
       let no_events : length s.core.records ≡ 0 = ap length unbegun in
       record {
         within = omega (arith, none);
         ran = subst (λ n. RunsTo e (take n order) s.core) (sym none) (s.core, begun, refl);
+        told = subst (λ ts. AreReplies s.core.records ts) (sym told) (no_replies s.core.records unbegun);
         cursors = subst (λ cs. AreCursors e.lines s.core.records cs) (sym cursors) (subst (λ es. AreCursors e.lines es (replicate sessions 0)) (sym unbegun) (begin e.lines sessions));
         few = omega (arith, no_events);
         most = is_most e s.core begun;

@@ -1,5 +1,5 @@
 -- The outcomes of many runs, and how many runs lead to each.
-use Rattle.std.specs.Prelude.{◌≡◌, ℕ, ◌+◌, ◌<◌, if◌then◌else◌, List, [], ◌∷◌, length, take, slice_index_or, bytes_eq}
+use Rattle.std.specs.Prelude.{◌≡◌, ℕ, ◌+◌, ◌<◌, ◌==◌, ◌&&◌, Bool, if◌then◌else◌, List, [], ◌∷◌, drop, length, take, slice_index_or, bytes_eq}
 use Rattle.std.specs.List.{All}
 use Rattle.explore.specs.Interleavings.{occurrences}
 
@@ -8,6 +8,10 @@ pub record Counted : Type 0 where
   pub text : List ℕ
   pub runs : ℕ
   pub first : ℕ
+
+-- two texts are as long, and alike from a place on
+abbrev pub end_alike : ℕ → List ℕ → List ℕ → Bool
+end_alike n text other = length text == length other && bytes_eq (drop n text) (drop n other)
 
 -- with the runs of another outcome, counted to those of the same text
 abbrev pub merged : List Counted → Counted → List Counted

@@ -1,6 +1,6 @@
 -- What the text of an outcome says of refusals that are to be tried again (40001).
 -- Source: PostgreSQL's manual, "Serialization Failure Handling".
-use Rattle.std.specs.Prelude.{ℕ, ◌==◌, if◌then◌else◌, Bool, ◌||◌, List, [], ◌∷◌, ◌++◌, codes, bytes_eq}
+use Rattle.std.specs.Prelude.{ℕ, ◌-◌, ◌==◌, if◌then◌else◌, Bool, false, ◌||◌, Option, Some, None, List, [], ◌∷◌, ◌++◌, codes, bytes_eq, length, slice_get}
 use Rattle.std.specs.Fmt.{decimal}
 use Rattle.std.specs.List.{filter, list_any, range_with_len}
 
@@ -18,6 +18,15 @@ row_reply = codes " ERROR 40001 row"
 
 abbrev pub cause_reply : List ℕ
 cause_reply = codes " ERROR 40001 cause"
+
+-- these replies end so
+abbrev pub ends_so : Option ℕ → Bool
+ends_so None = false
+ends_so (Some b) = b == 119 || b == 101
+
+-- a line may be such a reply to a session
+abbrev pub may_refuse : List ℕ → Bool
+may_refuse l = ends_so (slice_get l (length l - 1))
 
 -- one of the lines is this reply to the session
 abbrev pub is_told : List ℕ → List (List ℕ) → ℕ → Bool

@@ -6,11 +6,12 @@ ghost use Rattle.explore.specs.Interleavings.{interleavings};
 ghost use Rattle.explore.specs.Sampling.{draws};
 ghost use Rattle.explore.specs.Outcomes.{AreOf, outcomes};
 ghost use Rattle.explore.specs.Explored.{IsExplained, RunsTo, line_counts, outcome, schedules, sessions, turns_of};
+ghost use Rattle.explore.specs.Replies.{AreReplies};
 ghost use Rattle.explore.specs.Texts.{outcome_text, state_text};
 
 use crate::gated::GatedPlan;
 use crate::plan::Plan;
-use crate::replies::append_replies;
+use crate::replies::{Told, append_replies};
 use crate::running::do_turns;
 use crate::states::append_tables;
 use crate::tally::interleave::interleavings::Interleavings;
@@ -43,15 +44,17 @@ fn append_state<A: Allocator + Copy>(
 // So many bytes are taken at first for the text of an outcome, which mostly has fewer.
 const ROOM: usize = 512;
 
-// The text of the outcome of a core's history.
+// The text of the outcome of a core's history, whose replies are told.
 pub(crate) fn outcome_text<A: Allocator + Copy>(
     alloc: A,
     core: &Core<A>,
+    told: &Told<A>,
 ) -> Result<Vec<u8, A>, Refusal>
+    requires { AreReplies core.now.records told.now }
     ensures { IfOk result (λ text. text.items ≡ outcome_text core.now) }
 {
     let mut text = Vec::with_capacity(alloc, ROOM)?;
-    append_replies(alloc, core.history().records(), &mut text)?;
+    append_replies(core.history().records(), told, &mut text)?;
     append_state(alloc, core, &mut text)?;
     Ok(text)
 }
@@ -77,7 +80,8 @@ impl<A: Allocator + Copy> Plan<A> {
     {
         let core = self.run_order(alloc, order)?;
         legal_histories_are_serializable::<A>();
-        let text = outcome_text(alloc, &core)?;
+        let told = Told::of(alloc, core.history().records())?;
+        let text = outcome_text(alloc, &core, &told)?;
         Ok(text)
     }
 }

@@ -1,6 +1,6 @@
 //! The replies of a history, session by session.
 
-ghost use Rattle.std.specs.Prelude.{◌≡◌, ◌<◌, ◌≤◌, ◌++◌, ◌∷◌, [], List, ℕ, codes, get_or, length, IfOk, OnOk};
+ghost use Rattle.std.specs.Prelude.{◌≡◌, ◌<◌, ◌≤◌, ◌++◌, ◌∷◌, [], List, ℕ, codes, get_or, length, take, IfOk, OnOk};
 ghost use Rattle.std.specs.Fmt.{decimal};
 ghost use Rattle.value.specs.Codes.{sqlstate};
 ghost use Rattle.script.specs.Printing.{reply_text};
@@ -14,7 +14,7 @@ use history::session_id::SessionId;
 use itoa::Buffer;
 use script::printing::reply_text;
 use statement::reply::Reply;
-use std::alloc::Allocator;
+use std::alloc::{Allocator, Global};
 use std::marker::Model;
 use value::refusal::{Place, Refusal};
 
@@ -185,18 +185,106 @@ fn append_own<A: Allocator + Copy>(
     append_at(alloc, entry, place, texts)
 }
 
-// The replies to each session.
-fn replies_of<A: Allocator + Copy>(
+// Appends the replies of events, from one on, to those of their sessions.
+fn append_from<A: Allocator + Copy>(
     alloc: A,
     entries: &[Record<A>],
-) -> Result<Vec<Replies<A>, A>, Refusal>
-    ensures { IfOk result (λ texts. AreReplies entries.now texts.items) }
+    from: usize,
+    texts: &mut Vec<Replies<A>, A>,
+) -> Result<(), Refusal>
+    requires { AreReplies (take from entries.now) texts.old.items }
+    ensures { OnOk result (AreReplies entries.now texts.new.items) }
 {
-    let mut texts = Vec::new(alloc);
-    for entry in entries {
-        append_own(alloc, entry, &mut texts)?;
+    for place in from..entries.len() {
+        append_own(alloc, &entries[place], texts)?;
     }
-    Ok(texts)
+    Ok(())
+}
+
+// Equal replies.
+fn copy_replies<A: Allocator>(alloc: A, replies: &Replies<A>) -> Result<Replies<A>, Refusal>
+    ensures { IfOk result (λ copy. copy ≡ replies.now) }
+{
+    let text = Vec::from_slice(alloc, replies.text.as_slice())?;
+    Ok(Replies { text })
+}
+
+// Equal replies to each session.
+fn copy_all<A: Allocator + Copy>(
+    alloc: A,
+    texts: &[Replies<A>],
+) -> Result<Vec<Replies<A>, A>, Refusal>
+    ensures { IfOk result (λ copy. copy.items ≡ texts.now) }
+{
+    let mut copy = Vec::with_capacity(alloc, texts.len())?;
+    for replies in texts {
+        copy.push(copy_replies(alloc, replies)?)?;
+    }
+    Ok(copy)
+}
+
+/// What each session is told.
+#[derive(Drop)]
+pub(crate) struct Told<A: Allocator = Global> {
+    texts: Vec<Replies<A>, A>,
+}
+
+impl<A: Allocator> Model for Told<A> {
+    ghost use Rattle.std.specs.Prelude.{List, ℕ};
+
+    ghost Value = { List (List ℕ) };
+
+    ghost view = { λ t. t.texts.items };
+}
+
+impl<A: Allocator> Told<A> {
+    // The replies to each session.
+    fn texts(&self) -> &[Replies<A>]
+        ensures { result.now ≡ self.now }
+    {
+        self.texts.as_slice()
+    }
+}
+
+impl<A: Allocator + Copy> Told<A> {
+    /// Nothing yet.
+    pub(crate) fn nothing(alloc: A) -> Told<A>
+        ensures { result ≡ [] }
+    {
+        Told {
+            texts: Vec::new(alloc),
+        }
+    }
+
+    /// The replies of all events, where those up to one are told.
+    pub(crate) fn tell_from(
+        &mut self,
+        alloc: A,
+        entries: &[Record<A>],
+        from: usize,
+    ) -> Result<(), Refusal>
+        requires { AreReplies (take from entries.now) self.old }
+        ensures { OnOk result (AreReplies entries.now self.new) }
+    {
+        append_from(alloc, entries, from, &mut self.texts)
+    }
+
+    /// The replies of events.
+    pub(crate) fn of(alloc: A, entries: &[Record<A>]) -> Result<Told<A>, Refusal>
+        ensures { IfOk result (AreReplies entries.now) }
+    {
+        let mut told = Told::nothing(alloc);
+        told.tell_from(alloc, entries, 0)?;
+        Ok(told)
+    }
+
+    /// The same replies.
+    pub(crate) fn copy(&self, alloc: A) -> Result<Told<A>, Refusal>
+        ensures { IfOk result (λ copy. copy ≡ self.now) }
+    {
+        let texts = copy_all(alloc, self.texts())?;
+        Ok(Told { texts })
+    }
 }
 
 // Appends the replies to a session.
@@ -209,16 +297,18 @@ fn append_all<A: Allocator>(replies: &Replies<A>, text: &mut Vec<u8, A>) -> Resu
     Ok(())
 }
 
-/// Appends the replies to each session, session by session.
-pub(crate) fn append_replies<A: Allocator + Copy>(
-    alloc: A,
+/// Appends the replies of events to each session, session by session.
+pub(crate) fn append_replies<A: Allocator>(
     entries: &[Record<A>],
+    told: &Told<A>,
     text: &mut Vec<u8, A>,
 ) -> Result<(), Refusal>
+    requires { AreReplies entries.now told.now }
     ensures ok { OnOk result (text.new.items ≡ text.old.items ++ replies_of 64 entries.now) }
 {
-    let texts = replies_of(alloc, entries)?;
-    for replies in &texts {
+    // The contract alone speaks of the events.
+    let _count = entries.len();
+    for replies in told.texts() {
         append_all(replies, text)?;
     }
     Ok(())

@@ -9,9 +9,9 @@ loop-replies-init g c = sym (ap (λ (t : List ℕ). c.args.text.now.items ++ t) 
 
 pub loop-replies-preserved : goal.loop-replies-preserved
 loop-replies-preserved g c =
-    told_next c.args.entries.now c.in_ok-texts.texts.items c.deref-replies-items.result.now c.loop-replies.replies-index c.replies-item.result c.args.text.now.items c.loop-replies.text.items c.append_all.new.text.items c.in_ok-texts.ensures c.deref-replies-items.ensures.value c.loop-replies-test.true c.replies-item.is c.loop-replies.invariant c.in_ok-append_all.ensures
+    told_next c.args.entries.now c.args.told.now c.texts-replies-items.result.now c.loop-replies.replies-index c.replies-item.result c.args.text.now.items c.loop-replies.text.items c.append_all.new.text.items c.requires c.texts-replies-items.ensures c.loop-replies-test.true c.replies-item.is c.loop-replies.invariant c.in_ok-append_all.ensures
 
 pub returns : goal.returns
 returns g c = record {
-  ok = told_all c.args.entries.now c.in_ok-texts.texts.items c.deref-replies-items.result.now c.loop-replies.replies-index c.args.text.now.items c.loop-replies.text.items c.in_ok-texts.ensures c.deref-replies-items.ensures.value (omega (arith, c.loop-replies-test.false)) c.loop-replies.auto.replies-index-end c.loop-replies.invariant;
+  ok = told_all c.args.entries.now c.args.told.now c.texts-replies-items.result.now c.loop-replies.replies-index c.args.text.now.items c.loop-replies.text.items c.requires c.texts-replies-items.ensures (omega (arith, c.loop-replies-test.false)) c.loop-replies.auto.replies-index-end c.loop-replies.invariant;
 }

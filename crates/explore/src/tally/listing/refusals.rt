@@ -3,7 +3,7 @@
 ghost use Rattle.std.specs.Prelude.{◌≡◌, ◌==◌, ◌++◌, map, bytes_eq, IfOk};
 ghost use Rattle.std.specs.Fmt.{decimal};
 ghost use Rattle.std.specs.List.{filter, list_any};
-ghost use Rattle.explore.specs.Refusals.{is_told, lines, refusals, refuses, sessions};
+ghost use Rattle.explore.specs.Refusals.{is_told, lines, may_refuse, refusals, refuses, sessions};
 
 use itoa::Buffer;
 use std::alloc::{AllocError, Allocator};
@@ -37,6 +37,28 @@ fn lines_of<'t, A: Allocator>(alloc: A, text: &'t [u8]) -> Result<Vec<&'t [u8], 
             start = place + 1;
         }
     }
+    Ok(found)
+}
+
+// Whether a line may be a reply that refuses a session: it ends as these do.
+fn may_refuse(line: &[u8]) -> bool
+    ensures { result ≡ may_refuse line.now }
+{
+    match line.last() {
+        Some(last) => *last == b'w' || *last == b'e',
+        None => false,
+    }
+}
+
+// The lines of a text that may refuse a session.
+fn refusing_lines_of<'t, A: Allocator>(
+    alloc: A,
+    text: &'t [u8],
+) -> Result<Vec<&'t [u8], A>, AllocError>
+    ensures { IfOk result (λ found. map (λ l. l.now) found.items ≡ filter may_refuse (lines text.entry.now)) }
+{
+    let mut found = lines_of(alloc, text)?;
+    found.retain(|line| may_refuse(line));
     Ok(found)
 }
 
@@ -136,7 +158,7 @@ impl<A: Allocator + Copy> Refusals<A> {
     pub(crate) fn in_text(alloc: A, text: &[u8]) -> Result<Refusals<A>, AllocError>
         ensures { IfOk result (λ r. r ≡ refusals text.now) }
     {
-        let found = lines_of(alloc, text)?;
+        let found = refusing_lines_of(alloc, text)?;
         let found = found.as_slice();
         Ok(Refusals {
             sessions: refused_by(alloc, found)?,

@@ -1,4 +1,5 @@
 use Rattle.std.proofs.Common.{ap, subst, sym, ◌∙◌}
+use Rattle.explore.specs.Replies.{AreReplies}
 use Rattle.explore.specs.Texts.{outcome_text}
 use Rattle.explore.specs.Trails.{IsSaved}
 use Rattle.explore.proofs.Beginnings.{outcome_is}
@@ -10,12 +11,10 @@ resume-requires g c = c.in_ok-follow.ensures.saved c.args.self.now c.requires.sa
 pub finish-requires-clause-run : goal.finish-requires-clause-run
 finish-requires-clause-run g c = subst (λ os. IsSaved c.args.self.now os c.in_ok-reached.reached) c.in_ok-follow.ensures.order c.in_ok-reached.ensures.run
 
+pub outcome-requires : goal.outcome-requires
+outcome-requires g c = subst (λ s. AreReplies s.core.records s.told) (sym c.saved.ensures) c.in_ok-finish.ensures.told
+
 pub returns-clause-outcome : goal.returns-clause-outcome
 returns-clause-outcome g c =
     let ran = c.in_ok-finish.ensures.ran in
-    c.in_ok-text.ensures ∙ ap outcome_text ran.2 ∙ sym (outcome_is c.args.self.now ran.0 c.args.order.now ran.1)
-
-pub returns-clause-explained : goal.returns-clause-explained
-returns-clause-explained g c =
-    let k = c.finish.new.run.core in
-    (k, c.is_legal.ensures, c.legal_histories_are_serializable.ensures k.opening k.records c.is_legal.ensures, c.in_ok-text.ensures)
+    c.in_ok-text.ensures.outcome ∙ ap (λ s. outcome_text s.core) c.saved.ensures ∙ ap outcome_text ran.2 ∙ sym (outcome_is c.args.self.now ran.0 c.args.order.now ran.1)

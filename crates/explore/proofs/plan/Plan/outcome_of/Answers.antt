@@ -1,7 +1,11 @@
-use Rattle.std.proofs.Common.{ap, sym, ◌∙◌}
+use Rattle.std.proofs.Common.{ap, subst, sym, ◌∙◌}
+use Rattle.explore.specs.Replies.{AreReplies}
 use Rattle.explore.specs.Texts.{outcome_text}
 use Rattle.explore.proofs.Beginnings.{outcome_is}
 use Rattle.explore.proofs.plan.Plan.outcome_of.Goals as goal
+
+pub outcome_text-requires : goal.outcome_text-requires
+outcome_text-requires g c = subst (λ es. AreReplies es c.in_ok-told.told) (c.records.ensures ∙ ap (λ h. h.records) c.history.ensures) c.in_ok-told.ensures
 
 pub returns-clause-outcome : goal.returns-clause-outcome
 returns-clause-outcome g c =
