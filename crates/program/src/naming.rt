@@ -31,7 +31,7 @@ fn words_of(code: &str) -> &'static str {
         "23505" => " (unique_violation: the key is there already)",
         "25001" => " (active_sql_transaction: the transaction has begun)",
         "25006" => " (read_only_sql_transaction: it may not write)",
-        "25P01" => " (no_active_sql_transaction: BEGIN comes first)",
+        "25P01" => " (no_active_sql_transaction: BEGIN comes first, alone on its line)",
         "25P02" => " (in_failed_sql_transaction: ROLLBACK comes first)",
         "40001" => " (serialization_failure: run the transaction again)",
         "42601" => " (syntax_error: this is no statement)",
@@ -41,7 +41,9 @@ fn words_of(code: &str) -> &'static str {
         "42P07" => " (duplicate_table: there is a table of this name already)",
         "53200" => " (out_of_memory: nothing has changed)",
         "54000" => " (program_limit_exceeded: a limit, or the history is full)",
-        "55000" => " (object_not_in_prerequisite_state: not yet, or not in this mode)",
+        "55000" =>
+            " (object_not_in_prerequisite_state: not yet, not in this mode, or a session has a transaction)",
+        "58030" => " (io_error: the file can't be read or written)",
         _ => "",
     }
 }
