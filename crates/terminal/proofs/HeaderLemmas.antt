@@ -1,14 +1,19 @@
--- The header of the rows that a text asks for, which is read as a script.
-use Rattle.std.proofs.Common.{◌≡◌, ◌∙◌, ℕ, List, Option, Result, Ok, Err, IfOk, ap, sym}
+-- The header of the rows that the last of some events shows.
+use Rattle.std.proofs.Common.{◌≡◌, ◌∙◌, List, [], ◌∷◌, ◌++◌, Option, Some, None, Result, Ok, Err, IfOk, ap, refl, sym}
+use Rattle.std.specs.List.{last_or}
 use Rattle.value.specs.declared.refusal.Refusal.{Refusal}
 use Rattle.schema.specs.Definition.{Catalog}
-use Rattle.script.specs.Scripts.{Said}
-use Rattle.script.specs.declared.script.Line.{Line}
+use Rattle.history.specs.declared.event.Record.{Record}
 use Rattle.terminal.specs.Drawn.{Header}
-use Rattle.terminal.specs.Headers.{lines_header, said_header}
+use Rattle.terminal.specs.Headers.{action_names, headed_by, header_from, last_header}
 
--- what its lines ask for
-pub headed : {A : Type 0} (c : Catalog) (r : Result (Option Header) Refusal) (lines : List (Line A)) (s : Said A) (answer : Result (Said A) ℕ)
-    → IfOk r (λ h. h ≡ lines_header c lines) → lines ≡ s.lines → answer ≡ Ok s → IfOk r (λ h. h ≡ said_header c answer)
-headed {A} c (Ok h) lines s answer is same says = is ∙ ap (λ (l : List (Line A)). lines_header c l) same ∙ sym (ap (λ (a : Result (Said A) ℕ). said_header c a) says)
-headed c (Err e) lines s answer is same says = is
+last_behind : {X : Type 0} (o : Option X) (before : List X) (x : X) → last_or o (before ++ x ∷ []) ≡ Some x
+last_behind o [] x = refl
+last_behind o (y ∷ ys) x = last_behind (Some y) ys x
+
+-- what the last event shows, where that is the event e
+pub headed : {A : Type 0} (c d : Catalog) (r : Result (Option Header) Refusal) (es before : List (Record A)) (e : Record A)
+    → IfOk r (λ h. h ≡ headed_by e.session (action_names d e.action)) → d ≡ c → es ≡ before ++ e ∷ [] → IfOk r (λ h. h ≡ last_header c es)
+headed {A} c d (Ok h) es before e is same last =
+    is ∙ ap (λ (k : Catalog). header_from k (Some e)) same ∙ sym (ap (λ (o : Option (Record A)). header_from c o) (ap (last_or None) last ∙ last_behind None before e))
+headed c d (Err x) es before e is same last = is

@@ -1,3 +1,4 @@
+mod AdmittedLemmas
 pub mod HeaderLemmas
 pub mod MarkLemmas
 pub mod PlayLemmas

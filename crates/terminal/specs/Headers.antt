@@ -1,21 +1,15 @@
 -- The names of the columns that a SELECT shows.
-use Rattle.std.specs.Prelude.{ℕ, Option, Some, None, Result, Ok, Err, List, [], ◌∷◌, codes, drop, slice_get}
-use Rattle.std.specs.List.{flat_map}
+use Rattle.std.specs.Prelude.{ℕ, Option, Some, None, List, [], ◌∷◌, codes, drop, slice_get}
+use Rattle.std.specs.List.{flat_map, last_or}
 use Rattle.schema.specs.Definition.{Catalog, Column, TableSchema}
 use Rattle.statement.specs.declared.statement.Projection.{Projection}
 use Rattle.statement.specs.declared.statement.Projection.TheVariants as projection
 use Rattle.statement.specs.declared.statement.Statement.TheVariants as statement
 use Rattle.history.specs.Opening.{Recorded}
+use Rattle.history.specs.declared.event.Record.{Record}
 use Rattle.history.specs.declared.event.Action.{Action}
 use Rattle.history.specs.declared.event.Action.TheVariants as action
-use Rattle.request.specs.Requests.{asked}
-use Rattle.script.specs.Scripts.{Said, said}
-use Rattle.script.specs.declared.command.Command.TheVariants.{Ask, Wait, Dump}
-use Rattle.script.specs.declared.schedule.Schedule.TheVariants.{InOrder}
-use Rattle.script.specs.declared.script.Line.{Line}
-use Rattle.script.specs.declared.script.Step.{Step}
-use Rattle.script.specs.declared.script.Step.TheVariants.{Session, Checkpoint}
-use Rattle.shell.specs.Shells.{Held, ended}
+use Rattle.shell.specs.Shells.{Held}
 use Rattle.terminal.specs.Drawn.{Header}
 
 -- the names of these, parted by tabs
@@ -62,25 +56,19 @@ module _ {A : Type 0} where
   action_names c action.Rollback = None
   action_names c action.Prune = None
 
-  -- the header of what a step asks for
-  abbrev pub step_header : Catalog → Step A → Option Header
-  step_header c (Session s (Ask q)) = headed_by s (action_names c (asked c q))
-  step_header c (Session s Wait) = None
-  step_header c (Session s (Dump d)) = None
-  step_header c Checkpoint = None
+  -- the header of the rows that an event shows
+  abbrev pub header_from : Catalog → Option (Record A) → Option Header
+  header_from c None = None
+  header_from c (Some e) = headed_by e.session (action_names c e.action)
 
-  abbrev pub lines_header : Catalog → List (Line A) → Option Header
-  lines_header c [] = None
-  lines_header c (line ∷ more) = step_header c line.step
+  -- the header of the rows that the last of some events shows
+  abbrev pub last_header : Catalog → List (Record A) → Option Header
+  last_header c es = header_from c (last_or None es)
 
-  abbrev pub said_header : Catalog → Result (Said A) ℕ → Option Header
-  said_header c (Err n) = None
-  said_header c (Ok s) = lines_header c s.lines
+  abbrev pub header_on : Option (Recorded A) → Option Header
+  header_on None = None
+  header_on (Some h) = last_header h.opening.catalog h.records
 
-  abbrev pub header_on : Option (Recorded A) → List ℕ → Option Header
-  header_on None line = None
-  header_on (Some h) line = said_header h.opening.catalog (said InOrder (ended line))
-
-  -- the header of the rows that a line asks for, once the server runs
-  abbrev pub header_of : Held A → List ℕ → Option Header
-  header_of p line = header_on p.core line
+  -- the header of the rows that the last event shows, once the server runs
+  abbrev pub header_of : Held A → Option Header
+  header_of p = header_on p.core

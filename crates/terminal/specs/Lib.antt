@@ -1,3 +1,4 @@
+pub mod Admitted
 pub mod Described
 pub mod Drawn
 pub mod Headers

@@ -1,10 +1,13 @@
 -- What is answered to each line that is typed at a terminal, by a handler of lines.
-use Rattle.std.specs.Prelude.{◌≡◌, ◌⊎◌, ℕ, ◌+◌, ◌-◌, ◌/◌, ◌%◌, ◌==◌, ◌&&◌, not, Bool, true, false, List, [], ◌∷◌, ◌++◌, Option, Some, None, length, codes, slice_index, take, unwrap_or, if◌then◌else◌, IfSome}
+use Rattle.std.specs.Prelude.{◌≡◌, ◌⊎◌, ℕ, ◌+◌, ◌-◌, ◌/◌, ◌%◌, ◌==◌, ◌&&◌, not, Bool, true, false, List, [], ◌∷◌, ◌++◌, Option, Some, None, length, codes, drop, slice_index, take, unwrap_or, if◌then◌else◌, IfSome}
 use Rattle.std.specs.Fmt.{decimal}
-use Rattle.std.specs.List.{slice_split}
+use Rattle.std.specs.List.{list_any, slice_split}
 use Rattle.shell.specs.Asked.{catalog_of}
 use Rattle.shell.specs.Shells.{Held}
-use Rattle.terminal.specs.Typing.{behind_word, begins, line_of, session_in, text_in}
+use Rattle.terminal.specs.Admitted.{admits, admits_dump}
+use Rattle.terminal.specs.declared.admitting.Admission.{Admission}
+use Rattle.terminal.specs.declared.admitting.Admission.TheVariants as admission_of
+use Rattle.terminal.specs.Typing.{behind_word, begins, is_blank, line_of, session_in, text_in}
 use Rattle.terminal.specs.declared.typing.Typed.{Typed}
 use Rattle.terminal.specs.declared.typing.Typed.TheVariants as typed
 use Rattle.terminal.specs.Described.{table_described}
@@ -28,6 +31,18 @@ unknown_text = codes "there is no such word: \\? tells what may be typed\n"
 -- what is shown where no session may begin a dump
 abbrev pub no_session_text : List ℕ
 no_session_text = codes "each session has a transaction: a dump needs one without\n"
+
+-- what is shown of a dump whose path has blanks
+abbrev pub spaced_text : List ℕ
+spaced_text = codes "a dump's path has no blanks\n"
+
+-- what is shown of a line that comes too early
+abbrev pub early_text : List ℕ
+early_text = codes "CREATE TABLE or OPEN comes first, then BEGIN: this line was left out\n"
+
+-- what is shown of a line whose event there is no room for
+abbrev pub late_text : List ℕ
+late_text = codes "all but the last of --events are used: COMMIT or ROLLBACK each transaction, then CHECKPOINT makes room\n"
 
 -- what is shown of a dump that is given up
 abbrev pub not_safe_text : List ℕ
@@ -69,13 +84,26 @@ module _ {H : Type 0} where
       × GoesOnTo (begins (session_line s (codes "SAFE ")) polled) answers s path polled n q told
 
 module _ {A H : Type 0} where
-  -- The handler p, which holds what a shell holds, was asked a line and has become q, and its answer was drawn as this text.
+  -- The handler p was asked a line and has become q, which holds what a shell holds, and its answer was drawn as this text: rows under the names of the columns that the last event shows.
   abbrev pub Asks : (H → List ℕ → H → List ℕ → Type 0) → (H → Held A) → H → List ℕ → H → List ℕ → Type 0
-  Asks answers held p line q told = (text : List ℕ) × answers p line q text × (told ≡ drawn (header_of (held p) line) (worded line text))
+  Asks answers held p line q told = (text : List ℕ) × answers p line q text × (told ≡ drawn (header_of (held q)) (worded line text))
 
   -- A session without a transaction makes the dump; or there is none.
+  abbrev pub DumpsAt : (H → List ℕ → H → List ℕ → Type 0) → (H → Held A) → List ℕ → H → H → List ℕ → Type 0
+  DumpsAt answers held path p q told = ((s : ℕ) × (mark_in (held p) s ≡ mark.Idle) × DumpsBy answers s path p q told) ⊎ ((q ≡ p) × (told ≡ no_session_text))
+
+  abbrev pub DumpsAs : Admission → (H → List ℕ → H → List ℕ → Type 0) → (H → Held A) → List ℕ → H → H → List ℕ → Type 0
+  DumpsAs admission_of.Asked answers held path p q told = DumpsAt answers held path p q told
+  DumpsAs admission_of.Early answers held path p q told = (q ≡ p) × (told ≡ early_text)
+  DumpsAs admission_of.Late answers held path p q told = (q ≡ p) × (told ≡ late_text)
+
+  abbrev pub DumpsTo : Bool → (H → List ℕ → H → List ℕ → Type 0) → (H → Held A) → List ℕ → H → H → List ℕ → Type 0
+  DumpsTo true answers held path p q told = (q ≡ p) × (told ≡ spaced_text)
+  DumpsTo false answers held path p q told = DumpsAs (admits_dump (held p)) answers held path p q told
+
+  -- The dump is made, unless its path has blanks, it comes too early, or there is no room for its events.
   abbrev pub Dumps : (H → List ℕ → H → List ℕ → Type 0) → (H → Held A) → List ℕ → H → H → List ℕ → Type 0
-  Dumps answers held path p q told = ((s : ℕ) × (mark_in (held p) s ≡ mark.Idle) × DumpsBy answers s path p q told) ⊎ ((q ≡ p) × (told ≡ no_session_text))
+  Dumps answers held path p q told = DumpsTo (list_any is_blank path) answers held path p q told
 
 -- What a terminal knows: the handler, the session of the prompt, whether it shows how long answers take, whether it was asked to end, and the lines that the next one goes on from, if any.
 pub record At (H : Type 0) : Type 0 where
@@ -134,9 +162,13 @@ Times (Some is) p q told = (q ≡ record p { is_timed = is }) × (told ≡ timin
 abbrev pub unended : List ℕ → List ℕ
 unended text = if not (length text == 0) && slice_index text (length text - 1) == 10 then take (length text - 1) text else text
 
+-- a text without the byte order mark that it may begin with
+abbrev pub unmarked : List ℕ → List ℕ
+unmarked text = if begins (239 ∷ 187 ∷ 191 ∷ []) text then drop 3 text else text
+
 -- the lines of a file's text, of which the last may lack its newline
 abbrev pub lines_in : List ℕ → List (List ℕ)
-lines_in text = slice_split (λ b. b == 10) (unended text)
+lines_in text = slice_split (λ b. b == 10) (unended (unmarked text))
 
 -- what is shown of a file that can't be read
 abbrev pub unread_text : List ℕ → List ℕ
@@ -169,9 +201,18 @@ module _ {A H : Type 0} (answers : H → List ℕ → H → List ℕ → Type 0)
   abbrev pub AsksTimed : Bool → H → List ℕ → H → List ℕ → Type 0
   AsksTimed is_timed p line q told = (answer : List ℕ) × Asks answers held p line q answer × IsTimed is_timed answer told
 
+  abbrev pub AsksAs : Admission → At H → List ℕ → At H → List ℕ → Type 0
+  AsksAs admission_of.Asked p line q told = (h : H) × AsksTimed p.is_timed p.attended line h told × (q ≡ with p h)
+  AsksAs admission_of.Early p line q told = (q ≡ p) × (told ≡ early_text)
+  AsksAs admission_of.Late p line q told = (q ≡ p) × (told ≡ late_text)
+
+  -- The line was asked, unless it comes too early, or there is no room for its event.
+  abbrev pub AsksAdmitted : At H → List ℕ → At H → List ℕ → Type 0
+  AsksAdmitted p line q told = AsksAs (admits (held p.attended) line) p line q told
+
   -- The line was asked that a command stands for.
   abbrev pub DoesCommand : At H → List ℕ → At H → List ℕ → Type 0
-  DoesCommand p text q told = (h : H) × AsksTimed p.is_timed p.attended (line_of p.session text) h told × (q ≡ with p h)
+  DoesCommand p text q told = AsksAdmitted p (line_of p.session text) q told
 
   -- The handler has shown something besides the answers, as a text asks; the shell is the same.
   abbrev pub TellsBeside : Aside → At H → List ℕ → At H → List ℕ → Type 0

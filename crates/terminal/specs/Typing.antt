@@ -91,7 +91,7 @@ typed_as text =
 -- a command that is a few words, which are always the same
 abbrev pub is_plain : List ℕ → Bool
 is_plain text = bytes_eq text (codes "BEGIN") || bytes_eq text (codes "BEGIN READ ONLY") || bytes_eq text (codes "BEGIN READ ONLY DEFERRABLE")
-    || bytes_eq text (codes "COMMIT") || bytes_eq text (codes "ROLLBACK") || bytes_eq text (codes "POLL") || bytes_eq text (codes "EXPORT") || bytes_eq text (codes "PRUNE")
+    || bytes_eq text (codes "COMMIT") || bytes_eq text (codes "ROLLBACK") || bytes_eq text (codes "POLL") || bytes_eq text (codes "EXPORT") || bytes_eq text (codes "PRUNE") || bytes_eq text (codes "WAIT")
 
 -- whether a text in capitals begins with a word that something follows
 abbrev pub has_head : List ℕ → Bool

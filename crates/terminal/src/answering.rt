@@ -3,7 +3,6 @@
 ghost use Rattle.std.specs.Prelude.{◌≡◌, IfOk, IfErr};
 ghost use Rattle.std.specs.Option.{option_copied};
 ghost use Rattle.value.specs.Refusals.{out_of_memory};
-ghost use Rattle.terminal.specs.Typing.{line_of as script_line};
 ghost use Rattle.terminal.specs.Terminals.{Asks, AsksPlainly, AsksTimed};
 
 use crate::attended::Attended;
@@ -11,8 +10,6 @@ use crate::drawing::{draw_answer, shown};
 use crate::header::header_of;
 use crate::refused::worded;
 use crate::timing::timed;
-use crate::typing::line_of;
-use history::session_id::SessionId;
 use std::alloc::Allocator;
 use value::refusal::Refusal;
 
@@ -25,15 +22,15 @@ fn ask<A: Allocator + Copy, H: Attended<A>>(
     ensures asked { IfOk result (λ x. Asks H.answers H.held attended line.now x.0 x.1.items) }
     ensures memory { IfErr result (λ e. e ≡ out_of_memory) }
 {
-    let header = header_of(alloc, attended.shell(), line)?;
     let (next, answer) = attended.answer(alloc, line)?;
+    let header = header_of(alloc, next.shell())?;
     let answer = worded(alloc, line, answer)?;
     let told = draw_answer(alloc, header.as_ref(), answer.as_slice())?;
     Ok((next, told))
 }
 
-// Asks a line, draws its answer, and adds how long that took, where that is to be shown.
-fn ask_timed<A: Allocator + Copy, H: Attended<A>>(
+/// Asks a line, draws its answer, and adds how long that took, where that is to be shown.
+pub(crate) fn ask_timed<A: Allocator + Copy, H: Attended<A>>(
     alloc: A,
     attended: H,
     is_timed: bool,
@@ -48,22 +45,6 @@ fn ask_timed<A: Allocator + Copy, H: Attended<A>>(
     let passed = next.microseconds().saturating_sub(start);
     let told = timed(is_timed, passed, answer)?;
     Ok((next, told))
-}
-
-/// Asks the line that a command stands for at the prompt of a session.
-pub(crate) fn ask_command<A: Allocator + Copy, H: Attended<A>>(
-    alloc: A,
-    attended: H,
-    session: SessionId,
-    is_timed: bool,
-    command: &[u8],
-) -> Result<(H, Vec<u8, A>), Refusal>
-    ensures asked { IfOk result (λ x. AsksTimed H.answers H.held H.tells is_timed attended
-        (script_line session command.now) x.0 x.1.items) }
-    ensures memory { IfErr result (λ e. e ≡ out_of_memory) }
-{
-    let line = line_of(alloc, session, command)?;
-    ask_timed(alloc, attended, is_timed, line.as_slice())
 }
 
 /// Asks a line whose answer stands as it is.

@@ -4,19 +4,22 @@ ghost use Rattle.std.specs.Prelude.{◌≡◌, [], true, unwrap_or, IfOk, IfErr}
 ghost use Rattle.value.specs.Refusals.{out_of_memory};
 ghost use Rattle.shell.specs.Asked.{catalog_of};
 ghost use Rattle.terminal.specs.Described.{table_described};
-ghost use Rattle.terminal.specs.Typing.{session_in};
+ghost use Rattle.terminal.specs.Typing.{line_of as spec_line, session_in};
 ghost use Rattle.terminal.specs.Taken as taken;
 ghost use Rattle.terminal.specs.Terminals as spec;
-ghost use Rattle.terminal.specs.Terminals.{AsksPlainly, DoesAlone, DoesCommand, DoesTextAlone, Dumps, OrRefused, TellsBeside, Times};
+ghost use Rattle.terminal.specs.Terminals.{AsksAdmitted, AsksPlainly, AsksTimed, DoesAlone, DoesCommand, DoesTextAlone, Dumps, OrRefused, TellsBeside, Times, with};
 
-use crate::answering::{ask_command, ask_plainly};
+use crate::admitting::{Admission, admits};
+use crate::answering::{ask_plainly, ask_timed};
 use crate::attended::{Aside, Attended};
 use crate::describing::describe;
 use crate::dumping::dump;
 use crate::taking::{asks_for, lacks_file, timing_after};
 use crate::terminal::{Prompt, Terminal};
-use crate::typing::{Typed, behind_word, session_in};
-use crate::wording::{help_text, nested_text, no_timing_text, timing_text, unknown_text};
+use crate::typing::{Typed, behind_word, line_of, session_in};
+use crate::wording::{
+    early_text, help_text, late_text, nested_text, no_timing_text, timing_text, unknown_text,
+};
 use std::alloc::Allocator;
 use value::refusal::Refusal;
 
@@ -124,8 +127,52 @@ fn word_at<A: Allocator + Copy, H: Attended<A>>(
     Ok((Terminal { attended, prompt }, told))
 }
 
-// Asks the line that a command stands for.
+// Asks a line.
 fn ask_at<A: Allocator + Copy, H: Attended<A>>(
+    alloc: A,
+    terminal: Terminal<H, A>,
+    line: &[u8],
+) -> Result<(Terminal<H, A>, Vec<u8, A>), Refusal>
+    ensures done { IfOk result (λ x. (h : H) ×
+        AsksTimed H.answers H.held H.tells terminal.is_timed terminal.attended line.now h x.1.items ×
+        (x.0 ≡ with terminal h)) }
+    ensures memory { IfErr result (λ e. e ≡ out_of_memory) }
+{
+    let Terminal { attended, prompt } = terminal;
+    let (attended, told) = ask_timed(alloc, attended, prompt.is_timed, line)?;
+    Ok((Terminal { attended, prompt }, told))
+}
+
+// Asks a line, unless it comes too early, or there is no room for its event.
+fn ask_admitted<A: Allocator + Copy, H: Attended<A>>(
+    alloc: A,
+    terminal: Terminal<H, A>,
+    line: &[u8],
+) -> Result<(Terminal<H, A>, Vec<u8, A>), Refusal>
+    ensures done { IfOk result (λ x. AsksAdmitted H.answers H.held H.tells terminal line.now x.0 x.1.items) }
+    ensures memory { IfErr result (λ e. e ≡ out_of_memory) }
+{
+    match admits(alloc, terminal.attended.shell(), line)? {
+        Admission::Asked => ask_at(alloc, terminal, line),
+        Admission::Early => tell(alloc, terminal, early_text()),
+        Admission::Late => tell(alloc, terminal, late_text()),
+    }
+}
+
+// The line that a command stands for.
+fn line_at<A: Allocator + Copy, H: Drop>(
+    alloc: A,
+    terminal: &Terminal<H, A>,
+    command: &[u8],
+) -> Result<Vec<u8, A>, Refusal>
+    ensures line { IfOk result (λ l. l.items ≡ spec_line terminal.now.session command.now) }
+    ensures memory { IfErr result (λ e. e ≡ out_of_memory) }
+{
+    line_of(alloc, terminal.prompt.session, command)
+}
+
+// Asks the line that a command stands for.
+fn do_command<A: Allocator + Copy, H: Attended<A>>(
     alloc: A,
     terminal: Terminal<H, A>,
     command: &[u8],
@@ -133,9 +180,8 @@ fn ask_at<A: Allocator + Copy, H: Attended<A>>(
     ensures done { IfOk result (λ x. DoesCommand H.answers H.held H.tells terminal command.now x.0 x.1.items) }
     ensures memory { IfErr result (λ e. e ≡ out_of_memory) }
 {
-    let Terminal { attended, prompt } = terminal;
-    let (attended, told) = ask_command(alloc, attended, prompt.session, prompt.is_timed, command)?;
-    Ok((Terminal { attended, prompt }, told))
+    let line = line_at(alloc, &terminal, command)?;
+    ask_admitted(alloc, terminal, line.as_slice())
 }
 
 // Shows the table of a name.
@@ -190,7 +236,7 @@ pub(crate) fn do_alone<A: Allocator + Copy, H: Attended<A>>(
         Typed::Word => word_at(alloc, terminal, text),
         Typed::File => tell(alloc, terminal, nested_text()),
         Typed::Unknown => tell(alloc, terminal, unknown_text()),
-        Typed::Command => ask_at(alloc, terminal, text),
+        Typed::Command => do_command(alloc, terminal, text),
     }
 }
 

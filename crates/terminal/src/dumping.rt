@@ -1,18 +1,22 @@
 //! A dump that is made by a session's transaction of its own.
 
 ghost use Rattle.std.specs.Prelude.{◌≡◌, ◌++◌, codes, IfOk, IfErr, IfSome};
+ghost use Rattle.std.specs.List.{list_any};
+ghost use Rattle.terminal.specs.Admitted.{admits_dump};
+ghost use Rattle.terminal.specs.Typing as typing;
 ghost use Rattle.terminal.specs.Typing.{begins};
 ghost use Rattle.value.specs.Refusals.{out_of_memory};
 ghost use Rattle.terminal.specs.Marks as marks;
 ghost use Rattle.terminal.specs.Terminals as spec;
-ghost use Rattle.terminal.specs.Terminals.{AsksPlainly, Dumps, DumpsBy, EndsDump, GivesUp, GoesOnTo};
+ghost use Rattle.terminal.specs.Terminals.{AsksPlainly, Dumps, DumpsAs, DumpsAt, DumpsBy, EndsDump, GivesUp, GoesOnTo};
 
+use crate::admitting::{Admission, admits_dump};
 use crate::answering::ask_plainly;
 use crate::attended::Attended;
 use crate::drawing::shown;
 use crate::marks::{Mark, mark_in};
-use crate::typing::begins;
-use crate::wording::{no_session_text, not_safe_text};
+use crate::typing::{begins, is_blank};
+use crate::wording::{early_text, late_text, no_session_text, not_safe_text, spaced_text};
 use history::session_id::SessionId;
 use itoa::Buffer;
 use shell::shell::Shell;
@@ -160,6 +164,59 @@ fn idle_session<A: Allocator + Copy>(
     Ok(None)
 }
 
+// A handler that stays as it is, and a text that is shown.
+fn tell_only<A: Allocator, H: Drop>(
+    alloc: A,
+    attended: H,
+    text: &[u8],
+) -> Result<(H, Vec<u8, A>), Refusal>
+    ensures same { IfOk result (λ x. x.0 ≡ attended) }
+    ensures told { IfOk result (λ x. x.1.items ≡ text.now) }
+    ensures memory { IfErr result (λ e. e ≡ out_of_memory) }
+{
+    let told = Vec::from_slice(alloc, text)?;
+    Ok((attended, told))
+}
+
+// Makes a dump to a path by a transaction of the least session that has none.
+fn dump_at<A: Allocator + Copy, H: Attended<A>>(
+    alloc: A,
+    attended: H,
+    path: &[u8],
+) -> Result<(H, Vec<u8, A>), Refusal>
+    ensures done { IfOk result (λ x. DumpsAt H.answers H.held path.now attended x.0 x.1.items) }
+    ensures memory { IfErr result (λ e. e ≡ out_of_memory) }
+{
+    match idle_session(alloc, attended.shell())? {
+        Some(session) => dump_by(alloc, attended, session, path),
+        None => tell_only(alloc, attended, no_session_text()),
+    }
+}
+
+// Makes a dump to a path that has no blanks, unless it comes too early, or there is no room for its events.
+fn dump_admitted<A: Allocator + Copy, H: Attended<A>>(
+    alloc: A,
+    attended: H,
+    path: &[u8],
+) -> Result<(H, Vec<u8, A>), Refusal>
+    ensures done { IfOk result (λ x. DumpsAs (admits_dump (H.held attended)) H.answers H.held path.now
+        attended x.0 x.1.items) }
+    ensures memory { IfErr result (λ e. e ≡ out_of_memory) }
+{
+    match admits_dump(alloc, attended.shell())? {
+        Admission::Asked => dump_at(alloc, attended, path),
+        Admission::Early => tell_only(alloc, attended, early_text()),
+        Admission::Late => tell_only(alloc, attended, late_text()),
+    }
+}
+
+// Whether a path has a blank.
+fn has_blank(path: &[u8]) -> bool
+    ensures { result ≡ list_any typing.is_blank path.now }
+{
+    path.iter().any(|byte| is_blank(*byte))
+}
+
 /// Makes a dump to a path by a transaction of the least session that has none.
 pub(crate) fn dump<A: Allocator + Copy, H: Attended<A>>(
     alloc: A,
@@ -169,11 +226,9 @@ pub(crate) fn dump<A: Allocator + Copy, H: Attended<A>>(
     ensures done { IfOk result (λ x. Dumps H.answers H.held path.now attended x.0 x.1.items) }
     ensures memory { IfErr result (λ e. e ≡ out_of_memory) }
 {
-    match idle_session(alloc, attended.shell())? {
-        Some(session) => dump_by(alloc, attended, session, path),
-        None => {
-            let told = Vec::from_slice(alloc, no_session_text())?;
-            Ok((attended, told))
-        }
+    if has_blank(path) {
+        tell_only(alloc, attended, spaced_text())
+    } else {
+        dump_admitted(alloc, attended, path)
     }
 }

@@ -3,23 +3,17 @@
 ghost use Rattle.std.specs.Prelude.{◌≡◌, ◌++◌, ◌∷◌, drop, slice_get, IfOk, IfErr, OnOk};
 ghost use Rattle.std.specs.Option.{option_copied};
 ghost use Rattle.value.specs.Refusals.{out_of_memory};
-ghost use Rattle.script.specs.Scripts.{said};
-ghost use Rattle.script.specs.declared.schedule.Schedule.TheVariants.{InOrder};
-ghost use Rattle.shell.specs.Shells.{ended};
 ghost use Rattle.terminal.specs.Headers as spec;
 
 use history::event::Action;
+use history::list::History;
 use history::session_id::SessionId;
 use schema::catalog::{Catalog, Column, TableNo, TableSchema};
-use script::command::Command;
-use script::schedule::Schedule;
-use script::script::{Line, Step, read_script};
-use session::sessions::Core;
 use shell::shell::Shell;
 use statement::statement::{Projection, Statement};
 use std::alloc::{AllocError, Allocator, Global};
 use std::marker::Model;
-use value::refusal::{Code, Refusal};
+use value::refusal::Refusal;
 
 /// The session that asks for rows, and the names of their columns, parted by tabs.
 #[derive(Drop)]
@@ -150,81 +144,30 @@ fn action_header<A: Allocator + Copy>(
     }
 }
 
-// The header of the rows that a step asks for.
-fn step_header<A: Allocator + Copy>(
+// The header of the rows that a history's last event shows.
+fn last_header<A: Allocator + Copy>(
     alloc: A,
-    catalog: &Catalog<A>,
-    step: &Step<A>,
+    history: &History<A>,
 ) -> Result<Option<Header<A>>, Refusal>
-    ensures header { IfOk result (λ h. h ≡ spec.step_header catalog.now step.now) }
+    ensures header { IfOk result (λ h. h ≡ spec.last_header history.now.opening.catalog history.now.records) }
     ensures memory { IfErr result (λ e. e ≡ out_of_memory) }
 {
-    match step {
-        Step::Session(session, Command::Ask(request)) => {
-            let action = request.action(alloc, catalog)?;
-            action_header(alloc, catalog, *session, &action)
-        }
-        _ => Ok(None),
-    }
-}
-
-// The header of the rows that the first of some lines asks for.
-fn lines_header<A: Allocator + Copy>(
-    alloc: A,
-    catalog: &Catalog<A>,
-    lines: &[Line<A>],
-) -> Result<Option<Header<A>>, Refusal>
-    ensures header { IfOk result (λ h. h ≡ spec.lines_header catalog.now lines.now) }
-    ensures memory { IfErr result (λ e. e ≡ out_of_memory) }
-{
-    match lines.first() {
-        Some(line) => step_header(alloc, catalog, &line.step),
+    match history.last() {
+        Some(last) => action_header(alloc, history.catalog(), last.session, &last.action),
         None => Ok(None),
     }
 }
 
-// The header of the rows that a text asks for as a script.
-fn text_header<A: Allocator + Copy>(
-    alloc: A,
-    catalog: &Catalog<A>,
-    text: &[u8],
-) -> Result<Option<Header<A>>, Refusal>
-    ensures header { IfOk result (λ h. h ≡ spec.said_header {A = A} catalog.now (said InOrder text.now)) }
-    ensures memory { IfErr result (λ e. e ≡ out_of_memory) }
-{
-    match read_script(alloc, Schedule::InOrder, text) {
-        Ok(script) => lines_header(alloc, catalog, script.lines()),
-        Err(fault) if fault.line == 0 => Err(Refusal::of_code(Code::OutOfMemory)),
-        Err(_) => Ok(None),
-    }
-}
-
-// The header of the rows that a line asks for, which is read as a script of its own.
-fn said_header<A: Allocator + Copy>(
-    alloc: A,
-    core: &Core<A>,
-    line: &[u8],
-) -> Result<Option<Header<A>>, Refusal>
-    ensures header { IfOk result (λ h. h ≡
-        spec.said_header {A = A} core.now.opening.catalog (said InOrder (ended line.now))) }
-    ensures memory { IfErr result (λ e. e ≡ out_of_memory) }
-{
-    let mut text = Vec::from_slice(alloc, line)?;
-    text.push(b'\n')?;
-    text_header(alloc, core.history().catalog(), text.as_slice())
-}
-
-/// The header of the rows that a line asks for, once the server runs.
+/// The header of the rows that the last event of a shell's server shows, once that runs.
 pub(crate) fn header_of<A: Allocator + Copy>(
     alloc: A,
     shell: &Shell<A>,
-    line: &[u8],
 ) -> Result<Option<Header<A>>, Refusal>
-    ensures header { IfOk result (λ h. h ≡ spec.header_of shell.now line.now) }
+    ensures header { IfOk result (λ h. h ≡ spec.header_of shell.now) }
     ensures memory { IfErr result (λ e. e ≡ out_of_memory) }
 {
     match shell.core() {
-        Some(core) => said_header(alloc, core, line),
+        Some(core) => last_header(alloc, core.history()),
         None => Ok(None),
     }
 }

@@ -2,6 +2,7 @@
 
 #![tactic(auto)]
 
+mod admitting;
 pub mod aligned;
 mod answering;
 pub mod attended;

@@ -10,8 +10,20 @@ use crate::attended::Attended;
 use crate::drawing::{parts_of, shown};
 use crate::lines::{do_lines_alone, prompt_of, take_lines};
 use crate::terminal::Terminal;
+use crate::typing::begins;
 use std::alloc::Allocator;
 use value::refusal::Refusal;
+
+// A text without the byte order mark that it may begin with.
+fn unmarked(text: &[u8]) -> &[u8]
+    ensures { result.now ≡ spec.unmarked text.now }
+{
+    if begins(&[239, 187, 191], text) {
+        &text[text.len().min(3)..]
+    } else {
+        text
+    }
+}
 
 // A text without the newline at its end.
 fn unended(text: &[u8]) -> &[u8]
@@ -105,7 +117,7 @@ fn play_text<A: Allocator + Copy, H: Attended<A>>(
         Plays H.answers H.held H.tells (spec.lines_in text.now) terminal x.0 x.1.items) }
     ensures memory { IfErr result (λ e. e ≡ out_of_memory) }
 {
-    let lines = parts_of(alloc, unended(text))?;
+    let lines = parts_of(alloc, unended(unmarked(text)))?;
     play(alloc, terminal, lines.as_slice())
 }
 

@@ -41,8 +41,8 @@ pub enum Typed {
     Command,
 }
 
-// Whether a byte is a space, a tab or a carriage return.
-fn is_blank(byte: u8) -> bool
+/// Whether a byte is a space, a tab or a carriage return.
+pub(crate) fn is_blank(byte: u8) -> bool
     ensures { result ≡ spec.is_blank byte }
 {
     byte == b' ' || byte == b'\t' || byte == b'\r'
@@ -113,8 +113,8 @@ pub fn behind_word(text: &[u8]) -> &[u8]
     unheaded(&text[word_length(text)..])
 }
 
-// The session of a number.
-fn session_of(number: u32) -> Option<SessionId>
+/// The session of a number.
+pub(crate) fn session_of(number: u32) -> Option<SessionId>
     ensures { result ≡ spec.session_of number }
 {
     SessionId::new(number)
@@ -207,6 +207,7 @@ fn is_plain(text: &[u8]) -> bool
         || text == b"POLL".as_slice()
         || text == b"EXPORT".as_slice()
         || text == b"PRUNE".as_slice()
+        || text == b"WAIT".as_slice()
 }
 
 // Whether a text begins with a word that something follows.

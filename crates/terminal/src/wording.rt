@@ -49,6 +49,27 @@ pub(crate) fn no_session_text() -> &'static [u8]
     b"each session has a transaction: a dump needs one without\n"
 }
 
+/// What is shown of a dump whose path has blanks.
+pub(crate) fn spaced_text() -> &'static [u8]
+    ensures { result.now ≡ spec.spaced_text }
+{
+    b"a dump's path has no blanks\n"
+}
+
+/// What is shown of a line that comes too early.
+pub(crate) fn early_text() -> &'static [u8]
+    ensures { result.now ≡ spec.early_text }
+{
+    b"CREATE TABLE or OPEN comes first, then BEGIN: this line was left out\n"
+}
+
+/// What is shown of a line whose event there is no room for.
+pub(crate) fn late_text() -> &'static [u8]
+    ensures { result.now ≡ spec.late_text }
+{
+    b"all but the last of --events are used: COMMIT or ROLLBACK each transaction, then CHECKPOINT makes room\n"
+}
+
 /// What is shown of a dump that is given up.
 pub(crate) fn not_safe_text() -> &'static [u8]
     ensures { result.now ≡ spec.not_safe_text }

@@ -1,5 +1,4 @@
 use Rattle.std.proofs.Common.{ap, subst}
-use Rattle.terminal.specs.Typing.{line_of}
 use Rattle.terminal.specs.Terminals.{AsksTimed, At, with}
 use Rattle.terminal.proofs.doing.ask_at.Goals as goal
 
@@ -7,5 +6,5 @@ pub returns-clause-done : goal.returns-clause-done
 returns-clause-done g c =
     let att = c.in_ok-attended.attended in
     let told = c.in_ok-attended.told.items in
-    let asked = subst (λ (t : At _). AsksTimed g.H.Handler.answers g.H.Attended.held g.H.Attended.tells t.is_timed t.attended (line_of t.session c.args.command.now) att told) c.terminal.view_is c.in_ok-attended.ensures.asked in
+    let asked = subst (λ (t : At _). AsksTimed g.H.Handler.answers g.H.Attended.held g.H.Attended.tells t.is_timed t.attended c.args.line.now att told) c.terminal.view_is c.in_ok-attended.ensures.asked in
     (att, asked, ap (λ (t : At _). with t att) c.terminal.view_is)

@@ -1,0 +1,66 @@
+-- Lines that a terminal doesn't ask, since nothing could be done after them (ours).
+use Rattle.std.specs.Prelude.{ℕ, zero, suc, ◌+◌, ◌-◌, ◌==◌, ◌&&◌, ◌||◌, not, Bool, true, is_some, List, Option, Some, None, length, codes, nat_le, slice_index, if◌then◌else◌}
+use Rattle.std.specs.Char.{is_ascii_digit}
+use Rattle.std.specs.Str.{bytes_eq}
+use Rattle.history.specs.Opening.{Recorded}
+use Rattle.shell.specs.Shells.{Held}
+use Rattle.terminal.specs.Marks.{mark_in}
+use Rattle.terminal.specs.Typing.{begins, behind_word, session_of}
+use Rattle.terminal.specs.declared.admitting.Admission.{Admission}
+use Rattle.terminal.specs.declared.admitting.Admission.TheVariants as admission_of
+use Rattle.terminal.specs.declared.marks.Mark.{Mark}
+use Rattle.terminal.specs.declared.marks.Mark.TheVariants as mark
+
+-- one for a session that has a transaction
+abbrev pub one_of : Mark → ℕ
+one_of mark.Idle = 0
+one_of other = 1
+
+-- a line of a session
+abbrev pub is_sessions : List ℕ → Bool
+is_sessions line = not (length line == 0) && is_ascii_digit (slice_index line 0)
+
+-- a session's line that ends a transaction
+abbrev pub is_end : List ℕ → Bool
+is_end line = bytes_eq (behind_word line) (codes "COMMIT;") || bytes_eq (behind_word line) (codes "ROLLBACK;")
+
+module _ {A : Type 0} where
+  -- how many more events a history has room for
+  abbrev pub left_of : Recorded A → ℕ
+  left_of h = h.most - length h.records
+
+  abbrev pub one_in : Held A → Option ℕ → ℕ
+  one_in p None = 0
+  one_in p (Some s) = one_of (mark_in p s)
+
+  abbrev pub one_at : Held A → ℕ → ℕ
+  one_at p n = one_in p (session_of n)
+
+  -- how many of the first n sessions have transactions
+  abbrev pub open_in : Held A → ℕ → ℕ
+  open_in p zero = 0
+  open_in p (suc n) = open_in p n + one_at p (suc n)
+
+  abbrev pub has_room_on : Option (Recorded A) → Held A → ℕ → Bool
+  has_room_on None p n = true
+  has_room_on (Some h) p n = nat_le (open_in p 64 + n) (left_of h)
+
+  -- There is room for n events, and for the end of each transaction behind them.
+  abbrev pub has_room : Held A → ℕ → Bool
+  has_room p n = has_room_on p.core p n
+
+  -- Before the server runs: a line that creates or opens tables, or one that begins a session's transaction where tables are created.
+  abbrev pub may_begin : Held A → List ℕ → Bool
+  may_begin p line = if is_sessions line then not (length p.created == 0) && begins (codes "BEGIN") (behind_word line) else not (begins (codes "CHECKPOINT") line)
+
+  -- While it runs: a session's line leaves room for the end of each transaction, or ends one.
+  abbrev pub admits_by : Held A → List ℕ → Admission
+  admits_by p line = if not (is_sessions line) || is_end line || has_room p 2 then admission_of.Asked else admission_of.Late
+
+  -- Whether a dump is asked, whose transaction has three events.
+  abbrev pub admits_dump : Held A → Admission
+  admits_dump p = if is_some p.core then (if has_room p 3 then admission_of.Asked else admission_of.Late) else if length p.created == 0 then admission_of.Early else admission_of.Asked
+
+  -- whether a line is asked, and if not, why
+  abbrev pub admits : Held A → List ℕ → Admission
+  admits p line = if is_some p.core then admits_by p line else if may_begin p line then admission_of.Asked else admission_of.Early
