@@ -227,6 +227,17 @@ fn writes_value<A: Allocator>(statement: &Statement<A>, column: u32, value: &Val
     }
 }
 
+// Whether a statement adds to what stands in a column, or in another: it may have written any value.
+fn adds<A: Allocator>(statement: &Statement<A>, column: u32) -> bool {
+    match statement {
+        Statement::Update(_, assignments, _) => {
+            assignments.as_slice().iter().any(|assignment| assignment.column == column
+                && matches!(assignment.source, Source::Sum(_, _)))
+        }
+        _ => false,
+    }
+}
+
 // Whether a statement writes a column.
 fn writes_column<A: Allocator>(statement: &Statement<A>, column: u32) -> bool {
     match statement {
@@ -239,11 +250,32 @@ fn writes_column<A: Allocator>(statement: &Statement<A>, column: u32) -> bool {
     }
 }
 
-/// Whether a value was written into a cell, and whether it was left there.
+/// Whether a value was written into a cell, and whether it was left there; and whether a sum was, which may be any.
 #[derive(Clone, Copy)]
 struct ValueWritten {
     at_all: bool,
     at_last: bool,
+    as_sum: bool,
+}
+
+impl ValueWritten {
+    // Nothing was written.
+    fn nothing() -> ValueWritten {
+        ValueWritten {
+            at_all: false,
+            at_last: false,
+            as_sum: false,
+        }
+    }
+
+    // With what another transaction wrote.
+    fn with(self, other: ValueWritten) -> ValueWritten {
+        ValueWritten {
+            at_all: self.at_all || other.at_all,
+            at_last: self.at_last || other.at_last,
+            as_sum: self.as_sum || other.as_sum,
+        }
+    }
 }
 
 // What a transaction did with a value and a cell.
@@ -252,10 +284,7 @@ fn written<A: Allocator>(
     cell: &Cell<A>,
     value: &Value<A>,
 ) -> ValueWritten {
-    let mut written = ValueWritten {
-        at_all: false,
-        at_last: false,
-    };
+    let mut written = ValueWritten::nothing();
     for answered in transaction.statements.chunks(1) {
         if let [only] = answered {
             if writes_column(&only.statement, cell.column)
@@ -263,6 +292,7 @@ fn written<A: Allocator>(
             {
                 written.at_last = writes_value(&only.statement, cell.column, value);
                 written.at_all = written.at_all || written.at_last;
+                written.as_sum = written.as_sum || adds(&only.statement, cell.column);
             }
         }
     }
@@ -286,17 +316,14 @@ impl<A: Allocator + Copy> Account<'_, A> {
         let Sight::Value(value) = self.sight(alloc, transaction, reader, cell)? else {
             return Ok(", as nobody can have left it\n");
         };
-        let mut all = ValueWritten {
-            at_all: false,
-            at_last: false,
-        };
+        let mut all = ValueWritten::nothing();
         for other in self.transactions {
-            let one = written(other, cell, &value);
-            all.at_all = all.at_all || one.at_all;
-            all.at_last = all.at_last || one.at_last;
+            all = all.with(written(other, cell, &value));
         }
         Ok(match all {
-            ValueWritten { at_last: true, .. } => ", as nobody can have left it\n",
+            ValueWritten { at_last: true, .. } | ValueWritten { as_sum: true, .. } => {
+                ", as nobody can have left it\n"
+            }
             ValueWritten { at_all: true, .. } =>
                 ", as nobody left it in the end: intermediate read\n",
             _ => ", which nobody wrote: aborted read\n",
