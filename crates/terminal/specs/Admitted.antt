@@ -5,7 +5,7 @@ use Rattle.std.specs.Str.{bytes_eq}
 use Rattle.history.specs.Opening.{Recorded}
 use Rattle.shell.specs.Shells.{Held}
 use Rattle.terminal.specs.Marks.{mark_in}
-use Rattle.terminal.specs.Typing.{begins, behind_word, session_of}
+use Rattle.terminal.specs.Typing.{begins, behind_word, first_word, session_in, session_of}
 use Rattle.terminal.specs.declared.admitting.Admission.{Admission}
 use Rattle.terminal.specs.declared.admitting.Admission.TheVariants as admission_of
 use Rattle.terminal.specs.declared.marks.Mark.{Mark}
@@ -20,9 +20,13 @@ one_of other = 1
 abbrev pub is_sessions : List ℕ → Bool
 is_sessions line = not (length line == 0) && is_ascii_digit (slice_index line 0)
 
--- a session's line that ends a transaction
+-- a session's line that may end a transaction
 abbrev pub is_end : List ℕ → Bool
 is_end line = bytes_eq (behind_word line) (codes "COMMIT;") || bytes_eq (behind_word line) (codes "ROLLBACK;")
+
+-- a session's line that begins a transaction
+abbrev pub is_begin : List ℕ → Bool
+is_begin line = bytes_eq (behind_word line) (codes "BEGIN;") || bytes_eq (behind_word line) (codes "BEGIN READ ONLY;") || bytes_eq (behind_word line) (codes "BEGIN READ ONLY DEFERRABLE;")
 
 module _ {A : Type 0} where
   -- how many more events a history has room for
@@ -51,11 +55,15 @@ module _ {A : Type 0} where
 
   -- Before the server runs: a line that creates or opens tables, or one that begins a session's transaction where tables are created.
   abbrev pub may_begin : Held A → List ℕ → Bool
-  may_begin p line = if is_sessions line then not (length p.created == 0) && begins (codes "BEGIN") (behind_word line) else not (begins (codes "CHECKPOINT") line)
+  may_begin p line = if is_sessions line then not (length p.created == 0) && is_begin line else not (begins (codes "CHECKPOINT") line)
+
+  -- a line that ends a transaction of its session, which has one
+  abbrev pub ends_one : Held A → List ℕ → Bool
+  ends_one p line = is_end line && one_in p (session_in (first_word line)) == 1
 
   -- While it runs: a session's line leaves room for the end of each transaction, or ends one.
   abbrev pub admits_by : Held A → List ℕ → Admission
-  admits_by p line = if not (is_sessions line) || is_end line || has_room p 2 then admission_of.Asked else admission_of.Late
+  admits_by p line = if not (is_sessions line) || ends_one p line || has_room p 2 then admission_of.Asked else admission_of.Late
 
   -- Whether a dump is asked, whose transaction has three events.
   abbrev pub admits_dump : Held A → Admission

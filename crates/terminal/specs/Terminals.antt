@@ -7,7 +7,7 @@ use Rattle.shell.specs.Shells.{Held}
 use Rattle.terminal.specs.Admitted.{admits, admits_dump}
 use Rattle.terminal.specs.declared.admitting.Admission.{Admission}
 use Rattle.terminal.specs.declared.admitting.Admission.TheVariants as admission_of
-use Rattle.terminal.specs.Typing.{behind_word, begins, is_blank, line_of, session_in, text_in}
+use Rattle.terminal.specs.Typing.{behind_word, begins, line_of, session_in, text_in}
 use Rattle.terminal.specs.declared.typing.Typed.{Typed}
 use Rattle.terminal.specs.declared.typing.Typed.TheVariants as typed
 use Rattle.terminal.specs.Described.{table_described}
@@ -32,9 +32,9 @@ unknown_text = codes "there is no such word: \\? tells what may be typed\n"
 abbrev pub no_session_text : List ℕ
 no_session_text = codes "each session has a transaction: a dump needs one without\n"
 
--- what is shown of a dump whose path has blanks
+-- what is shown of a dump whose path has spaces
 abbrev pub spaced_text : List ℕ
-spaced_text = codes "a dump's path has no blanks\n"
+spaced_text = codes "a dump's path has no spaces\n"
 
 -- what is shown of a line that comes too early
 abbrev pub early_text : List ℕ
@@ -101,9 +101,9 @@ module _ {A H : Type 0} where
   DumpsTo true answers held path p q told = (q ≡ p) × (told ≡ spaced_text)
   DumpsTo false answers held path p q told = DumpsAs (admits_dump (held p)) answers held path p q told
 
-  -- The dump is made, unless its path has blanks, it comes too early, or there is no room for its events.
+  -- The dump is made, unless its path has spaces, it comes too early, or there is no room for its events.
   abbrev pub Dumps : (H → List ℕ → H → List ℕ → Type 0) → (H → Held A) → List ℕ → H → H → List ℕ → Type 0
-  Dumps answers held path p q told = DumpsTo (list_any is_blank path) answers held path p q told
+  Dumps answers held path p q told = DumpsTo (list_any (λ b. b == 32) path) answers held path p q told
 
 -- What a terminal knows: the handler, the session of the prompt, whether it shows how long answers take, whether it was asked to end, and the lines that the next one goes on from, if any.
 pub record At (H : Type 0) : Type 0 where

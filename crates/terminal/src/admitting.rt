@@ -5,8 +5,9 @@ ghost use Rattle.value.specs.Refusals.{out_of_memory};
 ghost use Rattle.terminal.specs.Admitted as spec;
 
 use crate::marks::{Mark, mark_in};
-use crate::typing::{begins, behind_word, session_of};
+use crate::typing::{begins, behind_word, first_word, session_in, session_of};
 use history::list::History;
+use history::session_id::SessionId;
 use shell::shell::Shell;
 use std::alloc::Allocator;
 use value::refusal::Refusal;
@@ -33,19 +34,32 @@ fn one_of(mark: Mark) -> usize
     }
 }
 
-// One where the session of a number has a transaction.
-fn one_at<A: Allocator + Copy>(alloc: A, shell: &Shell<A>, number: u32) -> Result<usize, Refusal>
-    ensures one { IfOk result (λ n. n ≡ spec.one_at shell.now number) }
+// One where there is a session, and it has a transaction.
+fn one_in<A: Allocator + Copy>(
+    alloc: A,
+    shell: &Shell<A>,
+    session: Option<SessionId>,
+) -> Result<usize, Refusal>
+    ensures one { IfOk result (λ n. n ≡ spec.one_in shell.now session) }
     ensures few { IfOk result (λ n. n ≤ 1) }
     ensures memory { IfErr result (λ e. e ≡ out_of_memory) }
 {
-    match session_of(number) {
+    match session {
         Some(session) => {
             let mark = mark_in(alloc, shell, session)?;
             Ok(one_of(mark))
         }
         None => Ok(0),
     }
+}
+
+// One where the session of a number has a transaction.
+fn one_at<A: Allocator + Copy>(alloc: A, shell: &Shell<A>, number: u32) -> Result<usize, Refusal>
+    ensures one { IfOk result (λ n. n ≡ spec.one_at shell.now number) }
+    ensures few { IfOk result (λ n. n ≤ 1) }
+    ensures memory { IfErr result (λ e. e ≡ out_of_memory) }
+{
+    one_in(alloc, shell, session_of(number))
 }
 
 // How many sessions have transactions.
@@ -94,7 +108,17 @@ fn is_sessions(line: &[u8]) -> bool
     !line.is_empty() && line[0].is_ascii_digit()
 }
 
-// Whether a session's line ends a transaction.
+// Whether a session's line begins a transaction.
+fn is_begin(line: &[u8]) -> bool
+    ensures { result ≡ spec.is_begin line.now }
+{
+    let command = behind_word(line);
+    command == b"BEGIN;".as_slice()
+        || command == b"BEGIN READ ONLY;".as_slice()
+        || command == b"BEGIN READ ONLY DEFERRABLE;".as_slice()
+}
+
+// Whether a session's line may end a transaction.
 fn is_end(line: &[u8]) -> bool
     ensures { result ≡ spec.is_end line.now }
 {
@@ -107,10 +131,22 @@ fn may_begin<A: Allocator + Copy>(shell: &Shell<A>, line: &[u8]) -> bool
     ensures { result ≡ spec.may_begin shell.now line.now }
 {
     if is_sessions(line) {
-        !shell.created().is_empty() && begins(b"BEGIN", behind_word(line))
+        !shell.created().is_empty() && is_begin(line)
     } else {
         !begins(b"CHECKPOINT", line)
     }
+}
+
+// Whether a line ends a transaction of its session, which has one.
+fn ends_one<A: Allocator + Copy>(alloc: A, shell: &Shell<A>, line: &[u8]) -> Result<bool, Refusal>
+    ensures ends { IfOk result (λ b. b ≡ spec.ends_one shell.now line.now) }
+    ensures memory { IfErr result (λ e. e ≡ out_of_memory) }
+{
+    if !is_end(line) {
+        return Ok(false);
+    }
+    let one = one_in(alloc, shell, session_in(first_word(line)))?;
+    Ok(one == 1)
 }
 
 // Whether a line may come while the server runs.
@@ -122,7 +158,7 @@ fn admits_by<A: Allocator + Copy>(
     ensures admission { IfOk result (λ a. a ≡ spec.admits_by shell.now line.now) }
     ensures memory { IfErr result (λ e. e ≡ out_of_memory) }
 {
-    if !is_sessions(line) || is_end(line) || has_room(alloc, shell, 2)? {
+    if !is_sessions(line) || ends_one(alloc, shell, line)? || has_room(alloc, shell, 2)? {
         Ok(Admission::Asked)
     } else {
         Ok(Admission::Late)

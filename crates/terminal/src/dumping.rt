@@ -1,9 +1,8 @@
 //! A dump that is made by a session's transaction of its own.
 
-ghost use Rattle.std.specs.Prelude.{◌≡◌, ◌++◌, codes, IfOk, IfErr, IfSome};
+ghost use Rattle.std.specs.Prelude.{◌≡◌, ◌++◌, ◌==◌, codes, IfOk, IfErr, IfSome};
 ghost use Rattle.std.specs.List.{list_any};
 ghost use Rattle.terminal.specs.Admitted.{admits_dump};
-ghost use Rattle.terminal.specs.Typing as typing;
 ghost use Rattle.terminal.specs.Typing.{begins};
 ghost use Rattle.value.specs.Refusals.{out_of_memory};
 ghost use Rattle.terminal.specs.Marks as marks;
@@ -15,7 +14,7 @@ use crate::answering::ask_plainly;
 use crate::attended::Attended;
 use crate::drawing::shown;
 use crate::marks::{Mark, mark_in};
-use crate::typing::{begins, is_blank};
+use crate::typing::begins;
 use crate::wording::{early_text, late_text, no_session_text, not_safe_text, spaced_text};
 use history::session_id::SessionId;
 use itoa::Buffer;
@@ -193,7 +192,7 @@ fn dump_at<A: Allocator + Copy, H: Attended<A>>(
     }
 }
 
-// Makes a dump to a path that has no blanks, unless it comes too early, or there is no room for its events.
+// Makes a dump to a path that has no spaces, unless it comes too early, or there is no room for its events.
 fn dump_admitted<A: Allocator + Copy, H: Attended<A>>(
     alloc: A,
     attended: H,
@@ -210,11 +209,11 @@ fn dump_admitted<A: Allocator + Copy, H: Attended<A>>(
     }
 }
 
-// Whether a path has a blank.
-fn has_blank(path: &[u8]) -> bool
-    ensures { result ≡ list_any typing.is_blank path.now }
+// Whether a path has a space.
+fn has_space(path: &[u8]) -> bool
+    ensures { result ≡ list_any (λ b. b == 32) path.now }
 {
-    path.iter().any(|byte| is_blank(*byte))
+    path.contains(&b' ')
 }
 
 /// Makes a dump to a path by a transaction of the least session that has none.
@@ -226,7 +225,7 @@ pub(crate) fn dump<A: Allocator + Copy, H: Attended<A>>(
     ensures done { IfOk result (λ x. Dumps H.answers H.held path.now attended x.0 x.1.items) }
     ensures memory { IfErr result (λ e. e ≡ out_of_memory) }
 {
-    if has_blank(path) {
+    if has_space(path) {
         tell_only(alloc, attended, spaced_text())
     } else {
         dump_admitted(alloc, attended, path)

@@ -41,8 +41,8 @@ pub enum Typed {
     Command,
 }
 
-/// Whether a byte is a space, a tab or a carriage return.
-pub(crate) fn is_blank(byte: u8) -> bool
+// Whether a byte is a space, a tab or a carriage return.
+fn is_blank(byte: u8) -> bool
     ensures { result ≡ spec.is_blank byte }
 {
     byte == b' ' || byte == b'\t' || byte == b'\r'
@@ -99,8 +99,8 @@ pub fn text_in(line: &[u8]) -> &[u8]
     &text[..end_of(text)]
 }
 
-// The first word of a text.
-fn first_word(text: &[u8]) -> &[u8]
+/// The first word of a text.
+pub(crate) fn first_word(text: &[u8]) -> &[u8]
     ensures { result.now ≡ spec.first_word text.now }
 {
     &text[..word_length(text)]

@@ -49,11 +49,11 @@ pub(crate) fn no_session_text() -> &'static [u8]
     b"each session has a transaction: a dump needs one without\n"
 }
 
-/// What is shown of a dump whose path has blanks.
+/// What is shown of a dump whose path has spaces.
 pub(crate) fn spaced_text() -> &'static [u8]
     ensures { result.now ≡ spec.spaced_text }
 {
-    b"a dump's path has no blanks\n"
+    b"a dump's path has no spaces\n"
 }
 
 /// What is shown of a line that comes too early.
