@@ -7,6 +7,7 @@ mod agree;
 mod alone;
 mod cost;
 mod done;
+pub mod guided;
 pub mod hint;
 mod memory;
 mod near;

@@ -76,8 +76,8 @@ fn begin_of<A: Allocator>(transaction: &Transaction<A>) -> u64
     }
 }
 
-// Where the transaction at a place begins, as far as time counts; the last place that there is where there is none.
-fn begin_at<A: Allocator>(transactions: &[Transaction<A>], place: usize) -> u64
+/// Where the transaction at a place begins, as far as time counts; the last place that there is where there is none.
+pub(crate) fn begin_at<A: Allocator>(transactions: &[Transaction<A>], place: usize) -> u64
     ensures { result ≡ begin_at (slice_get transactions.now place) }
 {
     match transactions.get(place) {

@@ -112,6 +112,14 @@ impl<A: Allocator> Walk<A> {
         self.work = self.work.saturating_add(work);
     }
 
+    /// The changes that take the last transaction back.
+    pub fn last_changes(&self) -> &[Change<A>] {
+        match self.path.last() {
+            Some(passed) => passed.back.as_slice(),
+            None => &[],
+        }
+    }
+
     /// Passes over a transaction.
     pub fn pass_over(&mut self, place: usize)
         ensures { self.new ≡ record self.old { from = behind place } }

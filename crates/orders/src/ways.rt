@@ -1,6 +1,6 @@
 //! What a transaction may do to one row, from its statements and their answers alone.
 
-mod choice;
+pub(crate) mod choice;
 mod column;
 pub mod cover;
 pub mod laws;
