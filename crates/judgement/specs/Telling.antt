@@ -14,6 +14,7 @@ use Rattle.orders.specs.declared.stop.Stop.{Stop}
 use Rattle.script.specs.Printing.{reply_text}
 use Rattle.transcript.specs.Reading.{Named, named}
 use Rattle.transcript.specs.declared.traces.Name.{Name}
+use Rattle.judgement.specs.Counting.{AreCounts}
 use Rattle.judgement.specs.Lines.{answer_line}
 use Rattle.judgement.specs.declared.judging.Judgement.{Judgement}
 
@@ -84,6 +85,8 @@ module _ {A : Type 0} where
   TellsReasons names ts No certificate stop text = TellsWhy names ts certificate stop text
   TellsReasons names ts Unknown certificate stop text = text ≡ []
 
-  -- The text of a judgement: its reasons, and then the line of its answer.
+  -- The text of a judgement: its reasons, how much was judged, and then the line of its answer.
   abbrev pub TellsOf : Judgement A → List ℕ → Type 0
-  TellsOf j text = (reasons : List ℕ) × (text ≡ reasons ++ answer_line j.answer) × TellsReasons (names_of j.traces.names.items) j.traces.transactions.items j.answer j.certificate j.stop reasons
+  TellsOf j text =
+      (reasons : List ℕ) × (counts : List ℕ) × (text ≡ reasons ++ counts ++ answer_line j.answer) × TellsReasons (names_of j.traces.names.items) j.traces.transactions.items j.answer j.certificate j.stop reasons
+      × AreCounts (names_of j.traces.names.items) j.traces.transactions.items counts

@@ -10,6 +10,7 @@ use certificate::checking::{Verdict, check};
 use certificate::recording::Recording;
 use finding::cycles::with_cycle;
 use finding::find::{Conclusion, find};
+use orders::guided::{Bounds, search_guided};
 use orders::hint::follow_hint;
 use orders::search::{Answer, Found, search};
 use orders::stop::{Stop, find_stop};
@@ -246,6 +247,45 @@ fn few_steps(transactions: usize, steps: u32) -> u32 {
     }
 }
 
+// How many transactions a guided search runs or takes back, before reasons are looked for.
+fn few_turns(transactions: usize) -> u64 {
+    (transactions as u64)
+        .saturating_mul(4)
+        .saturating_add(40_000)
+}
+
+// What a guided search finds in so many turns.
+fn guided<A: Allocator + Copy>(
+    alloc: A,
+    catalog: &Catalog<A>,
+    tables: &Tables<A>,
+    traces: &Traces<A>,
+    turns: u64,
+    steps: u32,
+) -> Result<Judged<A>, Refusal>
+    requires fit { all_fit catalog.now traces.now.transactions.items ≡ true }
+    requires sound { is_sound catalog.now tables.now ≡ true }
+    ensures tells { IfOk result (λ j. Tells catalog.now tables.now traces.now.transactions.items j.answer) }
+{
+    let steps = u64::from(steps);
+    let bounds = Bounds {
+        turns: turns.min(steps),
+        steps,
+    };
+    let order = search_guided(
+        alloc,
+        catalog,
+        tables,
+        traces.transactions.as_slice(),
+        bounds,
+    )?;
+    let answer = match order {
+        Some(order) => Answer::Yes(order),
+        None => Answer::Unknown,
+    };
+    Ok(Judged::of_answer(answer))
+}
+
 // Where a search stops that found no order.
 fn stopped<A: Allocator + Copy>(
     alloc: A,
@@ -287,9 +327,18 @@ fn judge_in_turn<A: Allocator + Copy>(
     if let Answer::Yes(_) = quick.answer {
         return Ok(Judged::of_answer(quick.answer));
     }
+    let turns = few_turns(traces.transactions.len());
+    let soon = guided(alloc, catalog, tables, traces, turns, steps)?;
+    if soon.is_answer() {
+        return Ok(soon);
+    }
     let reasoned = reason_of(alloc, catalog, tables, traces, steps)?;
     if reasoned.is_answer() {
         return Ok(reasoned);
+    }
+    let late = guided(alloc, catalog, tables, traces, u64::MAX, steps)?;
+    if late.is_answer() {
+        return Ok(late);
     }
     let found = searched(alloc, catalog, tables, traces, steps)?;
     let stop = stopped(alloc, catalog, tables, traces, &found)?;

@@ -2,6 +2,9 @@
 
 #![tactic(auto)]
 
+mod counting;
 pub mod judging;
+mod memory;
 pub mod printing;
 pub mod reasons;
+mod replies;

@@ -1,57 +1,25 @@
 //! What is printed of a judgement.
 
 ghost use Rattle.std.specs.Prelude.{◌≡◌, ◌++◌, map, IfOk, OnOk, slice_get};
-ghost use Rattle.std.specs.Fmt.{decimal};
 ghost use Rattle.std.specs.List.{flat_map};
 ghost use Rattle.judgement.specs.Lines as lines;
 ghost use Rattle.judgement.specs.Lines.{EndsWith};
 ghost use Rattle.judgement.specs.Telling as spec;
 ghost use Rattle.judgement.specs.Telling.{TellsOf, TellsReasons, TellsWhy, name_of, names_of};
 
+use crate::counting::counts_text;
 use crate::judging::Judgement;
+pub use crate::memory::NoMemory;
+use crate::memory::append;
 use crate::reasons::account::Account;
+use crate::replies::reply_text;
 use certificate::certificate::Line;
-use itoa::Buffer;
 use orders::search::Answer;
 use orders::stop::{Hindered, Hindrance, Stop};
 use orders::transaction::Answered;
-use script::printing::reply_text;
 use statement::reply::Reply;
-use std::alloc::{AllocError, AllocFailed, Allocator};
+use std::alloc::Allocator;
 use transcript::traces::{Name, Traces};
-use value::refusal::Refusal;
-
-/// Out of memory.
-#[derive(Debug, Drop)]
-pub struct NoMemory;
-
-impl From<AllocError> for NoMemory {
-    fn from(_error: AllocError) -> NoMemory {
-        NoMemory
-    }
-}
-
-impl<T: Drop> From<AllocFailed<T>> for NoMemory {
-    fn from(_error: AllocFailed<T>) -> NoMemory {
-        NoMemory
-    }
-}
-
-impl From<Refusal> for NoMemory {
-    fn from(_error: Refusal) -> NoMemory {
-        NoMemory
-    }
-}
-
-// Appends a word and a number.
-fn append<A: Allocator>(word: &str, number: u64, text: &mut Vec<u8, A>) -> Result<(), NoMemory>
-    ensures { OnOk result (text.new.items ≡ text.old.items ++ (word.now ++ decimal number)) }
-{
-    let mut buffer = Buffer::new();
-    text.extend_from_slice(word.as_bytes())?;
-    text.extend_from_slice(buffer.format(number).as_bytes())?;
-    Ok(())
-}
 
 // Appends the number of the transaction at a place, where there is one.
 fn append_number<A: Allocator>(
@@ -253,6 +221,7 @@ fn certificate_text<A: Allocator + Copy>(
         catalog: &judgement.catalog,
         transactions: judgement.traces.transactions.as_slice(),
         names: judgement.traces.names.as_slice(),
+        places: judgement.traces.places.as_slice(),
         lines,
     };
     let text = account.text(alloc)?;
@@ -305,7 +274,7 @@ fn answer_line<A: Allocator>(answer: &Answer<A>) -> &'static str
     }
 }
 
-/// The lines of a judgement, the last of which is that of its answer. Out of memory is the only failure.
+/// The lines of a judgement: why, then what was judged, and in the last line the answer. Out of memory is the only failure.
 pub fn judgement_text<A: Allocator + Copy>(
     alloc: A,
     judgement: &Judgement<A>,
@@ -314,6 +283,8 @@ pub fn judgement_text<A: Allocator + Copy>(
     ensures tells { IfOk result (λ text. TellsOf judgement.now text.items) }
 {
     let mut text = reasons_text(alloc, judgement)?;
+    let counts = counts_text(alloc, &judgement.traces)?;
+    text.extend_from_slice(counts.as_slice())?;
     text.extend_from_slice(answer_line(&judgement.answer).as_bytes())?;
     Ok(text)
 }

@@ -4,6 +4,7 @@ pub mod account;
 mod anomaly;
 mod cycle;
 mod numbers;
+mod origins;
 mod phrases;
 mod sight;
 mod telling;

@@ -6,7 +6,7 @@ use Rattle.std.specs.List.{after_first, before_first, list_all, list_any, positi
 use Rattle.std.specs.Option.{option_map}
 use Rattle.std.specs.Str.{IsUtf8, bytes_eq, is_utf8}
 use Rattle.std.specs.Str.Parse.{digits_value}
-use Rattle.std.proofs.lemmas.Bool.{and_parts, eqb-true, leb-true, ltb-true}
+use Rattle.std.proofs.lemmas.Bool.{and_parts, eqb-true, le-leb, leb-true, ltb-true}
 use Rattle.std.proofs.lemmas.Slice.Eq.{bytes_eq-Decides}
 use Rattle.std.proofs.lemmas.Str.{IsUtf8-append, IsUtf8-from_is_utf8}
 use Rattle.value.specs.declared.refusal.Refusal.{Refusal}
@@ -26,6 +26,7 @@ use Rattle.script.specs.declared.schedule.Schedule.TheVariants.{InOrder, Free}
 use Rattle.script.specs.declared.script.Step.TheVariants.{Session}
 use Rattle.script.proofs.NumberLemmas.{IsUtf8-digits}
 use Rattle.transcript.specs.Asking.{asked, asked_by, spoken}
+use Rattle.transcript.specs.Sessions.{session_in}
 use Rattle.recording.proofs.SayingLemmas.{IsSession}
 use Rattle.recording.proofs.TextLemmas.{IsPlain, IsUtf8-plain}
 use Rattle.recording.proofs.TurnLemmas.{asks_for}
@@ -155,6 +156,25 @@ session_is text s e = first (eqb (slice_index text 0) 48) e
     first : (b : Bool) → cond b None (up_to 64 (number_of text)) ≡ Some s → IsSession s × IsUtf8 text × (is_ascii_digit (slice_index text 0) ≡ true)
     first true f = absurd cc
     first false f = second (number_of text) refl f
+
+-- a transcript has more sessions than a script
+session_wider : (text : List ℕ) (s : ℕ) → session_of text ≡ Some s → session_in text ≡ Some s
+session_wider text s e = first (eqb (slice_index text 0) 48) e
+  where
+    second : (o : Option ℕ) → up_to 64 o ≡ Some s → up_to 4294967295 o ≡ Some s
+    second None f = absurd cc
+    second (Some n) f = go (ltb 0 n) (leb n 64) refl f
+      where
+        go : (a b : Bool) → leb n 64 ≡ b → cond (a && b) (Some n) None ≡ Some s → cond (a && leb n 4294967295) (Some n) None ≡ Some s
+        go true true h g =
+            let low : n ≤ 64 = leb-true n 64 h in
+            ap (λ b. cond b (Some n) None) (le-leb n 4294967295 (omega (arith, low))) ∙ g
+        go true false h g = absurd cc
+        go false b h g = absurd cc
+
+    first : (b : Bool) → cond b None (up_to 64 (number_of text)) ≡ Some s → cond b None (up_to 4294967295 (number_of text)) ≡ Some s
+    first true f = absurd cc
+    first false f = second (number_of text) f
 
 -- a word that is known
 word_utf8 : (text word : List ℕ) → IsPlain word → bytes_eq text word ≡ true → IsUtf8 text
@@ -336,8 +356,8 @@ module _ {A : Type 0} where
             utf8 = cut_utf8 32 line p refl h session.1 (subst IsUtf8 (sym (before_last_is 59 p.1 text (omega arith) j)) (IsUtf8-append text (59 ∷ []) same.0 (IsUtf8-plain (59 ∷ []) refl)));
             digit = subst (λ t. is_ascii_digit (slice_index t 0) ≡ true) (sym (cut_is 32 line p h)) (starts p.0 (32 ∷ p.1) session.2);
             asks =
-                ap (λ (o : Option (List ℕ × List ℕ)). o >>= λ q. session_of q.0 >>= λ n. before_last 59 q.1 >>= λ t. command_of {A = A} Free t >>= λ z. Some (n, asked_by c z)) h
-                ∙ ap (λ (o : Option ℕ). o >>= λ n. before_last 59 p.1 >>= λ t. command_of {A = A} Free t >>= λ z. Some (n, asked_by c z)) g
+                ap (λ (o : Option (List ℕ × List ℕ)). o >>= λ q. session_in q.0 >>= λ n. before_last 59 q.1 >>= λ t. command_of {A = A} Free t >>= λ z. Some (n, asked_by c z)) h
+                ∙ ap (λ (o : Option ℕ). o >>= λ n. before_last 59 p.1 >>= λ t. command_of {A = A} Free t >>= λ z. Some (n, asked_by c z)) (session_wider p.0 k g)
                 ∙ ap (λ (o : Option (List ℕ)). o >>= λ t. command_of {A = A} Free t >>= λ z. Some (k, asked_by c z)) j
                 ∙ ap (λ (o : Option (Command A)). o >>= λ z. Some (k, asked_by c z)) same.1
                 ∙ ap (λ n. Some (n, asked_by c b)) same_number

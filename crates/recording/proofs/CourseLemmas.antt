@@ -11,6 +11,7 @@ use Rattle.value.proofs.SortLemmas.{In-sorted}
 use Rattle.statement.specs.declared.reply.Reply.{Reply}
 use Rattle.statement.specs.declared.reply.Reply.TheVariants as reply
 use Rattle.statement.specs.declared.statement.Statement.{Statement}
+use Rattle.schema.specs.Definition.{Catalog}
 use Rattle.history.specs.Answer.{Allowed, Legal, is_refused, reply_from, reply_in, reply_of}
 use Rattle.history.specs.Events.{causes, follows, followed, numbered, replaced, start, turned_from, without_transaction, world_of}
 use Rattle.history.specs.Opening.{Opening}
@@ -24,10 +25,10 @@ use Rattle.serial.proofs.legal.Numbers.{replaced-new}
 use Rattle.serial.proofs.order.SerialTheorem.{IsGood, good_world}
 use Rattle.serial.proofs.structures.Dooms.{done-In}
 use Rattle.orders.specs.Explains.{Trace}
-use Rattle.recording.specs.Traces.{AreToldBy, IsToldBy}
+use Rattle.recording.specs.Traces.{AreToldOf, IsToldBy}
 use Rattle.transcript.specs.Reading.{trace_of}
 use Rattle.transcript.specs.Recorded.{Recorded}
-use Rattle.transcript.specs.Sessions.{nothing_but}
+use Rattle.transcript.specs.Sessions.{most_sessions, nothing_but}
 use Rattle.recording.proofs.CommitLemmas.{by_end, is_at, members, pushed}
 use Rattle.recording.proofs.MoveLemmas.{AreSingle, CommitsNow, Fresh as Begins, IsNumbered, Other, Own, Source, done_source, none_found, numbered_is, owed_of, single_follows, source}
 use Rattle.recording.proofs.Names.{Ended, Session}
@@ -188,6 +189,19 @@ module _ {A : Type 0} where
 
   -- ---- what is told by a clock
 
+  -- what is recorded of committed transactions alone
+  abbrev pub AreToldBy : (ℕ → ℕ) → List (Txn A) → List (Trace A) → Type 0
+  AreToldBy clock [] [] = Unit {0}
+  AreToldBy clock (t ∷ ts) (r ∷ rs) = IsToldBy clock t r × AreToldBy clock ts rs
+  AreToldBy clock _ _ = ⊥
+
+  -- it is so with others beside, of which there are none
+  pub told_of : (c : Catalog) (clock : ℕ → ℕ) (ts : List (Txn A)) (rs : List (Trace A)) → AreToldBy clock ts rs → AreToldOf c clock (map Some ts) rs
+  told_of c clock [] [] a = tt
+  told_of c clock [] (r ∷ rs) a = absurd a
+  told_of c clock (t ∷ ts) [] a = absurd a
+  told_of c clock (t ∷ ts) (r ∷ rs) a = (a.0, told_of c clock ts rs a.1)
+
   told_later : (clock : ℕ → ℕ) (place m : ℕ) (ts : List (Txn A)) (rs : List (Trace A)) → ((t : Txn A) → In t ts → (t.begin ≤ place) × (t.end ≤ place)) → AreToldBy clock ts rs → AreToldBy (later clock place m) ts rs
   told_later clock place m [] [] h a = tt
   told_later clock place m [] (r ∷ rs) h a = absurd a
@@ -225,7 +239,7 @@ module _ {A : Type 0} where
     pub single : AreSingle w.txns
     pub steady : (p q : ℕ) → p ≤ q → clock p ≤ clock q
     pub below : (p : ℕ) → clock p < n
-    pub many : length ss ≡ 64
+    pub many : length ss ≡ most_sessions
 
   drafted_later : (clock : ℕ → ℕ) (place m : ℕ) (d : Recorded A) (t : Txn A) → t.begin ≤ place → IsDrafted clock d t → IsDrafted (later clock place m) d t
   drafted_later clock place m d t l h = record { begin = subst (λ x. d.begin ≤ x) (sym (later_before clock place m t.begin l)) h.begin; statements = h.statements; imported = h.imported }

@@ -4,6 +4,7 @@ use Rattle.std.specs.Prelude.{codes, slice_get, slice_index}
 use Rattle.std.specs.Char.{is_ascii_digit}
 use Rattle.std.specs.Fmt.{decimal}
 use Rattle.std.specs.List.{cons_option, filter, filter_map, flat_map}
+use Rattle.std.specs.List.Sorted.{IsPermutation}
 use Rattle.std.specs.Option.{option_map_or}
 use Rattle.std.specs.Str.{IsUtf8, bytes_eq}
 use Rattle.std.proofs.lemmas.List.{length-replicate}
@@ -26,8 +27,9 @@ use Rattle.history.specs.declared.event.Record.{Record}
 use Rattle.serial.proofs.legal.Histories.{run-catalog}
 use Rattle.serial.proofs.legal.Later.{legal_begins}
 use Rattle.orders.specs.Explains.{Trace, all_fit}
-use Rattle.recording.specs.Traces.{AreToldBy, IsRecording}
+use Rattle.recording.specs.Traces.{IsRecording}
 use Rattle.recording.proofs.ExplainsLemmas.{all_fitting}
+use Rattle.recording.proofs.PlacesLemmas.{standing_all}
 use Rattle.sqltext.specs.Parsed.{parsed}
 use Rattle.statement.specs.declared.statement.Statement.{Statement}
 use Rattle.request.specs.Requests.{asked as action_of, spoken}
@@ -46,12 +48,12 @@ use Rattle.transcript.specs.Lines.{read_text}
 use Rattle.transcript.specs.Reading.{Named, Read, at_end, name_of, other_asked, replied as replied_alone, session_asks, start, trace_of, traces, traces_of, unanswered, with_kind, with_line}
 use Rattle.transcript.specs.Recorded.{Recorded}
 use Rattle.transcript.specs.Saying.{in_a_word, is_of_checkpoint, said as said_by}
-use Rattle.transcript.specs.Sessions.{answer_to, idle, nothing}
+use Rattle.transcript.specs.Sessions.{answer_to, idle, most_sessions, nothing}
 use Rattle.recording.specs.Runs.{Answers, AreDone, AreHeard, Goes, Hears, IsDone, IsTranscript, Replies}
 use Rattle.recording.proofs.Names.{Asked, Ended, Said as Said_now, Session, pick}
 use Rattle.recording.proofs.AskingLemmas.{Asks, request_same, step_asks}
 use Rattle.recording.proofs.CommitLemmas.{by_end}
-use Rattle.recording.proofs.CourseLemmas.{Agree}
+use Rattle.recording.proofs.CourseLemmas.{Agree, AreToldBy, told_of}
 use Rattle.recording.proofs.LinesLemmas.{AllLack, all_lack-append, ended_append, ended_lines, one_read, read_on, read_wrong, text_read}
 use Rattle.recording.proofs.ReadingLemmas.{IsIdle, both, both_read, command_kind, comes, read_so, reads, reply_kind, set_same}
 use Rattle.recording.proofs.RunLemmas.{Arrived, Done, Place, Stopped, Went, after_of, asked_first, idle_there, marked_lack, reply_done, reply_lack, session_there, told_lines}
@@ -360,20 +362,20 @@ module _ {A : Type 0} where
 
   -- ---- before all lines
 
-  agree_first : (o : Opening A) (m : ℕ) → 0 < m → Agree (world_of o []) (replicate 64 idle) (λ p. 0) m
+  agree_first : (o : Opening A) (m : ℕ) → 0 < m → Agree (world_of o []) (replicate most_sessions idle) (λ p. 0) m
   agree_first o m l = record {
-    idle = λ i x e. ap (λ (y : Session A). y.pending) (get_replicate 64 i idle x e);
+    idle = λ i x e. ap (λ (y : Session A). y.pending) (get_replicate most_sessions i idle x e);
     drafted = λ i x d t e f k. absurd k;
     single = λ t u i. absurd i;
     steady = λ p q k. omega arith;
     below = λ p. l;
-    many = length-replicate 64 (idle {A = A});
+    many = length-replicate most_sessions (idle {A = A});
   }
 
-  in_step_first : (o : Opening A) → InStep (world_of o []) (replicate 64 idle)
+  in_step_first : (o : Opening A) → InStep (world_of o []) (replicate most_sessions idle)
   in_step_first o = record {
     none = λ i x t e f k. absurd k;
-    some = λ i x d e f. absurd (never x d (get_replicate 64 i idle x e) f);
+    some = λ i x d e f. absurd (never x d (get_replicate most_sessions i idle x e) f);
   }
     where
       never : (x : Session A) (d : Recorded A) → x ≡ idle → x.draft ≡ Some d → ⊥
@@ -402,9 +404,9 @@ module _ {A : Type 0} where
     recording_all = record {
       clock = clock;
       steady = agree.steady;
-      told = in_commit_order (world_of o es);
-      each_once = sorted-permutes by_end (committed (world_of o es));
-      each = subst (AreToldBy clock (in_commit_order (world_of o es))) (sym only) tells;
+      told = map Some (in_commit_order (world_of o es));
+      each_once = subst (IsPermutation (committed (world_of o es))) (sym (standing_all (in_commit_order (world_of o es)))) (sorted-permutes by_end (committed (world_of o es)));
+      each = told_of (world_of o es).catalog clock (in_commit_order (world_of o es)) all (subst (AreToldBy clock (in_commit_order (world_of o es))) (sym only) tells);
     }
 
     recorded_so : (c : Catalog) (ts : List (Trace A)) (names : List Named) → traces_of c has_time (read_so ss begins ended) ≡ Some (ts, names) → IsRecording (world_of o es) ts
@@ -463,7 +465,7 @@ module _ {A : Type 0} where
       let ls = lines script in
       let all_lack = lines_lack script in
       let tables = tables_read o.catalog ls (tables_utf8 script is.says is.is_said) 1 (omega arith) in
-      let rest = run_done o has_time heard ls all_lack is.done [] es is.rest is.are_done hears (λ l i. line_says script is.says is.is_said l (subst (In l) (sym is.are_lines) (In-left (λ (_ : Line A). (0, 0, 0)) l is.done is.left i))) legal (replicate 64 idle) [] [] (λ p. 0) tables.0 (agree_first o tables.0 tables.1) tt (λ k. in_step_first o) in
+      let rest = run_done o has_time heard ls all_lack is.done [] es is.rest is.are_done hears (λ l i. line_says script is.says is.is_said l (subst (In l) (sym is.are_lines) (In-left (λ (_ : Line A). (0, 0, 0)) l is.done is.left i))) legal (replicate most_sessions idle) [] [] (λ p. 0) tables.0 (agree_first o tables.0 tables.1) tt (λ k. in_step_first o) in
       let whole_text : text ≡ ended_lines (table_lines ls ++ rest.parts) =
       is.is_text ∙ ap (λ (t : List ℕ). t ++ is.rest) (tables_lined ls) ∙ ap (λ (t : List ℕ). ended_lines (table_lines ls) ++ t) rest.is ∙ sym (ended_append (table_lines ls) rest.parts) in
       record {

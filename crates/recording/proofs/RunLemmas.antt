@@ -26,16 +26,15 @@ use Rattle.history.specs.declared.event.Record.{Record}
 use Rattle.serial.proofs.legal.AlwaysSound.{own_sound}
 use Rattle.serial.proofs.legal.Histories.{run-catalog}
 use Rattle.serial.proofs.legal.Legal.{current_in}
-use Rattle.recording.specs.Traces.{AreToldBy}
 use Rattle.copytext.specs.Writing.{line_text}
 use Rattle.script.specs.Printing.{reply_text, tag}
 use Rattle.script.specs.Transcribing.{answered, asked, lines, marked}
 use Rattle.transcript.specs.Reading.{Read, kinds_shown, trace_of}
-use Rattle.transcript.specs.Sessions.{answer_to, recorded_of, with_draft, one_more}
+use Rattle.transcript.specs.Sessions.{answer_to, most_sessions, recorded_of, with_draft, one_more}
 use Rattle.transcript.specs.Recorded.{Recorded}
 use Rattle.recording.specs.Runs.{Goes as GoesOn, IsSmall, is_small_row}
 use Rattle.recording.proofs.Names.{Asked, Ended, Session}
-use Rattle.recording.proofs.CourseLemmas.{Agree, Next, agree_still, agree_then, later, next_of, told_more, told_then}
+use Rattle.recording.proofs.CourseLemmas.{Agree, AreToldBy, Next, agree_still, agree_then, later, next_of, told_more, told_then}
 use Rattle.recording.proofs.LinesLemmas.{AllLack, ended_lines, lines_ended, marked_lines}
 use Rattle.recording.proofs.ReadingLemmas.{AreShown, Come, IsAsked, IsIdle, both, both_read, both_wrong, comes, marked_rows, read_so, reads}
 use Rattle.recording.proofs.RowLemmas.{row_lacks}
@@ -75,6 +74,11 @@ pub some_at : {X : Type 0} (xs : List X) (i : ℕ) → i < length xs → (x : X)
 some_at [] i l = absurd (omega (arith, l))
 some_at (x ∷ xs) zero l = (x, refl)
 some_at (x ∷ xs) (suc i) l = some_at xs i (omega (arith, l))
+
+-- a transcript has more sessions than a script
+more_than_scripts : 64 < most_sessions
+unfolding most_sessions
+more_than_scripts = omega arith
 
 number_of : (s : ℕ) → IsSession s → s ≡ suc (s - 1)
 number_of s h = let l : 0 < s = h.low in omega (arith, l)
@@ -175,8 +179,9 @@ module _ {A : Type 0} where
   session_there w s ss clock n h agree =
       let low : 0 < s = h.low in
       let high : s ≤ 64 = h.high in
-      let many : length ss ≡ 64 = agree.many in
-      some_at ss (s - 1) (omega (arith, low, high, many))
+      let many : length ss ≡ most_sessions = agree.many in
+      let enough = more_than_scripts in
+      some_at ss (s - 1) (omega (arith, low, high, many, enough))
 
   pub idle_there : (c : Catalog) (w : World A) (s : ℕ) (ss : List (Session A)) (clock : ℕ → ℕ) (n : ℕ) (x : Session A) → IsSession s → Agree w ss clock n → slice_get ss (s - 1) ≡ Some x → IsIdle c ss s (s - 1) x
   idle_there c w s ss clock n x h agree there = record { number = number_of s h; is = there; idle = agree.idle (s - 1) x there }

@@ -23,9 +23,10 @@ use Rattle.value.proofs.LiteralLemmas.{numerals}
 use Rattle.statement.specs.declared.reply.Reply.{Reply}
 use Rattle.statement.specs.declared.reply.Reply.TheVariants as reply
 use Rattle.copytext.specs.Writing.{line_text}
-use Rattle.script.specs.Commands.{◌>>=◌, cut, is_digits, number_of, session_of, up_to}
+use Rattle.script.specs.Commands.{◌>>=◌, cut, is_digits, number_of, up_to}
 use Rattle.script.specs.Printing.{reply_text, row_line, rows_text, tag}
 use Rattle.transcript.specs.Saying.{in_a_word, in_words, is_of_checkpoint, printed_number, said, session_and_text, with_number}
+use Rattle.transcript.specs.Sessions.{session_in}
 use Rattle.recording.specs.Runs.{IsSmall}
 use Rattle.recording.proofs.Names.{Said, pick}
 use Rattle.recording.proofs.TextLemmas.{AreDigits, IsPlain, Lacks, cut_at, decimal_plain, digits_lack_space, plain-append}
@@ -64,14 +65,14 @@ pub record IsSession (s : ℕ) : Type 0 where
   pub low : 0 < s
   pub high : s ≤ 64
 
-pub session_again : (s : ℕ) → IsSession s → session_of (decimal s) ≡ Some s
+pub session_again : (s : ℕ) → IsSession s → session_in (decimal s) ≡ Some s
 session_again s h =
     let high : s ≤ 64 = h.high in
     let small : s < 2 ^ 64 = omega arith in
-    ap (λ b. cond b None (up_to 64 (number_of (decimal s)))) (no_zero_first s h.low small)
-    ∙ ap (up_to 64) (number_again s small)
-    ∙ ap (λ b. cond (b && leb s 64) (Some s) None) (lt-ltb 0 s h.low)
-    ∙ ap (λ b. cond b (Some s) None) (le-leb s 64 h.high)
+    ap (λ b. cond b None (up_to 4294967295 (number_of (decimal s)))) (no_zero_first s h.low small)
+    ∙ ap (up_to 4294967295) (number_again s small)
+    ∙ ap (λ b. cond (b && leb s 4294967295) (Some s) None) (lt-ltb 0 s h.low)
+    ∙ ap (λ b. cond b (Some s) None) (le-leb s 4294967295 (omega (arith, high)))
 
 pub session_digits : (s : ℕ) → IsSession s → AreDigits (decimal s)
 session_digits s h = let high : s ≤ 64 = h.high in let small : s < 2 ^ 64 = omega arith in decimal_digits s small
@@ -79,7 +80,7 @@ session_digits s h = let high : s ≤ 64 = h.high in let small : s < 2 ^ 64 = om
 pub session_text : (s : ℕ) (text : List ℕ) → IsSession s → session_and_text (decimal s ++ 32 ∷ text) ≡ Some (s, text)
 unfolding session_and_text
 session_text s text h =
-    ap (λ (o : Option (List ℕ × List ℕ)). o >>= λ p. session_of p.0 >>= λ k. Some (k, p.1)) (cut_at 32 (decimal s) text (digits_lack_space (decimal s) (session_digits s h)))
+    ap (λ (o : Option (List ℕ × List ℕ)). o >>= λ p. session_in p.0 >>= λ k. Some (k, p.1)) (cut_at 32 (decimal s) text (digits_lack_space (decimal s) (session_digits s h)))
     ∙ ap (λ (o : Option ℕ). o >>= λ k. Some (k, text)) (session_again s h)
 
 -- a session's reply isn't a checkpoint's

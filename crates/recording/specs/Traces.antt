@@ -1,10 +1,11 @@
--- What is recorded of the committed transactions of a history, as the check of recorded histories reads it of any database.
+-- What is recorded of the transactions of a history, as the check of recorded histories reads it of any database.
 -- Sources: Papadimitriou, "The serializability of concurrent database updates" (JACM 1979), for orders; Herlihy and Wing, "Linearizability" (TOPLAS 1990), for the times of requests and replies.
-use Rattle.std.specs.Prelude.{◌≡◌, ℕ, ◌≤◌, true, Some, IfSome, List, [], ◌∷◌, map, slice_get}
+use Rattle.std.specs.Prelude.{◌≡◌, ℕ, ◌≤◌, true, Option, Some, None, IfSome, List, [], ◌∷◌, map, filter_map, slice_get}
 use Rattle.std.specs.List.Sorted.{IsPermutation}
+use Rattle.schema.specs.Definition.{Catalog}
 use Rattle.history.specs.Transactions.{Txn, World}
 use Rattle.history.specs.Serial.{committed}
-use Rattle.orders.specs.Explains.{Trace, Explains}
+use Rattle.orders.specs.Explains.{Trace, Explains, are_fit}
 
 module _ {A : Type 0} where
   -- a committed transaction by the places of its events
@@ -30,15 +31,20 @@ module _ {A : Type 0} where
     pub imported : t.imported ≡ true → r.imported ≡ true
     pub statements : r.statements ≡ t.statements
 
-  abbrev pub AreToldBy : (ℕ → ℕ) → List (Txn A) → List (Trace A) → Type 0
-  AreToldBy clock [] [] = Unit {0}
-  AreToldBy clock (t ∷ ts) (r ∷ rs) = IsToldBy clock t r × AreToldBy clock ts rs
-  AreToldBy clock _ _ = ⊥
+  -- What a client may record of a committed transaction; or of one that isn't, if no reply to a COMMIT came: whatever its statements were answered.
+  abbrev pub IsToldOf : Catalog → (ℕ → ℕ) → Option (Txn A) → Trace A → Type 0
+  IsToldOf c clock (Some t) r = IsToldBy clock t r
+  IsToldOf c clock None r = (r.end ≡ None) × (are_fit c r.statements ≡ true)
 
-  -- What clients may record of what was committed: each transaction once, in whatever order, by a clock that doesn't go back.
+  abbrev pub AreToldOf : Catalog → (ℕ → ℕ) → List (Option (Txn A)) → List (Trace A) → Type 0
+  AreToldOf c clock [] [] = Unit {0}
+  AreToldOf c clock (o ∷ os) (r ∷ rs) = IsToldOf c clock o r × AreToldOf c clock os rs
+  AreToldOf c clock _ _ = ⊥
+
+  -- What clients may record of a history: each committed transaction once, and any number of others to whose COMMIT no reply came, in whatever order, by a clock that doesn't go back.
   pub record IsRecording (w : World A) (rs : List (Trace A)) : Type 0 where
     pub clock : ℕ → ℕ
     pub steady : (m n : ℕ) → m ≤ n → clock m ≤ clock n
-    pub told : List (Txn A)
-    pub each_once : IsPermutation (committed w) told
-    pub each : AreToldBy clock told rs
+    pub told : List (Option (Txn A))
+    pub each_once : IsPermutation (committed w) (filter_map (λ o. o) told)
+    pub each : AreToldOf w.catalog clock told rs

@@ -15,7 +15,8 @@ pub fn serial_orders_explain<A: Allocator>()
 {}
 
 /// Whatever is recorded of what a legal history committed is explained: in any order, by any clock that doesn't go
-/// back, with or without the replies to COMMITs. The traces are such a recording. And all statements fit the tables, so
+/// back, with or without the replies to COMMITs, and beside any other transactions to whose COMMIT no reply came. The
+/// traces are such a recording. And all statements fit the tables, so
 /// an exact search may be asked of it; it never answers no.
 pub fn recordings_are_explained<A: Allocator>()
     ensures explained { AfterLegal (λ (w : World A). (rs : List (AnyTrace A)) → IsRecording w rs →

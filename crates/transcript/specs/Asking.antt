@@ -8,7 +8,8 @@ use Rattle.request.specs.declared.request.Request.TheVariants as request
 use Rattle.script.specs.declared.command.Command.{Command}
 use Rattle.script.specs.declared.command.Command.TheVariants as command
 use Rattle.script.specs.declared.schedule.Schedule.TheVariants.{Free}
-use Rattle.script.specs.Commands.{◌>>=◌, before_last, command_of, cut, session_of}
+use Rattle.script.specs.Commands.{◌>>=◌, before_last, command_of, cut}
+use Rattle.transcript.specs.Sessions.{session_in}
 use Rattle.transcript.specs.declared.ask.Asked.{Asked}
 use Rattle.transcript.specs.declared.ask.Asked.TheVariants as ask
 
@@ -33,4 +34,4 @@ module _ {A : Type 0} where
 
   -- a session's number, a space, a command of a script whose sessions run freely, and `;`
   unfoldable pub asked : Catalog → List ℕ → Option (ℕ × Asked A)
-  asked c line = cut 32 line >>= λ p. session_of p.0 >>= λ s. before_last 59 p.1 >>= λ text. command_of {A = A} Free text >>= λ d. Some (s, asked_by c d)
+  asked c line = cut 32 line >>= λ p. session_in p.0 >>= λ s. before_last 59 p.1 >>= λ text. command_of {A = A} Free text >>= λ d. Some (s, asked_by c d)

@@ -2,6 +2,7 @@ pub mod Asking
 pub mod Lines
 pub mod Opening
 pub mod Outcomes
+pub mod Places
 pub mod Reading
 pub mod Reasons
 pub mod Recorded

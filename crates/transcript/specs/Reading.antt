@@ -20,7 +20,7 @@ use Rattle.script.specs.Commands.{◌>>=◌}
 use Rattle.transcript.specs.Asking.{asked}
 use Rattle.transcript.specs.Lines.{behind_mark, kind_of, read_text}
 use Rattle.transcript.specs.Saying.{is_of_checkpoint, row_text, said, session_and_text}
-use Rattle.transcript.specs.Sessions.{answered_of, asked_of, idle, recorded_in, undetermined}
+use Rattle.transcript.specs.Sessions.{answered_of, asked_of, idle, most_sessions, recorded_in, undetermined}
 use Rattle.transcript.specs.declared.lines.LineKind.{LineKind}
 use Rattle.transcript.specs.declared.lines.LineKind.TheVariants.{Skipped, Command, Reply}
 use Rattle.transcript.specs.declared.reader.Ended.{Ended}
@@ -77,7 +77,7 @@ kinds_in c _ = None
 module _ {A : Type 0} where
   -- nothing is read yet
   abbrev pub start : Read A
-  start = record { sessions = replicate 64 idle; checkpoints = 0; due = None; begins = []; ended = [] }
+  start = record { sessions = replicate most_sessions idle; checkpoints = 0; due = None; begins = []; ended = [] }
 
   abbrev pub with_sessions : Read A → List (Session A) → Read A
   with_sessions r ss = record r { sessions = ss }

@@ -1,7 +1,8 @@
 -- What a reply says, as `run` prints it.
 use Rattle.std.specs.Prelude.{ℕ, ◌==◌, nat_lt, Bool, ◌&&◌, ◌||◌, if◌then◌else◌, List, length, take, drop, codes, slice_index, Option, Some, None}
 use Rattle.std.specs.Str.{bytes_eq}
-use Rattle.script.specs.Commands.{◌>>=◌, cut, number_of, session_of}
+use Rattle.script.specs.Commands.{◌>>=◌, cut, number_of}
+use Rattle.transcript.specs.Sessions.{session_in}
 use Rattle.transcript.specs.declared.said.Said.{Said}
 use Rattle.transcript.specs.declared.said.Said.TheVariants.{Begun, Committed, RolledBack, Imported, Safe, Wait, Exported, Pruned, Dumped, Inserted, Updated, Deleted, Selected, Refused}
 
@@ -50,7 +51,7 @@ said text = if bytes_eq text (codes "INSERT 0 1") then Some Inserted else in_wor
 
 -- the session that a reply or a row names, and what follows
 unfoldable pub session_and_text : List ℕ → Option (ℕ × List ℕ)
-session_and_text line = cut 32 line >>= λ p. session_of p.0 >>= λ s. Some (s, p.1)
+session_and_text line = cut 32 line >>= λ p. session_in p.0 >>= λ s. Some (s, p.1)
 
 -- the text of a row of session s
 unfoldable pub row_text : ℕ → List ℕ → Option (List ℕ)

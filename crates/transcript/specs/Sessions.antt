@@ -1,10 +1,10 @@
 -- What a session has asked, and what comes of the reply (this project's own format).
-use Rattle.std.specs.Prelude.{ℕ, ◌-◌, Bool, true, false, if◌then◌else◌, List, [], ◌∷◌, ◌++◌, Option, Some, None, is_some, slice_get, slice_set}
+use Rattle.std.specs.Prelude.{ℕ, suc, ◌-◌, ◌==◌, Bool, true, false, if◌then◌else◌, List, [], ◌∷◌, ◌++◌, replicate, Option, Some, None, is_some, slice_get, slice_index, slice_set}
 use Rattle.statement.specs.declared.reply.Reply.{Reply}
 use Rattle.statement.specs.declared.reply.Reply.TheVariants as reply
 use Rattle.statement.specs.declared.statement.Statement.{Statement}
 use Rattle.statement.specs.declared.statement.Statement.TheVariants.{Select, Insert, Update, Delete}
-use Rattle.script.specs.Commands.{◌>>=◌}
+use Rattle.script.specs.Commands.{◌>>=◌, number_of, up_to}
 use Rattle.transcript.specs.Recorded.{Recorded}
 use Rattle.transcript.specs.declared.ask.Asked.{Asked}
 use Rattle.transcript.specs.declared.ask.Asked.TheVariants as ask
@@ -14,6 +14,14 @@ use Rattle.transcript.specs.declared.session.Outcome.{Outcome}
 use Rattle.transcript.specs.declared.session.Outcome.TheVariants.{Nothing, Begun, Committed, Rows}
 use Rattle.transcript.specs.declared.session.Pending.{Pending}
 use Rattle.transcript.specs.declared.session.Session.{Session}
+
+-- the last session's number, which 32 bits hold
+unfoldable pub most_sessions : ℕ
+most_sessions = 4294967295
+
+-- a session's number: 1 to 4294967295, without a leading zero
+abbrev pub session_in : List ℕ → Option ℕ
+session_in text = if slice_index text 0 == 48 then None else up_to 4294967295 (number_of text)
 
 module _ {A : Type 0} where
   -- ---- what is recorded of a transaction
@@ -167,6 +175,11 @@ module _ {A : Type 0} where
   answered n s says = answered_by n s says s.pending
 
   -- ---- all sessions, by their numbers less 1
+
+  -- those from a place on, where these are some of them, by their places, and the others are idle
+  abbrev pub spread : ℕ → List (ℕ × Session A) → List (Session A)
+  spread from [] = replicate (most_sessions - from) idle
+  spread from (s ∷ ss) = replicate (s.0 - from) idle ++ s.1 ∷ spread (suc s.0) ss
 
   -- session n asks for something in a line
   unfoldable pub asked_of : List (Session A) → ℕ → ℕ → Asked A → Option (List (Session A))

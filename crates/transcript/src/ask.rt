@@ -7,14 +7,13 @@ ghost use Rattle.transcript.specs.Asking as spec;
 ghost use Rattle.transcript.specs.Outcomes.{Gives};
 
 use crate::fault::{LineError, Reason};
-use crate::words::before_end;
-use history::session_id::SessionId;
+use crate::words::{before_end, session_in};
 use request::request::Request;
 use schema::catalog::Catalog;
 use script::command::{Command, command_of};
 use script::error;
 use script::schedule::Schedule;
-use script::words::{cut, session_of};
+use script::words::cut;
 use sqltext::parse::parse_statement;
 use statement::statement::Statement;
 use std::alloc::Allocator;
@@ -104,13 +103,13 @@ pub(crate) fn asked_in<A: Allocator + Copy>(
     alloc: A,
     catalog: &Catalog<A>,
     line: &[u8],
-) -> Result<(SessionId, Asked<A>), LineError>
+) -> Result<(u32, Asked<A>), LineError>
     ensures { Gives (λ p. (p.0, p.1)) result (spec.asked catalog.now line.now) }
 {
     let Some((number, rest)) = cut(b' ', line) else {
         return Err(LineError::Faulty(Reason::NoCommand));
     };
-    let Some(session) = session_of(number) else {
+    let Some(session) = session_in(number) else {
         return Err(LineError::Faulty(Reason::NoCommand));
     };
     let Some(text) = before_end(rest) else {

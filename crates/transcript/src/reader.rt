@@ -13,12 +13,12 @@ use crate::ask::{Asked, asked_in};
 use crate::fault::{LineError, Reason, error_of};
 use crate::lines::{LineKind, behind_mark, kind_of};
 use crate::said::{Said, said_of};
-use crate::session::{Draft, Outcome, Session};
-use crate::words::begins_with_digit;
+use crate::session::{Draft, Outcome};
+use crate::sessions::Sessions;
+use crate::words::{begins_with_digit, session_in};
 use copytext::read_row;
-use history::session_id::SessionId;
 use schema::catalog::{Catalog, Column};
-use script::words::{cut, session_of};
+use script::words::cut;
 use statement::reply::{Reply, RowList};
 use statement::statement::{Projection, Statement};
 use statement::values::Values;
@@ -36,7 +36,7 @@ pub(crate) struct Ended<A: Allocator> {
 // A SELECT whose rows follow.
 #[derive(Drop)]
 pub(crate) struct Due<A: Allocator> {
-    session: SessionId,
+    session: u32,
     statement: Statement<A>,
     line: u64,
     kinds: Vec<Kind, A>,
@@ -62,7 +62,7 @@ impl<A: Allocator> Model for Due<A> {
 /// What was read so far.
 #[derive(Drop)]
 pub(crate) struct Reader<A: Allocator> {
-    sessions: Vec<Session<A>, A>,
+    sessions: Sessions<A>,
     // How many checkpoints await their replies.
     checkpoints: u64,
     due: Option<Due<A>>,
@@ -77,7 +77,7 @@ impl<A: Allocator> Model for Reader<A> {
     ghost Value = { Read A };
 
     ghost view = { λ r. record {
-      sessions = r.sessions.items;
+      sessions = r.sessions;
       checkpoints = r.checkpoints;
       due = r.due;
       begins = r.begins.items;
@@ -196,23 +196,23 @@ fn begins_with_bar(text: &[u8]) -> bool
 
 // The session that a reply names, and what follows.
 #[tactic(auto, unfolding(crate::specs::Saying::session_and_text))]
-fn session_and_text(line: &[u8]) -> Option<(SessionId, &[u8])>
+fn session_and_text(line: &[u8]) -> Option<(u32, &[u8])>
     ensures { option_map (λ p. (p.0, p.1.now)) result ≡ say.session_and_text line.now }
 {
     let (number, text) = cut(b' ', line)?;
-    let session = session_of(number)?;
+    let session = session_in(number)?;
     Some((session, text))
 }
 
 // The text of a row of a session's SELECT, in a line.
 #[tactic(auto, unfolding(crate::specs::Saying::row_text))]
-fn row_text(session: SessionId, line: &[u8]) -> Option<&[u8]>
+fn row_text(session: u32, line: &[u8]) -> Option<&[u8]>
     ensures { option_map (λ t. t.now) result ≡ say.row_text session line.now }
 {
     let Some((named, text)) = session_and_text(line) else {
         return None;
     };
-    if named.number() == session.number() && begins_with_bar(text) {
+    if named == session && begins_with_bar(text) {
         Some(behind_mark(text))
     } else {
         None
@@ -239,7 +239,7 @@ impl<A: Allocator + Copy> Due<A> {
     fn new(
         alloc: A,
         catalog: &Catalog<A>,
-        session: SessionId,
+        session: u32,
         statement: Statement<A>,
         left: u64,
         line: u64,
@@ -273,93 +273,18 @@ impl<A: Allocator + Copy> Due<A> {
     }
 }
 
-// All sessions: they have asked nothing yet.
-fn idle_sessions<A: Allocator>(alloc: A) -> Result<Vec<Session<A>, A>, LineError>
-    ensures ok { IfOk result (λ all. all.items ≡ replicate 64 sessions.idle) }
-    ensures memory { IfErr result (λ e. e ≡ LineError.Memory) }
-{
-    let mut sessions = Vec::new(alloc);
-    let mut count: u32 = 0;
-    while count < 64 {
-        sessions.push(Session::new())?;
-        count += 1;
-    }
-    Ok(sessions)
-}
-
-// The place of a session.
-fn place_of(session: SessionId) -> usize
-    ensures { result ≡ session - 1 }
-{
-    (session.number() - 1) as usize
-}
-
-// A session asks for something in a line.
-#[tactic(auto, unfolding(crate::specs::Sessions::asked_of))]
-fn ask_of<A: Allocator>(
-    all: &mut Vec<Session<A>, A>,
-    session: SessionId,
-    line: u64,
-    asked: Asked<A>,
-) -> Result<(), LineError>
-    ensures ok { OnOk result (sessions.asked_of all.old.items session line asked ≡ Some all.new.items) }
-    ensures err { IfErr result (λ e. Lacks e (sessions.asked_of all.old.items session line asked)) }
-{
-    match all.get_mut(place_of(session)) {
-        Some(of_session) => of_session.ask(asked, line),
-        None => Err(LineError::Faulty(Reason::NoCommand)),
-    }
-}
-
-// A session is answered.
-#[tactic(auto, unfolding(crate::specs::Sessions::answered_of))]
-fn answer_of<A: Allocator + Copy>(
-    alloc: A,
-    all: &mut Vec<Session<A>, A>,
-    session: SessionId,
-    said: Said,
-) -> Result<Outcome<A>, LineError>
-    ensures ok { IfOk result (λ o. sessions.answered_of all.old.items session said ≡ Some (o, all.new.items)) }
-    ensures err { IfErr result (λ e. Lacks e (sessions.answered_of all.old.items session said)) }
-{
-    match all.get_mut(place_of(session)) {
-        Some(of_session) => of_session.answer(alloc, session, said),
-        None => Err(LineError::Faulty(Reason::NoCommand)),
-    }
-}
-
-// A statement of a session in a line is recorded.
-#[tactic(auto, unfolding(crate::specs::Sessions::recorded_in))]
-fn record_in<A: Allocator>(
-    all: &mut Vec<Session<A>, A>,
-    session: SessionId,
-    statement: Statement<A>,
-    reply: Reply<A>,
-    line: u64,
-) -> Result<(), LineError>
-    ensures ok { OnOk result (sessions.recorded_in all.old.items session statement reply line ≡ Some all.new.items) }
-    ensures err { IfErr result (λ e. Lacks e (sessions.recorded_in all.old.items session statement reply line)) }
-{
-    match all.get_mut(place_of(session)) {
-        Some(of_session) => of_session.record(statement, reply, line),
-        None => Err(LineError::Faulty(Reason::NoCommand)),
-    }
-}
-
 impl<A: Allocator + Copy> Reader<A> {
     /// Nothing is read yet.
-    pub(crate) fn new(alloc: A) -> Result<Reader<A>, LineError>
-        ensures ok { IfOk result (λ r. r ≡ spec.start) }
-        ensures memory { IfErr result (λ e. e ≡ LineError.Memory) }
+    pub(crate) fn new(alloc: A) -> Reader<A>
+        ensures { result ≡ spec.start }
     {
-        let sessions = idle_sessions(alloc)?;
-        Ok(Reader {
-            sessions,
+        Reader {
+            sessions: Sessions::new(alloc),
             checkpoints: 0,
             due: None,
             begins: Vec::new(alloc),
             ended: Vec::new(alloc),
-        })
+        }
     }
 
     // A session's command.
@@ -375,7 +300,7 @@ impl<A: Allocator + Copy> Reader<A> {
         ensures err { IfErr result (λ e. Lacks e (spec.session_asks catalog.now self.old number line.now)) }
     {
         let (session, asked) = asked_in(alloc, catalog, line)?;
-        ask_of(&mut self.sessions, session, number, asked)
+        self.sessions.ask(session, number, asked)
     }
 
     // A command without a session, which may be a checkpoint.
@@ -436,13 +361,8 @@ impl<A: Allocator + Copy> Reader<A> {
             rows,
             left: _,
         } = due;
-        record_in(
-            &mut self.sessions,
-            session,
-            statement,
-            Reply::Rows(RowList::of(rows)),
-            line,
-        )
+        self.sessions
+            .record(session, statement, Reply::Rows(RowList::of(rows)), line)
     }
 
     // Goes on with a SELECT: where no more rows follow it is recorded.
@@ -464,7 +384,7 @@ impl<A: Allocator + Copy> Reader<A> {
         &mut self,
         alloc: A,
         catalog: &Catalog<A>,
-        session: SessionId,
+        session: u32,
         statement: Statement<A>,
         left: u64,
         line: u64,
@@ -481,7 +401,7 @@ impl<A: Allocator + Copy> Reader<A> {
         &mut self,
         alloc: A,
         catalog: &Catalog<A>,
-        session: SessionId,
+        session: u32,
         number: u64,
         outcome: Outcome<A>,
     ) -> Result<(), LineError>
@@ -525,7 +445,7 @@ impl<A: Allocator + Copy> Reader<A> {
         let Some(said) = said_of(text) else {
             return Err(LineError::Faulty(Reason::NoReply));
         };
-        let outcome = answer_of(alloc, &mut self.sessions, session, said)?;
+        let outcome = self.sessions.answer(alloc, session, said)?;
         self.follow(alloc, catalog, session, number, outcome)
     }
 
@@ -625,37 +545,9 @@ impl<A: Allocator + Copy> Reader<A> {
         if due.is_some() {
             return Err(LineError::Faulty(Reason::RowsMissing));
         }
-        end_undetermined(sessions, &mut ended)?;
+        sessions.end_undetermined(&mut ended)?;
         Ok((ended, begins))
     }
-}
-
-// Ends the transaction of a session, where that may have committed.
-fn end_one<A: Allocator>(session: Session<A>, ended: &mut Vec<Ended<A>, A>) -> Result<(), LineError>
-    ensures ok { OnOk result (ended.new.items ≡ ended.old.items ++ cons_option (spec.unanswered session) []) }
-    ensures memory { IfErr result (λ e. e ≡ LineError.Memory) }
-{
-    match session.undetermined() {
-        Some(draft) => {
-            ended.push(Ended { draft, end: None })?;
-            Ok(())
-        }
-        None => Ok(()),
-    }
-}
-
-// Ends the transactions of sessions that may have committed.
-fn end_undetermined<A: Allocator>(
-    all: Vec<Session<A>, A>,
-    ended: &mut Vec<Ended<A>, A>,
-) -> Result<(), LineError>
-    ensures ok { OnOk result (ended.new.items ≡ ended.old.items ++ filter_map spec.unanswered all.items) }
-    ensures memory { IfErr result (λ e. e ≡ LineError.Memory) }
-{
-    for session in all {
-        end_one(session, ended)?;
-    }
-    Ok(())
 }
 
 // Whether a reply is a checkpoint's, which names no session.

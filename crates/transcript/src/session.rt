@@ -7,7 +7,6 @@ ghost use Rattle.transcript.specs.Sessions as spec;
 use crate::ask::Asked;
 use crate::fault::{LineError, Reason};
 use crate::said::Said;
-use history::session_id::SessionId;
 use orders::transaction::Answered;
 use statement::reply::Reply;
 use statement::statement::Statement;
@@ -17,7 +16,7 @@ use std::marker::Model;
 /// What was recorded of a transaction so far.
 #[derive(Drop)]
 pub(crate) struct Draft<A: Allocator> {
-    pub(crate) session: SessionId,
+    pub(crate) session: u32,
     /// The line of its BEGIN.
     pub(crate) begin: u64,
     pub(crate) imported: bool,
@@ -44,7 +43,7 @@ impl<A: Allocator> Model for Draft<A> {
 
 impl<A: Allocator> Draft<A> {
     // Nothing but its BEGIN was recorded.
-    fn begun(alloc: A, session: SessionId, begin: u64) -> Draft<A>
+    fn begun(alloc: A, session: u32, begin: u64) -> Draft<A>
     where
         A: Copy,
         ensures { result ≡ spec.nothing_but session begin }
@@ -131,7 +130,7 @@ impl<A: Allocator> Session<A> {
     }
 
     // Its BEGIN was answered BEGIN.
-    fn begin(&mut self, alloc: A, session: SessionId, line: u64) -> Result<Outcome<A>, LineError>
+    fn begin(&mut self, alloc: A, session: u32, line: u64) -> Result<Outcome<A>, LineError>
     where
         A: Copy,
         ensures ok { IfOk result (λ o. spec.begun session line self.old ≡ Some (o, self.new)) }
@@ -148,7 +147,7 @@ impl<A: Allocator> Session<A> {
     fn answer_begin(
         &mut self,
         alloc: A,
-        session: SessionId,
+        session: u32,
         line: u64,
         said: Said,
     ) -> Result<Outcome<A>, LineError>
@@ -286,7 +285,7 @@ impl<A: Allocator> Session<A> {
     fn answer_to(
         &mut self,
         alloc: A,
-        session: SessionId,
+        session: u32,
         line: u64,
         said: Said,
         asked: Asked<A>,
@@ -314,7 +313,7 @@ impl<A: Allocator> Session<A> {
     pub(crate) fn answer(
         &mut self,
         alloc: A,
-        session: SessionId,
+        session: u32,
         said: Said,
     ) -> Result<Outcome<A>, LineError>
     where

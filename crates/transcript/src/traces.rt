@@ -7,12 +7,13 @@ ghost use Rattle.orders.specs.Explains.{all_fit, are_fit};
 ghost use Rattle.statement.specs.Fits.{fits};
 ghost use Rattle.transcript.specs.Lines.{IsLineOf, read_text};
 ghost use Rattle.transcript.specs.Outcomes.{Gives, Reads};
+ghost use Rattle.transcript.specs.Places.{places};
 ghost use Rattle.transcript.specs.Reading as spec;
 
 use crate::fault::{LineError, Reason, TranscriptFault};
+use crate::places::{Place, read_places};
 use crate::reader::{Ended, Reader};
 use crate::session::Draft;
-use history::session_id::SessionId;
 use orders::transaction::{Answered, Transaction};
 use schema::catalog::Catalog;
 use script::words::cut;
@@ -23,15 +24,16 @@ use std::alloc::{Allocator, Global};
 #[derive(Drop)]
 pub struct Name<A: Allocator = Global> {
     pub number: u64,
-    pub session: SessionId,
+    pub session: u32,
     pub lines: Vec<u64, A>,
 }
 
 /// The transactions that committed, in the order of the replies to their COMMITs, then those that may have; and their
-/// names, in the same order. Time is counted in lines.
+/// names, in the same order. Time is counted in lines. Beside them the places of commands, by their lines.
 pub struct Traces<A: Allocator = Global> {
     pub transactions: Vec<Transaction<A>, A>,
     pub names: Vec<Name<A>, A>,
+    pub places: Vec<Place<A>, A>,
 }
 
 impl<A: Allocator> Drop for Traces<A> {
@@ -39,6 +41,7 @@ impl<A: Allocator> Drop for Traces<A> {
         let Traces {
             transactions: _,
             names: _,
+            places: _,
         } = self;
     }
 }
@@ -135,6 +138,7 @@ fn gathered<A: Allocator + Copy>(
     let mut traces = Traces {
         transactions: Vec::new(alloc),
         names: Vec::new(alloc),
+        places: Vec::new(alloc),
     };
     for ended in all {
         traces.push(ended, begins, has_time)?;
@@ -187,6 +191,23 @@ fn fitting<A: Allocator + Copy>(
     }
 }
 
+// The same, with the places that the transcript's comments tell.
+fn placed<A: Allocator + Copy>(
+    alloc: A,
+    catalog: &Catalog<A>,
+    reader: Reader<A>,
+    has_time: bool,
+    text: &[u8],
+) -> Result<Traces<A>, LineError>
+    ensures fit { IfOk result (λ t. all_fit catalog.now t.transactions.items ≡ true) }
+    ensures gives { Gives (λ t. (t.transactions.items, map (λ n. spec.named n.number n.session n.lines.items) t.names.items)) result (spec.traces_of catalog.now has_time reader) }
+    ensures places { IfOk result (λ t. map (λ p. (p.line, p.words)) t.places.items ≡ places text.now) }
+{
+    let mut traces = fitting(alloc, catalog, reader, has_time)?;
+    traces.places = read_places(alloc, text)?;
+    Ok(traces)
+}
+
 // Reads the lines of a transcript: the number of what follows the last one.
 fn read_lines<A: Allocator + Copy>(
     alloc: A,
@@ -217,7 +238,7 @@ fn read_lines<A: Allocator + Copy>(
 
 /// What was recorded of the transactions of a transcript, whose statements are of the catalog's tables; or its first
 /// line that may not stand where it stands. Lines that create or open tables are passed over. Without time any
-/// transaction may come before any other, as if all had imported their snapshots.
+/// transaction may come before any other, as if all had imported their snapshots. The places are those that comments tell.
 pub fn read_traces<A: Allocator + Copy>(
     alloc: A,
     catalog: &Catalog<A>,
@@ -227,13 +248,11 @@ pub fn read_traces<A: Allocator + Copy>(
     ensures fit { IfOk result (λ t. all_fit catalog.now t.transactions.items ≡ true) }
     ensures line { IfErr result (λ f. IsLineOf text.now f.line) }
     ensures reads { Reads (λ t. (t.transactions.items, map (λ n. spec.named n.number n.session n.lines.items) t.names.items)) result (spec.traces catalog.now has_time text.now) }
+    ensures places { IfOk result (λ t. map (λ p. (p.line, p.words)) t.places.items ≡ places text.now) }
 {
-    let mut reader = match Reader::new(alloc) {
-        Ok(reader) => reader,
-        Err(error) => return Err(at(1, error.reason())),
-    };
+    let mut reader = Reader::new(alloc);
     let last = read_lines(alloc, catalog, &mut reader, text)?;
-    match fitting(alloc, catalog, reader, has_time) {
+    match placed(alloc, catalog, reader, has_time, text) {
         Ok(traces) => Ok(traces),
         Err(error) => Err(at(last, error.reason())),
     }

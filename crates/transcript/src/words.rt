@@ -5,6 +5,7 @@ ghost use Rattle.std.specs.Char.{is_ascii_digit};
 ghost use Rattle.std.specs.Option.{option_map};
 ghost use Rattle.script.specs.Commands as spec;
 ghost use Rattle.transcript.specs.Saying.{has_leading_zero, printed_number};
+ghost use Rattle.transcript.specs.Sessions.{session_in};
 
 use script::words;
 use script::words::before_last;
@@ -39,4 +40,18 @@ pub(crate) fn begins_with_digit(line: &[u8]) -> bool
     ensures { result ≡ is_ascii_digit (slice_index line.now 0) }
 {
     !line.is_empty() && line[0].is_ascii_digit()
+}
+
+/// The number of a session: 1 to 4294967295, without a leading zero.
+pub(crate) fn session_in(text: &[u8]) -> Option<u32>
+    ensures { result ≡ session_in text.now }
+{
+    if !text.is_empty() && text[0] == b'0' {
+        return None;
+    }
+    let session = words::number(text)?;
+    if session == 0 || session > 4_294_967_295 {
+        return None;
+    }
+    Some(session as u32)
 }

@@ -4,6 +4,7 @@ use certificate::certificate::Line;
 use orders::transaction::Transaction;
 use schema::catalog::Catalog;
 use std::alloc::Allocator;
+use transcript::places::Place;
 use transcript::traces::Name;
 
 /// A recording with the names of its transactions, and a certificate that no order explains it.
@@ -13,5 +14,7 @@ pub struct Account<'r, A: Allocator> {
     pub transactions: &'r [Transaction<A>],
     /// In the same order as the transactions.
     pub names: &'r [Name<A>],
+    /// Where commands come from in the application's source, by their lines.
+    pub places: &'r [Place<A>],
     pub lines: &'r [Line<A>],
 }

@@ -172,7 +172,7 @@ impl<A: Allocator + Copy> Telling<'_, A> {
         let statement = &answered.statement;
         let table = table_of(statement);
         let number = number_told(table, statement, &answered.reply).unwrap_or(0);
-        self.append_party(place)?;
+        self.append_actor(place)?;
         self.append_word(verb(statement))?;
         self.append_number(number)?;
         self.append_word(if number == 1 { " row of " } else { " rows of " })?;
@@ -191,7 +191,7 @@ impl<A: Allocator + Copy> Telling<'_, A> {
             self.append_chosen(place, answered)?;
         }
         match account.statement_line(place, statement) {
-            Some(line) => self.append_line(line),
+            Some(line) => self.append_command(line),
             None => Ok(()),
         }
     }

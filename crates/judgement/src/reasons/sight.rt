@@ -343,7 +343,7 @@ impl<A: Allocator + Copy> Telling<'_, A> {
     {
         let account = self.account;
         match account.line_at(place, spot, writes) {
-            Some(line) => self.append_line(line),
+            Some(line) => self.append_command(line),
             None => Ok(()),
         }
     }
@@ -357,7 +357,7 @@ impl<A: Allocator + Copy> Telling<'_, A> {
             return Ok(());
         };
         let sight = account.sight(self.alloc, transaction, place, cell)?;
-        self.append_party(place)?;
+        self.append_actor(place)?;
         self.append_word(" read ")?;
         match sight {
             Sight::Absent => self.append_spot(&cell.spot)?,

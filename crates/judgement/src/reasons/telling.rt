@@ -58,7 +58,7 @@ impl<A: Allocator + Copy> Telling<'_, A> {
         ensures memory { IfErr result (λ e. e ≡ out_of_memory) }
     {
         self.append_word(before)?;
-        self.append_party(place)?;
+        self.append_actor(place)?;
         self.append_word(after)?;
         self.append_line_at(place, spot, true)
     }
@@ -160,11 +160,11 @@ impl<A: Allocator + Copy> Telling<'_, A> {
         ) else {
             return Ok(());
         };
-        self.append_party(step.first)?;
+        self.append_actor(step.first)?;
         self.append_word(" ended")?;
         self.append_line(first.end.unwrap_or(0))?;
         self.append_word(" before ")?;
-        self.append_party(step.second)?;
+        self.append_actor(step.second)?;
         self.append_word(" began")?;
         self.append_line(second.begin)?;
         self.append_so(step.first, step.second)
@@ -235,7 +235,7 @@ impl<A: Allocator + Copy> Telling<'_, A> {
         ensures memory { IfErr result (λ e. e ≡ out_of_memory) }
     {
         self.append_word("the replies of ")?;
-        self.append_party(place)?;
+        self.append_actor(place)?;
         self.append_word(" about ")?;
         self.append_spot(spot)?;
         self.append_word(" can't all be")?;
