@@ -1,5 +1,5 @@
 -- What the lines of a setup do, and what is explored of the lines after it.
-use Rattle.std.proofs.Common.{◌≡◌, ℕ, ◌+◌, ◌<◌, ◌≤◌, true, false, List, [], ◌∷◌, ◌++◌, Option, Some, Ok, drop, length, get_or, map, take, inl, inr, refl, sym, ap, subst, ◌∙◌}
+use Rattle.std.proofs.Common.{◌≡◌, ◌⊎◌, ℕ, ◌+◌, ◌<◌, ◌≤◌, true, false, List, [], ◌∷◌, ◌++◌, Option, Some, Ok, drop, length, get_or, map, take, inl, inr, refl, slice_get, sym, ap, subst, ◌∙◌}
 use Rattle.std.proofs.lemmas.Option.{slice_get_read}
 use Rattle.std.proofs.lemmas.List.{append-nil, map-append, take_all, take_more}
 use Rattle.statement.specs.declared.reply.Reply.{Reply}
@@ -11,7 +11,9 @@ use Rattle.script.specs.declared.script.Line.{Line}
 use Rattle.explore.specs.declared.plan.Line.{Line as Explored_line}
 use Rattle.explore.specs.declared.setup.Turn.{Turn}
 use Rattle.explore.specs.Explored.{Explored, answered}
-use Rattle.explore.specs.Setups.{AreExplored, ArePlanned, AreTaken, IsTaken, SetsUp, SetsUpAt, SetsUpFrom, explored_of, last_from, last_of, number_of, place_of_checkpoint, turn_of}
+use Rattle.explore.specs.declared.setup.Unplanned.{Unplanned}
+use Rattle.explore.specs.declared.setup.Unplanned.TheVariants.{Memory}
+use Rattle.explore.specs.Setups.{AreExplored, ArePlanned, AreTaken, IsTaken, IsUnplanned, LacksItsTurn, LacksPlan, LacksTurn, RefusesCheckpoint, SetsUp, SetsUpAt, SetsUpFrom, Stops, UnplannedAt, UnplannedFrom, explored_of, last_from, last_of, number_of, place_of_checkpoint, turn_of}
 
 -- one more turn
 pub one_turn : (ts us : List Turn) (t : Turn) (o : Option Turn) → us ≡ ts ++ t ∷ [] → o ≡ Some t → map Some us ≡ map Some ts ++ o ∷ []
@@ -78,3 +80,39 @@ module _ {A : Type 0} where
 
   pub last_from_place : (lines whole : List (Line A)) (place : Option ℕ) (n : ℕ) → whole ≡ lines → place ≡ place_of_checkpoint whole → n ≡ last_from place lines → n ≡ last_of lines
   last_from_place lines whole place n same at is = is ∙ ap (λ (p : Option ℕ). last_from p lines) (at ∙ ap place_of_checkpoint same)
+
+  -- ---- why there is no plan
+
+  -- a line that isn't explored, after those that are
+  pub lacks_here : (lines done rest after : List (Line A)) (line : Line A) (ls : List (Explored_line A)) (ts : List Turn) (why : Unplanned) → rest ≡ line ∷ after → done ++ rest ≡ lines → AreExplored done ls ts
+      → (why ≡ Memory) ⊎ LacksItsTurn line why → (why ≡ Memory) ⊎ LacksTurn lines why
+  lacks_here lines done rest after line ls ts why first all are (inl out) = inl out
+  lacks_here lines done rest after line ls ts why first all are (inr lacks) = inr (done, line, after, sym all ∙ ap (λ (xs : List (Line A)). done ++ xs) first, (ls, ts, are), lacks)
+
+  pub lacks_plan : (lines : List (Line A)) (why : Unplanned) → (why ≡ Memory) ⊎ LacksTurn lines why → (why ≡ Memory) ⊎ LacksPlan lines why
+  lacks_plan lines why (inl out) = inl out
+  lacks_plan lines why (inr lacks) = inr (inr lacks)
+
+  -- a line of the setup stands in the way
+  pub unplanned_by_line : (place most : ℕ) (h : Recorded A) (lines before : List (Line A)) (why : Unplanned) → before ≡ take place lines → (why ≡ Memory) ⊎ Stops h before why → (why ≡ Memory) ⊎ UnplannedAt place most h lines why
+  unplanned_by_line place most h lines before why first (inl out) = inl out
+  unplanned_by_line place most h lines before why first (inr stops) = inr (inl (subst (λ (ls : List (Line A)). Stops h ls why) first stops))
+
+  -- the checkpoint does
+  pub unplanned_by_checkpoint : (place most number : ℕ) (h k : Recorded A) (lines before : List (Line A)) (why : Unplanned) → before ≡ take place lines → number ≡ number_of (slice_get lines place) → AreTaken h before k
+      → (why ≡ Memory) ⊎ RefusesCheckpoint most k number why → (why ≡ Memory) ⊎ UnplannedAt place most h lines why
+  unplanned_by_checkpoint place most number h k lines before why first at taken (inl out) = inl out
+  unplanned_by_checkpoint place most number h k lines before why first at taken (inr refuses) =
+      inr (inr (k, subst (λ (ls : List (Line A)). AreTaken h ls k) first taken, inl (subst (λ (n : ℕ). RefusesCheckpoint most k n why) at refuses)))
+
+  -- the lines after it do
+  pub unplanned_by_rest : (place most : ℕ) (h k : Recorded A) (lines before after : List (Line A)) (why : Unplanned) → before ≡ take place lines → after ≡ drop (place + 1) lines → AreTaken h before k
+      → (why ≡ Memory) ⊎ LacksPlan after why → (why ≡ Memory) ⊎ UnplannedAt place most h lines why
+  unplanned_by_rest place most h k lines before after why first rest taken (inl out) = inl out
+  unplanned_by_rest place most h k lines before after why first rest taken (inr lacks) =
+      inr (inr (k, subst (λ (ls : List (Line A)). AreTaken h ls k) first taken, inr (subst (λ (ls : List (Line A)). LacksPlan ls why) rest lacks)))
+
+  -- the first checkpoint's place, or none, was found
+  pub is_unplanned : (lines whole : List (Line A)) (place : Option ℕ) (most : ℕ) (h : Recorded A) (why : Unplanned) → whole ≡ lines → place ≡ place_of_checkpoint whole → (why ≡ Memory) ⊎ UnplannedFrom place most h lines why → IsUnplanned most h lines why
+  is_unplanned lines whole place most h why same at (inl out) = inl out
+  is_unplanned lines whole place most h why same at (inr none) = inr (subst (λ (p : Option ℕ). UnplannedFrom p most h lines why) (at ∙ ap place_of_checkpoint same) none)

@@ -1,8 +1,14 @@
--- The plan of a script: the lines of its setup are done, and the lines after it are explored.
-use Rattle.std.specs.Prelude.{◌≡◌, ℕ, ◌+◌, ◌-◌, Bool, true, false, List, [], ◌∷◌, Option, Some, None, Ok, drop, map, position, slice_get, take}
-use Rattle.history.specs.Answer.{answer, is_refused}
+-- The plan of a script: the lines of its setup are done, and the lines after it are explored; or why it has none.
+use Rattle.std.specs.Prelude.{◌≡◌, ◌⊎◌, ℕ, ◌+◌, ◌-◌, Bool, true, false, List, [], ◌∷◌, ◌++◌, Option, Some, None, Ok, Err, drop, length, map, position, slice_get, take}
+use Rattle.value.specs.Refusals.{of_code}
+use Rattle.value.specs.declared.refusal.Refusal.{Refusal}
+use Rattle.value.specs.declared.refusal.Code.{Code}
+use Rattle.value.specs.declared.refusal.Code.TheVariants.{OutOfMemory, ProgramLimitExceeded}
+use Rattle.statement.specs.declared.reply.Reply.TheVariants.{Refused as Refused_reply}
+use Rattle.history.specs.declared.event.Action.{Action}
+use Rattle.history.specs.Answer.{answer, checkpoint_answer, is_refused}
 use Rattle.history.specs.Opening.{Recorded}
-use Rattle.session.specs.Core.{IsCheckpoint}
+use Rattle.session.specs.Core.{IsCheckpoint, from_opening}
 use Rattle.request.specs.Requests.{asked}
 use Rattle.script.specs.declared.command.Command.TheVariants.{Ask}
 use Rattle.script.specs.declared.script.Step.{Step}
@@ -10,7 +16,18 @@ use Rattle.script.specs.declared.script.Step.TheVariants.{Session, Checkpoint}
 use Rattle.script.specs.declared.script.Line.{Line}
 use Rattle.explore.specs.declared.plan.Line.{Line as Explored_line}
 use Rattle.explore.specs.declared.setup.Turn.{Turn}
+use Rattle.explore.specs.declared.setup.Unplanned.{Unplanned}
+use Rattle.explore.specs.declared.setup.Unplanned.TheVariants.{Memory, NoLines, NoTurn, Refused}
 use Rattle.explore.specs.Explored.{Explored, answered}
+
+-- memory ran out
+abbrev pub ran_out : Unplanned
+ran_out = Memory
+
+-- why a script has no plan, of which the line with this number is refused
+abbrev pub fault_of : ℕ → Code → Unplanned
+fault_of n OutOfMemory = Memory
+fault_of n code = Refused n code
 
 module _ {A : Type 0} where
   -- ---- the lines of a setup
@@ -87,3 +104,46 @@ module _ {A : Type 0} where
 
   abbrev pub last_of : List (Line A) → ℕ
   last_of lines = last_from (place_of_checkpoint lines) lines
+
+  -- ---- why a script has no plan
+
+  -- The action of session s is refused after the history h: by its answer, or since the history is full.
+  abbrev pub Refuses : Recorded A → ℕ → Action A → Refusal → Type 0
+  Refuses h s a e = (answer h.opening h.records s a ≡ Refused_reply e) ⊎ ((length h.records ≡ h.most) × (e ≡ of_code ProgramLimitExceeded))
+
+  -- The step of the line with this number isn't done after the history h, and why: what its session asks for is refused; or no session asks for anything.
+  abbrev pub StopsAt : Recorded A → ℕ → Step A → Unplanned → Type 0
+  StopsAt h n (Session s (Ask q)) why = (e : Refusal) × Refuses h s (asked h.opening.catalog q) e × (why ≡ fault_of n e.code)
+  StopsAt h n _ why = why ≡ NoTurn n
+
+  -- One of a setup's lines isn't done; those before it were.
+  abbrev pub Stops : Recorded A → List (Line A) → Unplanned → Type 0
+  Stops h lines why = (place : ℕ) × (line : Line A) × (m : Recorded A) × (slice_get lines place ≡ Some line) × AreTaken h (take place lines) m × StopsAt m line.number line.step why
+
+  -- The first line that isn't explored is this, since no session asks for anything in it.
+  abbrev pub LacksItsTurn : Line A → Unplanned → Type 0
+  LacksItsTurn line why = (explored_of line.step ≡ None) × (why ≡ NoTurn line.number)
+
+  abbrev pub LacksTurn : List (Line A) → Unplanned → Type 0
+  LacksTurn lines why = (before : List (Line A)) × (line : Line A) × (after : List (Line A)) × (lines ≡ before ++ line ∷ after) × ((e : List (Explored_line A)) × (turns : List Turn) × AreExplored before e turns) × LacksItsTurn line why
+
+  -- No line is to be explored, or one of them isn't.
+  abbrev pub LacksPlan : List (Line A) → Unplanned → Type 0
+  LacksPlan lines why = (lines ≡ []) × (why ≡ NoLines) ⊎ LacksTurn lines why
+
+  -- The checkpoint of the line with this number is refused after the history h.
+  abbrev pub RefusesCheckpoint : ℕ → Recorded A → ℕ → Unplanned → Type 0
+  RefusesCheckpoint most h n why = (e : Refusal) × (from_opening most (checkpoint_answer h.opening h.records most) ≡ Err e) × (why ≡ fault_of n e.code)
+
+  -- What stands in the way of a setup that ends with a checkpoint at this place: a line before it, the checkpoint itself, or the lines after it.
+  abbrev pub UnplannedAt : ℕ → ℕ → Recorded A → List (Line A) → Unplanned → Type 0
+  UnplannedAt place most h lines why = Stops h (take place lines) why
+      ⊎ ((k : Recorded A) × AreTaken h (take place lines) k × (RefusesCheckpoint most k (number_of (slice_get lines place)) why ⊎ LacksPlan (drop (place + 1) lines) why))
+
+  abbrev pub UnplannedFrom : Option ℕ → ℕ → Recorded A → List (Line A) → Unplanned → Type 0
+  UnplannedFrom (Some place) most h lines why = UnplannedAt place most h lines why
+  UnplannedFrom None most h lines why = LacksPlan lines why
+
+  -- Why the lines that follow the history h have no plan: memory ran out, or this is so.
+  abbrev pub IsUnplanned : ℕ → Recorded A → List (Line A) → Unplanned → Type 0
+  IsUnplanned most h lines why = (why ≡ Memory) ⊎ UnplannedFrom (place_of_checkpoint lines) most h lines why

@@ -1,11 +1,11 @@
 //! A script's setup, done, and the plan of the lines after it.
 
-ghost use Rattle.std.specs.Prelude.{◌≡◌, ◌<◌, ◌++◌, ◌∷◌, [], None, Ok, Some, false, length, map, IfNone, IfOk, IfSome, OnOk};
+ghost use Rattle.std.specs.Prelude.{◌≡◌, ◌⊎◌, ◌<◌, ◌++◌, ◌∷◌, [], None, Ok, Some, false, length, map, IfErr, IfNone, IfOk, IfSome, OnOk};
 ghost use Rattle.history.specs.Answer.{is_refused};
 ghost use Rattle.session.specs.Core.{IsCheckpoint};
 ghost use Rattle.statement.specs.declared.reply.Reply.{Reply as AnyReply};
 ghost use Rattle.explore.specs.Setups as spec;
-ghost use Rattle.explore.specs.Setups.{AreExplored, ArePlanned, AreTaken, IsTaken, SetsUp, SetsUpAt, before_first, last_of};
+ghost use Rattle.explore.specs.Setups.{AreExplored, ArePlanned, AreTaken, IsTaken, IsUnplanned, LacksItsTurn, LacksPlan, LacksTurn, RefusesCheckpoint, SetsUp, SetsUpAt, Stops, StopsAt, UnplannedAt, before_first, last_of};
 
 use crate::plan;
 use crate::plan::Plan;
@@ -50,19 +50,25 @@ pub enum Unplanned {
 }
 
 impl From<AllocError> for Unplanned {
+    ghost from_gives = { λ _ why. why ≡ spec.ran_out };
+
     fn from(_error: AllocError) -> Unplanned {
         Unplanned::Memory
     }
 }
 
 impl<T: Drop> From<AllocFailed<T>> for Unplanned {
+    ghost from_gives = { λ _ why. why ≡ spec.ran_out };
+
     fn from(_error: AllocFailed<T>) -> Unplanned {
         Unplanned::Memory
     }
 }
 
 // Why a script has no plan, of which the line with this number is refused.
-fn fault_of(number: u64, refusal: Refusal) -> Unplanned {
+fn fault_of(number: u64, refusal: Refusal) -> Unplanned
+    ensures { result ≡ spec.fault_of number refusal.code }
+{
     match refusal.code {
         Code::OutOfMemory => Unplanned::Memory,
         code => Unplanned::Refused(number, code),
@@ -89,7 +95,9 @@ fn take_request<A: Allocator + Copy>(
     session: SessionId,
     request: &Request<A>,
 ) -> Result<(), Unplanned>
-    ensures { OnOk result (IsTaken core.old (Step.Session session (Command.Ask request.now)) core.new) }
+    ensures taken { OnOk result (IsTaken core.old (Step.Session session (Command.Ask request.now)) core.new) }
+    ensures stopped { IfErr result (λ why. (why ≡ Unplanned.Memory) ⊎
+        StopsAt core.old number (Step.Session session (Command.Ask request.now)) why) }
 {
     let Ok(action) = request.action(alloc, core.history().catalog()) else {
         return Err(Unplanned::Memory);
@@ -107,7 +115,9 @@ fn take_line<A: Allocator + Copy>(
     core: &mut Core<A>,
     line: &Line<A>,
 ) -> Result<(), Unplanned>
-    ensures { OnOk result (IsTaken core.old line.now.step core.new) }
+    ensures taken { OnOk result (IsTaken core.old line.now.step core.new) }
+    ensures stopped { IfErr result (λ why. (why ≡ Unplanned.Memory) ⊎
+        StopsAt core.old line.now.number line.now.step why) }
 {
     match &line.step {
         Step::Session(session, Command::Ask(request)) => {
@@ -124,7 +134,8 @@ fn take_lines<A: Allocator + Copy>(
     core: &mut Core<A>,
     lines: &[Line<A>],
 ) -> Result<(), Unplanned>
-    ensures { OnOk result (AreTaken core.old lines.now core.new) }
+    ensures taken { OnOk result (AreTaken core.old lines.now core.new) }
+    ensures stopped { IfErr result (λ why. (why ≡ Unplanned.Memory) ⊎ Stops core.old lines.now why) }
 {
     for line in lines {
         take_line(alloc, core, line)?;
@@ -134,7 +145,8 @@ fn take_lines<A: Allocator + Copy>(
 
 // A line's turn, where it is explored.
 fn turn_of<A: Allocator>(line: &Line<A>) -> Result<Turn, Unplanned>
-    ensures { IfOk result (λ turn. spec.turn_of line.now ≡ Some turn) }
+    ensures turn { IfOk result (λ turn. spec.turn_of line.now ≡ Some turn) }
+    ensures none { IfErr result (λ why. LacksItsTurn line.now why) }
 {
     match &line.step {
         Step::Session(session, Command::Ask(_)) => Ok(Turn {
@@ -151,8 +163,9 @@ fn push_request<A: Allocator>(
     request: Request<A>,
     explored: &mut Vec<plan::Line<A>, A>,
 ) -> Result<(), Unplanned>
-    ensures { OnOk result (explored.new.items ≡ explored.old.items ++
+    ensures explored { OnOk result (explored.new.items ≡ explored.old.items ++
         record { session = session; request = request } ∷ []) }
+    ensures memory { IfErr result (λ why. why ≡ Unplanned.Memory) }
 {
     explored.push(plan::Line { session, request })?;
     Ok(())
@@ -165,8 +178,10 @@ fn push_command<A: Allocator>(
     command: Command<A>,
     explored: &mut Vec<plan::Line<A>, A>,
 ) -> Result<(), Unplanned>
-    ensures { OnOk result (map Some explored.new.items ≡ map Some explored.old.items ++
+    ensures explored { OnOk result (map Some explored.new.items ≡ map Some explored.old.items ++
         spec.explored_of (Step.Session session command) ∷ []) }
+    ensures none { IfErr result (λ why. (why ≡ Unplanned.Memory) ⊎
+        LacksItsTurn (record { number = number; step = Step.Session session command }) why) }
 {
     match command {
         Command::Ask(request) => push_request(session, request, explored),
@@ -180,8 +195,9 @@ fn push_explored<A: Allocator>(
     line: Line<A>,
     explored: &mut Vec<plan::Line<A>, A>,
 ) -> Result<(), Unplanned>
-    ensures { OnOk result (map Some explored.new.items ≡ map Some explored.old.items ++
+    ensures explored { OnOk result (map Some explored.new.items ≡ map Some explored.old.items ++
         spec.explored_of line.step ∷ []) }
+    ensures none { IfErr result (λ why. (why ≡ Unplanned.Memory) ⊎ LacksItsTurn line why) }
 {
     let Line { number, step } = line;
     match step {
@@ -199,6 +215,7 @@ fn push_line<A: Allocator>(
     ensures explored { OnOk result (map Some explored.new.items ≡ map Some explored.old.items ++
         spec.explored_of line.step ∷ []) }
     ensures turns { OnOk result (map Some turns.new.items ≡ map Some turns.old.items ++ spec.turn_of line ∷ []) }
+    ensures none { IfErr result (λ why. (why ≡ Unplanned.Memory) ⊎ LacksItsTurn line why) }
 {
     let turn = turn_of(&line)?;
     push_explored(line, explored)?;
@@ -211,7 +228,8 @@ fn explored_lines<A: Allocator + Copy>(
     alloc: A,
     lines: Vec<Line<A>, A>,
 ) -> Result<(Vec<plan::Line<A>, A>, Vec<Turn, A>), Unplanned>
-    ensures { IfOk result (λ made. AreExplored lines.items made.0.items made.1.items) }
+    ensures explored { IfOk result (λ made. AreExplored lines.items made.0.items made.1.items) }
+    ensures none { IfErr result (λ why. (why ≡ Unplanned.Memory) ⊎ LacksTurn lines.items why) }
 {
     let mut explored = Vec::new(alloc);
     let mut turns = Vec::new(alloc);
@@ -229,6 +247,7 @@ fn plan_of<A: Allocator + Copy>(
 ) -> Result<Plan<A>, Unplanned>
     ensures setup { IfOk result (λ plan. plan.setup ≡ core) }
     ensures lines { IfOk result (λ plan. plan.lines ≡ explored.items) }
+    ensures memory { IfErr result (λ why. why ≡ Unplanned.Memory) }
 {
     match Plan::of(alloc, core, explored) {
         Ok(plan) => Ok(plan),
@@ -245,6 +264,7 @@ fn setup_of<A: Allocator + Copy>(
 ) -> Result<Setup<A>, Unplanned>
     ensures planned { IfOk result (λ setup. ArePlanned core lines.items setup.plan setup.turns.items) }
     ensures last { IfOk result (λ setup. setup.last ≡ last) }
+    ensures none { IfErr result (λ why. (why ≡ Unplanned.Memory) ⊎ LacksPlan lines.items why) }
 {
     if lines.is_empty() {
         return Err(Unplanned::NoLines);
@@ -276,7 +296,8 @@ fn core_after<A: Allocator + Copy>(
     most_events: u32,
     number: u64,
 ) -> Result<Core<A>, Unplanned>
-    ensures { IfOk result (λ next. IsCheckpoint core.now most_events (Ok next)) }
+    ensures next { IfOk result (λ next. IsCheckpoint core.now most_events (Ok next)) }
+    ensures refused { IfErr result (λ why. (why ≡ Unplanned.Memory) ⊎ RefusesCheckpoint most_events core.now number why) }
 {
     match core.next(alloc, most_events) {
         Ok(next) => Ok(next),
@@ -296,6 +317,7 @@ fn set_up_at<A: Allocator + Copy>(
     ensures sets_up { IfOk result (λ setup.
         SetsUpAt place most_events core lines.items setup.plan setup.turns.items) }
     ensures last { IfOk result (λ setup. setup.last ≡ spec.last_from (Some place) lines.items) }
+    ensures none { IfErr result (λ why. (why ≡ Unplanned.Memory) ⊎ UnplannedAt place most_events core lines.items why) }
 {
     let (before, _) = lines.as_slice().split_at(place);
     take_lines(alloc, &mut core, before)?;
@@ -325,6 +347,7 @@ pub fn set_up<A: Allocator + Copy>(
 ) -> Result<Setup<A>, Unplanned>
     ensures sets_up { IfOk result (λ setup. SetsUp most_events core lines.items setup.plan setup.turns.items) }
     ensures last { IfOk result (λ setup. setup.last ≡ last_of lines.items) }
+    ensures none { IfErr result (λ why. IsUnplanned most_events core lines.items why) }
 {
     match place_of_checkpoint(lines.as_slice()) {
         Some(place) => set_up_at(alloc, core, lines, place, most_events),

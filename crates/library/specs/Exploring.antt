@@ -10,7 +10,7 @@ use Rattle.explore.specs.Outcomes.{outcomes}
 use Rattle.explore.specs.Listing.{IsListed}
 use Rattle.explore.specs.declared.tally.listing.heading.Heading.TheVariants.{Every}
 use Rattle.explore.specs.Explored.{Explored, outcome, schedules}
-use Rattle.explore.specs.Setups.{SetsUp}
+use Rattle.explore.specs.Setups.{IsUnplanned, SetsUp}
 use Rattle.explore.specs.declared.plan.Unexplored.{Unexplored}
 use Rattle.explore.specs.declared.plan.Unexplored.TheVariants as unexplored
 use Rattle.explore.specs.declared.setup.Turn.{Turn}
@@ -45,7 +45,7 @@ module _ {A : Type 0} where
 
   -- How an exploration ends of lines that follow a history: they were set up; or they have no plan.
   abbrev pub ExploresFrom : Exploration → Recorded A → List (Line A) → End → List ℕ → Type 0
-  ExploresFrom m h lines e text = ((x : Explored A) × (turns : List Turn) × SetsUp m.most_events h lines x turns × ExploresPlan m.most_schedules x e text) ⊎ ((why : Unplanned) × (e ≡ end_of_unplanned why) × (text ≡ []))
+  ExploresFrom m h lines e text = ((x : Explored A) × (turns : List Turn) × SetsUp m.most_events h lines x turns × ExploresPlan m.most_schedules x e text) ⊎ ((why : Unplanned) × IsUnplanned m.most_events h lines why × (e ≡ end_of_unplanned why) × (text ≡ []))
 
   -- How the lines end that follow the tables of a catalog, without rows: there is to be room for no event, or so.
   abbrev pub ExploresOn : Exploration → Catalog → List (Line A) → End → List ℕ → Type 0

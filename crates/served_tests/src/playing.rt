@@ -70,6 +70,36 @@ fn is_row(reply: &Reply, number: &str) -> bool {
     }
 }
 
+// Whether a reply is a safe snapshot of this number.
+fn is_safe(reply: &Reply, number: &str) -> bool {
+    match (reply, number.parse::<u64>()) {
+        (Reply::Safe(found), Ok(number)) => *found == number,
+        _ => false,
+    }
+}
+
+// Whether a reply is a refusal with this code.
+fn is_refused(reply: &Reply, sqlstate: &str) -> bool {
+    match reply {
+        Reply::Refused(refusal) => refusal.code.sqlstate() == sqlstate,
+        _ => false,
+    }
+}
+
+// Whether a reply is the one that a line wants.
+fn is_wanted(reply: &Reply, want: &str) -> bool {
+    if let Some(number) = want.strip_prefix("one row ") {
+        return is_row(reply, number);
+    }
+    if let Some(number) = want.strip_prefix("safe ") {
+        return is_safe(reply, number);
+    }
+    match want.strip_prefix("refused ") {
+        Some(sqlstate) => is_refused(reply, sqlstate),
+        None => word_of(reply) == want,
+    }
+}
+
 // Whether the server, whose SELECTs wait at the barrier, answers as it should.
 fn is_replied<'w, J: Naming<Global>, R: Wait>(
     rt: &R,
@@ -83,10 +113,7 @@ fn is_replied<'w, J: Naming<Global>, R: Wait>(
         return false;
     };
     let reply = server.call_gated(rt, alloc, pass, &request, barrier);
-    match want.strip_prefix("one row ") {
-        Some(number) => is_row(&reply, number),
-        None => word_of(&reply) == want,
-    }
+    is_wanted(&reply, want)
 }
 
 // Shuts the barrier, opens it, or waits until another is at it.
@@ -115,8 +142,10 @@ fn is_told<'w, J: Naming<Global>, R: Threads + Wait + Abort + Sync>(
         let is_seen = are_seen(pass, events.parse::<u64>().unwrap_or(100));
         return is_seen && want == "seen";
     }
+    if asked == "WAIT" {
+        return is_wanted(&server.wait_safe(rt, alloc, pass), want);
+    }
     let told = match asked {
-        "WAIT" => word_of(&server.wait_safe(rt, alloc, pass)),
         "VIEW" => viewed(rt, alloc, server, pass, barrier),
         "DUMP 1" => dumped(rt, alloc, server, pass, (1, 1), barrier),
         "DUMP 1 BY 3" => dumped(rt, alloc, server, pass, (1, 3), barrier),

@@ -22,7 +22,8 @@ use std::thread::Threads;
 use value::refusal::{Code, Refusal};
 
 // Scripts of three sessions, with blank lines between them. A line has a session's number, what it asks for and its
-// answer. `one row` is followed by the number that the row has. AFTER 6 waits for six events. DUMP 2 BY 3 is a dump by
+// answer. `one row` is followed by the number that the row has, `safe` by the snapshot's where the script decides it, and
+// `refused` by the code. AFTER 6 waits for six events. DUMP 2 BY 3 is a dump by
 // two jobs with three rows a piece, one where no number of rows is said. At SHUT and OPEN a barrier is shut and opened
 // at which SELECTs, views and dumps are held, and REACH waits until one is.
 const SCRIPTS: &str = "\
@@ -83,7 +84,7 @@ const SCRIPTS: &str = "\
 1 INSERT INTO a VALUES (1): inserted
 3 AFTER 2: seen
 3 BEGIN READ ONLY DEFERRABLE: begun
-3 WAIT: safe
+3 WAIT: safe 0
 1 AFTER 4: seen
 1 ROLLBACK: rolled back
 1 AFTER 6: seen
@@ -92,19 +93,19 @@ const SCRIPTS: &str = "\
 1 INSERT INTO a VALUES (1): inserted
 3 AFTER 2: seen
 3 BEGIN READ ONLY DEFERRABLE: begun
-3 WAIT: safe
+3 WAIT: safe 0
 1 AFTER 4: seen
-1 INSERT INTO a VALUES (1): refused
+1 INSERT INTO a VALUES (1): refused 23505
 1 AFTER 6: seen
 
 1 BEGIN: begun
 1 INSERT INTO a VALUES (1): inserted
 2 AFTER 2: seen
 2 BEGIN READ ONLY DEFERRABLE: begun
-2 WAIT: safe
+2 WAIT: safe 0
 3 AFTER 2: seen
 3 BEGIN READ ONLY DEFERRABLE: begun
-3 WAIT: safe
+3 WAIT: safe 0
 1 AFTER 6: seen
 1 COMMIT: committed
 1 AFTER 9: seen
@@ -116,7 +117,7 @@ const SCRIPTS: &str = "\
 1 COMMIT: committed
 3 AFTER 5: seen
 3 BEGIN READ ONLY DEFERRABLE: begun
-3 WAIT: safe
+3 WAIT: safe 1
 3 SHUT: done
 3 VIEW: three rows
 3 VIEW: three rows
@@ -127,13 +128,13 @@ const SCRIPTS: &str = "\
 2 OPEN: done
 
 1 BEGIN READ ONLY DEFERRABLE: begun
-1 WAIT: safe
+1 WAIT: safe 0
 2 AFTER 2: seen
 2 BEGIN READ ONLY: begun
 2 COMMIT: committed
 3 AFTER 4: seen
 3 BEGIN READ ONLY DEFERRABLE: begun
-3 WAIT: safe
+3 WAIT: safe 0
 3 SHUT: done
 3 DUMP 2: no row
 3 DUMP 8: no row
@@ -144,7 +145,7 @@ const SCRIPTS: &str = "\
 2 OPEN: done
 
 3 BEGIN READ ONLY DEFERRABLE: begun
-3 WAIT: safe
+3 WAIT: safe 0
 3 SHUT: done
 3 DUMP 8: no row
 2 REACH: reached
@@ -167,7 +168,7 @@ const HELD: &str = "\
 1 COMMIT: committed
 3 AFTER 9: seen
 3 BEGIN READ ONLY DEFERRABLE: begun
-3 WAIT: safe
+3 WAIT: safe 1
 3 SHUT: done
 3 DUMP 8 BY 3: seven rows
 2 REACH: reached
@@ -186,6 +187,21 @@ DUMP 8: seven rows
 DUMP 1 BY 3: seven rows
 DUMP 2 BY 3: seven rows
 ";
+
+// A transaction that ends while another session polls, or is about to sleep.
+const RACE: &str = "\
+1 BEGIN: begun
+1 INSERT INTO a VALUES (1): inserted
+3 AFTER 2: seen
+3 BEGIN READ ONLY DEFERRABLE: begun
+3 WAIT: safe 0
+1 AFTER 3: seen
+1 ROLLBACK: rolled back
+";
+
+// How often the race is run. A server that frees the lock between a poll and the sleep sleeps for ever in one of a few
+// hundred runs.
+const RACES: u32 = 2_000;
 
 // Whether each line is one of the three sessions.
 fn are_played(script: &str) -> bool {
@@ -212,6 +228,15 @@ fn sessions_on_threads(rt: HostRuntime) -> Result<(), Refusal> {
     let alloc = rt.alloc();
     for script in SCRIPTS.split("\n\n") {
         play_anew(&rt, alloc, String::from_str(alloc, script)?)?;
+    }
+    Ok(())
+}
+
+#[test]
+fn no_end_is_slept_through(rt: HostRuntime) -> Result<(), Refusal> {
+    let alloc = rt.alloc();
+    for _ in 0..RACES {
+        play_anew(&rt, alloc, String::from_str(alloc, RACE)?)?;
     }
     Ok(())
 }

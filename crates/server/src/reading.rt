@@ -1,4 +1,4 @@
-//! SELECTs, which are evaluated while the lock is free, except where a caller without a gate reads one row.
+//! SELECTs, which are evaluated while the lock is free, except where one names the one row it reads.
 
 ghost use Rattle.std.specs.Prelude.{◌≡◌, true, false, Ok, IfOk, IfErr};
 ghost use Rattle.value.specs.Refusals.{out_of_memory};
@@ -13,7 +13,7 @@ ghost use Rattle.server.specs.Calls.{IsCall};
 use crate::entrance::go_on;
 use crate::hold::{FirstHold, Reading};
 use crate::shared::Server;
-use dumpplan::{Gate, NoGate};
+use dumpplan::Gate;
 use history::event::Action;
 use pass::token::Pass;
 use pass::word::Naming;
@@ -85,7 +85,7 @@ fn found_on<A: Allocator + Copy>(
 }
 
 impl<'w, J: Naming<A>, A: Allocator> Server<'w, J, A> {
-    /// `call`, with a gate that is asked before a SELECT is evaluated, as piece 1, and after it. The lock is free then.
+    /// `call`, with a gate that is asked as piece 1 before a SELECT is evaluated, and after it. The lock is free both times.
     pub fn call_gated<R: Wait, G: Gate>(
         &self,
         rt: &R,
@@ -109,13 +109,14 @@ impl<'w, J: Naming<A>, A: Allocator> Server<'w, J, A> {
         }
     }
 
-    // Does one event, and a SELECT of one row in one hold.
-    pub(crate) fn act_at_once<R: Wait>(
+    // Does one event in one hold of the lock, between the two questions to a gate.
+    fn act_between<R: Wait, G: Gate>(
         &self,
         rt: &R,
         alloc: A,
         pass: &mut Pass<'w, J, A>,
         action: Action<A>,
+        gate: &G,
     ) -> Reply<A>
     where
         A: Copy,
@@ -123,11 +124,10 @@ impl<'w, J: Naming<A>, A: Allocator> Server<'w, J, A> {
         ensures seen { HasSeen J.opening pass.old pass.new }
         ensures call { IsCall J.most pass.old action result pass.new }
     {
-        if runs_one_row(&action) {
-            self.act(rt, alloc, pass, action)
-        } else {
-            self.act_gated(rt, alloc, pass, action, &NoGate)
-        }
+        gate.before(1);
+        let reply = self.act(rt, alloc, pass, action);
+        gate.after(1);
+        reply
     }
 
     // Does one event.
@@ -145,6 +145,9 @@ impl<'w, J: Naming<A>, A: Allocator> Server<'w, J, A> {
         ensures seen { HasSeen J.opening pass.old pass.new }
         ensures call { IsCall J.most pass.old action result pass.new }
     {
+        if runs_one_row(&action) {
+            return self.act_between(rt, alloc, pass, action, gate);
+        }
         match reading_of(action) {
             Ok(statement) => self.read(rt, alloc, pass, statement, gate),
             Err(action) => self.act(rt, alloc, pass, action),

@@ -11,6 +11,7 @@ ghost use Rattle.server.specs.Calls.{AreOpened, HasLeft, HasPolled, IsCall, IsCl
 
 use crate::entrance::{Entrance, go_on};
 use crate::locked::Locked;
+use dumpplan::NoGate;
 use history::event::Action;
 use mvrows::view::View;
 use pass::keeper::Keeper;
@@ -225,14 +226,7 @@ impl<'w, J: Naming<A>, A: Allocator> Server<'w, J, A> {
         ensures seen { HasSeen J.opening pass.old pass.new }
         ensures call { IsCall J.most pass.old (asked J.opening.catalog request.now) result pass.new }
     {
-        match request.action(alloc, &self.catalog) {
-            Ok(action) => self.act_at_once(rt, alloc, pass, action),
-            Err(refusal) => {
-                // Nothing happens here: the call shows the prover what every pass keeps true.
-                let _session = pass.session();
-                Reply::Refused(refusal)
-            }
-        }
+        self.call_gated(rt, alloc, pass, request, &NoGate)
     }
 
     // The lock, for one event.

@@ -1,9 +1,9 @@
 //! Adding a table to a catalog.
 
-ghost use Rattle.std.specs.Prelude.{◌≡◌, ◌<◌, ◌≤◌, [], ◌∷◌, ◌++◌, true, length, map, IfOk, IfErr, OnOk, OnErr};
+ghost use Rattle.std.specs.Prelude.{◌≡◌, ◌<◌, ◌≤◌, [], ◌∷◌, ◌++◌, true, length, map, Err, IfOk, IfErr, IfSome, OnOk, OnErr};
 ghost use Rattle.std.specs.List.{list_all};
 ghost use Rattle.schema.specs.Left.{leaving};
-ghost use Rattle.value.specs.Refusals.{AnswersOrNoMemory, pointing_nowhere, out_of_memory};
+ghost use Rattle.value.specs.Refusals.{AnswersOrNoMemory, of_code, pointing_nowhere, out_of_memory};
 ghost use Rattle.schema.specs.WellFormed.{is_table_after};
 ghost use Rattle.schema.specs.Adding.{same_kind, key_has_kind, finds_table, matches_key, resolved_column, resolved, is_over_limit, adding_fault, added};
 
@@ -159,6 +159,9 @@ impl<A: Allocator + Copy> Catalog<A> {
     /// columns.
     pub fn add(&mut self, alloc: A, table: TableDef<A>) -> Result<TableNo, Refusal>
         ensures answer { AnswersOrNoMemory (leaving result self.new) (pointing_nowhere (added self.old table)) }
+
+        // Want of memory comes behind every fault of the table.
+        ensures fault { IfSome (adding_fault self.old table) (λ code. result ≡ Err (of_code code)) }
         ensures number { IfOk result (λ t. t ≡ length self.old) }
         ensures err { OnErr result (self.new ≡ self.old) }
     {

@@ -1,9 +1,9 @@
 //! Inserting a row, and what may stand against it.
 
-ghost use Rattle.std.specs.Prelude.{◌≡◌, ◌<◌, nat_lt, true, false, None, length, is_some, OnErr};
+ghost use Rattle.std.specs.Prelude.{◌≡◌, ◌<◌, nat_lt, true, false, None, length, is_some, Err, IfSome, OnErr};
 ghost use Rattle.std.specs.List.{list_any, list_all};
 ghost use Rattle.std.specs.Str.{is_utf8};
-ghost use Rattle.value.specs.Refusals.{AnswersOrNoMemory, pointing_nowhere};
+ghost use Rattle.value.specs.Refusals.{AnswersOrNoMemory, of_code, pointing_nowhere};
 ghost use Rattle.schema.specs.Definition.{columns_of};
 ghost use Rattle.schema.specs.Left.{leaving};
 ghost use Rattle.schema.specs.Plain.{is_null, cells, row_at, is_there, is_sound};
@@ -223,6 +223,9 @@ impl<A: Allocator> Tables<A> {
         requires same_tables { length self.old ≡ length catalog.now }
         ensures answer { AnswersOrNoMemory (leaving result self.new)
             (pointing_nowhere (inserted catalog.now self.old table row)) }
+
+        // Want of memory comes behind every fault of the row.
+        ensures fault { IfSome (inserting_fault catalog.now self.old table row) (λ code. result ≡ Err (of_code code)) }
         ensures err { OnErr result (self.new ≡ self.old) }
 
         // Sound tables stay sound.
