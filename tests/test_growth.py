@@ -1,27 +1,25 @@
-#!/usr/bin/env python3
-"""growth [PROGRAM]: how the built program's time grows with its work; 1 where a kind of work grows faster than it may.
+"""How the program's time grows with its work.
 
-Without PROGRAM that of crates/pgserial. Each kind of work is run at three sizes, and told with its processor seconds and
-the exponent by which these grow from the middle size to the greatest: 1 is linear, 2 the square. Some are told as a ratio
-too, to another kind of the same size. The limits have slack, since a machine has other work: what crosses one in each of four
-trials is a defect, and no chance.
+Each kind of work is run at three sizes, and measured by its processor seconds and the exponent by which these grow from the
+middle size to the greatest: 1 is linear, 2 the square. Some are measured by a ratio too, to another kind of the same size. The
+limits have slack, since a machine has other work: what crosses one in each of four trials is a defect, and no chance.
 
-Workers are told by the seconds that pass, and by those of processors. Beside them stand as many programs at once, each with
+Workers are measured by the seconds that pass, and by those of processors. Beside them stand as many programs at once, each with
 its share of the work, which are run by turns with them, on the same processors. So it matters little how many processors
 there are, or what else they do. A pass that takes three times as long as it should is one too many.
 """
-import argparse
 import contextlib
 import glob
 import math
-import os
 import random
+import re
 import resource
 import subprocess
-import sys
-import tempfile
 import time
+import unittest
 from typing import Callable, NamedTuple, Optional, Tuple
+
+from tests.program import Case, Differs, program, timed
 
 TABLE = "CREATE TABLE t (id bigint PRIMARY KEY, v bigint NOT NULL, name text);\n"
 TRIALS = 4  # of what crosses a limit
@@ -188,7 +186,7 @@ KINDS = [
     Kind("one INSERT a transaction", 0, inserts, (2000, 8000, 32000), 1.6),
     Kind("one UPDATE a transaction", 1, updates, (2000, 8000, 32000), 1.6),
     Kind("INSERT, SELECT, UPDATE by key", 0, points, (2000, 8000, 32000), 1.6),
-    Kind("one UPDATE a transaction, explored", 1, updates, (2000, 8000, 32000), 1.6, ("one UPDATE a transaction", 4), command="explore"),
+    Kind("one UPDATE a transaction, explored", 1, updates, (2000, 8000, 32000), 1.6, ("one UPDATE a transaction", 2.2), command="explore"),
     Kind("one transaction of n UPDATEs", 0, one_long, (2000, 8000, 32000), 1.6),
     Kind("8 sessions at once", 200, sessions, (1000, 4000, 16000), 1.7),
     Kind("pairs in conflict", 1000, pairs, (1000, 4000, 16000), 1.6),
@@ -245,8 +243,7 @@ def told(kind, took, exponent, ratio):
     fits = exponent <= kind.most and (ratio is None or ratio <= kind.beside[1])
     times = "".join(f"{size:>9}: {spent:.3f}" for size, spent in zip(kind.sizes, took))
     beside = f"  {ratio:.1f} times {kind.beside[0]} (at most {kind.beside[1]})" if ratio is not None else ""
-    line = f"{kind.name:31}{times}  exponent {exponent:.2f} (at most {kind.most}){beside}"
-    return line + ("" if fits else "  TOO MUCH"), fits
+    return f"{times.strip()}  exponent {exponent:.2f} (at most {kind.most}){beside}", fits
 
 
 # ---- seconds that pass
@@ -321,51 +318,57 @@ def ratios(program, folder, each):
     return min(own[0] / others[0] for own, others in turns), work / beside, max(own[2] for own, _ in turns)
 
 
-def passes(program, only):
-    """How many passes take longer than they may; each is told."""
-    faults = 0
-    with tempfile.TemporaryDirectory() as folder:
+class Kinds(unittest.TestCase):
+    """Kinds of work: none grows faster than it may."""
+
+
+class Passes(Case):
+    """Work by several workers, which takes no longer than the same work by programs beside it."""
+
+    def look_at(self, each: Pass) -> None:
         for name, text in files_of_passes().items():
-            with open(os.path.join(folder, name), "w", encoding="utf-8") as file:
-                file.write(text)
-        for each in PASSES:
-            if only and only not in each.name:
-                continue
-            for _ in range(TRIALS):
-                passed, work, threads = ratios(program, folder, each)
-                fits = passed <= each.most and work <= MOST_WORK and threads >= each.least
-                if fits:
-                    break
-            print(f"{each.name:31}{passed:.1f} times as long as those beside it (at most {each.most}), {work:.1f} times their processor seconds "
-                  f"(at most {MOST_WORK}), {threads:.1f} threads at a time (at least {each.least})" + ("" if fits else "  NOT WITHIN THESE"), flush=True)
-            faults += not fits
-    return faults
-
-
-def main():
-    parser = argparse.ArgumentParser(description=__doc__, formatter_class=argparse.RawDescriptionHelpFormatter)
-    parser.add_argument("program", nargs="?", default=os.path.join(os.path.dirname(__file__), "../crates/pgserial/out/pgserial"))
-    parser.add_argument("--only", metavar="WORD", help="the kinds whose names have this word")
-    args = parser.parse_args()
-    if not os.access(args.program, os.X_OK):
-        sys.exit(f"growth: {args.program} isn't built: ./pgserial build")
-    program, greatest, faults = os.path.abspath(args.program), {}, 0
-    for kind in KINDS:
-        if args.only and args.only not in kind.name:
-            continue
+            self.write(name, text)
         for _ in range(TRIALS):
-            took, exponent = measured(program, kind)
-            ratio = took[2] / greatest[kind.beside[0]] if kind.beside and kind.beside[0] in greatest else None
-            line, fits = told(kind, took, exponent, ratio)
-            if fits:
-                break
-        greatest[kind.name] = took[2]
-        print(line, flush=True)
-        faults += not fits
-    faults += passes(program, args.only)
-    print(f"growth: {faults} kinds of work grow faster, or take longer, than they may" if faults else "growth: as it may be")
-    return 1 if faults else 0
+            passed, work, threads = ratios(program(), self.folder, each)
+            if passed <= each.most and work <= MOST_WORK and threads >= each.least:
+                return
+        wanted = f"at most {each.most} times as long as those beside it, {MOST_WORK} times their processor seconds, at least {each.least} threads at a time"
+        raise Differs(each.name, wanted, f"{passed:.1f} times as long, {work:.1f} times their seconds, {threads:.1f} threads")
 
 
-if __name__ == "__main__":
-    sys.exit(main())
+def look_at(kind: Kind) -> None:
+    """A kind of work must be within its limits in one of a few trials."""
+    for _ in range(TRIALS):
+        took, exponent = measured(program(), kind)
+        ratio = took[2] / least_of(kind.beside[0]) if kind.beside else None
+        line, fits = told(kind, took, exponent, ratio)
+        if fits:
+            MEASURED[kind.name] = took[2]
+            return
+    raise Differs(kind.name, "to grow no faster than it may", line)
+
+
+# What each kind took at its greatest size, once it was measured.
+MEASURED = {}
+
+
+def least_of(name: str) -> float:
+    """What a kind takes at its greatest size: others are compared with it."""
+    if name not in MEASURED:
+        MEASURED[name] = measured(program(), next(kind for kind in KINDS if kind.name == name))[0][2]
+    return MEASURED[name]
+
+
+def name_of(name: str) -> str:
+    return "test_" + re.sub(r"\W+", "_", name)
+
+
+def add_tests() -> None:
+    """Adds a test for each kind of work, in their order, and one for each pass."""
+    for place, kind in enumerate(KINDS):
+        setattr(Kinds, f"test_{place:02}_{name_of(kind.name)[5:]}", timed(lambda _, kind=kind: look_at(kind)))
+    for each in PASSES:
+        setattr(Passes, name_of(each.name), timed(lambda self, each=each: self.look_at(each)))
+
+
+add_tests()

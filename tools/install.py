@@ -167,6 +167,15 @@ class Installed:
         if name not in self.names:
             self.names.append(name)
 
+    def remove_compiled(self, name):
+        """Removes what Python has compiled of a file, and the folder of that where it is empty."""
+        folder, stem = os.path.join(os.path.dirname(self.path(name)), "__pycache__"), os.path.basename(name).partition(".py")[0]
+        if name.endswith(".py") and os.path.isdir(folder):
+            for compiled in [it for it in os.listdir(folder) if it.startswith(f"{stem}.") and it.endswith(".pyc")]:
+                os.remove(os.path.join(folder, compiled))
+            if not os.listdir(folder):
+                os.rmdir(folder)
+
     def keep(self):
         """Writes the list."""
         self.add(LIST, "".join(f"{name}\n" for name in dict.fromkeys([*self.names, LIST])).encode(), 0o644)
@@ -176,6 +185,7 @@ class Installed:
         for name in [it for it in names if not it.endswith("/")]:
             if os.path.lexists(self.path(name)):
                 os.remove(self.path(name))
+            self.remove_compiled(name)
         for name in sorted((it for it in names if it.endswith("/")), reverse=True):
             try:
                 os.rmdir(self.path(name))
@@ -211,7 +221,7 @@ def find_program(unproved):
         return os.path.join(folder, "pgserial"), True
     if not unproved:
         sys.exit("pgserial: no proved program of these sources is there: first ./pgserial build, or else install --unproved")
-    found = subprocess.run([os.path.join(HERE, "quick")], stdout=subprocess.PIPE, text=True)
+    found = subprocess.run([os.path.join(HERE, "quick.py")], stdout=subprocess.PIPE, text=True)
     if found.returncode:
         sys.exit(found.returncode)
     return found.stdout.strip(), False
@@ -277,6 +287,8 @@ def main():
         if name == "install":
             way.add_argument("--unproved", action="store_true", help="where no proved program of these sources is there, install one that is compiled without proof; it tells so whenever it runs")
     asked = parser.parse_args()
+    if not asked.prefix:
+        parser.exit(2, f"pgserial {asked.way}: error: --prefix DIR: DIR is empty\n")
     prefix = os.path.abspath(asked.prefix)
     try:
         install(prefix, asked.unproved) if asked.way == "install" else uninstall(prefix)

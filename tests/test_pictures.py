@@ -1,21 +1,14 @@
-#!/usr/bin/env python3
-"""drawn [PROGRAM]: what the built program's pictures show; 1 where one shows otherwise than it should.
+"""What pictures show, and graphs for graphviz, some of which are compared whole. docs/FORMATS.md says what there must be."""
 
-Without PROGRAM that of crates/pgserial. Scripts are drawn, and a picture is read as XML: which lanes it has, which events
-stand in them, how transactions ended, which arrows there are, and the texts. docs/FORMATS.md says what there must be; where
-things stand, and their looks, is not looked at. Of the graph for graphviz one is compared whole.
-"""
-import os
 import re
-import subprocess
-import sys
-import tempfile
 import xml.etree.ElementTree as xml
+from typing import Any, Callable, Iterator, List, Tuple
 
-TOP = os.path.dirname(os.path.dirname(os.path.abspath(__file__)))
-MOST = 400  # events of a picture
-ROW, LINE = 28, 200  # characters of a row and of a script's line, at most
+from tests.pictures import MOST, ROW, Picture, drawn, lines_of
+from tests.program import Case
 
+# What is looked at of a picture: its name, what came, and what was wanted.
+Cases = Iterator[Tuple[str, Any, Any]]
 TABLE = "CREATE TABLE t (id bigint PRIMARY KEY, v bigint);\n"
 # Each of two reads what the other writes.
 SKEW = """1 BEGIN;
@@ -34,131 +27,10 @@ BEFORE = TABLE + "3 BEGIN;\n3 INSERT INTO t VALUES (9, 9);\n3 COMMIT;\nCHECKPOIN
 SKEW_LETTERS = [(1, "B"), (2, "B"), (1, "r"), (2, "r"), (1, "w"), (2, "w"), (1, "C"), (2, "C", "refused")]
 
 
-class Picture:
-    """What a picture shows. Sessions are named by the lane in which something stands."""
-
-    def __init__(self, svg):
-        self.root = xml.fromstring(svg)
-        self.lanes = {y: int(re.fullmatch(r"session (\d+)", text)[1]) for _, y, text in self.texts("session")}
-        self.heading = " ".join(text for _, _, text in self.texts("title"))
-        self.whys = [text for _, _, text in self.texts("why")]
-        self.notes = [text for _, _, text in self.texts("note middle")]
-
-    def elements(self, tag, kind):
-        """The elements of a class, or of this and another, with their classes."""
-        found = self.root.iter("{http://www.w3.org/2000/svg}" + tag)
-        return [(it, it.get("class", "")) for it in found if (it.get("class", "") + " ").startswith(kind + " ")]
-
-    def texts(self, kind):
-        """Where each text of a class stands, and what it is without its title, from the left."""
-        found = [(int(it.get("x")), int(it.get("y")), "".join([it.text or "", *[part.tail or "" for part in it]]))
-                 for it, _ in self.elements("text", kind)]
-        return sorted(found)
-
-    def sessions(self):
-        """The sessions that have lanes, from the top."""
-        return [session for _, session in sorted(self.lanes.items())]
-
-    def placed_events(self):
-        """Each event from the left: where it stands, its session, its letter, and whether it is refused."""
-        found = []
-        for it, kind in self.elements("text", "event"):
-            letter, y = "".join(part.tail or "" for part in it), int(it.get("y"))
-            found.append((int(it.get("x")), y, (self.lanes[y], letter) + tuple(kind.split()[1:])))
-        return sorted(found)
-
-    def events(self):
-        return [event for _, _, event in self.placed_events()]
-
-    def titles(self):
-        """What pointing at each event shows, from the left."""
-        found = [(int(it.get("x")), "".join(part.text for part in it)) for it, _ in self.elements("text", "event")]
-        return [title for _, title in sorted(found)]
-
-    def lines(self):
-        """The script's lines above events, from the left; where events stand close there aren't all."""
-        return [int(text) for _, _, text in self.texts("count middle")]
-
-    def bars(self):
-        """How each transaction ended, as its bar says: by its colour, and to who points at it."""
-        bars = [(it, it.get("class")) for it in self.root.iter("{http://www.w3.org/2000/svg}g")]
-        return [(kind, it.find("{*}title").text) for it, kind in bars]
-
-    def lane_at(self, y):
-        """The session whose lane is next to a height."""
-        return self.lanes[min(self.lanes, key=lambda lane: abs(lane - y))]
-
-    def spans(self):
-        """Each transaction, the session in whose lane its bar stands, and the letters of that lane's events that it covers."""
-        spans = []
-        for it in self.root.iter("{http://www.w3.org/2000/svg}g"):
-            x, y, width, height = [int(it.find("{*}rect").get(name)) for name in ("x", "y", "width", "height")]
-            session = self.lane_at(y + height // 2)
-            covered = [letter for at, _, (own, letter, *_) in self.placed_events() if own == session and x < at < x + width]
-            spans.append((int(re.search(r"\d+", it.find("{*}title").text)[0]), session, "".join(covered)))
-        return sorted(spans)
-
-    def strokes(self):
-        """Of how many strokes the mark of each transaction is, with how it ended."""
-        marks = [(it.get("d"), kind.split()[1]) for it, kind in self.elements("path", "mark")]
-        return {kind: path.count("m") for path, kind in marks}
-
-    def ends(self):
-        """From which event to which each arrow goes: the session, the script's line, and the same of the other."""
-        found = []
-        for it, _ in self.elements("path", "arrow"):
-            numbers = [int(number) for number in re.findall(r"-?\d+", it.get("d"))]
-            found.append(tuple(self.event_at(*numbers[at : at + 2]) for at in (0, 6)))
-        return sorted(found)
-
-    def event_at(self, x, y):
-        """The session and the line of the event nearest to a point."""
-        at, lane, event = min(self.placed_events(), key=lambda it: (abs(it[0] - x), abs(it[1] - y)))
-        title = next(title for (own, _, _), title in zip(self.placed_events(), self.titles()) if own == at)
-        return event[0], int(re.match(r"line (\d+)", title)[1])
-
-    def marks(self):
-        """The session below whose lane each note stands, and the note."""
-        return [(self.lanes[max(lane for lane in self.lanes if lane < y)], note) for _, y, note in self.texts("note middle")]
-
-    def names(self):
-        """What transactions are called, and the places in the serial order that stand below them."""
-        ranks = {x: text for x, _, text in self.texts("rank")}
-        return [(name, ranks.get(x)) for x, _, name in self.texts("name")]
-
-    def arrows(self):
-        """From whom to whom each arrow goes, and its looks: those of danger are bold, those of two that stand apart pale."""
-        told = [(re.findall(r"T(\d+)", it.find("{*}title").text), kind) for it, kind in self.elements("path", "arrow")]
-        return sorted((int(numbers[0]), int(numbers[1]), kind.split()[1]) for numbers, kind in told)
-
-    def labels(self):
-        """The rows of the arrows."""
-        return sorted(text for _, _, text in self.texts("label"))
-
-
-def drawn(program, script, *words, **files):
-    """The text of a script's picture, which is written without a word; or what is told instead."""
-    with tempfile.TemporaryDirectory() as folder:
-        for name, text in {"script": script, **files}.items():
-            with open(os.path.join(folder, name), "w", encoding="utf-8", newline="") as file:
-                file.write(text)
-        done = subprocess.run([program, "draw", "script", "--out", "out", *words], cwd=folder, capture_output=True, timeout=60)
-        if done.returncode or done.stdout or done.stderr:
-            return f"{done}"
-        with open(os.path.join(folder, "out"), encoding="utf-8", newline="") as file:
-            return file.read()
-
-
-def lines_of(script, first):
-    """What pointing at the events of a script's lines shows, from this line on."""
-    lines = list(enumerate(script.splitlines(), 1))[first - 1:]
-    return [f"line {number}: {line[:LINE]}" for number, line in lines if line[0].isdigit() and " DUMP " not in line]
-
-
 # ---- pictures
 
 
-def skew(picture, script, first, numbers, base):
+def skew(picture: Picture, script: str, first: int, numbers: Tuple[int, int], base: int) -> Cases:
     """What there is of a write skew whose lines begin at one, by transactions of these numbers; and what there must be."""
     one, two = numbers
     since = ", since its last checkpoint" if base else ""
@@ -174,30 +46,30 @@ def skew(picture, script, first, numbers, base):
         f"line {first + 7}: refused, since T{one} would come before T{two} and T{two} before T{one}, but T{one} committed first"]
 
 
-def skews(program):
+def skews() -> Cases:
     """A write skew, the same where the other session begins, and both behind a checkpoint."""
-    swapped = [(3 - session, *rest) for session, *rest in SKEW_LETTERS]
+    swapped: List[Tuple[Any, ...]] = [(3 - int(str(session)), *rest) for session, *rest in SKEW_LETTERS]
     for setup, first, numbers, base in (TABLE, 2, (1, 2), 0), (BEFORE, 7, (2, 3), 1):
         for script, letters in (SKEW, SKEW_LETTERS), (TURNED, swapped):
-            picture = Picture(drawn(program, setup + script))
+            picture = Picture(drawn(setup + script))
             yield "events", picture.events(), letters
             yield from skew(picture, setup + script, first, numbers, base)
 
 
-def refused_checkpoint(program):
+def refused_checkpoint() -> Cases:
     """One that is refused takes nothing away."""
     script = TABLE + "1 BEGIN;\n1 INSERT INTO t VALUES (1, 1);\nCHECKPOINT;\n1 COMMIT;\n"
-    picture = Picture(drawn(program, script))
+    picture = Picture(drawn(script))
     yield "events at a refused checkpoint", picture.events(), [(1, "B"), (1, "w"), (1, "C")]
     yield "titles at a refused checkpoint", picture.titles(), lines_of(script, 2)
     yield "heading at a refused checkpoint", picture.heading, "Transactions of a script, in the order of its events"
 
 
-def many_events(program):
+def many_events() -> Cases:
     """Of more events than are drawn the last ones, and the heading says so."""
     for events in MOST - 1, MOST, MOST + 1, MOST + 7:
         script = "".join([TABLE, *["1 BEGIN;\n", "1 COMMIT;\n"] * MOST][: events + 1])
-        picture = Picture(drawn(program, script))
+        picture = Picture(drawn(script))
         left_out = max(events - MOST, 0)
         yield f"titles of {events} events", picture.titles(), lines_of(script, 2 + left_out)
         yield f"whether the heading of {events} events says so", f": the last {MOST} of {events} events" in picture.heading, left_out > 0
@@ -232,22 +104,22 @@ EARLY_REFUSAL = TABLE + """1 BEGIN;
 """ + "4 BEGIN;\n4 COMMIT;\n" * (MOST // 2)
 
 
-def ordinal(number):
+def ordinal(number: int) -> str:
     """A number as a place: 1st, 2nd, .. 11th, .. 21st."""
     return f"{number}{'th' if number // 10 % 10 == 1 else {1: 'st', 2: 'nd', 3: 'rd'}.get(number % 10, 'th')}"
 
 
-def left_out(program):
+def left_out() -> Cases:
     """Nothing of events that are left out is shown. Of the transactions behind them each has committed: one before them hasn't."""
-    picture, late = Picture(drawn(program, EARLY)), range(4, 4 + MOST // 2)
+    picture, late = Picture(drawn(EARLY)), range(4, 4 + MOST // 2)
     yield "sessions", picture.sessions(), [1]
     yield "names", picture.names(), [(f"T{number}", ordinal(number - 1)) for number in late]
     yield "notes and reasons", picture.notes + picture.whys, []
-    refused = Picture(drawn(program, EARLY_REFUSAL))
+    refused = Picture(drawn(EARLY_REFUSAL))
     yield "arrow and reasons of an early refusal", (refused.arrows(), refused.whys), ([(1, 2, "beside")], [])
-    shown = Picture(drawn(program, EARLY_REFUSAL.partition("4 BEGIN")[0]))
+    shown = Picture(drawn(EARLY_REFUSAL.partition("4 BEGIN")[0]))
     yield "arrows of a refusal", [arrow[2] for arrow in shown.arrows() if arrow[:2] in ((1, 2), (2, 3))], ["danger", "danger"]
-    yield "nodes", [int(number) for number in re.findall(r"^  t(\d+) \[", drawn(program, EARLY, "--dot"), re.M)], list(late)
+    yield "nodes", [int(number) for number in re.findall(r"^  t(\d+) \[", drawn(EARLY, "--dot"), re.M)], list(late)
 
 
 # Snapshots are safe before any other transaction, and between two that write; what is dumped there comes behind the second.
@@ -266,15 +138,15 @@ DUMPS = TABLE + """1 BEGIN READ ONLY DEFERRABLE;
 """
 
 
-def dumps(program):
+def dumps() -> Cases:
     """A dump holds what had committed before its snapshot. One that is refused, as its snapshot isn't known to be safe, isn't
     marked, nor one before the last checkpoint."""
-    held = [note for note in Picture(drawn(program, DUMPS)).notes if note.startswith("dump")]
+    held = [note for note in Picture(drawn(DUMPS)).notes if note.startswith("dump")]
     yield "notes", sorted(held), ["dump holds T2", "dump holds none of these transactions"]
     refused = TABLE + "1 BEGIN READ ONLY DEFERRABLE;\n1 DUMP 1 1 gone/out;\n1 COMMIT;\n"
-    yield "notes of a refused one", Picture(drawn(program, refused)).notes, []
+    yield "notes of a refused one", Picture(drawn(refused)).notes, []
     before = TABLE + "1 BEGIN READ ONLY DEFERRABLE;\n1 POLL;\n1 DUMP 1 1 gone/out;\n1 COMMIT;\nCHECKPOINT;\n1 BEGIN;\n1 COMMIT;\n"
-    yield "notes of one before a checkpoint", Picture(drawn(program, before)).notes, []
+    yield "notes of one before a checkpoint", Picture(drawn(before)).notes, []
 
 
 # All letters, ways to end and marks. Session 4's transaction doesn't end; 5's is rolled back, and has no arrow.
@@ -304,9 +176,9 @@ ALL = TABLE + """1 BEGIN;
 """
 
 
-def all_kinds(program):
+def all_kinds() -> Cases:
     """Each letter, each way to end, each mark."""
-    picture = Picture(drawn(program, ALL))
+    picture = Picture(drawn(ALL))
     yield "sessions", picture.sessions(), [1, 2, 3, 4, 5, 6, 7]
     letters = "1B 1w 1C 1p 2B 2P 2E 3B 3I 4B 4r 5B 5w 5? 5R 6C 4w 7B 7w 7R 2C 3C".split()
     refused = (13, 15, 18)
@@ -375,23 +247,23 @@ REFUSED_BEFORE = TABLE + """1 BEGIN;
 OPENED = "-- dump 2\n" + TABLE + "COPY t (id, v) FROM stdin;\n1\t5\n\\.\n-- rows 1\n-- end\n"
 
 
-def others(program):
+def others() -> Cases:
     """Lanes have their sessions' numbers, dumps their own transactions, arrows their references and looks; a dump is opened,
     and no more events are drawn than there is room for."""
-    far = Picture(drawn(program, FAR))
+    far = Picture(drawn(FAR))
     yield "sessions far apart", far.sessions(), [5, 64]
     yield "spans of sessions far apart", far.spans(), [(1, 64, "BrC"), (2, 5, "BwC")]
     yield "ends of an arrow", far.ends(), [((64, 5), (5, 4))]
-    held = [note for note in Picture(drawn(program, DUMPED_BEFORE)).notes if note.startswith("dump")]
+    held = [note for note in Picture(drawn(DUMPED_BEFORE)).notes if note.startswith("dump")]
     yield "notes of a dump before another transaction", held, ["dump holds none of these transactions"]
-    yield "labels of references", Picture(drawn(program, REFERENCE)).labels(), ["c p = 1", "p id = 1", "p id = 1"]
-    apart = [arrow for arrow in Picture(drawn(program, REFUSED_BEFORE)).arrows() if arrow[0] == 4]
+    yield "labels of references", Picture(drawn(REFERENCE)).labels(), ["c p = 1", "p id = 1", "p id = 1"]
+    apart = [arrow for arrow in Picture(drawn(REFUSED_BEFORE)).arrows() if arrow[0] == 4]
     yield "arrow to one refused before", apart, [(4, 3, "apart")]
-    opened = Picture(drawn(program, "OPEN dump;\n1 BEGIN;\n1 SELECT v FROM t WHERE id = 1;\n", dump=OPENED))
+    opened = Picture(drawn("OPEN dump;\n1 BEGIN;\n1 SELECT v FROM t WHERE id = 1;\n", dump=OPENED))
     yield "events on a dump", opened.events(), [(1, "B"), (1, "r")]
-    full = Picture(drawn(program, TABLE + "1 BEGIN;\n1 COMMIT;\n" * 2, "--events", "3"))
+    full = Picture(drawn(TABLE + "1 BEGIN;\n1 COMMIT;\n" * 2, "--events", "3"))
     yield "bars of a full history", full.bars(), [("committed", "transaction 1: committed"), ("open", "transaction 2: not ended")]
-    late = Picture(drawn(program, BEFORE + "1 BEGIN;\n1 COMMIT;\n" * (MOST // 2) + "1 BEGIN;\n"))
+    late = Picture(drawn(BEFORE + "1 BEGIN;\n1 COMMIT;\n" * (MOST // 2) + "1 BEGIN;\n"))
     yield "heading of many behind a checkpoint", late.heading.partition(", since its last checkpoint")[2], f": the last {MOST} of {MOST + 1} events"
 
 
@@ -403,9 +275,9 @@ TEXTS = "CREATE TABLE t (id text PRIMARY KEY, v text);\n" + "".join(f"{line};\n"
     "1 COMMIT"]).format(key=KEY.replace("'", "''"), comment=COMMENT)
 
 
-def texts(program):
+def texts() -> Cases:
     """Texts of the script stand in a picture as texts, up to their lengths."""
-    svg = drawn(program, TEXTS)
+    svg = drawn(TEXTS)
     picture = Picture(svg)
     allowed = str.maketrans({"\x01": "?", "\ufffe": "?"})
     told = [title.translate(allowed) for title in lines_of(TEXTS, 2)]
@@ -450,38 +322,47 @@ ONE_WAY_GRAPH = """digraph transactions {
 """
 
 
-def graphs(program):
+def graphs() -> Cases:
     """Graphs, whole: a node for each transaction, and an edge from each reader to a writer whom it doesn't see."""
-    yield "graph of a write skew", drawn(program, TABLE + SKEW, "--dot"), GRAPH.format(1, 2, 2, 3)
-    yield "graph behind a checkpoint", drawn(program, BEFORE + SKEW, "--dot"), GRAPH.format(2, 3, 7, 8)
-    yield "graph of one arrow", drawn(program, ONE_WAY, "--dot"), ONE_WAY_GRAPH
-    yield "arrows", Picture(drawn(program, ONE_WAY)).arrows(), [(1, 2, "beside")]
-    yield "names", Picture(drawn(program, ONE_WAY)).names(), [("T1", "1st"), ("T2", "2nd"), ("T3", None), ("T4", None)]
-    rows = re.findall(r" \[label=<(.*)>\];", drawn(program, TEXTS, "--dot"))
+    yield "graph of a write skew", drawn(TABLE + SKEW, "--dot"), GRAPH.format(1, 2, 2, 3)
+    yield "graph behind a checkpoint", drawn(BEFORE + SKEW, "--dot"), GRAPH.format(2, 3, 7, 8)
+    yield "graph of one arrow", drawn(ONE_WAY, "--dot"), ONE_WAY_GRAPH
+    yield "arrows", Picture(drawn(ONE_WAY)).arrows(), [(1, 2, "beside")]
+    yield "names", Picture(drawn(ONE_WAY)).names(), [("T1", "1st"), ("T2", "2nd"), ("T3", None), ("T4", None)]
+    rows = re.findall(r" \[label=<(.*)>\];", drawn(TEXTS, "--dot"))
     yield "rows as text", [xml.fromstring(f"<row>{row}</row>").text for row in rows], [f"t id = {KEY}"[:ROW] + ".."]
 
 
-def main():
-    program = os.path.abspath(sys.argv[1] if len(sys.argv) > 1 else os.path.join(TOP, "crates/pgserial/out/pgserial"))
-    if not os.access(program, os.X_OK):
-        print(f"drawn: {program} isn't built: ./pgserial build", file=sys.stderr)
-        return 2
-    count, faults = 0, []
-    for pictures in skews, refused_checkpoint, many_events, left_out, dumps, all_kinds, others, texts, graphs:
-        try:
-            for what, got, wanted in pictures(program):
-                count += 1
-                if got != wanted:
-                    faults.append(f"{pictures.__name__}: {what}: {got!r}, and not {wanted!r}")
-        except (xml.ParseError, LookupError, TypeError, ValueError) as fault:
-            faults.append(f"{pictures.__name__}: no such picture: {fault!r}")
-    for fault in faults:
-        print(f"drawn: {fault[:2000]}")
-    if faults:
-        return 1
-    print(f"drawn: {count} as they should be")
-    return 0
+class Pictures(Case):
+    """Scripts that are drawn."""
 
+    def look_at(self, cases: Callable[[], Cases]) -> None:
+        for what, came, wanted in cases():
+            self.same(what, wanted, came)
 
-if __name__ == "__main__":
-    sys.exit(main())
+    def test_write_skews(self) -> None:
+        self.look_at(skews)
+
+    def test_a_refused_checkpoint(self) -> None:
+        self.look_at(refused_checkpoint)
+
+    def test_the_last_of_many_events(self) -> None:
+        self.look_at(many_events)
+
+    def test_events_that_are_left_out(self) -> None:
+        self.look_at(left_out)
+
+    def test_what_a_dump_holds(self) -> None:
+        self.look_at(dumps)
+
+    def test_each_kind_of_event_and_end(self) -> None:
+        self.look_at(all_kinds)
+
+    def test_lanes_dumps_and_arrows(self) -> None:
+        self.look_at(others)
+
+    def test_names_and_rows_as_texts(self) -> None:
+        self.look_at(texts)
+
+    def test_graphs_for_graphviz(self) -> None:
+        self.look_at(graphs)

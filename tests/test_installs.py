@@ -1,42 +1,33 @@
-#!/usr/bin/env python3
-"""installs [PROGRAM]: what `./pgserial install` would put below a prefix of a built program, and whether `uninstall` takes
-just that away; 1 where it isn't as it should be. Without PROGRAM that of crates/pgserial."""
-import importlib.machinery
-import importlib.util
+"""What `./pgserial install` puts below a prefix, of the program, and that `uninstall` takes just that away."""
+
+import contextlib
+import io
 import os
 import subprocess
 import sys
 import tempfile
 import unittest
+from unittest import mock
 
-TOP = os.path.dirname(os.path.dirname(os.path.abspath(__file__)))
-PROGRAM = os.path.join(TOP, "crates/pgserial/out/pgserial")
+from tests.program import program
+from tools import install
+
 COMMANDS = ["run", "audit", "restore", "shell", "explore", "check", "draw"]
-
-
-def load():
-    """The script `install`, as a module."""
-    sys.dont_write_bytecode = True
-    loader = importlib.machinery.SourceFileLoader("install", os.path.join(TOP, ".ci/install"))
-    module = importlib.util.module_from_spec(importlib.util.spec_from_loader("install", loader))
-    loader.exec_module(module)
-    return module
 
 
 class Installs(unittest.TestCase):
     def setUp(self):
         folder = tempfile.TemporaryDirectory()
         self.addCleanup(folder.cleanup)
-        self.prefix = os.path.join(folder.name, "a prefix")
-        self.module = load()
+        self.folder, self.prefix = folder.name, os.path.join(folder.name, "a prefix")
 
     def install(self, is_proved):
-        self.module.find_program = lambda unproved: (PROGRAM, is_proved)
-        self.module.print = lambda *_: None
-        self.module.install(self.prefix, not is_proved)
+        with mock.patch.object(install, "find_program", lambda unproved: (program(), is_proved)), contextlib.redirect_stdout(io.StringIO()):
+            install.install(self.prefix, not is_proved)
 
     def uninstall(self):
-        self.module.uninstall(self.prefix)
+        with contextlib.redirect_stdout(io.StringIO()):
+            install.uninstall(self.prefix)
 
     def names(self):
         """The files below the prefix."""
@@ -81,6 +72,24 @@ class Installs(unittest.TestCase):
         with self.assertRaisesRegex(SystemExit, "nothing is installed"):
             self.uninstall()
 
+    def test_what_python_has_compiled_of_it_is_removed_too(self):
+        self.install(True)
+        packages = os.path.join(self.prefix, install.packages(self.prefix))
+        kept = os.path.join(packages, "__pycache__/other.cpython-38.pyc")
+        os.makedirs(os.path.dirname(kept))
+        with open(kept, "w", encoding="utf-8"):
+            pass
+        self.ask(sys.executable, "-c", "import pgserial.recording, pgserial.__main__", env={"PYTHONPATH": packages, "PATH": "/usr/bin:/bin"})
+        self.assertIn("recording", " ".join(os.listdir(os.path.join(packages, "pgserial/__pycache__"))))
+        self.uninstall()
+        self.assertEqual(self.names(), [os.path.relpath(kept, self.prefix)])
+
+    def test_a_prefix_without_a_name_is_none(self):
+        for way in ("install", "uninstall"):
+            done = self.ask(sys.executable, "-B", install.__file__, way, "--prefix", "", cwd=self.folder)
+            self.assertEqual((done.returncode, done.stdout, done.stderr.splitlines()[-1]), (2, "", f"pgserial {way}: error: --prefix DIR: DIR is empty"))
+            self.assertEqual(os.listdir(self.folder), [])
+
     def test_what_others_have_put_there_stays(self):
         os.makedirs(os.path.join(self.prefix, "bin"))
         with open(os.path.join(self.prefix, "bin/pgserial"), "w", encoding="utf-8") as file:
@@ -91,7 +100,7 @@ class Installs(unittest.TestCase):
 
     def test_the_client_is_found(self):
         self.install(True)
-        packages = os.path.join(self.prefix, self.module.packages(self.prefix))
+        packages = os.path.join(self.prefix, install.packages(self.prefix))
         program = "import pgserial\nwith pgserial.Server() as db: db.connect()\nprint(pgserial.__file__)"
         done = self.ask(sys.executable, "-B", "-c", program, env={"PYTHONPATH": packages, "PATH": os.path.join(self.prefix, "bin") + ":/usr/bin:/bin"})
         self.assertEqual((done.stderr, done.stdout), ("", os.path.join(packages, "pgserial/__init__.py") + "\n"))
@@ -101,7 +110,7 @@ class Installs(unittest.TestCase):
         page = self.read("share/man/man1/pgserial.1").replace("\\-", "-")
         for name in COMMANDS:
             self.assertIn(f".SS {name}\n", page)
-            for line in self.ask(PROGRAM, name, "--help").stdout.splitlines():
+            for line in self.ask(program(), name, "--help").stdout.splitlines():
                 if line.lstrip().startswith("--"):
                     self.assertIn(f".B {line.split('  ')[3].strip()}\n", page)
         self.assertIn(".B --why\n", page)
@@ -122,10 +131,3 @@ class Installs(unittest.TestCase):
             self.assertIn(f"    '{name}:", text)
             self.assertIn(f"    {name}) _arguments ", text)
         self.assertIn("'(--out)--out[The file that the picture is written to]:FILE:_files'", text)
-
-
-if __name__ == "__main__":
-    PROGRAM = os.path.abspath(sys.argv[1] if len(sys.argv) > 1 else PROGRAM)
-    if not os.access(PROGRAM, os.X_OK):
-        sys.exit(f"installs: {PROGRAM} isn't built: ./pgserial build")
-    unittest.main(argv=sys.argv[:1])

@@ -1,18 +1,26 @@
-#!/usr/bin/env python3
-"""checked [NUMBER] [PROGRAM]: the transcripts that the built program makes of the scripts of examples/ and of random ones,
-1,000 where nothing is said: each has the script's lines, and the replies that `run` prints, and `check` has to explain it;
-and the same with a read value that nobody wrote, or with a number of changed rows that there never were, which it must not
-explain. The look is looked at too: one such transcript for each script that reads a row, that updates and that deletes.
+"""Transcripts that the program makes of the scripts of examples/ and of random ones: each has the script's lines, and the replies that
+`run` prints, and `check` has to explain it; and the same with a read value that nobody wrote, or with a number of changed rows
+that there never were, which it must not explain.
 
-Then histories of up to seven transactions on a database that isolates them badly, a third as many: what `check` says is
-compared with a reader of this file's own. It runs the order of a yes, and tries all orders at a no. The reasons of a no that
-has a certificate are read line by line: the transactions, lines, values and numbers in them have to be those of the history,
-and a cycle's steps and its name have to follow. A certificate that is written is read again; and it is turned, a number, a
-word, a line or two at a time, and read with the transcript of the same transactions run one after the other, which has an
-order: so each of them must be refused."""
-import collections, concurrent.futures, glob, os, random, re, subprocess, sys, tempfile
+Then histories of up to seven transactions on a database that isolates them badly: what `check` says is compared with a reader
+of this file's own. It runs the order of a yes, and tries all orders at a no. The reasons of a no that has a certificate are
+read line by line: the transactions, lines, values and numbers in them have to be those of the history, and a cycle's steps and
+its name have to follow. A certificate that is written is read again; and it is turned, a number, a word, a line or two at a
+time, and read with the transcript of the same transactions run one after the other, which has an order: so each of them must
+be refused."""
+import collections
+import glob
+import os
+import random
+import re
+import subprocess
+import unittest
+from tempfile import TemporaryDirectory
 
-TOP = os.path.dirname(os.path.dirname(os.path.abspath(__file__)))
+from tests.program import TOP, Case, Differs, program, side_by_side
+
+# How many random scripts there are, and histories.
+SCRIPTS, HISTORIES = 1000, 333
 
 def statement(chance):
     """A statement on one of two tables of few rows."""
@@ -69,16 +77,18 @@ def fault(program, script):
     asked = [line for line in script.split("\n")[:-1] if line and not line.startswith("--")]
     replies = done(program, ["run", "-"], script)[1][:-1]
     if status != 0 or [line[2:] for line in told if line.startswith("> ")] != asked:
-        return "hasn't its lines", 0
+        return Differs(script, "its transcript has its lines", told), 0
     if [line[2:] for line in told if line.startswith("  ")] != replies or len(told) != len(asked) + len(replies) + 1:
-        return "hasn't its replies", 0
+        return Differs(script, "its transcript has its replies", told), 0
     transcript = "\n".join(told)
-    if done(program, ["check", "-"], transcript)[1][-2:] != ["check yes", ""]:
-        return "isn't explained", 0
+    answer = done(program, ["check", "-"], transcript)[1][-2:]
+    if answer != ["check yes", ""]:
+        return Differs(script, "check yes", answer), 0
     false = list(falsified(transcript))
     for wrong in false:
-        if done(program, ["check", "-"], wrong)[1][-2:] != ["check no", ""]:
-            return "is explained with a false reply, or isn't looked at", 0
+        answer = done(program, ["check", "-"], wrong)[1][-2:]
+        if answer != ["check no", ""]:
+            return Differs(wrong, "check no, since a reply is false", answer), 0
     return None, len(false)
 
 # ---- histories, and a reader of transcripts
@@ -219,6 +229,13 @@ def after(tables, transaction):
             return None
         tables = done[1]
     return tables
+
+def counted(transcript, transactions):
+    """The line that says how much was judged."""
+    lines = transcript.split("\n")
+    sessions = {lines[begin].split(" ")[1] for begin, _, _ in transactions.values()}
+    statements = sum(len(statements) for _, _, statements in transactions.values())
+    return f"judged: transactions {len(transactions)}, sessions {len(sessions)}, statements {statements}, without a reply to COMMIT 0"
 
 def may_come(transactions, number, left):
     return all(transactions[other][1] > transactions[number][0] for other in left)
@@ -500,11 +517,13 @@ def history(program, folder, seed):
         wrong = "has an order"
     if (verdict, status) not in (("yes", 0), ("no", 5), ("unknown", 4)) or (verdict != "no" and os.path.exists(path)):
         wrong = f"ends with {status}"
+    if printed.split("\n")[-3] != counted(transcript, transactions):
+        wrong = f"isn't counted so: {printed}"
     if wrong or not os.path.exists(path):
         return wrong, verdict, None, transcript
     with open(path, encoding="utf-8") as file:
         lines = file.read().split("\n")[:-1]
-    false = untrue(transactions, printed.split("\n")[:-2])
+    false = untrue(transactions, printed.split("\n")[:-3])
     if false is not None:
         wrong = f"has this reason, which isn't true or not in its place: {false}"
     if checked(program, folder, f"{seed}", transcript)[:2] != (status, printed):
@@ -516,42 +535,57 @@ def taken(program, folder, name, lines, transcript):
     status, printed, says, _ = checked(program, folder, name, transcript, lines)
     return status != 1 or printed != "" or not re.fullmatch(r"certificate line [1-9][0-9]*", says)
 
-def histories(program, number, pool):
-    """What is wrong with histories, if anything, and what was looked at."""
-    with tempfile.TemporaryDirectory() as folder:
-        found = list(pool.map(lambda seed: history(program, folder, seed), range(number)))
-        for wrong, verdict, _, transcript in found:
-            if wrong:
-                return f"checked: this history, said to be a {verdict}, {wrong}\n{transcript}", ""
-        having = [certificate for _, _, certificate, _ in found if certificate]
-        numbered = [certificate for certificate in having[TURNED:] if is_numbered(certificate[0])]
-        tries = [(lines, transcript) for whole, transcript in having[:TURNED] + numbered[:TURNED] for lines in (whole, *turned(whole))]
-        bad = list(pool.map(lambda at: taken(program, folder, f"t{at}", *tries[at]), range(len(tries))))
-        for (lines, transcript), is_bad in zip(tries, bad):
-            if is_bad:
-                return "checked: this certificate isn't refused\n" + "\n".join(lines) + f"\n-- of this transcript:\n{transcript}", ""
-    verdicts = collections.Counter(verdict for _, verdict, _, _ in found)
-    said = ", ".join(f"{verdicts[verdict]} {verdict}" for verdict in ("yes", "no", "unknown"))
-    of_numbers = sum(is_numbered(lines) for lines, _ in having)
-    return None, f"""{number} histories of {LEAST} to {MOST} transactions: {said}; {len(having)} certificates, {of_numbers} by numbers of rows, \
-{len(tries)} refused with an order"""
+class Scripts(Case):
+    """Transcripts of scripts."""
 
-def main():
-    number = int(sys.argv[1]) if len(sys.argv) > 1 else 1000
-    program = os.path.abspath(sys.argv[2] if len(sys.argv) > 2 else os.path.join(TOP, "crates/pgserial/out/pgserial"))
-    scripts = []
-    for path in sorted(glob.glob(os.path.join(TOP, "examples", "*.script"))):
-        with open(path, encoding="utf-8") as file:
-            scripts.append((os.path.basename(path), file.read()))
-    scripts += [(f"seed {seed}", script(random.Random(seed))) for seed in range(number)]
-    with concurrent.futures.ThreadPoolExecutor(os.cpu_count()) as pool:
-        found = list(pool.map(lambda named: fault(program, named[1]), scripts))
-        odd, looked_at = histories(program, number // 3, pool)
-    wrong = [f"checked: the transcript of this script {told} ({name})\n{text}" for (name, text), (told, _) in zip(scripts, found) if told]
-    if wrong or odd:
-        print(*wrong[:1], *([odd] if odd else []), sep="\n")
-        sys.exit(1)
-    false = sum(looked for _, looked in found)
-    print(f"checked: {len(scripts)} transcripts explained and {false} false ones not, as it should be; {looked_at}")
+    def explained(self, scripts):
+        """Each script's transcript must be explained, and not with a false reply; how many of these there were."""
+        found = side_by_side(lambda named: fault(program(), named[1]), scripts)
+        for (name, _), (wrong, _) in zip(scripts, found):
+            with self.subTest(name):
+                if wrong:
+                    raise wrong
+        return sum(false for _, false in found)
 
-main()
+    def test_examples(self):
+        scripts = []
+        for path in sorted(glob.glob(os.path.join(TOP, "examples", "*.script"))):
+            with open(path, encoding="utf-8") as file:
+                scripts.append((os.path.basename(path), file.read()))
+        self.assertGreater(self.explained(scripts), 0)
+
+    def test_random_scripts(self):
+        scripts = [(f"seed {seed}", script(random.Random(seed))) for seed in range(SCRIPTS)]
+        self.assertGreater(self.explained(scripts), SCRIPTS)
+
+class Histories(unittest.TestCase):
+    """Histories of transactions on a database that isolates them badly."""
+
+    @classmethod
+    def setUpClass(cls):
+        folder = TemporaryDirectory()
+        cls.addClassCleanup(folder.cleanup)
+        cls.folder = folder.name
+        cls.found = side_by_side(lambda seed: history(program(), folder.name, seed), range(HISTORIES))
+        cls.having = [certificate for _, _, certificate, _ in cls.found if certificate]
+
+    def test_each_verdict_is_that_of_a_reader_beside_the_program(self):
+        for seed, (wrong, verdict, _, transcript) in enumerate(self.found):
+            with self.subTest(f"seed {seed}"):
+                if wrong:
+                    raise Differs(transcript, f"a verdict that holds, and not that this, a {verdict}, {wrong}", verdict)
+
+    def test_there_are_both_verdicts_and_certificates_by_numbers_of_rows(self):
+        verdicts = collections.Counter(verdict for _, verdict, _, _ in self.found)
+        self.assertGreater(min(verdicts["yes"], verdicts["no"]), 50)
+        self.assertEqual(verdicts["unknown"], 0)
+        self.assertGreater(sum(is_numbered(lines) for lines, _ in self.having), 3)
+
+    def test_certificates_are_refused_with_a_transcript_that_has_an_order(self):
+        numbered = [certificate for certificate in self.having[TURNED:] if is_numbered(certificate[0])]
+        tries = [(lines, transcript) for whole, transcript in self.having[:TURNED] + numbered[:TURNED] for lines in (whole, *turned(whole))]
+        bad = side_by_side(lambda at: taken(program(), self.folder, f"t{at}", *tries[at]), range(len(tries)))
+        for at, ((lines, transcript), is_bad) in enumerate(zip(tries, bad)):
+            with self.subTest(f"certificate {at}"):
+                if is_bad:
+                    raise Differs(transcript + "-- with the certificate\n" + "\n".join(lines), "refused", "taken")

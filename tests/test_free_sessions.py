@@ -1,10 +1,17 @@
-#!/usr/bin/env python3
-"""soak [SECONDS] [PROGRAM]: runs random scripts on threads for so long, 20 s where nothing is said, by the built program; 1
-where one has a wrong state. Sessions move amounts between accounts, so their sum stays; each SELECT of a transaction that
-was committed, each dump, and each run's check are looked at. The look itself is tried on a dump of which a row was changed.
-SEED in the environment begins with another script than usual."""
-import os, random, subprocess, sys, tempfile, time
+"""Random scripts on threads, for a time: that of $PGSERIAL_SECONDS, or else 20 seconds.
+
+Sessions move amounts between accounts, so their sum stays; each SELECT of a transaction that was committed, each dump, and each
+run's check are looked at. The look itself is tried on a dump of which a row was changed. $SEED begins with another script than
+usual."""
+import os
+import random
+import subprocess
+import tempfile
+import time
+import unittest
 from pathlib import Path
+
+from tests.program import Differs, program
 
 ACCOUNTS, AMOUNT = 12, 100
 HEAD = "-- dump 2\nCREATE TABLE a (id bigint PRIMARY KEY, v bigint);\nCOPY a (id, v) FROM stdin;\n"
@@ -106,36 +113,24 @@ def run(program, folder, chance, counts):
     counts["scripts"] += 1
 
 
-def look_fails_where_it_should():
-    """A changed row, a row too few and a dump without its end are found."""
-    look_at(rows_of_dump(BASE), "the first dump")
-    for bad in [BASE.replace("\t100\n", "\t101\n", 1), BASE.replace("7\t100\n", ""), BASE[:-3]]:
-        try:
-            look_at(rows_of_dump(bad), "a changed dump")
-        except Wrong:
-            continue
-        raise Wrong("a changed dump isn't found")
+class FreeSessions(unittest.TestCase):
+    """Sessions of random scripts on threads of their own."""
 
+    def test_a_changed_dump_is_seen(self):
+        look_at(rows_of_dump(BASE), "the first dump")
+        for bad in [BASE.replace("\t100\n", "\t101\n", 1), BASE.replace("7\t100\n", ""), BASE[:-3]]:
+            with self.assertRaises(Wrong):
+                look_at(rows_of_dump(bad), "a changed dump")
 
-def main():
-    here = Path(__file__).resolve().parent.parent
-    seconds = float(sys.argv[1]) if len(sys.argv) > 1 else 20
-    program = os.path.abspath(sys.argv[2] if len(sys.argv) > 2 else here / "crates/pgserial/out/pgserial")
-    if not os.access(program, os.X_OK):
-        sys.exit(f"soak: {program} isn't built: ./pgserial build")
-    seed, end = int(os.environ.get("SEED", "1")), time.monotonic() + seconds
-    counts = dict(scripts=0, commits=0, dumps=0, refusals=0)
-    look_fails_where_it_should()
-    with tempfile.TemporaryDirectory() as folder:
-        Path(folder, "base").write_text(BASE)
-        while time.monotonic() < end:
-            try:
-                run(program, folder, random.Random(seed), counts)
-            except (Wrong, subprocess.TimeoutExpired) as fault:
-                sys.exit(f"soak: SEED={seed}: {fault}")
-            seed += 1
-    require(counts["commits"] and counts["dumps"], "nothing was done")
-    print("soak: " + ", ".join(f"{count} {what}" for what, count in counts.items()) + ", as they should be")
-
-
-main()
+    def test_accounts_keep_their_sum(self):
+        seed, end = int(os.environ.get("SEED", "1")), time.monotonic() + float(os.environ.get("PGSERIAL_SECONDS", "20"))
+        counts = dict(scripts=0, commits=0, dumps=0, refusals=0)
+        with tempfile.TemporaryDirectory() as folder:
+            Path(folder, "base").write_text(BASE)
+            while time.monotonic() < end:
+                try:
+                    run(program(), folder, random.Random(seed), counts)
+                except (Wrong, subprocess.TimeoutExpired) as fault:
+                    raise Differs(f"SEED={seed} ./pgserial test free_sessions", "accounts that keep their sum", f"{fault}") from None
+                seed += 1
+        self.assertGreater(min(counts["commits"], counts["dumps"]), 0)

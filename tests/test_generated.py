@@ -1,8 +1,6 @@
-#!/usr/bin/env python3
-"""generated [PROGRAM]: runs the built program on scripts and dumps that are too long to be written down, that lack their
-last newline, or that aren't text; 1 where one ends otherwise than it should. Without PROGRAM that of crates/pgserial.
-"""
-import concurrent.futures
+"""Scripts and dumps that are too long to be written down, that lack their last newline, or that aren't text; what `explore`
+prints beside an enumeration in Python; sessions that wait for one another; and what a terminal is shown."""
+
 import contextlib
 import glob
 import importlib.machinery
@@ -16,11 +14,14 @@ import sys
 import tempfile
 import time
 from math import comb
+from typing import Any, Callable, Dict, List, Optional, Tuple
 
-TOP = os.path.dirname(os.path.dirname(os.path.abspath(__file__)))
+from tests.program import TOP, Case, Differs, program, side_by_side
+
 # What is run: words, files by their names (that of no name is standard input), the exit status, and what must be printed,
 # told and written to `out`.
-cases = []
+Made = Tuple[List[str], Dict[str, bytes], int, bytes, bytes, Optional[bytes]]
+cases: List[Made] = []
 
 
 def case(words, files, status=0, printed=b"", told=b"", out=None):
@@ -380,28 +381,30 @@ def explorer():
     return module
 
 
-def exploring(program):
-    """How what `explore` prints isn't what comes of each schedule, run by itself; by one worker or many, of all schedules
-    and of some that are drawn."""
-    counts = explorer()
+def scripts_to_explore() -> List[str]:
+    """Those whose schedules aren't too many to be run one by one: bench/explore_counts compares the others."""
     names = sorted(glob.glob(os.path.join(TOP, "bench/explored/*.script")) + glob.glob(os.path.join(TOP, "examples/explored_*.script")))
     scripts = [THREE, TWO_TABLES]
     for name in names:
         with open(name, encoding="utf-8") as file:
             scripts.append(file.read())
-    faults = []
+    few = []
     for script in scripts:
         number = 1
-        lines = [len(lines) for lines in counts.parts(script)[1].values()]
+        lines = [len(lines) for lines in explorer().parts(script)[1].values()]
         for at, own in enumerate(lines):
             number = number * comb(sum(lines[: at + 1]), own)
-        # Those with many schedules are compared by bench/explore_counts alone: each is a run of the program.
-        if number > 2000:
-            continue
-        for words, wanted in counts.expected(program, script, [(1, 0), (300, 9223372036854775807)]):
-            faults += [f"explore {words} --jobs {jobs} of {script[-60:]!r}: it prints otherwise than it should"
-                       for jobs in counts.JOBS if counts.explored(program, script, f"{words} --jobs {jobs}") != wanted]
-    return faults
+        few += [script] if number <= 2000 else []
+    return few
+
+
+def exploring(program: str, script: str) -> List[str]:
+    """How what `explore` prints isn't what comes of each schedule, run by itself; by one worker or many, of all schedules
+    and of some that are drawn."""
+    counts = explorer()
+    return [f"explore {words} --jobs {jobs} of {script[-60:]!r}: it prints otherwise than it should"
+            for words, wanted in counts.expected(program, script, [(1, 0), (300, 9223372036854775807)])
+            for jobs in counts.JOBS if counts.explored(program, script, f"{words} --jobs {jobs}") != wanted]
 
 
 def many_sessions(number):
@@ -593,50 +596,93 @@ def restoring_on_a_terminal(program):
     return None
 
 
-def fault(program, case):
+def fault(made: Made) -> Optional[Differs]:
     """How a case ends otherwise than it should, or nothing."""
-    words, files, status, printed, told, out = case
+    words, files, status, printed, told, out = made
     with tempfile.TemporaryDirectory() as folder:
         for name, data in files.items():
             if name:
                 with open(os.path.join(folder, name), "wb") as file:
                     file.write(data)
-        done = subprocess.run([program] + words, cwd=folder, input=files.get("", b""), capture_output=True, timeout=60)
+        done = subprocess.run([program(), *words], cwd=folder, input=files.get("", b""), capture_output=True, timeout=60)
+        size = sum(map(len, files.values()))
         begins = f"{' '.join(words)} of {max(files.values())[-60:]!r}"
         # Behind its first line standard error has words for a person.
         first = b"".join(done.stderr.splitlines(keepends=True)[:1]) if told.endswith(b"\n") else done.stderr
         if (done.returncode, first) != (status, told):
-            return f"{begins}: {done.returncode}, {first!r}, and not {status}, {told!r}"
+            return Differs(f"{begins} ends", (status, told), (done.returncode, first), size)
         if done.stdout != printed:
-            return f"{begins}: it prints otherwise than it should"
+            return Differs(f"{begins} prints", printed, done.stdout, size)
         if out is not None:
             with open(os.path.join(folder, "-" if "--out=-" in words else "out"), "rb") as file:
-                if file.read() != out:
-                    return f"{begins}: it writes otherwise than it should"
+                written = file.read()
+            if written != out:
+                return Differs(f"{begins} writes", out, written, size)
     return None
 
 
-def main():
-    program = os.path.abspath(sys.argv[1] if len(sys.argv) > 1 else os.path.join(TOP, "crates/pgserial/out/pgserial"))
-    if not os.access(program, os.X_OK):
-        print(f"generated: {program} isn't built: ./pgserial build", file=sys.stderr)
-        return 2
-    for made in faulty_scripts, beginnings, two_pieces, many_rows, long_scripts, commits_of_most_rows, streams_and_names:
-        made()
-    faults = unexplored(program) + exploring(program)
-    with concurrent.futures.ThreadPoolExecutor(os.cpu_count()) as pool:
-        faults += [told for told in pool.map(lambda one: fault(program, one), cases) if told]
-    faults += [told for told in (dump_beside_writers(program) for _ in range(20)) if told]
-    left = (left_while_another_waits(program) for _ in range(3))
-    faults += [told for told in [sessions_that_wait(program), next(filter(None, left), None)] if told]
-    faults += [told for told in [at_a_terminal(program), exploring_on_a_terminal(program), restoring_on_a_terminal(program)] if told]
-    for told in faults[:20]:
-        print("generated: " + told)
-    if faults:
-        return 1
-    print(f"generated: {len(cases) + 28} as they should be")
-    return 0
+class Generated(Case):
+    """Each case is run, as many side by side as there are processors."""
 
+    def run_made(self, make: Callable[[], Any]) -> None:
+        """Runs what a function makes."""
+        cases.clear()
+        make()
+        for made, differs in zip(list(cases), side_by_side(fault, cases)):
+            with self.subTest(" ".join(made[0])):
+                if differs:
+                    raise differs
 
-if __name__ == "__main__":
-    sys.exit(main())
+    def right(self, what: str, said: Optional[str]) -> None:
+        """One case, of which this is said that is wrong, or nothing."""
+        with self.subTest(what):
+            if said:
+                self.fail(said)
+
+    def test_faulty_scripts(self) -> None:
+        self.run_made(faulty_scripts)
+
+    def test_beginnings_of_dumps(self) -> None:
+        self.run_made(beginnings)
+
+    def test_faults_at_the_edge_of_two_pieces(self) -> None:
+        self.run_made(two_pieces)
+
+    def test_many_rows(self) -> None:
+        self.run_made(many_rows)
+
+    def test_long_scripts(self) -> None:
+        self.run_made(long_scripts)
+
+    def test_commits_of_most_rows(self) -> None:
+        self.run_made(commits_of_most_rows)
+
+    def test_streams_and_names(self) -> None:
+        self.run_made(streams_and_names)
+
+    def test_what_is_not_explored(self) -> None:
+        said: List[str] = []
+        self.run_made(lambda: said.extend(unexplored(program())))
+        self.right("command lines of explore", "\n".join(said))
+
+    def test_explore_beside_an_enumeration(self) -> None:
+        for script in scripts_to_explore():
+            self.right(script[-60:], "\n".join(exploring(program(), script)))
+
+    def test_dumps_beside_writers(self) -> None:
+        for _ in range(20):
+            self.right("a dump beside two writers", dump_beside_writers(program()))
+
+    def test_sessions_that_wait(self) -> None:
+        self.right("sessions that wait", sessions_that_wait(program()))
+        for _ in range(3):
+            self.right("a session that waits for another", left_while_another_waits(program()))
+
+    def test_a_terminal_is_shown_names_and_what_is_read(self) -> None:
+        self.right("at a terminal", at_a_terminal(program()))
+
+    def test_a_terminal_is_shown_how_far_explore_is(self) -> None:
+        self.right("explore", exploring_on_a_terminal(program()))
+
+    def test_a_terminal_is_shown_how_far_restore_is(self) -> None:
+        self.right("restore", restoring_on_a_terminal(program()))

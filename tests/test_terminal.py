@@ -1,291 +1,19 @@
-#!/usr/bin/env python3
-"""shell [PROGRAM]: speaks with `pgserial shell`, line by line; 1 where one answers or ends otherwise than it should.
+"""`pgserial shell` at a pseudo-terminal: sessions that are typed, that of docs/SHELL.md among them, and what is shown of each line."""
 
-Without PROGRAM that of crates/pgserial. Through pipes it holds the conversations of tests/shell, and sends what can't
-be written down there; it types at a terminal, and looks at what is drawn there as .ci/drawn does; it runs the tests of
-clients/python and their example; and it tells how long 100,000 lines take of which each waits for the answer before.
-"""
-import concurrent.futures
-import importlib.machinery
-import importlib.util
+import contextlib
 import os
 import pty
 import re
 import select
 import subprocess
-import sys
 import tempfile
 import time
 
-TOP = os.path.dirname(os.path.dirname(os.path.abspath(__file__)))
+from tests import pictures
+from tests.program import TOP, Case, Differs, program
+
 PATIENCE = 30  # seconds for an answer
-SLOW = 20  # seconds for the lines of `lockstep`, which take under 3 where the machine has nothing else to do
-QUICK = 5  # seconds for the lines of `skipped`, which take under 1
 WAITING = 0.4  # seconds for which an answer waits whose time is told
-LINES = 100_000
-MOST_BYTES = 1 << 20  # of a line
-PAIRS = b"CREATE TABLE t (id bigint PRIMARY KEY, v bigint);\n"
-LONGEST = b"1 DELETE FROM t".ljust(MOST_BYTES - 1) + b";"
-
-
-class Talk:
-    """A running shell: what is sent to it, and the lines that it answers."""
-
-    def __init__(self, program, words=(), folder=None):
-        pipe = subprocess.PIPE
-        self.child = subprocess.Popen(
-            [program, "shell", *words], stdin=pipe, stdout=pipe, stderr=pipe, cwd=folder, bufsize=0)
-        self.pending = b""
-
-    def send(self, data):
-        try:
-            while data:
-                data = data[os.write(self.child.stdin.fileno(), data):]
-        except BrokenPipeError:
-            pass  # what it has to say of that is looked at by who reads
-
-    def line(self):
-        """The next line, without its newline, or what there is of it where no more comes."""
-        while b"\n" not in self.pending:
-            if not select.select([self.child.stdout], [], [], PATIENCE)[0]:
-                break
-            piece = os.read(self.child.stdout.fileno(), 65536)
-            if not piece:
-                break
-            self.pending += piece
-        line, newline, self.pending = self.pending.partition(b"\n")
-        return line.decode("utf-8", "backslashreplace") if newline else f"{line!r} and no newline"
-
-    def end(self):
-        """Ends the input: what was printed still, what standard error begins with, and the status."""
-        try:
-            told = self.child.communicate(timeout=PATIENCE)
-        except subprocess.TimeoutExpired:
-            self.child.kill()
-            told = self.child.communicate()
-        printed = (self.pending + told[0]).decode("utf-8", "backslashreplace")
-        return printed, told[1].decode("utf-8", "backslashreplace").partition("\n")[0], self.child.returncode
-
-
-# ---- conversations
-
-
-class Script:
-    """A conversation: the words behind `shell`, pairs of a line and the lines of its answer, and files."""
-
-    def __init__(self, name, words):
-        self.name, self.words = name, words
-        self.turns, self.dump, self.out, self.told = [], [], [], ""
-
-
-def scripts_of(path):
-    """The conversations of a file, in their order."""
-    scripts = []
-    with open(path, encoding="utf-8", newline="") as file:
-        lines = file.read().split("\n")[:-1]
-    for number, line in enumerate(lines, 1):
-        if line.startswith("-- script "):
-            name, _, words = line[len("-- script "):].partition(": ")
-            scripts.append(Script(f"{os.path.basename(path)}: {name}", words.split()))
-        elif line == "" or line.startswith("--"):
-            continue
-        elif line == ">" or line.startswith("> "):
-            scripts[-1].turns.append((line[2:], []))
-        elif line.startswith("  "):
-            scripts[-1].turns[-1][1].append(line[2:])
-        elif line[:2] in ("< ", "| "):
-            (scripts[-1].dump if line[0] == "<" else scripts[-1].out).append(line[2:])
-        elif line.startswith("! "):
-            scripts[-1].told = line[2:]
-        else:
-            raise ValueError(f"{path}:{number}: a line without a mark")
-    return scripts
-
-
-def is_answer(got, want):
-    """Whether a line is what is wanted; one that ends in ` ..` may have any words there."""
-    return got.startswith(want[:-2]) and len(got) > len(want) - 2 if want.endswith(" ..") else got == want
-
-
-def differs(program, script):
-    """How a conversation goes otherwise than it should, or nothing."""
-    with tempfile.TemporaryDirectory() as folder:
-        if script.dump:
-            with open(os.path.join(folder, "dump"), "w", encoding="utf-8", newline="") as file:
-                file.write("".join(line + "\n" for line in script.dump))
-        talk = Talk(program, script.words, folder)
-        fault = None
-        for sent, wanted in script.turns:
-            talk.send(sent.encode() + b"\n")
-            got = [talk.line() for _ in wanted]
-            wrong = [(g, w) for g, w in zip(got, wanted) if not is_answer(g, w)]
-            if wrong:
-                fault = f"`{sent}` is answered `{wrong[0][0]}`, and not `{wrong[0][1]}`"
-                break
-        printed, told, status = talk.end()
-        wanted_status = 0 if not script.told else 3 if script.told.startswith("device: ") else 1
-        if not fault and (printed, told, status) != ("", script.told, wanted_status):
-            fault = f"it ends with {status}, prints {printed!r} and tells {told!r}"
-        path = os.path.join(folder, "out")
-        if not fault and script.out:
-            text = open(path, encoding="utf-8").read() if os.path.exists(path) else ""
-            fault = None if text.split("\n")[:-1] == script.out else f"it writes {text!r}"
-        return fault
-
-
-def conversations(program):
-    """What is wrong with the conversations of tests/shell, and how many there are; a turned answer has to be told."""
-    folder = os.path.join(TOP, "tests/shell")
-    scripts = [script for name in sorted(os.listdir(folder)) for script in scripts_of(os.path.join(folder, name))]
-    with concurrent.futures.ThreadPoolExecutor(os.cpu_count()) as pool:
-        told = pool.map(lambda script: differs(program, script), scripts)
-        faults = [f"{script.name}: {fault}" for script, fault in zip(scripts, told) if fault]
-    turned = next(script for script in scripts if script.turns and script.turns[0][1])
-    for lines in (["x"], []):
-        kept, turned.turns[0][1][:] = list(turned.turns[0][1]), lines
-        if differs(program, turned) is None:
-            faults.append(f"{turned.name}: a turned answer isn't told")
-        turned.turns[0][1][:] = kept
-    return faults, len(scripts)
-
-
-# ---- what can't be written down
-
-# What is sent, and what must come of it: the lines printed, of which one that ends in ` ..` may have any words there.
-TALKS = {
-    "no line": (b"", []),
-    "a line that the end cuts off": (b"1 BEGIN;\n1 COMMIT;", ["1 BEGIN", "ERROR 42601 .."]),
-    "a comment that the end cuts off": (b"1 BEGIN;\n--", ["1 BEGIN", "ERROR 42601 .."]),
-    "a line of a mebibyte": (
-        PAIRS + b"1 BEGIN;\n" + LONGEST + b"\n1 COMMIT;\n",
-        ["CREATE TABLE", "1 BEGIN", "1 ERROR 54000", "1 ROLLBACK"]),
-    "a line of more": (
-        PAIRS + b"1 BEGIN;\n" + LONGEST + b";\n1 COMMIT;\n",
-        ["CREATE TABLE", "1 BEGIN", "ERROR 54000 ..", "1 COMMIT"]),
-    "lines of much more": (
-        (b"x" * (3 * MOST_BYTES) + b"\n") * 2 + b"-" + b"x" * MOST_BYTES + b"\n1 BEGIN;\n",
-        ["ERROR 54000 .."] * 3 + ["1 BEGIN"]),
-    "comments, of much more and no UTF-8": (
-        (b"--" + b"x" * (3 * MOST_BYTES) + b"\n-- \xff\n") + PAIRS + b"-- \xff\n"
-        + b"1 BEGIN;\n-- \xff\n--" + b"\xff" * MOST_BYTES + b"\n1 COMMIT;\n",
-        ["CREATE TABLE", "1 BEGIN", "1 COMMIT"]),
-    "a long line that the end cuts off": (b"1 BEGIN;\n" + b"x" * (2 * MOST_BYTES), ["1 BEGIN", "ERROR 54000 .."]),
-    "no UTF-8": (
-        b"-\xff\n" + PAIRS + b"1 BEGIN;\n1 SELECT '\xc3';\n\xff\n1 COMMIT;\n",
-        ["ERROR 42601 ..", "CREATE TABLE", "1 BEGIN", "ERROR 42601 ..", "ERROR 42601 ..", "1 COMMIT"]),
-    "a zero byte": (
-        b"CREATE TABLE t (id text PRIMARY KEY);\n\0\n1 BEGIN;\n1 INSERT INTO t VALUES ('\0');\n\x001 COMMIT;\n"
-        b"1 COMMIT;\n",
-        ["CREATE TABLE", "ERROR 42601 ..", "1 BEGIN", "1 ERROR 22021 byte 22", "ERROR 42601 ..", "1 ROLLBACK"]),
-    "carriage returns": (
-        b"CREATE TABLE t\r(id text PRIMARY KEY);\n1 BEGIN;\r\n1 BEGIN;\n1 INSERT INTO t\rVALUES ('a\rb');\n"
-        b"1 SELECT * FROM t;\n\r\n",
-        ["CREATE TABLE", "ERROR 42601 ..", "1 BEGIN", "1 INSERT 0 1", "1 SELECT 1", "1 | a\\rb", "ERROR 42601 .."]),
-    "a space behind a line": (b"1 BEGIN; \n1 BEGIN;\n", ["ERROR 42601 ..", "1 BEGIN"]),
-    "many lines sent ahead": (
-        PAIRS + b"1 BEGIN;\n1 INSERT INTO t VALUES (1, 0);\n"
-        + b"1 UPDATE t SET v = v + 1;\n1 SELECT v FROM t;\n" * 2500,
-        ["CREATE TABLE", "1 BEGIN", "1 INSERT 0 1"]
-        + [line for n in range(1, 2501) for line in ("1 UPDATE 1", "1 SELECT 1", f"1 | {n}")]),
-}
-
-
-def talks(program):
-    """What is wrong with the answers to what is sent at once."""
-    for name, (sent, wanted) in TALKS.items():
-        try:
-            done = subprocess.run([program, "shell"], input=sent, capture_output=True, timeout=PATIENCE)
-        except subprocess.TimeoutExpired:
-            yield f"{name}: it doesn't end"
-            continue
-        got = done.stdout.decode("utf-8", "backslashreplace").split("\n")
-        wanted = wanted + [""]
-        wrong = [(g, w) for g, w in zip(got, wanted) if not (is_answer(g, w) if w else g == w)]
-        if done.returncode or done.stderr or len(got) != len(wanted) or wrong:
-            first = wrong[0] if wrong else (len(got), len(wanted))
-            yield f"{name}: it ends with {done.returncode}, {first[0]} and not {first[1]}, {done.stderr[:200]!r}"
-
-
-def ends(program):
-    """What is wrong with how it ends: where nobody reads, where the output takes nothing, at bad command lines."""
-    talk = Talk(program)
-    talk.child.stdout.close()
-    talk.send(b"1 BEGIN;\n")
-    if talk.child.wait(PATIENCE) != 3:
-        yield f"a closed reader: it ends with {talk.child.returncode}, and not 3"
-    if talk.child.stderr.read().split(b"\n")[0] != b"device: -":
-        yield "a closed reader: `device: -` isn't told"
-    talk.child.stdin.close()
-    talk.child.stderr.close()
-    if os.path.exists("/dev/full"):
-        with open("/dev/full", "wb") as full:
-            done = subprocess.run(
-                [program, "shell"], input=b"1 BEGIN;\n", stdout=full, stderr=subprocess.PIPE, timeout=PATIENCE)
-        if (done.returncode, done.stderr.split(b"\n")[0]) != (3, b"device: -"):
-            yield f"an output that takes nothing: it ends with {done.returncode} and tells {done.stderr!r}"
-    for line in ("--events", "--events 0", "--events x", "--events 1 --events 2", "a b", "--free"):
-        words = line.split()
-        done = subprocess.run([program, "shell", *words], input=b"1 BEGIN;\n", capture_output=True, timeout=PATIENCE)
-        if (done.returncode, done.stdout) != (2, b"") or not done.stderr:
-            yield f"shell {line}: it ends with {done.returncode}, prints {done.stdout!r} and tells {done.stderr!r}"
-
-
-def unopened(program):
-    """What is wrong with what is told of a dump that isn't opened: what `restore` tells."""
-    key = "id bigint PRIMARY KEY"
-    head = "-- dump 2\n"
-    with tempfile.TemporaryDirectory() as folder:
-        for text in ("", "no dump\n", head, f"{head}CREATE TABLE t ({key});\nCREATE TABLE t ({key});\n"):
-            path = os.path.join(folder, "dump")
-            with open(path, "w", encoding="utf-8") as file:
-                file.write(text)
-            told = [
-                subprocess.run([program, *words], input=b"", capture_output=True, timeout=PATIENCE)
-                for words in (["shell", path], ["restore", path, "--out", os.path.join(folder, "out")])]
-            shell, restore = [(done.returncode, done.stdout, done.stderr) for done in told]
-            if shell != restore or shell[0] != 1 or shell[2].count(b"\n") != 2:
-                yield f"a faulty dump: shell tells {shell}, and restore {restore}"
-
-
-# ---- how long it takes
-
-
-def lockstep(program):
-    """The seconds for lines of which each is sent when the one before it was answered."""
-    talk = Talk(program, ["--events", str(2 * LINES)])
-    sent, told = talk.child.stdin.fileno(), talk.child.stdout.fileno()
-    lines = [PAIRS, b"1 BEGIN;\n"]
-    lines += [b"1 INSERT INTO t VALUES (%d, 0);\n" % key for key in range(101)] + [b"1 COMMIT;\n"]
-    update, select = b"1 UPDATE t SET v = v + 1 WHERE id = %d;\n", b"1 SELECT v FROM t WHERE id = %d;\n"
-    for n in range((LINES - len(lines)) // 4):
-        lines += [b"1 BEGIN;\n", update % (n % 100), select % (n % 100), b"1 COMMIT;\n"]
-    begun = time.monotonic()
-    for line in lines:
-        os.write(sent, line)
-        answer = os.read(told, 4096)
-        if line.startswith(b"1 SELECT"):
-            while answer.count(b"\n") < 2:
-                answer += os.read(told, 4096)
-        if b"ERROR" in answer or not answer.endswith(b"\n"):
-            talk.child.kill()
-            raise ValueError(f"{line!r} is answered {answer!r}")
-    seconds = time.monotonic() - begun
-    talk.end()
-    return seconds
-
-
-def skipped(program):
-    """The seconds for as many empty lines and comments before the first session line, and 100 comments of a mebibyte."""
-    lines = [b"\n", b"-- %s\n" % (b"x" * 30)] * (LINES // 2) + [b"--%s\n" % (b"x" * (MOST_BYTES - 2))] * 100
-    begun = time.monotonic()
-    done = subprocess.run([program, "shell"], input=b"".join([PAIRS, *lines, b"1 BEGIN;\n"]), capture_output=True, timeout=PATIENCE)
-    seconds = time.monotonic() - begun
-    if (done.returncode, done.stdout, done.stderr) != (0, b"CREATE TABLE\n1 BEGIN\n", b""):
-        raise ValueError(f"empty lines and comments: it ends with {done.returncode}, {done.stdout[-200:]!r}, {done.stderr[-200:]!r}")
-    return seconds
-
-
-# ---- a terminal
 
 
 class Terminal:
@@ -562,93 +290,32 @@ def documented():
     return [(typed, follows[0], "".join(shown)) for (_, typed, shown), follows in zip(turns, turns[1:])]
 
 
-def typed_as(program, turns, last, words=()):
-    """What is wrong with a session at a terminal that is ended so, of a shell with these words."""
+def typed_as(turns, last, words=()):
+    """Types a session at a terminal that is ended so, of a shell with these words: what each line shows, beside what is wanted."""
     with tempfile.TemporaryDirectory() as folder:
         with open(os.path.join(folder, "long"), "w", encoding="utf-8") as file:
             file.write("delete from t where v = 1".ljust(2 * PASSED_ON) + "and id = 2;\n")
         with open(os.path.join(folder, "marked"), "w", encoding="utf-8-sig") as file:
             file.write("rollback\n")
-        terminal = Terminal(program, words, folder)
-        try:
-            terminal.until(r"(?:\A|\n)1=> ")
+        with at_a_terminal(words, folder) as terminal:
             for line, prompt, wanted in turns:
                 shown = terminal.type(line, prompt)
-                if not re.fullmatch(wanted, shown):
-                    yield f"at a terminal `{line}` shows {shown!r}"
+                yield line, wanted, shown
             status = terminal.end(last)
-            if status:
-                yield f"at a terminal it ends with {status} behind {last!r}"
-        except (ValueError, subprocess.TimeoutExpired) as fault:
-            terminal.child.kill()
-            terminal.child.wait()
-            yield str(fault)
+            yield f"status behind {last!r}", "0", f"{status}"
 
 
-def terminal(program):
-    """What is wrong with sessions at a terminal: that of docs/SHELL.md, and others."""
-    yield from typed_as(program, documented(), b"\\q\n")
-    yield from typed_as(program, TYPED, b"\x04")
-    yield from typed_as(program, STUMBLES, b"Exit\n")
-    yield from typed_as(program, REFUSED, b"\\q\n")
-    yield from typed_as(program, LONG_LINES, b"quit;\n")
-    yield from typed_as(program, SHOWN, b"\x04")
-    yield from typed_as(program, RECALLED, b"\x04")
-    yield from typed_as(program, LIKE_ERRORS, b"\x04")
-    yield from typed_as(program, BEHIND, b"\x04")
-    yield from typed_as(program, EARLY, b"\x04")
-    yield from typed_as(program, FULL, b"\x04", ("--events", "9"))
-    yield from cut_off(program)
-    yield from at_length(program, drawn_there)
-    yield from at_length(program, timed_there)
-    yield from at_length(program, named_there)
-
-
-def cut_off(program):
-    """What is wrong where the input's end is typed behind a beginning: it is refused on a line of its own, and the prompt
-    stands there again."""
-    shell = Terminal(program)
+@contextlib.contextmanager
+def at_a_terminal(words=(), folder=None):
+    """A shell at a terminal, which is ended where something is wrong."""
+    terminal = Terminal(program(), words, folder)
     try:
-        shell.until(r"(?:\A|\n)1=> ")
-        shell.type("create table t (id bigint primary key)", "1=> ")
-        shell.type("begin", "1*=> ")
-        os.write(shell.master, b"select\x04\x04")
-        shown = shell.until(r"\n1\*=> ")
-        if not re.fullmatch(r"select\nERROR 42601 the input ends in the middle of a line[^\n]*\n1\*=> ", shown):
-            yield f"at a terminal a beginning that is ended shows {shown!r}"
-        if not re.fullmatch(r"1 COMMIT\n", shell.type("commit", "1=> ")):
-            yield "at a terminal a beginning that is ended has changed something"
-        status = shell.end(b"\x04")
-        if status:
-            yield f"at a terminal it ends with {status} behind a beginning"
-    except (ValueError, subprocess.TimeoutExpired) as fault:
-        shell.child.kill()
-        shell.child.wait()
-        yield str(fault)
-
-
-def at_length(program, looks):
-    """What is wrong with a session at a terminal whose answers are looked at more closely."""
-    with tempfile.TemporaryDirectory() as folder:
-        shell = Terminal(program, folder=folder)
-        try:
-            shell.until(r"(?:\A|\n)1=> ")
-            yield from looks(shell, folder)
-            if shell.end(b"\x04"):
-                yield "at a terminal it doesn't end as it should"
-        except (OSError, ValueError, subprocess.TimeoutExpired) as fault:
-            shell.child.kill()
-            shell.child.wait()
-            yield str(fault)
-
-
-def sibling(name):
-    """Another check of this folder, as a module."""
-    loader = importlib.machinery.SourceFileLoader(name, os.path.join(TOP, ".ci", name))
-    sys.dont_write_bytecode = True
-    module = importlib.util.module_from_spec(importlib.util.spec_from_loader(name, loader))
-    loader.exec_module(module)
-    return module
+        terminal.until(r"(?:\A|\n)1=> ")
+        yield terminal
+    except BaseException:
+        terminal.child.kill()
+        terminal.child.wait()
+        raise
 
 
 # A write skew, whose second COMMIT is refused, from session 1's prompt.
@@ -663,7 +330,7 @@ WHY = """2 # transaction {0} (session 1, line {2}) read t id = 1 (line {4}); tra
 
 def drawn_there(shell, folder):
     """What is wrong with what `\\why` and `\\draw` tell of events behind a checkpoint, and behind more than are drawn."""
-    drawing, asked = sibling("drawn"), []
+    drawing, asked = pictures, []
 
     def picture():
         told = shell.type("\\draw out", "1=> ")
@@ -759,44 +426,75 @@ def timed_there(shell, folder):
         yield f"at a terminal an answer that took {passed:.3f} s, of which {WAITING} s waiting, is told as {shown!r}"
 
 
-# ---- the client in Python
+class Sessions(Case):
+    """Sessions that are typed."""
+
+    def type(self, turns, last, words=()):
+        """Each line of a session must show what is wanted, a regular expression."""
+        for line, wanted, shown in typed_as(turns, last, words):
+            with self.subTest(line):
+                if not re.fullmatch(wanted, shown):
+                    raise Differs(f"`{line}`", wanted, shown)
+
+    def test_that_of_the_documents(self):
+        self.type(documented(), b"\\q\n")
+
+    def test_of_a_first_user(self):
+        self.type(TYPED, b"\x04")
+
+    def test_of_somebody_who_knows_psql(self):
+        self.type(STUMBLES, b"Exit\n")
+
+    def test_with_a_refused_commit(self):
+        self.type(REFUSED, b"\\q\n")
+
+    def test_with_long_lines(self):
+        self.type(LONG_LINES, b"quit;\n")
+
+    def test_with_names_and_wide_characters(self):
+        self.type(SHOWN, b"\x04")
+
+    def test_with_refusals_that_are_recalled(self):
+        self.type(RECALLED, b"\x04")
+
+    def test_with_rows_like_errors(self):
+        self.type(LIKE_ERRORS, b"\x04")
+
+    def test_with_a_reason_behind_a_checkpoint(self):
+        self.type(BEHIND, b"\x04")
+
+    def test_with_slips_before_the_first_transaction(self):
+        self.type(EARLY, b"\x04")
+
+    def test_with_few_events(self):
+        self.type(FULL, b"\x04", ("--events", "9"))
+
+    def test_a_beginning_that_the_end_cuts_off(self):
+        """It is refused on a line of its own, and the prompt stands there again."""
+        with at_a_terminal() as shell:
+            shell.type("create table t (id bigint primary key)", "1=> ")
+            shell.type("begin", "1*=> ")
+            os.write(shell.master, b"select\x04\x04")
+            self.assertRegex(shell.until(r"\n1\*=> "), r"\Aselect\nERROR 42601 the input ends in the middle of a line[^\n]*\n1\*=> \Z")
+            self.assertEqual(shell.type("commit", "1=> "), "1 COMMIT\n")
+            self.assertEqual(shell.end(b"\x04"), 0)
 
 
-def client(program):
-    """What the tests of clients/python tell that fail."""
-    folder = os.path.join(TOP, "clients/python")
-    for name in ("test_pgserial.py", "write_skew.py"):
-        done = subprocess.run(
-            [sys.executable, "-B", "-W", "error::ResourceWarning", os.path.join(folder, name)],
-            env={**os.environ, "PGSERIAL": program}, capture_output=True, text=True, timeout=300)
-        if done.returncode:
-            yield f"clients/python/{name}:\n{done.stderr}"
+class AtLength(Case):
+    """Sessions whose answers are looked at more closely."""
 
+    def look_at(self, looks):
+        with at_a_terminal((), self.folder) as shell:
+            for wrong in looks(shell, self.folder):
+                with self.subTest(wrong):
+                    self.fail(wrong)
+            self.assertEqual(shell.end(b"\x04"), 0)
 
-def main():
-    program = os.path.abspath(sys.argv[1] if len(sys.argv) > 1 else os.path.join(TOP, "crates/pgserial/out/pgserial"))
-    if not os.access(program, os.X_OK):
-        print(f"shell: {program} isn't built: ./pgserial build", file=sys.stderr)
-        return 2
-    faults, count = conversations(program)
-    for check in (talks, ends, unopened, terminal, client):
-        faults += check(program)
-    try:
-        seconds = skipped(program)
-        if seconds > QUICK:
-            faults.append(f"{LINES} empty lines and comments, and 100 of a mebibyte, take {seconds:.1f} s")
-    except (ValueError, subprocess.TimeoutExpired) as fault:
-        faults.append(str(fault))
-    seconds = lockstep(program)
-    if seconds > SLOW:
-        faults.append(f"{LINES} lines in lockstep take {seconds:.1f} s")
-    for fault in faults:
-        print(f"shell: {fault}")
-    if faults:
-        return 1
-    print(f"shell: {count} conversations as they should be, {LINES} lines in lockstep in {seconds:.1f} s")
-    return 0
+    def test_pictures_and_reasons_behind_a_checkpoint_and_of_many_events(self):
+        self.look_at(drawn_there)
 
+    def test_seconds(self):
+        self.look_at(timed_there)
 
-if __name__ == "__main__":
-    sys.exit(main())
+    def test_names_of_codes(self):
+        self.look_at(named_there)
