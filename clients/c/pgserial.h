@@ -1,6 +1,6 @@
 /* pgserial.h: pgserial's calls without a process of its own. Bytes in, bytes out.
  *
- * The library is libpgserial.a or libpgserial.so, for x86-64 Linux, made by `.ci/library build FOLDER`. It needs the C
+ * The library is libpgserial.a or libpgserial.so, for x86-64 Linux, made by `tools/library.py build FOLDER`. It needs the C
  * library's malloc, realloc, free and memmove, and nothing else: no file, no thread, no signal, no other library.
  *
  * A call is done when it returns, and keeps nothing: not what it was given, and no state. It gives back all memory that it

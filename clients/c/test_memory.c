@@ -1,5 +1,5 @@
 /* test_memory.c: refuses each request for memory in turn while a handle is used, and sees that nothing is lost by it: each call
- * that was refused is made again, and all answers are those of a run without refusals; 1 where that isn't so. `.ci/library`
+ * that was refused is made again, and all answers are those of a run without refusals; 1 where that isn't so. `tests/test_library.py`
  * runs it, by an address sanitizer or valgrind where there is one, linked with -Wl,--wrap=malloc,--wrap=calloc,--wrap=realloc.
  */
 #include <stdio.h>

@@ -1,5 +1,5 @@
 /* test_misuse.c: what the library's calls answer to arguments that are wrong, too small or many at once; 1 where that isn't
- * as pgserial.h says. `.ci/library` runs it, by an address sanitizer or valgrind where there is one.
+ * as pgserial.h says. `tests/test_library.py` runs it, by an address sanitizer or valgrind where there is one.
  */
 #include <pthread.h>
 #include <stdio.h>
@@ -87,15 +87,17 @@ static void rooms(void)
 static void searches(void)
 {
     static const char asked[] = "> 1 BEGIN;\n  1 BEGIN\n> 1 COMMIT;\n  1 COMMIT\n", faulty[] = "> 1 BEGIN;\n\xff\n";
-    static const char yes[] = "order 1\ncheck yes\n", interleaved[] = "1 BEGIN;\n1 COMMIT;\n2 BEGIN;\n2 COMMIT;\n";
+    static const char yes[] = "order 1\njudged: transactions 1, sessions 1, statements 0, without a reply to COMMIT 0\ncheck yes\n";
+    static const char interleaved[] = "1 BEGIN;\n1 COMMIT;\n2 BEGIN;\n2 COMMIT;\n";
     static const char lone[] = "CREATE TABLE t (id bigint PRIMARY KEY);\n1 BEGIN;\nCHECKPOINT;\n";
     char out[256];
     struct pgserial_report report = {1, 2};
     check(pgserial_check(NULL, 1, 1, out, 64, &report) == PGSERIAL_MISUSE, "a null transcript");
     check(pgserial_explore(out, 8, 9, 9, out, 64, &report) == PGSERIAL_MISUSE, "a script in the room");
     check(report.length == 1 && report.line == 2, "what misuse leaves");
-    check(pgserial_check(asked, sizeof asked - 1, 1, out, 17, &report) == PGSERIAL_NEEDS_ROOM && report.length == 18, "a check's room");
-    check(pgserial_check(asked, sizeof asked - 1, 1, out, 18, &report) == PGSERIAL_DONE && memcmp(out, yes, 18) == 0, "a check");
+    const size_t length = sizeof yes - 1;
+    check(pgserial_check(asked, sizeof asked - 1, 1, out, length - 1, &report) == PGSERIAL_NEEDS_ROOM && report.length == length, "a check's room");
+    check(pgserial_check(asked, sizeof asked - 1, 1, out, length, &report) == PGSERIAL_DONE && memcmp(out, yes, length) == 0, "a check");
     check(pgserial_check(faulty, sizeof faulty - 1, 1, out, 64, &report) == PGSERIAL_REFUSED && report.line == 2, "a faulty transcript");
     check(pgserial_check("> OPEN d;\n", 10, 1, out, 64, &report) == PGSERIAL_DEVICE && report.length == 0, "a transcript's OPEN");
     check(pgserial_explore(interleaved, sizeof interleaved - 1, 9, 6, out, 8, &report) == PGSERIAL_NEEDS_ROOM, "the outcomes' room");

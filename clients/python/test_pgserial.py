@@ -74,11 +74,12 @@ class Starting(Case):
         with self.assertRaisesRegex(pgserial.InterfaceError, "/no/such/program"):
             pgserial.Server(program="/no/such/program")
 
-    @unittest.skipUnless(LIBRARY, "a program is found otherwise than a library")
-    def test_the_library_is_named_by_an_argument_or_by_the_environment(self) -> None:
-        pgserial.Server(in_process=True).close()
-        with self.assertRaisesRegex(pgserial.InterfaceError, "/no/such/library"):
-            pgserial.Server(program="/no/such/library", in_process=True)
+    if LIBRARY:  # a program is found otherwise
+
+        def test_the_library_is_named_by_an_argument_or_by_the_environment(self) -> None:
+            pgserial.Server(in_process=True).close()
+            with self.assertRaisesRegex(pgserial.InterfaceError, "/no/such/library"):
+                pgserial.Server(program="/no/such/library", in_process=True)
 
     def test_tables_are_those_of_the_schema(self) -> None:
         tables = self.server(KINDS + FAMILY).tables
@@ -629,6 +630,27 @@ class Dumps(Case):
         writer.commit()
         thread.join(10)
         self.assertEqual(rows, [(10,)])
+
+    def test_a_transaction_whose_snapshot_does_not_become_safe_is_rolled_back(self) -> None:
+        server = self.pairs((1, 10))
+        writer, reader = server.connect(), server.connect(deferrable=True)
+        reader.timeout = 0.01
+        writer.execute("UPDATE t SET v = 11")
+        with self.assertRaisesRegex(pgserial.ObjectNotInPrerequisiteState, "no snapshot became safe within 0.01 seconds"):
+            reader.begin()
+        self.assertFalse(reader.in_transaction)
+        writer.commit()
+        self.assertEqual(reader.execute("SELECT v FROM t").fetchall(), [(11,)])
+
+    def test_answers_of_any_length(self) -> None:
+        server = self.server(KINDS)
+        connection = server.connect()
+        for length in (0, 4000, 4080, 4096, 4097, 9000, 60000):
+            connection.execute("INSERT INTO kinds VALUES (%s, %s, NULL, 0)", (length, "x" * length))
+            rows = connection.execute("SELECT word FROM kinds WHERE id = %s", (length,)).fetchall()
+            self.assertEqual(rows, [("x" * length,)])
+        every = connection.execute("SELECT id, word FROM kinds").fetchall()
+        self.assertEqual([(key, len(word)) for key, word in every], [(key, key) for key in (0, 4000, 4080, 4096, 4097, 9000, 60000)])
 
     def waiting(self, server: pgserial.Server, told: List[Any], timeout: Optional[float] = None) -> threading.Thread:
         """A thread that waits for a safe snapshot for as long as it takes, and says what came of it."""

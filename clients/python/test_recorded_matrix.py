@@ -81,7 +81,7 @@ class Load:
         assert len(done) == len(threads), "a thread has failed"
 
 
-@unittest.skipUnless(drivers(), "no PostgreSQL")
+@unittest.skipUnless(drivers(), "PostgreSQL or psycopg2 isn't there (Debian: postgresql, python3-psycopg2)")
 class Matrix(Room):
     """Each is judged: SERIALIZABLE as serializable, the other levels either way, and none is left unknown."""
 

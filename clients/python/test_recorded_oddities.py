@@ -12,10 +12,11 @@ import subprocess
 import sys
 import threading
 import unittest
+import warnings
 from typing import Any, Callable, Dict
 
 import pgserial
-from pgserial.catalog import Refused
+from pgserial.keys import Refused
 from pgserial.recording import Recorder, RecordingWarning, verdict
 from test_recording import HERE, OnSqlite
 
@@ -33,7 +34,7 @@ class Oddities(OnSqlite):
         recorder = self.recorder()
         wanted = told(self.raw(**named))
         self.assertEqual(told(recorder.wrap(self.raw(**named))), wanted)
-        self.assertEqual((recorder.ended, recorder.spoiled), (None, None))
+        self.assertIsNone(recorder.ended)
         return recorder
 
     def test_rows_are_fetched_as_the_driver_gives_them(self) -> None:
@@ -93,7 +94,7 @@ class Oddities(OnSqlite):
 
                 recorder = self.alike(use)
                 self.assertEqual(recorder.committed, 0)
-                self.assertEqual(verdict(self.path).answer, "yes")
+                self.assertRegex(verdict(self.path).words, "^serializable: unknown: nothing was recorded")
 
     def test_what_is_no_text_is_the_drivers_to_refuse(self) -> None:
         class Composed:
@@ -126,11 +127,73 @@ class Oddities(OnSqlite):
         self.assertIn("> 1 UPDATE t SET v = 8 WHERE id = 2;", self.body())
         self.assertEqual(verdict(self.path).answer, "yes")
 
+    def test_a_statement_that_fails_at_the_parser_wrote_nothing(self) -> None:
+        recorder = self.recorder()
+        connection = recorder.wrap(self.raw())
+        for begins in ((), ("BEGIN",)):
+            for text in begins:
+                connection.execute(text)
+            for text in ("SELEC v FROM t", "UPDAT t SET v = 1", "UPDATE t SET v = 1; DELETE FROM t", "FROBNICATE", "UPDATE t SET nothing = v * 2", "REPLACE INTO nothing VALUES (1)"):
+                with self.subTest(text), self.assertRaises((sqlite3.Error, sqlite3.Warning)):
+                    connection.execute(text)
+            connection.execute("UPDATE t SET v = v + 1 WHERE id = 1")
+        connection.execute("COMMIT")
+        told = recorder.verdict()
+        self.assertEqual((told.answer, told.committed, told.ended), ("yes", 2, None))
+
+    def test_a_statement_that_keeps_what_it_did_before_it_failed(self) -> None:
+        raw = self.raw()
+        raw.execute("CREATE UNIQUE INDEX u ON t (v)")
+        recorder = self.recorder()
+        connection = recorder.wrap(raw)
+        connection.execute("SELECT v FROM t WHERE id = 1")
+        with self.assertWarns(RecordingWarning), self.assertRaises(sqlite3.IntegrityError):
+            connection.execute("UPDATE OR FAIL t SET v = CASE id WHEN 1 THEN 7 ELSE 7 END")
+        self.assertEqual(connection.execute("SELECT * FROM t").fetchall(), [(1, 7), (2, 20)])
+        self.assertEqual(recorder.verdict().answer, "unknown")
+
+    def test_a_connection_that_another_thread_closes_meanwhile(self) -> None:
+        class Closing(sqlite3.Connection):
+            closes = False
+
+            def execute(self, *words: Any) -> Any:
+                cursor = super().execute(*words)
+                if self.closes:
+                    self.close()
+                return cursor
+
+        for text in ("SELECT * FROM t",):  # one alone: what bare sqlite3 leaves locked would hold the next up
+            for begins in ((), ("BEGIN", "UPDATE t SET v = 5 WHERE id = 2")):
+                with self.subTest(text, begins=begins), warnings.catch_warnings():
+                    warnings.simplefilter("ignore", RecordingWarning)
+                    raw = self.raw(factory=Closing)
+                    recorder = self.recorder()
+                    connection = recorder.wrap(raw)
+                    for before in begins:
+                        connection.execute(before)
+                    raw.closes = True
+                    connection.execute(text)
+                    other = recorder.wrap(self.raw())
+                    other.execute("SELECT * FROM t")
+                    self.assertNotIn("fault of the recorder", str(recorder.ended))
+                    self.assertIn(recorder.verdict().answer, ("yes", "unknown"))
+
+    def test_words_that_are_functions_are_no_columns(self) -> None:
+        raw = self.raw()
+        raw.execute('CREATE TABLE w (id INTEGER PRIMARY KEY, "current_date" TEXT, user TEXT)')
+        raw.execute("INSERT INTO w VALUES (1, 'x', 'ada')")
+        recorder = self.recorder(["w"])
+        connection = recorder.wrap(self.raw())
+        self.assertNotEqual(connection.execute("SELECT current_date FROM w").fetchall(), [("x",)])
+        self.assertEqual(connection.execute('SELECT "current_date", w.current_date, user FROM w').fetchall(), [("x", "x", "ada")])
+        self.assertIn("  1 | x\tx\tada", self.lines())
+        self.assertEqual(verdict(self.path).answer, "yes")
+
     def test_what_is_no_connection_or_table_is_refused(self) -> None:
         for odd in (None, 5, "db", object()):
             with self.assertRaisesRegex(Refused, "no connection"):
                 self.recorder().wrap(odd)
-        for tables in (None, 5, "t", b"t", [1], [None], {1: None}, {"t": 5}, {"t": "id"}, {"t": b"id"}):
+        for tables in (5, "t", b"t", [1], [None], {1: None}, {"t": 5}, {"t": "id"}, {"t": b"id"}):
             with self.subTest(tables), self.assertRaises(Refused):
                 self.recorder(tables)
 
@@ -161,7 +224,7 @@ recorder.close()
             file.write("#!/bin/sh\nkill -9 $$\n")
         os.chmod(killed, 0o755)
         for data, answer in (
-            (b"  1 SELECT " + b"9" * 5000 + b"\n", "refused"), (b"-- left out nothing\n", "yes"), (b"-- left out " + b"9" * 5000 + b": x\n", "yes"),
+            (b"  1 SELECT " + b"9" * 5000 + b"\n", "refused"), (b"-- left out nothing\n", "unknown"), (b"-- left out " + b"9" * 5000 + b": x\n", "unknown"),
             (b"\0\n", "refused"), (b"\xff\n", "refused"), (b"x" * 3000000 + b"\n", "refused"),
         ):  # fmt: skip
             with self.subTest(data[:20]):
@@ -169,7 +232,7 @@ recorder.close()
                     file.write(data)
                 told = verdict(self.path)
                 self.assertEqual(told.answer, answer)
-                self.assertRegex(told.words, "^serializable: yes$" if answer == "yes" else "^no verdict: .+")
+                self.assertRegex(told.words, "^serializable: unknown: nothing was recorded" if answer == "unknown" else "^no verdict: .+")
         self.assertRegex(verdict(self.path, killed).words, "^no verdict: the program ended with status -9$")
         os.chmod(self.path, 0o755)
         with self.assertRaisesRegex(pgserial.InterfaceError, "can't be run"):
@@ -213,22 +276,29 @@ recorder.close()
             self.assertEqual(connection.execute("SELECT n FROM w WHERE n = ?", (row[1],)).fetchall(), [])
             self.assertEqual(connection.execute("SELECT n FROM w WHERE id = ?", (row[0],)).fetchall(), [])
             self.assertEqual(list(recorder.left_out.values()), [1])
-            with self.assertWarnsRegex(RecordingWarning, "of no use: the driver sends something else"):
-                connection.execute("INSERT INTO w VALUES (?, ?)", row)
+            connection.execute("INSERT INTO w VALUES (?, ?)", row)  # said as the database has it
+            (stored,) = raw.execute("SELECT id, n FROM w")
+            self.assertIn(f"> 1 INSERT INTO w VALUES ({stored[0]}, '{stored[1]}');", self.lines())
+            self.assertNotEqual(stored, (1, "own"))
             raw.execute("DELETE FROM w")
 
     def test_values_that_a_converter_may_turn(self) -> None:
         sqlite3.register_converter("COUNTED", lambda _: 7)
         raw = self.raw(detect_types=sqlite3.PARSE_DECLTYPES | sqlite3.PARSE_COLNAMES)
         raw.execute("CREATE TABLE w (id INTEGER PRIMARY KEY, n COUNTED INTEGER)")
-        with self.assertRaisesRegex(Refused, "column n of table w is of type COUNTED INTEGER, for which a converter"):
-            self.recorder(["w"]).wrap(raw)
+        recorder = self.recorder(["w"])
+        connection = recorder.wrap(raw)
+        connection.execute("INSERT INTO w VALUES (1, 5)")
+        self.assertEqual(connection.execute("SELECT n FROM w WHERE id = 1").fetchall(), [(7,)])
+        told = "column n of table w is of type COUNTED INTEGER, for which a converter is registered that may make other values of its own"
+        self.assertEqual(dict(recorder.left_out), {told: 1})
+        self.assertEqual(verdict(self.path).answer, "yes")
         recorder = self.recorder()
         connection = recorder.wrap(raw)
         for shown in ('v AS "v [counted]"', 'v "v [counted]"'):
             self.assertEqual(connection.execute(f"SELECT {shown} FROM t WHERE id = 1").fetchall(), [(7,)])
         self.assertEqual(sum(recorder.left_out.values()), 2)
-        self.assertEqual(verdict(self.path).answer, "yes")
+        self.assertEqual(recorder.verdict().left_out[0].count, 2)
 
     def test_a_row_that_no_statement_inserts_is_refused(self) -> None:
         raw = self.raw()
@@ -240,7 +310,7 @@ recorder.close()
     def test_a_file_that_was_closed_beside_the_recorder(self) -> None:
         recorder = self.recorder()
         connection = recorder.wrap(self.raw())
-        os.close(recorder._file)
+        os.close(recorder._output._file)
         with self.assertWarnsRegex(RecordingWarning, "can't be written"):
             connection.execute("UPDATE t SET v = 1")
         recorder.close()

@@ -94,7 +94,7 @@ class Alike(Room):
             with self.subTest(level):
                 self.alike(make, lambda: sqlite3.connect(file, isolation_level=level), "?", sqlite3.Error)  # noqa: B023
 
-    @unittest.skipUnless(drivers(), "no PostgreSQL")
+    @unittest.skipUnless(drivers(), "PostgreSQL or psycopg2 isn't there (Debian: postgresql, python3-psycopg2)")
     def test_on_postgres(self) -> None:
         for driver in drivers():
             for autocommit in (False, True):
@@ -179,7 +179,7 @@ class Threads(Room):
         recorded = load.run([recorder.wrap(connect()) for _ in range(THREADS)], count)
         told = recorder.verdict()
         self.assertNotEqual(told.answer, "refused", told.words)
-        self.assertEqual((recorder.committed, recorder.ended, recorder.spoiled), (count, None, None))
+        self.assertEqual((recorder.committed, recorder.ended), (count, None))
         self.assertEqual(sum(line.endswith(" BEGIN;") for line in self.lines()), sum(line.endswith(" BEGIN") for line in self.lines()))
         tell(f"{name}: {count} transactions in {without:.2f} s, recorded in {recorded:.2f} s: {told.answer}")
         return told
@@ -221,7 +221,7 @@ class Threads(Room):
             connection.execute("COMMIT")
         self.assertEqual(recorder.verdict().answer, "no")
 
-    @unittest.skipUnless(drivers(), "no PostgreSQL")
+    @unittest.skipUnless(drivers(), "PostgreSQL or psycopg2 isn't there (Debian: postgresql, python3-psycopg2)")
     def test_on_postgres(self) -> None:
         loads = [(drivers()[0], level, TRANSACTIONS) for level in ("SERIALIZABLE", "REPEATABLE READ", "READ COMMITTED")]
         for driver, level, count in loads + [(driver, "SERIALIZABLE", TRANSACTIONS // 5) for driver in drivers()[1:]]:
@@ -326,7 +326,7 @@ class MixedStatements(Room):
             last = recorder.wrap(connect())
             last.cursor().execute("SELECT * FROM t")
             last.close()
-        self.assertEqual((recorder.ended, recorder.spoiled), (None, None))
+        self.assertIsNone(recorder.ended)
         self.assertGreater(recorder.committed, 50)
         return recorder.verdict()
 
@@ -348,7 +348,7 @@ class MixedStatements(Room):
                 told = self.judged(Mixed("BEGIN", "?", (sqlite3.OperationalError, sqlite3.IntegrityError)), connect, seed)
                 self.assertIn(told.answer, ("yes", "unknown"), told)
 
-    @unittest.skipUnless(drivers(), "no PostgreSQL")
+    @unittest.skipUnless(drivers(), "PostgreSQL or psycopg2 isn't there (Debian: postgresql, python3-psycopg2)")
     def test_on_postgres(self) -> None:
         for seed, driver in itertools.product(range(2), drivers()):
 
@@ -401,7 +401,7 @@ class Killed(Room):
                 told = self.killed(KILLED.format(connect=f"sqlite3.connect({file!r}, isolation_level={isolation!r}, check_same_thread=False, timeout=60)", path=self.path, mark="?"))
                 self.assertIn(told.answer, ("yes", "unknown"), told)
 
-    @unittest.skipUnless(drivers(), "no PostgreSQL")
+    @unittest.skipUnless(drivers(), "PostgreSQL or psycopg2 isn't there (Debian: postgresql, python3-psycopg2)")
     def test_on_postgres(self) -> None:
         driver = drivers()[0]
         for autocommit in (True, False):
@@ -415,7 +415,8 @@ class Killed(Room):
                 self.assertIn(told.answer, ("yes", "unknown"), told)
 
     def test_an_end_that_isnt_whole_is_cut_off(self) -> None:
-        whole = "> CREATE TABLE t (id bigint PRIMARY KEY);\n> 1 BEGIN;\n  1 BEGIN\n> 1 SELECT * FROM t;\n"
+        first = "> 2 BEGIN;\n  2 BEGIN\n> 2 SELECT * FROM t;\n  2 SELECT 0\n> 2 COMMIT;\n  2 COMMIT\n"
+        whole = f"> CREATE TABLE t (id bigint PRIMARY KEY);\n{first}> 1 BEGIN;\n  1 BEGIN\n> 1 SELECT * FROM t;\n"
         for end in ("", "  1 SEL", "  1 SELECT 2\n", "  1 SELECT 2\n  1 | 1\n", "  1 SELECT 2\n  1 | 1\n  1 | ", "  1 SELECT 1\n  1 | 1\n> 1 COM"):
             with self.subTest(end):
                 with open(self.path, "w", encoding="utf-8") as file:

@@ -11,7 +11,9 @@ from typing import Any, Dict, List
 
 from pgserial import BIGINT, BYTEA, TEXT
 from pgserial.catalog import MADE, Column, Names, Table
-from pgserial.translation import Arguments, Result, Translator
+from pgserial.plans import Translator
+from pgserial.returning import Facts
+from pgserial.translation import Arguments, Result
 from pgserial.values import Spelling, Unsaid
 
 ACCOUNTS = Table(
@@ -162,6 +164,13 @@ class Statements(unittest.TestCase):
             with self.subTest(text):
                 self.assertEqual(self.said(text, parameters, Result(4)), ["> " + said, "UPDATE 4"])
 
+    def test_updates_of_columns_that_arent_recorded(self) -> None:
+        self.assertEqual(self.said("UPDATE accounts SET made_at = 3 WHERE id = 5", None, Result(1)), ["> SELECT count(*) FROM accounts WHERE id = 5", "SELECT 1", "| 1"])
+        for text, passes in (("made_at = now()", False), ("made_at = balance * 2", True), ("made_at = balance", True), ("made_at = made_at + 1", False)):
+            with self.subTest(text):
+                told = self.plan(f"UPDATE accounts SET {text}", None).saying.told(Arguments(None))
+                self.assertEqual(told.left_out is not None, passes)
+
     def test_returning(self) -> None:
         self.assertEqual(
             self.said("UPDATE t SET v = v + 1 WHERE id = 3 RETURNING v, id", None, Result(1, [(8, 3)])),
@@ -275,7 +284,7 @@ class Statements(unittest.TestCase):
             "DROP TABLE t", "UPDATE t SET v = 1; UPDATE t SET v = 2", "SELECT 1; DELETE FROM t", "SET search_path TO other", "SELECT set_config('search_path', 'x', false)",
             "EXECUTE p(1)", "EXPLAIN ANALYZE DELETE FROM t", "PREPARE TRANSACTION 'x'", "COMMIT AND CHAIN", "UPDATE t SET v = 1.5", "UPDATE t SET v = 'x'",
             "INSERT INTO t VALUES (1, 2, 3)", "INSERT INTO t VALUES (1, 99999999999999999999)", "UPDATE accounts SET code = 'longer'", "CREATE TRIGGER x ON t",
-            "UPDATE t SET v = 1 FROM accounts WHERE t.id = 3", "CREATE TABLE x AS SELECT f()", "CREATE TEMP TABLE t (id int)", "SET x = 1; DELETE FROM t", "UPDATE accounts SET made_at = 3", "SELECT 'a", "UPDATE t SET v = f(1)",
+            "UPDATE t SET v = 1 FROM accounts WHERE t.id = 3", "CREATE TABLE x AS SELECT f()", "CREATE TEMP TABLE t (id int)", "SET x = 1; DELETE FROM t", "UPDATE accounts SET made_at = 3 WHERE made_at > 2", "SELECT 'a", "UPDATE t SET v = f(1)",
             "UPDATE accounts SET raw = x'0'",
         ):  # fmt: skip
             with self.subTest(text):
@@ -290,11 +299,70 @@ class Statements(unittest.TestCase):
     def test_what_speaks_of_no_recorded_rows(self) -> None:
         for text in (
             "SET TRANSACTION ISOLATION LEVEL SERIALIZABLE", "SHOW server_version", "SELECT 1", "SELECT version()", "PRAGMA foreign_keys = ON", "", "-- nothing",
-            "LOCK TABLE t IN SHARE MODE", "CREATE TABLE u (id int)", "CREATE INDEX i ON t (v)", "INSERT INTO log VALUES (f(1)) ON CONFLICT DO NOTHING",
+            "LOCK TABLE t IN SHARE MODE", "CREATE TABLE u (id int)", "CREATE INDEX i ON t (v)", "INSERT INTO log VALUES (lower(1)) ON CONFLICT DO NOTHING",
             "SELECT pg_advisory_xact_lock(3)", "SELECT set_config('app.user', 'ada', true)", "SET LOCAL app.user = 'ada'", "SELECT nextval('s')", "VACUUM",
         ):  # fmt: skip
             with self.subTest(text):
                 self.assertEqual((self.plan(text, None).saying, self.plan(text, None).why), (None, None))
+
+    def test_what_cant_be_said_is_told_by_what_stands_there(self) -> None:
+        for text, why in (
+            ("SELECT v FROM t WHERE (t.v = 1 OR t.v = 2)", "the grammar has no OR there"), ("SELECT v FROM t WHERE NOT (v = 1)", "the grammar has no NOT there"),
+            ("SELECT v FROM t GROUP BY v", "the grammar has no GROUP there"), ("SELECT v FROM t LEFT JOIN u ON true", "the grammar has no LEFT there"),
+            ("INSERT INTO t VALUES (?, 1)", "? stands there, which begins no parameter in this driver's paramstyle"),
+            ("SELECT v FROM t WHERE id = :id", ": stands there, which begins no parameter in this driver's paramstyle"),
+        ):  # fmt: skip
+            with self.subTest(text):
+                self.assertEqual(self.plan(text, ()).why, why)
+
+    def by_rows(self, text: str, rows: List[Any], parameters: Any = None) -> Any:
+        """The lines of a write that is said by its rows, and what it has read; the rows are those that RETURNING shows."""
+        effect = self.plan(text, parameters).effect
+        told = effect.told(Arguments(parameters), Facts(True, True, False, False))
+        exchanges = told.exchanges(Result(len(rows), rows))
+        return [line for command, reply in exchanges for line in ["> " + command, *reply]], told.left_out
+
+    def test_writes_by_their_rows(self) -> None:
+        assigned, others, tables = (f"what an UPDATE has read: {what}" for what in ("what it assigns", "other conditions", "other conditions, other tables"))
+        for text, rows, said, left_out in (
+            ("UPDATE t SET v = v * 2", [(1, 20), (2, 40)], "SELECT count(*) FROM t|SELECT 1|| 2|UPDATE t SET v = 20 WHERE id = 1|UPDATE 1|UPDATE t SET v = 40 WHERE id = 2|UPDATE 1", assigned),
+            ("UPDATE t SET v = v + 1 WHERE v > 3 OR id = 9", [(1, 20)], "UPDATE t SET v = v + 1 WHERE id = 1|UPDATE 1", others),
+            ("UPDATE t SET v = 5 WHERE id IN (1, 9)", [(1, 5)], "UPDATE t SET v = 5 WHERE id = 1|UPDATE 1|UPDATE t SET v = 5 WHERE id = 9|UPDATE 0", None),
+            ("UPDATE t SET v = now() WHERE v = 3", [(1, 7)], "SELECT count(*) FROM t WHERE v = 3|SELECT 1|| 1|UPDATE t SET v = 7 WHERE id = 1 AND v = 3|UPDATE 1", None),
+            ("UPDATE t x SET v = u.n FROM u WHERE u.id = x.id AND x.v > 3", [(1, 7)], "UPDATE t SET v = 7 WHERE id = 1 AND v > 3|UPDATE 1", tables + ", what it assigns"),
+            ("UPDATE t SET v = my_look() WHERE id = 1", [(1, 7)], "UPDATE t SET v = 7 WHERE id = 1|UPDATE 1", assigned),
+            ("DELETE FROM t WHERE v < 9 AND NOT (v = 3)", [(4,)], "DELETE FROM t WHERE id = 4 AND v < 9|DELETE 1", others.replace("an UPDATE", "a DELETE")),
+            ("INSERT INTO t SELECT * FROM u", [(4, 5)], "INSERT INTO t VALUES (4, 5)|INSERT 0 1", "what an INSERT has read: what it selects"),
+            ("INSERT INTO t VALUES (4, 5), (1, 2) ON CONFLICT (id) DO NOTHING", [(4, 5)], "INSERT INTO t VALUES (4, 5)|INSERT 0 1|SELECT id FROM t WHERE id = 1|SELECT 1|| 1", None),
+            ("INSERT INTO t VALUES (4, 5), (1, 2) ON CONFLICT (id) DO UPDATE SET v = t.v - excluded.v", [(4, 5, 1), (1, 8, 0)], "INSERT INTO t VALUES (4, 5)|INSERT 0 1|UPDATE t SET v = v - 2 WHERE id = 1|UPDATE 1", None),
+            ("UPDATE t SET id = id + 100", [(101, 5)], "SELECT count(*) FROM t|SELECT 1|| 1|DELETE FROM t WHERE id = 1|DELETE 1|INSERT INTO t VALUES (101, 5)|INSERT 0 1", "what an UPDATE has read: the other columns of rows whose key is written"),
+        ):  # fmt: skip
+            with self.subTest(text):
+                lines, reads = self.by_rows(text, rows)
+                self.assertEqual("|".join(line[2:] if line[:1] == ">" else line for line in lines), said)
+                self.assertEqual(reads, left_out)
+
+    def test_what_is_added_stands_behind_the_statement(self) -> None:
+        facts = Facts(True, True, False, False)
+        for text, sent in (
+            ("UPDATE t SET v = -v -- the end", "UPDATE t SET v = -v -- the end\nRETURNING \"t\".\"id\", \"t\".\"v\" "),
+            ("UPDATE t AS x SET v = -v ; -- ;", "UPDATE t AS x SET v = -v \nRETURNING \"x\".\"id\", \"x\".\"v\" ; -- ;"),
+            ("DELETE FROM t WHERE v = 1 OR v = 2 RETURNING v", "DELETE FROM t WHERE v = 1 OR v = 2 RETURNING v\n, \"t\".\"id\" "),
+            ("INSERT INTO t SELECT 1, 2", "INSERT INTO t SELECT 1, 2\nRETURNING \"t\".\"id\", \"t\".\"v\" "),
+        ):  # fmt: skip
+            with self.subTest(text):
+                addition = self.plan(text, None).effect.addition(facts, False)
+                self.assertEqual(addition.to(text, text), sent)
+                self.assertEqual(addition.to(text.encode(), text), sent.encode())
+                self.assertEqual(addition.without(sent.encode()), text.encode())
+
+    def test_writes_that_arent_said_by_their_rows(self) -> None:
+        for text in (
+            "WITH d AS (DELETE FROM t RETURNING id) INSERT INTO t SELECT id + 1, 2 FROM d", "UPDATE t SET v = f(1)", "UPDATE t SET v = 1; UPDATE t SET v = 2", "UPDATE other SET v = v * 2",
+            "UPDATE t SET v = v * 2 LIMIT 1", "INSERT OR FAIL INTO t VALUES (1, 2)", "MERGE INTO t USING u ON true WHEN MATCHED THEN DELETE", "TRUNCATE t",
+        ):  # fmt: skip
+            with self.subTest(text):
+                self.assertIsNone(self.plan(text, None).effect)
 
     def test_controls(self) -> None:
         for text, does in (

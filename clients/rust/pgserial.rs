@@ -1,4 +1,4 @@
-//! pgserial's calls in this process: safe Rust over libpgserial, which `.ci/library build FOLDER` makes.
+//! pgserial's calls in this process: safe Rust over libpgserial, which `tools/library.py build FOLDER` makes.
 //!
 //! `run`, `audit`, `check` and `explore` keep nothing, and may be called from any number of threads at once. A `Conversation` keeps
 //! a server.

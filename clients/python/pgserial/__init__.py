@@ -24,6 +24,7 @@ from dataclasses import dataclass
 from typing import Any, Dict, Iterable, Iterator, List, NamedTuple, Optional, Sequence, Set, Tuple, Type, Union
 
 from .answers import Answer, first_of, row_of
+from .bundle import bundled
 from .exceptions import (
     BY_SQLSTATE, ActiveSqlTransaction, BadCopyFileFormat, CharacterNotInRepertoire, DatabaseError, DataError, DatatypeMismatch,
     DuplicateTable, Error, ForeignKeyViolation, InFailedSqlTransaction, IntegrityError, InterfaceError, InternalError,
@@ -33,6 +34,7 @@ from .exceptions import (
 )  # fmt: skip
 from .inside import Inside
 from .statements import Parameters, create_lines, statement_of, text_of
+from .version import VERSION as __version__
 
 __all__ = [
     "AHEAD", "BIGINT", "BINARY", "BYTEA", "BY_SQLSTATE", "DATETIME", "EVENTS", "MOST_SESSIONS", "NUMBER", "ROWID", "STRING", "TEXT",
@@ -41,8 +43,8 @@ __all__ = [
     "IntegrityError", "InterfaceError", "InternalError", "InvalidTextRepresentation", "IoError", "Kind", "NoActiveSqlTransaction",
     "NotNullViolation", "NotSupportedError", "NumericValueOutOfRange", "ObjectNotInPrerequisiteState", "OperationalError",
     "OutOfMemory", "Parameters", "ProgramLimitExceeded", "ProgrammingError", "ReadOnlySqlTransaction", "Row", "SerializationFailure",
-    "Server", "SyntaxError", "UndefinedColumn", "UndefinedTable", "UniqueViolation", "Warning", "apilevel", "connect", "paramstyle",
-    "threadsafety",
+    "Server", "SyntaxError", "UndefinedColumn", "UndefinedTable", "UniqueViolation", "Warning", "__version__", "apilevel", "connect",
+    "paramstyle", "threadsafety",
 ]  # fmt: skip
 
 apilevel = "2.0"
@@ -138,8 +140,8 @@ def _row(columns: Sequence[Column], line: bytes) -> Row:
 
 
 def _program(path: Path) -> str:
-    """The program: what is said, or what $PGSERIAL says, or that of the PATH."""
-    wanted = path or os.environ.get("PGSERIAL") or "pgserial"
+    """The program: what is said, or what $PGSERIAL says, or the one that came with this package, or that of the PATH."""
+    wanted = path or os.environ.get("PGSERIAL") or bundled("pgserial") or "pgserial"
     found = shutil.which(wanted)
     if found is None:
         raise InterfaceError(f"there is no program {wanted}: name it by `program`, by $PGSERIAL or have it on the PATH")

@@ -1,12 +1,14 @@
 """The tables of a database that is recorded, as its catalog tells them, and as a transcript can say them."""
 
+import itertools
 import re
-import sys
-from typing import Any, Dict, FrozenSet, Iterable, List, Mapping, NamedTuple, Optional, Sequence, Tuple
+from typing import FrozenSet, Iterable, Iterator, List, Mapping, NamedTuple, Optional, Sequence, Tuple
 
 from . import BIGINT, BYTEA, TEXT, Kind
-from .sql import Name, tokens_of
-from .values import Unsaid
+from .keys import Candidate, Refused, chosen, key_text
+from .kinds import Form, named_form
+from .sql import Name, negated, tokens_of
+from .values import Plain, Unsaid, plain
 
 # Words that are no names in a transcript.
 RESERVED = frozenset(
@@ -15,10 +17,6 @@ RESERVED = frozenset(
 )
 MOST_COLUMNS, MOST_TABLES, LONGEST_NAME = 32, 256, 63
 MADE = "what the database makes"  # the default of a column whose value nobody knows before
-
-
-class Refused(ValueError):
-    """A table that no transcript can say, and why."""
 
 
 class Column(NamedTuple):
@@ -32,9 +30,39 @@ class Column(NamedTuple):
     is_ordered: bool = True
     length: Optional[int] = None
 
+    def stored(self, said: Plain) -> Plain:
+        """A value that is written; refuses one in whose place the database stores another."""
+        if self.length is not None and isinstance(said, str) and len(said) > self.length:
+            raise Unsaid(f"a text that is longer than column {self.real}")
+        return said if said is None or not isinstance(self.kind, Form) else self.kind.stored(said)
+
+
+class Hazard(NamedTuple):
+    """What may write unsaid where a table is written: by which statements (`insert`, `update`, `delete`), what it is, and the
+    function that it calls, where it is a trigger."""
+
+    verbs: FrozenSet[str]
+    why: str
+    function: Optional[str] = None
+
+
+class Cascade(NamedTuple):
+    """A foreign key that changes a table's rows with those that they refer to: its columns, those that they refer to, and what
+    it does where the row is deleted or its columns are changed: `cascade`, `set null`, `set default`, or nothing."""
+
+    schema: Optional[str]
+    child: str
+    columns: Tuple[str, ...]
+    referenced: Tuple[str, ...]
+    on_delete: Optional[str]
+    on_update: Optional[str]
+    numbers: Tuple[int, ...] = ()  # of the table, or of its partitions, in the catalog of PostgreSQL
+
 
 class Table(NamedTuple):
-    """A table. `columns` are those that are recorded, the key first; `order` has the own names of all, in their order."""
+    """A table. `columns` are those that are recorded, the key first; `order` has the own names of all, in their order. Where the
+    key is of several columns, the first is made of these, at the places `parts`, and has no name of its own. Where there is no
+    key, the first has one of `numbers` for each row."""
 
     schema: Optional[str]
     real: str
@@ -42,12 +70,42 @@ class Table(NamedTuple):
     columns: Tuple[Column, ...]
     order: Tuple[str, ...]
     makes_key: bool = False  # whether an INSERT without a key gets one that the cursor's `lastrowid` tells
+    parts: Tuple[int, ...] = ()
+    passed: Tuple[Tuple[str, str], ...] = ()  # own names of columns that can't be said, and why
+    hazards: Tuple[Hazard, ...] = ()
+    cascades: Tuple[Cascade, ...] = ()  # foreign keys by which other tables' rows are changed with those of this one
+    numbers: Optional[Iterator[int]] = None
+    reached: Tuple[str, ...] = ()  # tables that aren't recorded, whose foreign keys may change rows of this one
 
     def create(self) -> str:
         """The line that creates it. Constraints are left out: what they refuse is answered by an error, and left out too."""
         kinds = [f"{column.name} {column.kind.name}" for column in self.columns]
         kinds[0] += " PRIMARY KEY"
         return f"CREATE TABLE {self.name} ({', '.join(kinds)});"
+
+    @property
+    def key_places(self) -> Tuple[int, ...]:
+        """The places of the columns that are the key; none where there is none."""
+        return () if self.numbers is not None else self.parts or (0,)
+
+    @property
+    def own_columns(self) -> Tuple[Column, ...]:
+        """The recorded columns that the database has too."""
+        return self.columns if self.columns[0].real else self.columns[1:]
+
+    def key_of(self, values: Sequence[Plain]) -> Plain:
+        """The key of a row, whose values stand by their places; a new number where there is no key."""
+        if self.numbers is not None:
+            return next(self.numbers)
+        return key_text([values[place] for place in self.parts]) if self.parts else values[0]
+
+    def why_passed(self, name: str) -> Optional[str]:
+        """Why a column can't be said, where it can't."""
+        return dict(self.passed).get(name)
+
+    def unsure(self, verb: str) -> Optional[str]:
+        """Why a statement that begins with this verb may write more than it says, where it may."""
+        return next((hazard.why for hazard in self.hazards if verb in hazard.verbs), None)
 
 
 def said_name(real: str, taken: Iterable[str]) -> str:
@@ -60,7 +118,8 @@ def said_name(real: str, taken: Iterable[str]) -> str:
 
 
 class Seen(NamedTuple):
-    """A column as the catalog tells it: its name, its type in words, its kind where it has one; then as Column has it."""
+    """A column as the catalog tells it: its name, its type in words, its kind where it has one; then as Column has it, and why
+    it can't be said, where it can't."""
 
     real: str
     type: str
@@ -70,192 +129,110 @@ class Seen(NamedTuple):
     length: Optional[int] = None
     refusal: Optional[str] = None
 
+    @property
+    def why_not(self) -> Optional[str]:
+        """Why it can't be said, where it can't."""
+        return self.refusal or (f"is of type {self.type}" if self.kind is None else None)
 
-def _recorded(table: str, seen: Sequence[Seen], wanted: Optional[Sequence[str]]) -> List[Seen]:
-    """The columns that are recorded: those that are wanted, or all."""
+
+def _recorded(table: str, seen: Sequence[Seen], candidates: Sequence[Candidate], wanted: Optional[Sequence[str]]) -> List[Seen]:
+    """The columns that are wanted, or all. A key is always among them, where there is one."""
+    if wanted is None:
+        return list(seen)
     known = {column.real for column in seen}
-    for name in wanted or ():
+    for name in wanted:
         if name not in known:
             raise Refused(f"table {table} has no column {name}")
-    return [column for column in seen if wanted is None or column.real in wanted]
-
-
-def _sayable(table: str, column: Seen, seen: Sequence[Seen]) -> None:
-    """Refuses a column that no transcript can say."""
-    if column.kind is None or column.refusal:
-        others = [other.real for other in seen if other.kind is not None and not other.refusal]
-        told = column.refusal or f"is of type {column.type}, and a transcript has bigint, text and bytea"
-        raise Refused(
-            f"column {column.real} of table {table} {told}. Where no verdict needs it, name the others: "
-            f"tables={{{table!r}: {others!r}}}"
-        )
+    sayable = [column.real for column in seen if column.why_not is None]
+    named = chosen(candidates, [name for name in sayable if name in wanted]) or chosen(candidates, sayable)
+    return [column for column in seen if column.real in wanted or column.real in named]
 
 
 def table_of(
     schema: Optional[str],
     real: str,
     seen: Sequence[Seen],
-    keys: Sequence[str],
+    candidates: Sequence[Candidate],
     wanted: Optional[Sequence[str]],
     taken: Iterable[str],
 ) -> Table:
-    """The table of these columns and of this primary key."""
-    if len(keys) != 1:
-        raise Refused(f"table {real} has a primary key of {len(keys)} columns, and a transcript needs one of one")
-    recorded = _recorded(real, seen, wanted)
-    if keys[0] not in [column.real for column in recorded]:
-        raise Refused(f"the primary key {keys[0]} of table {real} isn't among the columns that are named")
+    """The table of these columns, and of the first of these keys that can be said; its rows are numbered where there is none.
+    Columns that can't be said are passed over, and so are those for which there is no room."""
+    candidates = [each for each in candidates if len(each.names) < MOST_COLUMNS]
+    recorded = _recorded(real, seen, candidates, wanted)
+    sayable = [column for column in recorded if column.why_not is None]
+    keys = chosen(candidates, [column.real for column in sayable])
+    is_made = len(keys) != 1
+    room = MOST_COLUMNS - is_made
+    said = sorted(sayable, key=lambda column: keys.index(column.real) if column.real in keys else len(keys))
+    passed = [(column.real, column.why_not) for column in recorded if column.why_not is not None]
+    passed += [(column.real, f"is one of more than {MOST_COLUMNS} columns") for column in said[room:]]
     columns: List[Column] = []
-    for column in sorted(recorded, key=lambda column: column.real != keys[0]):
-        _sayable(real, column, seen)
+    for column in said[:room]:
         assert column.kind is not None
         name = said_name(column.real, [other.name for other in columns])
         columns.append(Column(column.real, name, column.kind, column.default, column.is_ordered, column.length))
-    if len(columns) > MOST_COLUMNS:
-        raise Refused(f"table {real} has {len(columns)} columns, and a transcript has room for {MOST_COLUMNS}")
-    return Table(schema, real, said_name(real, taken), tuple(columns), tuple(column.real for column in seen))
+    names = [column.name for column in columns]
+    if is_made:
+        columns.insert(0, Column("", said_name("_".join(keys) or "row_number", names), TEXT if keys else BIGINT))
+    parts = tuple(range(1, len(keys) + 1)) if is_made else ()
+    order = tuple(column.real for column in seen)
+    numbers = None if keys else itertools.count(1)
+    return Table(schema, real, said_name(real, taken), tuple(columns), order, False, parts, tuple(passed), numbers=numbers)
+
+
+def numbered(table: Table) -> Table:
+    """A table whose rows are numbered, since its key can't be said."""
+    own = table.own_columns[: MOST_COLUMNS - 1]
+    passed = tuple((column.real, f"is one of more than {MOST_COLUMNS} columns") for column in table.own_columns[len(own) :])
+    name = said_name("row_number", [column.name for column in own])
+    columns = (Column("", name, BIGINT), *own)
+    return table._replace(columns=columns, makes_key=False, parts=(), passed=table.passed + passed, numbers=itertools.count(1))
+
+
+def without_columns(table: Table, why: Mapping[int, str]) -> Table:
+    """A table without the columns at some places, which aren't its key's, and why these can't be said."""
+    columns = tuple(column for place, column in enumerate(table.columns) if place not in why)
+    passed = tuple((table.columns[place].real, told) for place, told in why.items())
+    return table._replace(columns=columns, passed=table.passed + passed)
+
+
+_CAST = re.compile(r"::[\w \".]+(\([\d,]+\))?(\[\])*$")
 
 
 def constant(expression: Optional[str]) -> object:
-    """The value of a default that is a number or a text; MADE where it is anything else, None where there is none."""
+    """The value of a default that is a number, a text or a truth value; MADE where it is anything else, None where there is
+    none."""
     if expression is None:
         return None
     try:
-        tokens = tokens_of(re.sub(r"::[\w ]+(\(\d+\))?$", "", expression.strip().strip("()")), "qmark", False)
+        tokens = tokens_of(_CAST.sub("", expression.strip().strip("()")), "qmark", False)
     except Unsaid:
         return MADE
-    sign = -1 if tokens and tokens[0].is_sign("-") else 1
-    tokens = tokens[1:] if sign < 0 else tokens
-    if len(tokens) == 1 and tokens[0].is_word("null"):
-        return None
-    if len(tokens) == 1 and tokens[0].kind in ("string", "bytes") and sign > 0:
-        return tokens[0].value
-    if len(tokens) == 1 and isinstance(tokens[0].value, int):
-        return sign * tokens[0].value
-    return MADE
+    sign = tokens[0].value if tokens and tokens[0].is_sign("-", "+") else ""
+    tokens = tokens[1:] if sign else tokens
+    if len(tokens) != 1:
+        return MADE
+    kind, value = tokens[0].kind, tokens[0].value
+    if kind == "number":
+        return negated(value) if sign == "-" else value
+    if kind in ("string", "bytes") and not sign:
+        return value
+    if tokens[0].is_word("true", "false") and not sign:
+        return value == "true"
+    return None if tokens[0].is_word("null") and not sign else MADE
 
 
-# ---- PostgreSQL
-
-_POSTGRES_KINDS: Dict[str, Kind] = {
-    "int2": BIGINT, "int4": BIGINT, "int8": BIGINT, "text": TEXT, "varchar": TEXT, "bytea": BYTEA,
-}  # fmt: skip
-_POSTGRES_TABLE = """SELECT c.oid::bigint, n.nspname::text, c.relname::text, c.relkind::text, c.relrowsecurity::int, c.relhassubclass::int,
-  c.relispartition::int,
-  (SELECT count(*) FROM pg_catalog.pg_trigger t WHERE t.tgrelid = c.oid AND NOT t.tgisinternal),
-  (SELECT count(*) FROM pg_catalog.pg_rewrite r WHERE r.ev_class = c.oid),
-  (SELECT min(k.conname::text) FROM pg_catalog.pg_constraint k WHERE k.conrelid = c.oid AND k.contype = 'f'
-    AND (k.confdeltype NOT IN ('a', 'r') OR k.confupdtype NOT IN ('a', 'r')))
-FROM pg_catalog.pg_class c JOIN pg_catalog.pg_namespace n ON n.oid = c.relnamespace
-WHERE c.oid = pg_catalog.to_regclass('{name}')"""
-_POSTGRES_COLUMNS = """SELECT a.attname::text, pg_catalog.format_type(a.atttypid, a.atttypmod)::text, t.typname::text, a.atttypmod::int,
-  pg_catalog.pg_get_expr(d.adbin, d.adrelid)::text, a.attidentity::text, a.attgenerated::text,
-  CASE WHEN l.collname = 'default' THEN b.datcollate ELSE l.collcollate END::text,
-  CASE WHEN l.collname = 'default' THEN {provider} ELSE l.collprovider END::text,
-  coalesce(l.collisdeterministic, true)::int,
-  (SELECT count(*) FROM pg_catalog.pg_index i WHERE i.indrelid = a.attrelid AND i.indisprimary AND a.attnum = ANY (i.indkey))
-FROM pg_catalog.pg_attribute a JOIN pg_catalog.pg_type t ON t.oid = a.atttypid
-  JOIN pg_catalog.pg_database b ON b.datname = pg_catalog.current_database()
-  LEFT JOIN pg_catalog.pg_collation l ON l.oid = a.attcollation
-  LEFT JOIN pg_catalog.pg_attrdef d ON d.adrelid = a.attrelid AND d.adnum = a.attnum
-WHERE a.attrelid = {oid} AND a.attnum > 0 AND NOT a.attisdropped ORDER BY a.attnum"""
-_POSTGRES_HIDDEN = (
-    (3, "r", "is no plain table"), (4, 0, "has row security"), (5, 0, "has tables that inherit of it"),
-    (6, 0, "is a partition"), (7, 0, "has triggers, which may write what no transcript says"),
-    (8, 0, "has rules, which may write what no transcript says"),
-    (9, None, "has a foreign key that changes rows by itself"),
-)  # fmt: skip
-
-
-def _postgres_column(row: Sequence[Any]) -> Seen:
-    name, told, kind, modifier, default, identity, generated, collation, provider, deterministic, _ = row
-    is_c = kind not in ("text", "varchar") or (provider in ("c", "d") and collation in ("C", "POSIX"))
-    length = modifier - 4 if kind == "varchar" and modifier > 4 else None
-    refusal = None
-    if generated:
-        refusal = "is generated, so that a write changes it unsaid"
-    elif not deterministic:
-        refusal = "has a collation by which other texts are equal"
-    made = MADE if identity else constant(default)
-    return Seen(name, told, _POSTGRES_KINDS.get(kind), made, is_c, length, refusal)
-
-
-def _postgres_found(ask: Any, name: str) -> Any:
-    """What the catalog has of a table: of just that name, or as PostgreSQL reads it."""
-    if '"' in name or "." in name:
-        return ask(_POSTGRES_TABLE.format(name=name.replace("'", "''")))
-    exact = ask(_POSTGRES_TABLE.format(name='"' + name.replace("'", "''") + '"'))
-    return exact or (ask(_POSTGRES_TABLE.format(name=name)) if re.fullmatch(r"\w+", name) else exact)
-
-
-def postgres_table(ask: Any, name: str, wanted: Optional[Sequence[str]], taken: Iterable[str]) -> Table:
-    """A table of PostgreSQL. `ask` gives the rows of a query."""
-    found = _postgres_found(ask, name)
-    if not found:
-        raise Refused(f"there is no table {name} yet: wrap a connection when the tables are there")
-    for place, right, told in _POSTGRES_HIDDEN:
-        if found[0][place] != right:
-            raise Refused(f"table {name} {told}")
-    # Before version 15 a database's own collation is the system's.
-    is_older = ask("SELECT (current_setting('server_version_num')::int < 150000)::int")[0][0]
-    rows = ask(_POSTGRES_COLUMNS.format(oid=int(found[0][0]), provider="'c'" if is_older else "b.datlocprovider"))
-    keys = [row[0] for row in rows if row[10]]
-    return table_of(found[0][1], found[0][2], [_postgres_column(row) for row in rows], keys, wanted, taken)
-
-
-# ---- SQLite
-
-
-def _sqlite_kind(declared: str) -> Optional[Kind]:
-    """The kind of a column by its affinity; none where that isn't one of whole numbers, texts or bytes."""
-    declared = declared.upper()
-    if "INT" in declared:
-        return BIGINT
-    if any(word in declared for word in ("CHAR", "CLOB", "TEXT")):
-        return TEXT
-    return BYTEA if "BLOB" in declared else None
-
-
-def _sqlite_column(row: Sequence[Any], is_utf8: bool) -> Seen:
-    _, name, declared, _, default, _, hidden = row
-    refusal = "is generated, so that a write changes it unsaid" if hidden else None
-    if re.split(r"[ (]", declared or "", maxsplit=1)[0].upper() in getattr(sys.modules.get("sqlite3"), "converters", {}):
-        refusal = f"is of type {declared}, for which a converter is registered that may make other values of its own"
-    return Seen(name, declared or "none", _sqlite_kind(declared), constant(default), is_utf8, None, refusal)
-
-
-def _sqlite_has_rowid(ask: Any, name: str, quoted: str) -> bool:
-    """Whether a table has row numbers; refuses one that other tables or triggers change, or whose texts are compared otherwise."""
-    text = ask(f"SELECT sql FROM sqlite_master WHERE type = 'table' AND lower(name) = lower('{quoted}')")
-    if not text:
-        raise Refused(f"there is no table {name} yet: wrap a connection when the tables are there")
-    collations = re.findall(r"\bcollate\s+[\"`\[]?(\w+)", text[0][0], re.IGNORECASE)
-    if any(collation.lower() != "binary" for collation in collations):
-        raise Refused(f"table {name} has a collation by which other texts are equal")
-    if ask(f"SELECT name FROM sqlite_master WHERE type = 'trigger' AND lower(tbl_name) = lower('{quoted}')"):
-        raise Refused(f"table {name} has triggers, which may write what no transcript says")
-    for row in ask(f"PRAGMA foreign_key_list('{quoted}')"):
-        if not {row[5].upper(), row[6].upper()} <= {"NO ACTION", "RESTRICT"}:
-            raise Refused(f"table {name} has a foreign key that changes rows by itself")
-    return re.search(r"\bwithout\s+rowid\b", text[0][0], re.IGNORECASE) is None
-
-
-def sqlite_table(ask: Any, name: str, wanted: Optional[Sequence[str]], taken: Iterable[str]) -> Table:
-    """A table of SQLite. `ask` gives the rows of a query."""
-    quoted = name.rpartition(".")[2].replace("'", "''")
-    has_rowid = _sqlite_has_rowid(ask, name, quoted)
-    is_utf8 = ask("PRAGMA encoding")[0][0] == "UTF-8"
-    rows = ask(f"PRAGMA table_xinfo('{quoted}')")
-    keys = [row for row in rows if row[5]]
-    table = table_of(
-        None,
-        name.rpartition(".")[2],
-        [_sqlite_column(row, is_utf8) for row in rows],
-        [row[1] for row in keys],
-        wanted,
-        taken,
-    )
-    return table._replace(makes_key=keys[0][2].upper() == "INTEGER" and has_rowid)
+def default_of(expression: Optional[str], kind: Optional[Kind]) -> object:
+    """The default of a column; MADE where nobody knows before what it gives."""
+    value = constant(expression)
+    if value is MADE or kind is None:
+        return MADE if value is MADE else value
+    try:
+        said = plain(kind, value)
+        return said if not isinstance(kind, Form) else kind.stored(said)
+    except Unsaid:
+        return MADE
 
 
 # ---- other databases
@@ -264,8 +241,12 @@ def sqlite_table(ask: Any, name: str, wanted: Optional[Sequence[str]], taken: It
 def declared_table(name: str, kinds: Mapping[str, str], taken: Iterable[str]) -> Table:
     """A table of a database whose catalog isn't known, as the user declares it: the kinds of its columns, the key first."""
     known = {kind.name: kind for kind in (BIGINT, TEXT, BYTEA)}
-    seen = [Seen(column, kind, known.get(kind), MADE, False) for column, kind in kinds.items()]
-    return table_of(None, name, seen, list(kinds)[:1], None, taken)
+    seen = [Seen(column, kind, known.get(kind) or named_form(kind), MADE, False) for column, kind in kinds.items()]
+    for column in seen:
+        if column.kind is None:
+            raise Refused(f"column {column.real} of table {name} is of type {column.type}, which no transcript can say")
+    schema, _, bare = name.rpartition(".")
+    return table_of(schema or None, bare, seen, [Candidate(list(kinds)[:1])], None, taken)
 
 
 # ---- names
@@ -275,30 +256,51 @@ class Names:
     """The recorded tables, by their names; and what of others may be written, since no verdict is to speak of it."""
 
     def __init__(
-        self, tables: Sequence[Table], folds: bool, ignoring: Iterable[str] = (), schema: Optional[str] = None
+        self,
+        tables: Sequence[Table],
+        folds: bool,
+        ignoring: Iterable[str] = (),
+        functions: FrozenSet[str] = frozenset(),
+        schema: Optional[str] = None,
     ) -> None:
-        self._folds = folds  # whether names are the same whatever the case of their letters, quoted or not
+        self._schema = schema  # of tables that have none
+        self.folds = folds  # whether names are the same whatever the case of their letters, quoted or not
+        self._functions = functions  # words that are called without parentheses
         self._tables = {self._key(Name(table.real, True)): table for table in tables}
         self._ignoring: FrozenSet[str] = frozenset(self._key(Name(name.rpartition(".")[2], True)) for name in ignoring)
         self.tables = tuple(tables)
+        # What of these is written changes rows of recorded tables too.
+        self._ignoring -= {self._key(Name(name, True)) for table in tables for name in table.reached}
 
     def _key(self, name: Name) -> str:
-        return name.text.lower() if self._folds else name.text
+        return name.text.lower() if self.folds else name.text
+
+    def is_function(self, name: Name) -> bool:
+        """Whether this is a function or a constant, and no column, where it stands without a table before it."""
+        return not name.is_quoted and name.text in self._functions
 
     def is_ignored(self, name: Optional[Name]) -> bool:
         """Whether what is written there is no matter."""
         return name is not None and self._key(name) in self._ignoring
 
+    def is_recorded(self, name: Name) -> bool:
+        """Whether this is a recorded table's name, perhaps in another schema."""
+        return self._key(name) in self._tables
+
+    def recorded(self, name: Name) -> Optional[Table]:
+        """The recorded table of this name."""
+        return self._tables.get(self._key(name))
+
     def table(self, schema: Optional[Name], name: Name) -> Table:
         """The recorded table of this name."""
         table = self._tables.get(self._key(name))
-        if table is None or (schema is not None and table.schema not in (None, schema.text)):
-            raise Unsaid(f"table {name.text} isn't recorded")
+        if table is None or (schema is not None and self._key(schema) != (table.schema or self._schema)):
+            raise Unsaid(f"table {schema.text + '.' if schema else ''}{name.text} isn't recorded")
         return table
 
     def is_column(self, name: Name, real: str) -> bool:
         """Whether a name is this column's."""
-        return self._key(name) == (real.lower() if self._folds else real)
+        return self._key(name) == (real.lower() if self.folds else real)
 
     def place(self, table: Table, name: Name) -> int:
         """The place of a recorded column in its table."""
@@ -313,3 +315,7 @@ class Names:
         """Whether a name is that of a column that isn't recorded."""
         recorded = [column.real for column in table.columns]
         return any(real not in recorded and self.is_column(name, real) for real in table.order)
+
+    def why_passed(self, table: Table, name: Name) -> Optional[str]:
+        """Why a column can't be said, where it can't."""
+        return next((why for real, why in table.passed if self.is_column(name, real)), None)

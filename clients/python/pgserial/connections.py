@@ -1,77 +1,32 @@
 """Connections and cursors that behave as the driver's own, and are recorded."""
 
+import contextlib
 import operator
 import weakref
-from typing import Any, Callable, Dict, Iterator, List, Optional, Tuple
+from typing import Any, Callable, Dict, Iterator, List, Optional, Tuple, Union
 
 from .drivers import Came, Sqlite
 from .effects import Control
-
+from .proxies import Proxy, parameters_of, text_of
+from .returning import Addition
+from .several import Whole, bound, statements_of
+from .session import Session
 from .steps import (
-    Begin, Commit, Executed, Inner, LeftOut, NoText, Rollback, Savepoint, Script, Session, Setting, Spoils, Step, copy_of,
-    is_looped, many_of, step_of,
+    Begin, Commit, Executed, Inner, LeftOut, NoText, Rollback, Savepoint, Script, Setting, Spoils, Step, copy_of,
+    is_written, many_of, step_of,
 )  # fmt: skip
 
 
-def _text_of(operation: Any, raw: Any) -> Optional[str]:
-    """The text of what is executed: a text, bytes, or what psycopg composes; None where it is none of these."""
-    if isinstance(operation, str):
-        return str.__str__(operation)
-    if isinstance(operation, bytes):
-        return operation.decode("utf-8", "surrogateescape")
-    try:
-        return str(operation.as_string(raw))
-    except Exception:  # whatever it is, the driver meets it too
-        return None
-
-
-def _parameters(words: Tuple[Any, ...], named: Dict[str, Any]) -> Any:
-    """The parameters of a call that executes: what stands behind the text."""
-    return words[0] if words else next((named[name] for name in ("params", "vars", "parameters") if name in named), None)
-
-
-class _Proxy:
-    """What passes everything that it hasn't itself to the driver's own object, `wrapped`."""
-
-    wrapped: Any
-    _own = frozenset(("wrapped",))
-    _special: Dict[str, str] = {}  # what only some drivers have, and what is taken for it
-
-    def __init__(self, wrapped: Any) -> None:
-        object.__setattr__(self, "wrapped", wrapped)
-
-    def __getattr__(self, name: str) -> Any:
-        value = getattr(object.__getattribute__(self, "wrapped"), name)
-        special = type(self)._special.get(name)
-        return value if special is None else object.__getattribute__(self, special)
-
-    def __setattr__(self, name: str, value: object) -> None:
-        if name in self._own:
-            object.__setattr__(self, name, value)
-        else:
-            setattr(self.wrapped, name, value)
-
-    def __delattr__(self, name: str) -> None:
-        delattr(self.wrapped, name)
-
-    def __dir__(self) -> List[str]:
-        return dir(self.wrapped)
-
-    def __repr__(self) -> str:
-        return f"<recorded {self.wrapped!r}>"
-
-    # So that `isinstance` speaks of the driver's class.
-    __class__ = property(lambda self: type(object.__getattribute__(self, "wrapped")))  # type: ignore
-
-
-class Connection(_Proxy):
+class Connection(Proxy):
     """A connection that is recorded; `wrapped` is the driver's own."""
 
     _own = frozenset(("wrapped", "_session"))
     _special = {
         "execute": "_execute", "executemany": "_executemany", "executescript": "_executescript", "transaction": "_transaction",
         "pipeline": "_pipeline", "blobopen": "_blobopen", "deserialize": "_deserialize", "tpc_begin": "_tpc_begin",
-        "reset": "_reset", "set_isolation_level": "_set_isolation_level",
+        "reset": "_reset", "set_isolation_level": "_set_isolation_level", "terminate": "_terminate",
+        "create_function": "_create_function", "create_aggregate": "_create_aggregate",
+        "create_window_function": "_create_window_function", "load_extension": "_load_extension",
     }  # fmt: skip
 
     def __init__(self, wrapped: Any, session: Session) -> None:
@@ -99,6 +54,7 @@ class Connection(_Proxy):
 
     def close(self) -> Any:
         """Closes the connection, and gives its session's number back."""
+        self._session.leaves()
         value = self.wrapped.close()
         self._session.close()
         return value
@@ -110,6 +66,8 @@ class Connection(_Proxy):
 
     def __exit__(self, kind: Any, error: Any, trace: Any) -> Any:
         session = self._session
+        if session.driver.own_transactions and session.recorder.verifies_end:
+            self._leaves(kind is None)
         end = Commit if kind is None else Rollback
         try:
             return session.take(
@@ -117,18 +75,25 @@ class Connection(_Proxy):
             )
         finally:
             session.driver.entered -= 1
-            if session.driver.own_transactions:
+            if session.driver.own_transactions and session.driver.is_dead():  # a pool keeps it
                 session.close()
+
+    def _leaves(self, commits: bool) -> None:
+        """What psycopg does as `with` ends, but for closing the connection: then the tables may be read."""
+        if not self.wrapped.closed and not getattr(self.wrapped, "_pool", None):
+            if commits:
+                self.commit()
+            self._session.leaves()
 
     # what some drivers have
 
     def _execute(self, operation: Any, *words: Any, **named: Any) -> "Cursor":
-        cursor = Cursor(None, self)
+        cursor = self.cursor()
 
-        def call() -> Any:
-            cursor.wrapped = self.wrapped.execute(operation, *words, **named)
+        def call(sent: Any) -> Any:
+            cursor.wrapped = self.wrapped.execute(sent, *words, **named)
 
-        cursor._executed(operation, _parameters(words, named), call)
+        cursor._executed(operation, parameters_of(words, named), call)
         return cursor
 
     def _executemany(self, operation: Any, several: Any) -> "Cursor":
@@ -155,13 +120,37 @@ class Connection(_Proxy):
 
     def _spoiling(self, name: str, words: Tuple[Any, ...], named: Dict[str, Any]) -> Any:
         call = getattr(self.wrapped, name)
-        return self._session.take(lambda: Spoils(self._session, name, "it may write"), lambda: call(*words, **named))
+        return self._session.take(lambda: Spoils(self._session, name, "it may write", False), lambda: call(*words, **named))
 
     def _blobopen(self, *words: Any, **named: Any) -> Any:
         return self._spoiling("blobopen", words, named)
 
     def _deserialize(self, *words: Any, **named: Any) -> Any:
         return self._spoiling("deserialize", words, named)
+
+    def _terminate(self) -> Any:
+        value = self.wrapped.terminate()
+        self._session.close()
+        return value
+
+    def _with_functions(self, name: str, words: Tuple[Any, ...], named: Dict[str, Any]) -> Any:
+        """A call that makes functions of sqlite3's, which may write whatever their names say."""
+        value = getattr(self.wrapped, name)(*words, **named)
+        session = self._session
+        session.guarded(session.recorder.functions_changed, session.driver)
+        return value
+
+    def _create_function(self, *words: Any, **named: Any) -> Any:
+        return self._with_functions("create_function", words, named)
+
+    def _create_aggregate(self, *words: Any, **named: Any) -> Any:
+        return self._with_functions("create_aggregate", words, named)
+
+    def _create_window_function(self, *words: Any, **named: Any) -> Any:
+        return self._with_functions("create_window_function", words, named)
+
+    def _load_extension(self, *words: Any, **named: Any) -> Any:
+        return self._with_functions("load_extension", words, named)
 
     def _reset(self) -> Any:
         return self._session.take(lambda: Rollback(self._session), self.wrapped.reset)
@@ -170,7 +159,16 @@ class Connection(_Proxy):
         return self._session.take(lambda: Rollback(self._session), lambda: self.wrapped.set_isolation_level(level))
 
 
-class Transaction(_Proxy):
+def recorded_connection(raw: Any, session: Session) -> Any:
+    """A driver's connection, recorded."""
+    if type(session.driver).__name__ == "Awaited":
+        from .aio import AsyncConnection
+
+        return AsyncConnection(raw, session)
+    return Connection(raw, session)
+
+
+class Transaction(Proxy):
     """psycopg's `connection.transaction()`: a transaction, or within one a savepoint."""
 
     _own = frozenset(("wrapped", "_session", "_is_undone", "_is_outer"))
@@ -207,10 +205,10 @@ class Transaction(_Proxy):
         return Commit(self._session) if is_kept else Rollback(self._session)
 
 
-class Cursor(_Proxy):
+class Cursor(Proxy):
     """A cursor that is recorded; `wrapped` is the driver's own."""
 
-    _own = frozenset(("wrapped", "_connection", "_came", "_at", "_count"))
+    _own = frozenset(("wrapped", "_connection", "_came", "_at", "_count", "_addition", "_sent"))
     _special = {
         "callproc": "_callproc", "copy_from": "_copy_from", "copy_to": "_copy_to", "copy_expert": "_copy_expert",
         "copy": "_copy", "executescript": "_executescript", "stream": "_stream",
@@ -222,6 +220,8 @@ class Cursor(_Proxy):
         self._came: Optional[Came] = None  # rows that the driver's cursor has given up
         self._at = 0
         self._count: Optional[int] = None  # of the rows that several executions speak of
+        self._addition: Optional[Addition] = None  # what was added, and shows more than the application asks for
+        self._sent: Union[Addition, Whole, None] = None  # what differs from that in the text that was sent last
 
     @property
     def connection(self) -> Connection:
@@ -233,45 +233,127 @@ class Cursor(_Proxy):
         """How many rows the last execution speaks of."""
         return self.wrapped.rowcount if self._count is None else self._count
 
+    @property
+    def description(self) -> Any:
+        """The columns that the application has asked for."""
+        description = self.wrapped.description
+        if self._addition is None or description is None:
+            return description
+        return None if self._addition.is_alone else description[: len(description) - self._addition.hidden]
+
+    @property
+    def query(self) -> Any:
+        """The text that was sent, as psycopg2 tells it, without what was added."""
+        query = self.wrapped.query
+        return query if self._sent is None or query is None else self._sent.without(query)
+
+    @property
+    def rownumber(self) -> Any:
+        """How many rows were fetched, as some drivers tell it."""
+        number = self.wrapped.rownumber
+        if self._addition is None:
+            return number
+        return self._connection._session.driver.no_rownumber if self._addition.is_alone else self._at
+
     # statements
 
     def execute(self, operation: Any, *words: Any, **named: Any) -> Any:
         """Executes a statement."""
-        return self._executed(operation, _parameters(words, named), lambda: self.wrapped.execute(operation, *words, **named))
-
-    def _executed(self, operation: Any, parameters: Any, call: Callable[[], Any]) -> Any:
-        """Does a call that executes a statement. What it gives is this cursor, where the driver gives its own."""
-        self._came, self._count = None, None
+        parameters = parameters_of(words, named)
         session = self._connection._session
-        value = session.take(lambda: self._step(operation, parameters), call)
+        if session.driver.sends_several and not session.recorder.is_over and getattr(self.wrapped, "name", None) is None:
+            text = text_of(operation, self._connection.wrapped)
+            if text is not None and ";" in text.rstrip("; \t\n"):
+                whole = bound(self.wrapped, text if isinstance(operation, str) else operation, parameters)
+                parts = session.guarded(statements_of, whole) if whole is not None else None
+                if parts:
+                    return self._several(parts, whole or "")
+        return self._executed(operation, parameters, lambda sent: self.wrapped.execute(sent, *words, **named))
+
+    def _several(self, parts: List[str], whole: str) -> Any:
+        """Executes the statements of a text one by one. In autocommit they are one transaction, as the server takes them."""
+        try:
+            with self._as_one(True):
+                value = None
+                for part in parts:
+                    sent = part.encode("utf-8", "surrogateescape")
+                    value = self._executed(sent, None, self.wrapped.execute)
+                return value
+        finally:
+            self._sent = Whole(whole)
+
+    @contextlib.contextmanager
+    def _as_one(self, is_one: bool) -> Iterator[None]:
+        """What is executed within is one transaction in autocommit, too."""
+        driver = self._connection._session.driver
+        if not (is_one and driver.is_autocommit() and not driver.is_open()):
+            yield
+            return
+        around = self._connection.cursor()
+        around.execute("BEGIN")
+        try:
+            yield
+            around.execute("COMMIT")
+        except BaseException:
+            if driver.is_open():
+                around.execute("ROLLBACK")
+            raise
+        finally:
+            around.close()
+
+    def _executed(self, operation: Any, parameters: Any, call: Callable[[Any], Any]) -> Any:
+        """Does a call that executes a statement. What it gives is this cursor, where the driver gives its own."""
+        self._forget()
+        sent = [operation]
+
+        def planned() -> Step:
+            step = self._step(operation, parameters)
+            if step.addition is not None:
+                text = text_of(operation, self._connection.wrapped) or ""
+                sent[0], self._addition, self._sent = step.addition.to(operation, text), step.addition, step.addition
+            return step
+
+        try:
+            value = self._connection._session.take(planned, lambda: call(sent[0]))
+        except BaseException:
+            self._addition = None  # what was shown before, if anything
+            raise
         return self if value is not None and value is self.wrapped else value
+
+    def _forget(self) -> None:
+        """Nothing is kept of what was executed before."""
+        self._came, self._count, self._addition, self._sent = None, None, None, None
 
     def _step(self, operation: Any, parameters: Any) -> Step:
         session = self._connection._session
-        text = _text_of(operation, self._connection.wrapped)
+        text = text_of(operation, self._connection.wrapped)
         if text is None:
             return NoText(session, operation)
         is_served = getattr(self.wrapped, "name", None) is not None
         return step_of(session, text, parameters, self._looked_at(), is_served)
 
     def _looked_at(self) -> Executed:
-        return Executed(self._connection._session.driver, lambda: self.wrapped, self._keep)
+        return Executed(self._connection._session.driver, lambda: self.wrapped, self._keep, True)
 
     def _keep(self, came: Came) -> None:
         """Rows that the driver's cursor has given up are kept for the application."""
         if came.served is not None:
             self._came, self._at = came, 0
+        if self._addition is not None and isinstance(self._connection._session.driver, Sqlite):
+            self._count = self.wrapped.rowcount if self.wrapped.rowcount < 0 else came.result.number
 
     def executemany(self, operation: Any, several: Any, *words: Any, **named: Any) -> Any:
         """Executes a statement once for each of several parameters."""
         session = self._connection._session
-        text = _text_of(operation, self._connection.wrapped)
-        if words or named or text is None or session.recorder.is_over or not session.guarded(is_looped, session, text):
+        text = text_of(operation, self._connection.wrapped)
+        if words or named or text is None or session.recorder.is_over or not session.guarded(is_written, session, text):
             return self._many(operation, text, list(several), *words, **named)
         count, total = 0, 0
-        for parameters in several:
-            self.execute(operation, parameters)
-            count, total = count + 1, total + max(self.wrapped.rowcount, 0)
+        several = list(several) if session.driver.own_transactions else several
+        with self._as_one(session.driver.own_transactions and bool(several)):
+            for parameters in several:
+                self.execute(operation, parameters)
+                count, total = count + 1, total + max(self.rowcount, 0)
         if count == 0:
             return self._many(operation, text, [])
         self._count = total
@@ -279,7 +361,7 @@ class Cursor(_Proxy):
 
     def _many(self, operation: Any, text: Optional[str], several: List[Any], *words: Any, **named: Any) -> Any:
         """The same by one call of the driver."""
-        self._came, self._count = None, None
+        self._forget()
         session = self._connection._session
         value = session.take(
             lambda: NoText(session, operation) if text is None else many_of(session, text, several, self._looked_at()),
@@ -313,7 +395,11 @@ class Cursor(_Proxy):
     def _left(self, call: Callable[..., Any], *words: Any, **named: Any) -> Any:
         """What the driver gives. Where its rows are kept here it has none left, and says so; or it raises what it would
         have raised, at a number that is none or once it is closed."""
-        return call(*words, **named) if self._came is None or self._came.error is None else None
+        given = call(*words, **named) if self._came is None or self._came.error is None else None
+        error = self._connection._session.driver.nothing_to_fetch() if self._addition and self._addition.is_alone else None
+        if error is not None:
+            raise error
+        return given
 
     def _served(self, size: Optional[int]) -> List[Any]:
         """The next of the rows that are kept; all that are left where no size is given."""
@@ -348,21 +434,22 @@ class Cursor(_Proxy):
 
     def _taken(self, step: Callable[[Session], Step], call: Callable[[], Any]) -> Any:
         session = self._connection._session
-        self._came, self._count = None, None
+        self._forget()
         return session.take(lambda: step(session), call)
 
     def _callproc(self, name: str, *words: Any) -> Any:
         text = f"CALL {name}"
-        is_known = self._connection._session.recorder.only_reads(name)
-        step = LeftOut(self._connection._session, text, "a function") if is_known else None
+        session = self._connection._session
+        is_known = session.guarded(session.recorder.only_reads, name, session.driver)
+        step = LeftOut(session, text, "a function") if is_known else None
         return self._taken(
-            lambda session: step or Spoils(session, text, "a function may write"),
+            lambda session: step or Spoils(session, text, "a function may write", True),
             lambda: self.wrapped.callproc(name, *words),
         )
 
     def _copy_from(self, *words: Any, **named: Any) -> Any:
         return self._taken(
-            lambda session: Spoils(session, "copy_from", "COPY writes"), lambda: self.wrapped.copy_from(*words, **named)
+            lambda session: Spoils(session, "copy_from", "COPY writes", True), lambda: self.wrapped.copy_from(*words, **named)
         )
 
     def _copy_to(self, *words: Any, **named: Any) -> Any:
@@ -371,11 +458,11 @@ class Cursor(_Proxy):
         )
 
     def _copy_expert(self, text: Any, *words: Any, **named: Any) -> Any:
-        said = _text_of(text, self._connection.wrapped) or ""
+        said = text_of(text, self._connection.wrapped) or ""
         return self._taken(lambda session: copy_of(session, said), lambda: self.wrapped.copy_expert(text, *words, **named))
 
     def _copy(self, text: Any, *words: Any, **named: Any) -> Any:
-        said = _text_of(text, self._connection.wrapped) or ""
+        said = text_of(text, self._connection.wrapped) or ""
         return self._taken(lambda session: copy_of(session, said), lambda: self.wrapped.copy(text, *words, **named))
 
     def _executescript(self, text: str) -> Any:
@@ -388,8 +475,8 @@ class Cursor(_Proxy):
     def _stream(self, operation: Any, *words: Any, **named: Any) -> Iterator[Any]:
         """Rows as they come: what is executed only when the first is asked for is taken for read then."""
         session = self._connection._session
-        text = _text_of(operation, self._connection.wrapped) or ""
-        step = session.guarded(step_of, session, text, _parameters(words, named), self._looked_at(), True)
+        text = text_of(operation, self._connection.wrapped) or ""
+        step = session.guarded(step_of, session, text, parameters_of(words, named), self._looked_at(), True)
         if step is not None:
             session.guarded(step.before)
         yield from self.wrapped.stream(operation, *words, **named)

@@ -1,17 +1,31 @@
 """What drivers differ in: the state of a transaction, the codes of errors, rows that have come, and the catalog."""
 
+import os
+import re
+import contextlib
 import sys
-from typing import Any, Callable, Iterable, List, Mapping, NamedTuple, Optional, Sequence, Tuple, Union
+import time
+from typing import Any, Callable, Dict, FrozenSet, Iterable, List, Mapping, NamedTuple, Optional, Sequence, Set, Tuple, Union
 
-from .catalog import Refused, Table, declared_table, postgres_table, sqlite_table
+from .cascades import Counts
+from .catalog import Cascade, Column, Table, declared_table
+from .dangers import Dangers, postgres_dangers, postgres_key, sqlite_dangers, sqlite_functions
+from .keys import Refused
+from .kinds import Form
+from .postgres_catalog import postgres_tables
+from .origins import Attributes, Numbers
+from .returning import Facts
+from .sent import Psycopg, Psycopg2, Unknown, surely_known
 from .sql import PARAMSTYLES
-from .translation import Result
+from .sqlite_catalog import sqlite_tables
+from .translation import Look, Result
 from .values import Unsaid
 
 Rows = List[Sequence[object]]
 # The tables that are named: each with all its columns, with those that are named, or with the kinds that are said.
 Wanted = Mapping[str, Union[None, Sequence[str], Mapping[str, str]]]
 _SURE = ("IntegrityError", "ProgrammingError", "DataError", "NotSupportedError", "InterfaceError")
+_PLAIN_WRITES = ("insert", "update", "delete", "select", "with")  # that leave nothing done where they fail, on any database
 _BEFORE_IT_IS_SENT = (TypeError, ValueError, LookupError, OverflowError)  # where a driver finds fault with parameters
 
 
@@ -23,6 +37,7 @@ class Came(NamedTuple):
     served: Optional[Rows] = None
     maker: Optional[Callable[[], Optional[Callable[[Any], Any]]]] = None  # gives what makes them so when they are asked for
     error: Optional[BaseException] = None  # what the application meets behind these rows
+    shown: Sequence[Sequence[object]] = ()  # where the cursor has its rows still, the same
 
 
 def _positional(row: Any, names: Sequence[str]) -> Sequence[object]:
@@ -40,11 +55,33 @@ def _positional(row: Any, names: Sequence[str]) -> Sequence[object]:
     return fields
 
 
+def _first_word(text: str) -> str:
+    words = text.split(None, 1)
+    return words[0].lower() if words else ""
+
+
+def _is_one(text: str) -> bool:
+    """Whether a text has surely no more than one statement."""
+    return ";" not in text.strip().rstrip(";")
+
+
+# Functions and constants of a word, which stand without parentheses.
+_TIMES = frozenset("current_date current_time current_timestamp null".split())
+_WORDS = _TIMES | frozenset(
+    "current_catalog current_role current_schema current_user localtime localtimestamp session_user system_user user true false".split()
+)
+
+
 class Driver:
     """Any driver of PEP 249. It doesn't tell whether a transaction is open, nor which errors are the database's answers."""
 
+    words = _WORDS  # that are no columns unless they are quoted
+    schema: Optional[str] = None  # of tables that have none
+
     folds = True  # whether names are the same whatever the case of their letters
     many_gives_cursor = False  # whether `executemany` gives the cursor
+    sends_several = False  # whether a text may have several statements, of which only the last is answered
+    no_rownumber: Optional[int] = None  # what `rownumber` is where a statement shows no rows
     own_transactions = False  # whether `transaction()` is a context manager, and leaving `with` closes the connection
 
     def __init__(self, raw: Any, module: Any, style: Optional[str]) -> None:
@@ -81,11 +118,27 @@ class Driver:
         """Whether a statement outside a transaction is one by itself."""
         return getattr(self._raw, "autocommit", False) is True
 
+    def tells_failure(self) -> bool:
+        """Whether it is known if the open transaction has failed."""
+        return self.is_open() is not None
+
+    def pause(self) -> None:
+        """Lets others go on for a moment."""
+        time.sleep(0.001)
+
+    def may_commit(self, text: str) -> bool:
+        """Whether a text that is executed now may commit by itself."""
+        return self.is_autocommit() and not self.is_open()
+
     # errors
 
     def code(self, error: BaseException) -> str:
         """The code of an error."""
         return "XX000"
+
+    def leaves_nothing(self, error: BaseException, text: str) -> bool:
+        """Whether a text that can't be said has surely done nothing, since it has failed so."""
+        return self.is_answer(error) and _first_word(text) in _PLAIN_WRITES and _is_one(text)
 
     def is_answer(self, error: BaseException) -> bool:
         """Whether an error surely means that nothing was done."""
@@ -94,9 +147,11 @@ class Driver:
 
     # parameters
 
-    def adapts(self, value: object) -> bool:
-        """Whether something else may be sent in place of a value, as the application has registered it for its class."""
-        return hasattr(value, "__conform__")
+    def sent(self, value: object, cursor: Any) -> object:
+        """What is sent in place of a value by a cursor, where there is one yet. Refuses what the application has registered."""
+        if hasattr(value, "__conform__"):
+            raise Unsaid(f"the driver sends something else in place of a {type(value).__name__}")
+        return value
 
     # rows
 
@@ -106,18 +161,16 @@ class Driver:
         return count if isinstance(count, int) else -1
 
     def came(self, cursor: Any, shows: bool) -> Came:
-        """What came of the last statement, with its rows where it shows them."""
-        if not shows or cursor.description is None:
+        """What came of the last statement, with its rows where it shows them. Some drivers count what RETURNING shows only
+        once all was fetched; a row is shown for each that was changed."""
+        if cursor.description is None:
             return Came(Result(self.count(cursor), (), getattr(cursor, "lastrowid", None)))
         rows, error = self._taken(cursor)
+        if error is not None:
+            return Came(Result(-1), rows, None, error)
         names = [column[0] for column in cursor.description]
-        fields = [_positional(row, names) for row in rows]
-        return Came(Result(self._shown(cursor, rows), fields, getattr(cursor, "lastrowid", None)), rows, None, error)
-
-    def _shown(self, cursor: Any, rows: Rows) -> int:
-        """How many rows a statement speaks of that shows some: not all drivers tell."""
-        count = self.count(cursor)
-        return len(rows) if count < 0 else count
+        fields = [_positional(row, names) for row in rows] if shows else ()
+        return Came(Result(len(rows), fields, getattr(cursor, "lastrowid", None)), rows)
 
     def _taken(self, cursor: Any) -> Tuple[Rows, Optional[BaseException]]:
         """All rows of a cursor, and what is raised behind them."""
@@ -135,6 +188,35 @@ class Driver:
         """How many rows `fetchmany` gives for a number at most; None where it gives all."""
         return max(size, 0)
 
+    def counts(self, cascades: Sequence[Cascade]) -> Optional[Counts]:
+        """How many rows the open transaction has changed so far, of the tables that foreign keys change; None where nobody
+        tells."""
+        return None
+
+    # what is added to a statement
+
+    def facts(self, table: Table) -> Facts:
+        """What the connection may do about a table."""
+        return NOTHING
+
+    def doubles(self, is_given: bool) -> bool:
+        """Whether a percent sign is doubled in a text with parameters."""
+        return is_given and self.style in ("format", "pyformat")
+
+    def is_plain(self, cursor: Any) -> bool:
+        """Whether the cursor's rows are tuples, so that the last fields of them can be hidden."""
+        return False
+
+    def looking(
+        self, look: Look, looked: Callable[[Rows], None], call: Callable[[], Any], fetch: Callable[[], Any]
+    ) -> Any:
+        """Does a call behind a look at what is there, which nobody changes between the two."""
+        return call()
+
+    def nothing_to_fetch(self) -> Optional[BaseException]:
+        """What is raised where rows are asked for and the statement shows none."""
+        return None
+
     # tables
 
     def opened(self, names: Wanted) -> List[Tuple[Table, Rows]]:
@@ -147,13 +229,49 @@ class Driver:
                 )
             tables.append(declared_table(name, columns, [table.name for table in tables]))
         rows = [(table, self._rows_of(table)) for table in tables]
-        if not self.is_autocommit():
-            self._raw.rollback()
+        self.undo()
         return rows
 
-    def _ask(self, query: str) -> Rows:
-        """The rows of a query."""
-        cursor = self._raw.cursor()
+    def roll_back(self) -> None:
+        """Rolls back what is open, on a connection that is about to be closed."""
+        self._raw.rollback()
+
+    def rows_now(self, tables: Sequence[Table]) -> List[Tuple[Table, Rows]]:
+        """The rows that these tables have, all of one moment where the database is known. The connection is idle."""
+        rows = [(table, self._rows_of(table)) for table in tables]
+        self.undo()
+        return rows
+
+    def dangers(self, trusted: FrozenSet[str], recorded: Sequence[str]) -> Dangers:
+        """What of the database may write though a text doesn't look so, but for the functions that are trusted."""
+        return Dangers()
+
+    def attributes(self, tables: Sequence[Table]) -> Attributes:
+        """The numbers of these tables' columns, where results tell them."""
+        return {}
+
+    def numbers(self, cursor: Any) -> Optional[Numbers]:
+        """The numbers of the tables and columns that a result shows; None where the driver doesn't tell them."""
+        return None
+
+    def functions(self, trusted: FrozenSet[str]) -> FrozenSet[str]:
+        """The functions that this connection alone has."""
+        return frozenset()
+
+    def key(self, tables: Sequence[Table]) -> Tuple[Tuple[object, ...], List[str]]:
+        """What tells a database with these tables from others; and those tables whose names mean others here."""
+        return (), []
+
+    def meets(self, other: "Driver") -> bool:
+        """Whether another connection, whose key is another, is to the same database all the same."""
+        return False
+
+    def looked_at(self, tables: Sequence[Table]) -> None:
+        """Looks at how the columns of recorded tables are shown, as the connection is wrapped."""
+
+    def ask(self, query: str) -> Rows:
+        """The rows of a query, whatever the application has registered for rows and values."""
+        cursor = self.plain_cursor()
         try:
             cursor.execute(query)
             if cursor.description is None:
@@ -163,21 +281,35 @@ class Driver:
         finally:
             cursor.close()
 
+    def plain_cursor(self) -> Any:
+        """A cursor of the driver's own, as if the application had registered nothing."""
+        return self._raw.cursor()
+
+    def undo(self) -> None:
+        """Ends what was begun to ask."""
+        if not self.is_autocommit():
+            self._raw.rollback()
+
+    def identity(self) -> Optional[str]:
+        """Which database it is, in words; None where that isn't known, or no other process reaches it."""
+        return None
+
     def _rows_of(self, table: Table) -> Rows:
         """The rows of a table."""
-        columns = ", ".join(self._quoted(column.real) for column in table.columns)
+        columns = ", ".join(self._whole(column) for column in table.own_columns)
         schema = self._quoted(table.schema) + "." if table.schema else ""
-        return self._ask(f"SELECT {columns} FROM {schema}{self._quoted(table.real)}")
+        return self.ask(f"SELECT {columns} FROM {schema}{self._quoted(table.real)}")
+
+    def _whole(self, column: Column) -> str:
+        """What shows a column's values whole."""
+        return self._quoted(column.real)
 
     def _quoted(self, name: str) -> str:
         """A name of the catalog, as a query has it."""
         return '"' + name.replace('"', '""') + '"'
 
-    def _tables(self, table_of: Any, names: Wanted) -> List[Tuple[Table, Rows]]:
-        tables: List[Table] = []
-        for name, columns in names.items():
-            tables.append(table_of(self._ask, name, columns, [table.name for table in tables]))
-        return [(table, self._rows_of(table)) for table in tables]
+    def _tables(self, tables_of: Callable[[Any, Wanted], List[Table]], names: Wanted) -> List[Tuple[Table, Rows]]:
+        return [(table, self._rows_of(table)) for table in tables_of(self.ask, names)]
 
 
 class Postgres(Driver):
@@ -189,7 +321,10 @@ class Postgres(Driver):
 
     def __init__(self, raw: Any, module: Any, style: Optional[str]) -> None:
         super().__init__(raw, module, style)
-        self.own_transactions = module.__name__ == "psycopg"
+        self.own_transactions = getattr(module, "__name__", "") == "psycopg"
+        self.no_rownumber = None if self.own_transactions else 0
+        self.sends_several = not self.own_transactions
+        self._adapting: Any = Psycopg(raw) if self.own_transactions else Psycopg2(raw)
 
     def _status(self) -> int:
         return int(self._raw.info.transaction_status)
@@ -220,23 +355,57 @@ class Postgres(Driver):
             return super().is_answer(error)
         return code[:2] != "08" and code[:3] != "57P" and code != "40003"
 
-    def adapts(self, value: object) -> bool:
-        if hasattr(value, "adapted"):  # psycopg2's own, as Binary: it is looked into
-            return False
-        known = getattr(getattr(self._module, "extensions", None), "adapters", {})  # of psycopg2, by class and protocol
-        return super().adapts(value) or any(kind is type(value) for kind, _ in known)
+    def leaves_nothing(self, error: BaseException, text: str) -> bool:
+        # Several statements are undone together, unless one commits, as CALL and DO may outside a transaction.
+        commits = re.search(r"\b(call|do)\b", text, re.IGNORECASE) is not None and not self.is_open()
+        return self.is_answer(error) and not commits and (_is_one(text) or self.code(error) == "42601")
+
+    def plain_cursor(self) -> Any:
+        return self._adapting.plain_cursor()
+
+    def sent(self, value: object, cursor: Any) -> object:
+        sent: object = self._adapting.sent(value, cursor)
+        return sent
 
     def came(self, cursor: Any, shows: bool) -> Came:
         if not shows or cursor.description is None:
             return Came(Result(self.count(cursor)))
         names = [column[0] for column in cursor.description]
         rows = self._rows(cursor)
-        return Came(Result(self.count(cursor), [_positional(row, names) for row in rows]))
+        shown = [_positional(row, names) for row in rows]
+        return Came(Result(self.count(cursor), surely_known(self._adapting, cursor, shown)), shown=shown)
+
+    def facts(self, table: Table) -> Facts:
+        if self.is_failed() or self.is_dead():
+            return NOTHING
+        name = ".".join(self._quoted(part) for part in (table.schema, table.real) if part)
+        found: Any = self.ask(_FACTS.format(name=name.replace("'", "''")))
+        if not found:
+            return NOTHING
+        kind, rules, policies, triggers, may_read, unique = found[0]
+        return Facts(bool(may_read) and not (rules or policies or triggers), kind == "r", False, unique > 0)
+
+    def is_plain(self, cursor: Any) -> bool:
+        if self.own_transactions:
+            return bool(cursor.row_factory is sys.modules["psycopg.rows"].tuple_row)
+        kind = sys.modules["psycopg2.extensions"].cursor
+        is_own = all(getattr(type(cursor), name) is getattr(kind, name) for name in ("fetchone", "fetchmany", "fetchall"))
+        return is_own and getattr(cursor, "row_factory", None) is None
+
+    def nothing_to_fetch(self) -> Optional[BaseException]:
+        words = "the last operation didn't produce a result" if self.own_transactions else "no results to fetch"
+        error: BaseException = self._module.ProgrammingError(words)
+        return error
 
     def _rows(self, cursor: Any) -> Rows:
         """The rows that have come; the cursor stands before the first again."""
         if not self.own_transactions:
-            rows = cursor.fetchall()
+            try:
+                rows = cursor.fetchall()
+            except Exception as error:  # the application meets it as it fetches them
+                with contextlib.suppress(Exception):
+                    cursor.scroll(0, mode="absolute")
+                raise Unsaid(f"its rows couldn't be read, {type(error).__name__}: {error}") from None
         else:
             factory, cursor.row_factory = cursor.row_factory, tuple_row
             try:
@@ -247,25 +416,105 @@ class Postgres(Driver):
             cursor.scroll(0, mode="absolute")
         return list(rows)
 
+    def counts(self, cascades: Sequence[Cascade]) -> Optional[Counts]:
+        if (self.is_autocommit() and not self.is_open()) or self.is_failed() or self.is_dead():
+            return None
+        shown = [
+            " + ".join(f"pg_catalog.pg_stat_get_xact_tuples_{word}({oid}::oid)" for oid in cascade.numbers or (0,))
+            for cascade in cascades for word in ("deleted", "updated")
+        ]  # fmt: skip
+        row = self.ask(f"SELECT current_setting('track_counts'), {', '.join(shown)}")[0]
+        if row[0] != "on":
+            return None
+        numbers = [int(number) for number in row[1:]]  # type: ignore[call-overload]
+        return Counts(each=tuple(zip(numbers[::2], numbers[1::2])))
+
+    def _whole(self, column: Column) -> str:
+        return self._quoted(column.real) + ("::text" if isinstance(column.kind, Form) else "")
+
     def opened(self, names: Wanted) -> List[Tuple[Table, Rows]]:
         if self.is_open():
             raise Refused("the connection is in a transaction: wrap it before its first statement")
-        begins = (
-            "BEGIN ISOLATION LEVEL REPEATABLE READ"
-            if self.is_autocommit()
-            else "SET TRANSACTION ISOLATION LEVEL REPEATABLE READ"
-        )
         try:
-            self._ask(begins)
-            return self._tables(postgres_table, names)
+            self._begin()
+            return self._tables(postgres_tables, names)
         finally:
             self._end()
 
-    def _end(self) -> None:
-        if self.is_autocommit():
-            self._ask("ROLLBACK")
+    def identity(self) -> Optional[str]:
+        try:
+            name, begun = self.ask("SELECT pg_catalog.current_database()::text, pg_catalog.pg_postmaster_start_time()::text")[0]
+        finally:
+            self.undo()
+        return f"database {name} of the server that was started at {begun}"
+
+    def rows_now(self, tables: Sequence[Table]) -> List[Tuple[Table, Rows]]:
+        try:
+            self._begin()
+            return [(table, self._rows_of(table)) for table in tables]
+        finally:
+            self._end()
+
+    def roll_back(self) -> None:
+        if self.methods_are_void():
+            self.ask("ROLLBACK")
         else:
             self._raw.rollback()
+
+    def _begin(self) -> None:
+        """Begins a transaction that sees one moment."""
+        begins = "BEGIN" if self.is_autocommit() else "SET TRANSACTION"
+        self.ask(f"{begins} ISOLATION LEVEL REPEATABLE READ")
+
+    def key(self, tables: Sequence[Table]) -> Tuple[Tuple[object, ...], List[str]]:
+        try:
+            return postgres_key(self.ask, tables)
+        finally:
+            self.undo()
+
+    def dangers(self, trusted: FrozenSet[str], recorded: Sequence[str]) -> Dangers:
+        try:
+            return postgres_dangers(self.ask, trusted, recorded)
+        finally:
+            self.undo()
+
+    def attributes(self, tables: Sequence[Table]) -> Attributes:
+        found: Dict[Tuple[int, int], Tuple[str, str]] = {}
+        try:
+            for table in tables:
+                name = ".".join(self._quoted(part) for part in (table.schema, table.real) if part)
+                columns: Any = self.ask(_ATTRIBUTES.format(name=name.replace("'", "''")))
+                found.update({(oid, number): (table.name, real) for oid, number, real in columns})
+        finally:
+            self.undo()
+        return found
+
+    def numbers(self, cursor: Any) -> Optional[Numbers]:
+        if self.own_transactions:
+            result = getattr(cursor, "pgresult", None)
+            if result is None:
+                return []
+            return [(result.ftable(at), result.ftablecol(at)) for at in range(result.nfields)]
+        return [(getattr(each, "table_oid", 0) or 0, getattr(each, "table_column", 0) or 0) for each in cursor.description or ()]
+
+    def _end(self) -> None:
+        if self.is_autocommit():
+            self.ask("ROLLBACK")
+        else:
+            self._raw.rollback()
+
+
+_ATTRIBUTES = """SELECT a.attrelid::bigint, a.attnum::int, a.attname::text FROM pg_catalog.pg_attribute a
+WHERE a.attrelid = pg_catalog.to_regclass('{name}') AND a.attnum > 0 AND NOT a.attisdropped"""
+# Whether rows of a table may be shown; `unique` counts what else may find a row that is there.
+_FACTS = """SELECT c.relkind::text, c.relhasrules::int, pg_catalog.row_security_active(c.oid)::int,
+  (SELECT count(*) FROM pg_catalog.pg_trigger t WHERE NOT t.tgisinternal AND t.tgenabled <> 'D' AND t.tgtype::int & 1 = 1
+    AND (t.tgrelid = c.oid OR t.tgrelid IN (SELECT relid FROM pg_catalog.pg_partition_tree(c.oid)))),
+  (SELECT pg_catalog.bool_and(pg_catalog.has_column_privilege(c.oid, a.attnum, 'SELECT'))::int
+    FROM pg_catalog.pg_attribute a WHERE a.attrelid = c.oid AND a.attnum > 0 AND NOT a.attisdropped),
+  (SELECT count(*) FROM pg_catalog.pg_index i WHERE i.indrelid = c.oid AND (i.indisunique OR i.indisexclusion) AND NOT i.indisprimary)
+FROM pg_catalog.pg_class c WHERE c.oid = pg_catalog.to_regclass('{name}')"""
+NOTHING = Facts(False, False, False, True)
 
 
 def tuple_row(cursor: Any) -> Any:
@@ -275,6 +524,10 @@ def tuple_row(cursor: Any) -> Any:
 
 class Sqlite(Driver):
     """sqlite3. With its `isolation_level`, a SELECT outside a transaction is one by itself, and a write begins one."""
+
+    words, schema = _TIMES, "main"
+    _converters: Mapping[str, object] = {}  # that were there as the connection was wrapped
+    _declared: FrozenSet[str] = frozenset()  # the first words of the types of recorded tables' columns
 
     many_gives_cursor = True
 
@@ -298,14 +551,29 @@ class Sqlite(Driver):
             return "23000"
         return "55P03" if isinstance(error, self._module.OperationalError) and "locked" in str(error) else "XX000"
 
-    def is_answer(self, error: BaseException) -> bool:
-        return isinstance(error, self._module.Error) or super().is_answer(error)
+    def may_commit(self, text: str) -> bool:
+        if self.is_dead() or self.is_open():
+            return False
+        return self.is_autocommit() or _first_word(text) not in ("insert", "update", "delete", "replace")
 
-    def adapts(self, value: object) -> bool:
-        return super().adapts(value) or (type(value), self._module.PrepareProtocol) in self._module.adapters
+    def is_answer(self, error: BaseException) -> bool:
+        # A text of several statements is refused by a Warning, and none is done.
+        return isinstance(error, (self._module.Error, self._module.Warning)) or super().is_answer(error)
+
+    def leaves_nothing(self, error: BaseException, text: str) -> bool:
+        # A statement OR FAIL, and a trigger's RAISE(FAIL), keep what was done before.
+        return self.is_answer(error) and "fail" not in f"{text} {error}".lower()
+
+    def sent(self, value: object, cursor: Any) -> object:
+        adapter = self._module.adapters.get((type(value), self._module.PrepareProtocol))
+        if adapter is None:
+            return super().sent(value, cursor)
+        if adapter is str or getattr(adapter, "__module__", None) == "sqlite3.dbapi2":  # those of dates that it brings
+            return adapter(value)
+        raise Unsaid(f"the driver sends something else in place of a {type(value).__name__}")
 
     def came(self, cursor: Any, shows: bool) -> Came:
-        if not shows or cursor.description is None:
+        if cursor.description is None:
             return Came(Result(self.count(cursor), (), cursor.lastrowid))
         factory, cursor.row_factory = cursor.row_factory, None
         try:
@@ -319,12 +587,115 @@ class Sqlite(Driver):
 
         if error is not None:
             return Came(Result(-1), rows, maker, error)
-        # Older versions count what RETURNING shows only when all was fetched: a row is shown for each that was changed.
-        return Came(Result(len(rows), rows, cursor.lastrowid), rows, maker)
+        return Came(Result(len(rows), self._known(rows), cursor.lastrowid), rows, maker)
+
+    def _known(self, rows: Rows) -> Rows:
+        """The rows, where what the application may have made of others stands as unknown values."""
+        factory: object = self._raw.text_factory
+        kinds: Tuple[type, ...] = () if factory in (str, bytes, bytearray) else (str, bytes)
+        if self._module.converters != self._converters and not self._declared.isdisjoint(self._later()):
+            kinds = (object,)
+        if not kinds:
+            return rows
+        return [[Unknown() if value is not None and isinstance(value, kinds) else value for value in row] for row in rows]
+
+    def _later(self) -> Set[str]:
+        """The types for which converters were registered since the connection was wrapped."""
+        return {name for name, made in self._module.converters.items() if self._converters.get(name) is not made}
+
+    def looked_at(self, tables: Sequence[Table]) -> None:
+        self._converters = dict(self._module.converters)
+        rows = [row for table in tables for row in self.ask(f"PRAGMA table_xinfo({self._quoted(table.real)})")]
+        self._declared = frozenset(re.split(r"[ (]", str(row[2] or ""), maxsplit=1)[0].upper() for row in rows)
+
+    def ask(self, query: str) -> Rows:
+        factory, self._raw.text_factory = self._raw.text_factory, str
+        try:
+            return super().ask(query)
+        finally:
+            self._raw.text_factory = factory
+
+    def plain_cursor(self) -> Any:
+        cursor = self._raw.cursor()
+        cursor.row_factory = None
+        return cursor
+
+    def identity(self) -> Optional[str]:
+        found = [row[2] for row in self.ask("PRAGMA database_list") if row[1] == "main"]
+        return f"the file {found[0]}" if found and found[0] else None
+
+    def counts(self, cascades: Sequence[Cascade]) -> Optional[Counts]:
+        return Counts(None, self._raw.total_changes, bool(self.ask("PRAGMA foreign_keys")[0][0]))
+
+    def facts(self, table: Table) -> Facts:
+        quoted = table.real.replace("'", "''")
+        made: Any = self.ask(f"SELECT sql FROM sqlite_master WHERE type = 'table' AND lower(name) = lower('{quoted}')")
+        unique = [row for row in self.ask(f"PRAGMA index_list('{quoted}')") if row[2] and row[3] != "pk"]
+        is_virtual = not made or made[0][0].split()[1:2] in (["VIRTUAL"], ["virtual"])
+        return Facts(self._module.sqlite_version_info >= (3, 35) and not is_virtual, False, True, bool(unique))
+
+    def is_plain(self, cursor: Any) -> bool:
+        return cursor.row_factory is None
+
+    def looking(
+        self, look: Look, looked: Callable[[Rows], None], call: Callable[[], Any], fetch: Callable[[], Any]
+    ) -> Any:
+        is_own = not self._raw.in_transaction and self.is_autocommit()
+        cursor = self._raw.cursor()
+        cursor.row_factory = None
+        cursor.execute("BEGIN IMMEDIATE" if is_own else look.holds)
+        try:
+            looked(cursor.execute(look.query).fetchall())
+            value = call()
+            if is_own:
+                fetch()  # what isn't fetched keeps it from committing
+                cursor.execute("COMMIT")
+            return value
+        except BaseException:
+            if is_own and self._raw.in_transaction:
+                cursor.execute("ROLLBACK")
+            raise
 
     def most(self, size: int) -> Optional[int]:
         # Most versions give all for a number below 1: this one is asked.
         return size if size > 0 or not self._module.connect(":memory:").execute("SELECT 1").fetchmany(0) else None
+
+    def key(self, tables: Sequence[Table]) -> Tuple[Tuple[object, ...], List[str]]:
+        names = {table.real.lower() for table in tables}
+        hidden = [str(row[0]) for row in self.ask("SELECT name FROM sqlite_temp_master WHERE type IN ('table', 'view')")]
+        path = next((row[2] for row in self.ask("PRAGMA database_list") if row[1] == "main"), "")
+        status = os.stat(path) if path and os.path.exists(path) else None
+        key = (id(self._raw),) if status is None else (status.st_dev, status.st_ino)
+        return key, [name for name in hidden if name.lower() in names]
+
+    def meets(self, other: Driver) -> bool:
+        """Whether another connection to a database in memory shares this one's: only one of them can write at once. Where this
+        one is in use, nobody knows, and they are taken for one."""
+        if not isinstance(other, Sqlite) or self.is_open():
+            return isinstance(other, Sqlite)
+        try:
+            other.ask("BEGIN IMMEDIATE")
+        except self._module.OperationalError:
+            return True
+        try:
+            self.ask("BEGIN IMMEDIATE")
+        except self._module.Error:
+            return True
+        finally:
+            other._raw.rollback()
+        self._raw.rollback()
+        return False
+
+    def dangers(self, trusted: FrozenSet[str], recorded: Sequence[str]) -> Dangers:
+        begins = not self.is_open()
+        try:
+            return sqlite_dangers(self.ask, trusted)
+        finally:
+            if not begins or self.is_open():
+                self._raw.rollback()
+
+    def functions(self, trusted: FrozenSet[str]) -> FrozenSet[str]:
+        return sqlite_functions(self.ask, trusted)
 
     def opened(self, names: Wanted) -> List[Tuple[Table, Rows]]:
         begins = not self.is_open()
@@ -332,8 +703,15 @@ class Sqlite(Driver):
             raise Refused("the connection is in a transaction: wrap it before its first statement")
         try:
             if begins:
-                self._ask("BEGIN")
-            return self._tables(sqlite_table, names)
+                self.ask("BEGIN")
+            return self._tables(sqlite_tables, names)
+        finally:
+            self._raw.rollback()
+
+    def rows_now(self, tables: Sequence[Table]) -> List[Tuple[Table, Rows]]:
+        try:
+            self.ask("BEGIN")
+            return [(table, self._rows_of(table)) for table in tables]
         finally:
             self._raw.rollback()
 
@@ -347,8 +725,16 @@ def driver_of(raw: Any, style: Optional[str]) -> Driver:
         raise Refused(f"a {type(raw).__name__} is no connection of PEP 249")
     modules = [kind.__module__.partition(".")[0] for kind in type(raw).__mro__]
     known = next((name for name in modules if name in _DRIVERS), None)
+    if known == "psycopg" and hasattr(raw, "__aenter__"):
+        from .aio import Awaited
+
+        return Awaited(raw, sys.modules[known], style)
     if hasattr(raw, "__aenter__") or bool(getattr(raw, "async_", False)) or bool(getattr(raw, "async", False)):
         raise Refused("the connection is asynchronous, and a recorder has no way to follow it")
+    if modules[0] == "sqlalchemy":
+        from .adapted import adapted_driver
+
+        return adapted_driver(raw, style)
     if known is None:
         return Driver(raw, sys.modules.get(modules[0]), style)
     return _DRIVERS[known](raw, sys.modules[known], style)

@@ -3,6 +3,7 @@ rows, only reads, or may write."""
 
 from typing import Any, FrozenSet, List, NamedTuple, Optional
 
+from .shapes import called_unknown
 from .sql import BEFORE_PARENTHESES, Name, Token
 
 
@@ -66,19 +67,25 @@ READING = frozenset(
     "pg_current_xact_id pg_current_snapshot pg_is_in_recovery current_setting current_schema current_schemas current_database "
     "pg_get_serial_sequence set_config pg_relation_size pg_table_size pg_total_relation_size pg_size_pretty to_regclass "
     "pg_table_is_visible format_type pg_get_expr pg_get_constraintdef pg_get_indexdef obj_description col_description "
-    "has_table_privilege pg_stat_get_activity pg_blocking_pids pg_locks pg_typeof session_user current_user".split()
+    "row_to_json to_json to_jsonb json_object_agg jsonb_object_agg json_array_elements jsonb_array_elements has_table_privilege pg_stat_get_activity pg_blocking_pids pg_locks pg_typeof session_user current_user".split()
 )
 _READS = frozenset("select values table with explain fetch move close declare".split())
-_BESIDE = frozenset("set show reset listen unlisten notify analyze vacuum lock checkpoint deallocate pragma".split())
+_BESIDE = frozenset("set show reset discard listen unlisten notify analyze vacuum lock checkpoint deallocate pragma".split())
 _WRITES = frozenset("insert update delete merge replace into call truncate execute".split())
-_NAMES_CHANGE = frozenset("search_path standard_conforming_strings session_replication_role writable_schema".split())
+_MEANINGS = frozenset(
+    "standard_conforming_strings session_replication_role writable_schema extra_float_digits transform_null_equals".split()
+)
+_PATHS = frozenset("search_path role session_authorization".split())  # settings by which names may mean other tables
 
 
-def is_beside(tokens: List[Token]) -> bool:
-    """Whether a text speaks of no rows: SET, SHOW and their kin. What changes the meaning of names isn't of these."""
+def is_beside(tokens: List[Token], are_fixed: bool = False) -> bool:
+    """Whether a text speaks of no rows: SET, SHOW and their kin. What changes the meaning of names isn't of these, unless the
+    names of the recorded tables are fixed, whatever the search path."""
     if not tokens:
         return True
-    if _changes_names(tokens) or any(token.is_sign(";") for token in tokens[:-1]):
+    if any(token.is_sign(";") for token in tokens[:-1]):
+        return False
+    if _changes_names(tokens, are_fixed) and not tokens[0].is_word("show"):
         return False
     words = {token.value for token in tokens if token.kind == "word"}
     if tokens[0].is_word("create") and not words & {"select", "with", "temp", "temporary"}:
@@ -86,10 +93,15 @@ def is_beside(tokens: List[Token]) -> bool:
     return tokens[0].kind == "word" and tokens[0].value in _BESIDE
 
 
-def _changes_names(tokens: List[Token]) -> bool:
+def _changes_names(tokens: List[Token], are_fixed: bool) -> bool:
     """Whether a text may change what names and texts mean."""
-    if any(token.kind in ("word", "name", "string") and str(token.value).lower() in _NAMES_CHANGE for token in tokens):
+    values = [str(token.value).lower() for token in tokens if token.kind in ("word", "name", "string")]
+    if not _MEANINGS.isdisjoint(values):
         return True
+    if not are_fixed and not _PATHS.isdisjoint(values):
+        return True
+    if not are_fixed and values[:1] in (["set"], ["reset"], ["discard"]):
+        return not {"schema", "authorization", "all"}.isdisjoint(values[1:4])
     settings = [after for token, _, after in zip(tokens, tokens[1:], tokens[2:]) if token.is_word("set_config")]
     return any(token.kind != "string" for token in settings)
 
@@ -107,12 +119,14 @@ def _writing_word(tokens: List[Token]) -> Optional[str]:
     return None
 
 
-def _unknown_function(tokens: List[Token], reading: FrozenSet[str]) -> Optional[str]:
-    """A function of which nobody knows whether it writes."""
-    for token, after in zip(tokens, tokens[1:]):
-        if after.is_sign("(") and token.kind in ("word", "name"):
-            if token.value not in reading and token.value not in BEFORE_PARENTHESES:
-                return str(token.value)
+def unknown_function(tokens: List[Token], reading: FrozenSet[str], written: Name) -> Optional[str]:
+    """Why a plain INSERT, UPDATE or DELETE of this table may write others: it calls a function of which nobody knows."""
+    for before, token, after in zip(tokens, tokens[1:], tokens[2:]):
+        if not after.is_sign("(") or token.kind not in ("word", "name"):
+            continue
+        is_list = token.value == written.text or before.is_word("as") or token.is_word("set", "conflict", "default", "returning")
+        if not is_list and token.value not in reading and token.value not in BEFORE_PARENTHESES:
+            return f"it calls {token.value}, which may write (say reading=[{token.value!r}] where it doesn't)"
     return None
 
 
@@ -127,21 +141,21 @@ def parts_of(tokens: List[Token]) -> List[List[Token]]:
     return [part for part in parts if part]
 
 
-def why_it_may_write(tokens: List[Token], reading: FrozenSet[str]) -> Optional[str]:
+def why_it_may_write(tokens: List[Token], reading: FrozenSet[str], are_fixed: bool = False) -> Optional[str]:
     """Why a text that can't be said may write; None where it only reads."""
     parts = parts_of(tokens)
     if len(parts) == 1:
-        return _why_one_may_write(parts[0], reading)
+        return _why_one_may_write(parts[0], reading, are_fixed)
     for part in parts:
         if control_of(part) is not None:
             return "it is several statements, and one begins or ends a transaction"
-        why = None if is_beside(part) else _why_one_may_write(part, reading)
+        why = None if is_beside(part, are_fixed) else _why_one_may_write(part, reading, are_fixed)
         if why is not None:
             return f"it is several statements; {why}"
     return None
 
 
-def _why_one_may_write(tokens: List[Token], reading: FrozenSet[str]) -> Optional[str]:
+def _why_one_may_write(tokens: List[Token], reading: FrozenSet[str], are_fixed: bool) -> Optional[str]:
     """The same of one statement."""
     first = tokens[0]
     if first.kind != "word" or first.value not in _READS:
@@ -150,9 +164,9 @@ def _why_one_may_write(tokens: List[Token], reading: FrozenSet[str]) -> Optional
     word = None if is_explained else _writing_word(tokens[1:])
     if word is not None:
         return f"{word.upper()} writes"
-    if _changes_names(tokens):
+    if _changes_names(tokens, are_fixed):
         return "it may change what names mean"
-    function = _unknown_function(tokens, reading)
+    function = called_unknown(tokens, reading)
     return (
         None if function is None else f"it calls {function}, which may write (say reading=[{function!r}] where it doesn't)"
     )

@@ -8,11 +8,12 @@ A history has operations whose values are micro-operations, as Elle takes them: 
 """
 
 import argparse
+import heapq
 import re
 import sys
 from typing import Any, Dict, Iterable, Iterator, List, NamedTuple, Optional, Sequence, Set, Tuple
 
-from . import BIGINT, BYTEA, MOST_SESSIONS, TEXT, Kind, _value
+from . import BIGINT, BYTEA, TEXT, Kind, _value
 from . import sql
 from .edn import Keyword, Malformed, Map, Reader, Vector, written
 from .effects import READING
@@ -20,7 +21,6 @@ from .values import MOST_BYTES, Spelling, Unsaid, plain
 
 READ, WRITE, APPEND = Keyword("r"), Keyword("w"), Keyword("append")
 _TYPES = ("invoke", "ok", "fail", "info")
-NOBODY = -1  # the length of a list that nobody can have seen
 
 
 class Micro(NamedTuple):
@@ -169,12 +169,12 @@ class Lists:
         """The place of an element, counted from 1, where anybody has read it."""
         return self._place.get(key, {}).get(value)
 
-    def seen(self, key: Any, read: Optional[Tuple[Any, ...]]) -> int:
-        """How long the list was when this was read; NOBODY where it is no beginning of the longest, or has an element
-        twice."""
+    def seen(self, key: Any, read: Optional[Tuple[Any, ...]]) -> Optional[int]:
+        """How long the list was when this was read; None where it is no beginning of the longest, or has an element twice, so
+        that no list can give it."""
         elements = tuple(read or ())
         is_beginning = elements == tuple(self._longest.get(key, ())[: len(elements)])
-        return len(elements) if is_beginning and len(set(elements)) == len(elements) else NOBODY
+        return len(elements) if is_beginning and len(set(elements)) == len(elements) else None
 
 
 def _registers(transactions: Sequence[Transaction], lists: Lists) -> List[Any]:
@@ -247,8 +247,9 @@ class _Writer:
         }
         read = [micro for one in self._all if one.type == "ok" for micro in one.micros if micro.does == READ]
         self._observed = {(micro.key, micro.value) for micro in read if micro.key not in self._lists.keys}
-        self._sessions: Dict[int, Transaction] = {}
-        self._used_up: Set[int] = set()
+        self._sessions: Dict[int, int] = {}  # of the operations that are open, by their identities
+        self._free: List[int] = []  # numbers of sessions that are given back, least first
+        self._last = 0  # the greatest number of a session so far
 
     def lines(self) -> Iterator[str]:
         """The lines."""
@@ -286,17 +287,14 @@ class _Writer:
         return Malformed(line, f"a key or a value makes a statement of more than {MOST_BYTES} bytes")
 
     def _begin(self, one: Transaction) -> Iterator[str]:
-        for session in range(1, MOST_SESSIONS + 1):
-            if session not in self._sessions and session not in self._used_up:
-                self._sessions[session] = one
-                return iter(
-                    (f"-- line {one.line}, process {written(one.process)}", f"> {session} BEGIN;", f"  {session} BEGIN")
-                )
-        raise Malformed(one.line, f"more than {MOST_SESSIONS} operations are open or not known to have ended")
+        if not self._free:
+            self._last += 1
+        session = heapq.heappop(self._free) if self._free else self._last
+        self._sessions[id(one)] = session
+        return iter((f"-- line {one.line}, process {written(one.process)}", f"> {session} BEGIN;", f"  {session} BEGIN"))
 
     def _end(self, one: Transaction) -> Iterator[str]:
-        session = next(session for session, open_one in self._sessions.items() if open_one is one)
-        del self._sessions[session]
+        session = self._sessions.pop(id(one))
         for micro in one.micros:
             if one.type == "ok" or micro.does != READ:
                 command, reply = self._said(micro)
@@ -307,8 +305,7 @@ class _Writer:
         yield f"> {session} COMMIT;"
         if one.type == "ok":
             yield f"  {session} COMMIT"
-        else:
-            self._used_up.add(session)
+            heapq.heappush(self._free, session)
 
     def _said(self, micro: Micro) -> Tuple[str, List[str]]:
         """A micro-operation as a statement, with its reply."""
@@ -325,7 +322,10 @@ class _Writer:
         _, key, _ = self._tables["lists"]
         where = f"WHERE k = {key.literal(micro.key)}"
         if micro.does == READ:
-            return f"SELECT n FROM lists {where}", ["SELECT 1", f"| {self._lists.seen(micro.key, micro.value)}"]
+            seen = self._lists.seen(micro.key, micro.value)
+            if seen is None:  # there is one row of each list
+                return f"SELECT count(*) FROM lists {where}", ["SELECT 1", "| 2"]
+            return f"SELECT n FROM lists {where}", ["SELECT 1", f"| {seen}"]
         place = self._lists.place(micro.key, micro.value)
         if place is None:  # it comes behind all that anybody has read
             return f"UPDATE lists SET n = n + 1 {where} AND n >= {self._lists.length(micro.key)}", ["UPDATE 1"]
@@ -341,7 +341,7 @@ def transcript(history: str) -> str:
 # ---- a transcript as a history
 
 
-_SESSION = "[1-9]|[1-5][0-9]|6[0-4]"
+_SESSION = "[1-9][0-9]{0,9}"
 _KINDS = {kind.name: kind for kind in (BIGINT, TEXT, BYTEA)}
 
 

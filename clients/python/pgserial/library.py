@@ -16,7 +16,10 @@ import ctypes
 import os
 from typing import NamedTuple
 
+from .bundle import bundled
+
 ABI = 3
+NAME = f"libpgserial.so.{ABI}"
 MOST_EVENTS = 100_000
 MOST_SCHEDULES = 1_000_000
 DONE, REFUSED, NEEDS_ROOM, FULL, MEMORY, NO_TEXT, DEVICE, MISUSE, UNPRINTED, NO_ORDER, UNKNOWN, TOO_MANY = range(12)
@@ -184,10 +187,10 @@ def _bytes(text):
 
 
 class Library:
-    """The library of a path, of `$PGSERIAL_LIBRARY`, or where the system finds libpgserial.so."""
+    """The library of a path, of `$PGSERIAL_LIBRARY`, the one that came with this package, or where the system finds it."""
 
     def __init__(self, path=None):
-        self._loaded = ctypes.CDLL(path or os.environ.get("PGSERIAL_LIBRARY") or "libpgserial.so")
+        self._loaded = ctypes.CDLL(path or os.environ.get("PGSERIAL_LIBRARY") or bundled(NAME) or NAME)
         self._loaded.pgserial_abi.restype = ctypes.c_uint32
         abi = self._loaded.pgserial_abi()
         if abi != ABI:

@@ -2,6 +2,7 @@
 whether they only read. Names are resolved elsewhere."""
 
 import re
+from decimal import Decimal
 from typing import Any, Callable, Dict, FrozenSet, List, NamedTuple, Optional, Pattern, Tuple, Union
 
 from .values import Unsaid
@@ -37,6 +38,7 @@ _SLOTS = {
     "qmark": r"(?P<slot>\?(?P<slot_number>[0-9]{0,9})|[:@$](?P<slot_name>[^\W\d]\w*))",
     "named": _COLON,
     "numeric": r"(?P<slot>(?<!:):(?P<slot_number>[0-9]{1,9}))",
+    "numeric_dollar": r"(?P<slot>\$(?P<slot_number>[0-9]{1,9}))",
 }
 _BEFORE = r"""(?P<space>[ \t\r\f\v\x0a]+)|(?P<line>--[^\n]*)|(?P<comment>/\*)|(?P<string>'(?:[^']|'')*')
 |(?P<escaped>[eE]'(?:[^'\\]|''|\\.)*')|(?P<bytes>[xX]'(?:[0-9a-fA-F]{2})*')
@@ -78,7 +80,7 @@ def _string(text: str, percent_is_doubled: bool) -> str:
 
 
 def _number(text: str) -> object:
-    return int(text) if text.isdigit() and len(text) <= MOST_DIGITS else float(text)
+    return int(text) if text.isdigit() and len(text) <= MOST_DIGITS else Decimal(text)
 
 
 def _pass_line(comment: str) -> None:
@@ -224,6 +226,13 @@ class IsNull(NamedTuple):
     is_not: bool
 
 
+class Truth(NamedTuple):
+    """A column that is true, or false."""
+
+    column: Column
+    is_true: bool
+
+
 class In(NamedTuple):
     """A column that has one of some values: those written, or those of a parameter."""
 
@@ -231,7 +240,7 @@ class In(NamedTuple):
     values: Tuple[Any, ...]
 
 
-Condition = Union[Comparison, Between, IsNull, In]
+Condition = Union[Comparison, Between, IsNull, Truth, In]
 
 
 class Table(NamedTuple):
@@ -288,14 +297,23 @@ BEFORE_PARENTHESES = frozenset(
     "char numeric decimal character bit time timestamp float within recursive materialized of interval".split()
 )
 
+# Types that may stand before a text.
+_TYPED = frozenset("date time timestamp timestamptz numeric decimal real double bool boolean uuid json jsonb inet bytea".split())
+_BEHIND_CONDITION = ("and", "order", "limit", "offset", "fetch", "for", "returning")
 _ENDS_ITEM = ("from", "where", "returning", "order", "limit", "for")
 _NO_ALIAS = frozenset(
     _ENDS_ITEM
     + ("set", "values", "default", "on", "using", "join", "as", "and", "or", "offset", "fetch", "isnull", "notnull")
+    + ("group", "having", "window", "inner", "left", "right", "full", "cross", "natural", "union", "intersect", "except")
 )
-_NO_VALUE = frozenset(("select", "case", "not", "exists", "array", "row", "true", "false", "distinct", "cast"))
+_NO_VALUE = frozenset(("select", "case", "not", "exists", "array", "row", "distinct", "cast"))
 _COMPARES = {"=": "=", "==": "=", "<>": "<>", "!=": "<>", "<": "<", "<=": "<=", ">": ">", ">=": ">="}
 _TURNED = {"<": ">", "<=": ">=", ">": "<", ">=": "<="}
+
+
+def negated(number: Any) -> Any:
+    """A number with the other sign, and all its digits."""
+    return number.copy_negate() if isinstance(number, Decimal) else -number
 
 
 def _are_one(one: Any, other: Constant) -> bool:
@@ -363,6 +381,8 @@ class Parser:
 
     def _unlike(self) -> str:
         token = self._token()
+        if token is not None and token.is_sign("?", ":", "%"):
+            return f"{token.value} stands there, which begins no parameter in this driver's paramstyle"
         return "it ends too early" if token is None else f"the grammar has no {str(token.value)[:30].upper()} there"
 
     # names
@@ -411,10 +431,16 @@ class Parser:
             value = Slot(token.value)
         elif token.is_word("null"):
             value = Constant(None)
+        elif token.is_word("true", "false"):
+            value = Constant(token.value == "true")
+        elif token.kind == "word" and self._is_typed():
+            self._place -= 1
+            type_name = self._type()
+            value = Cast(Constant(self._next().value), type_name)
         elif token.is_sign("+", "-"):
             number = self._next()
             self._expect(number.kind == "number")
-            value = Constant(-number.value if token.value == "-" else number.value)
+            value = Constant(negated(number.value) if token.value == "-" else number.value)
         elif token.is_sign("("):
             value = self._value()
             self._expect(self._take_sign(")"))
@@ -434,10 +460,30 @@ class Parser:
             value = Cast(value, self._type())
         return value
 
+    def _is_typed(self) -> bool:
+        """Whether the word that was taken is a type's, with a text behind it: `date '2020-01-01'`."""
+        before, self._place = self._place, self._place - 1
+        if not self._is_word(*_TYPED):
+            self._place = before
+            return False
+        try:
+            self._type()
+            token = self._token()
+            return token is not None and token.kind == "string"
+        except Unsaid:
+            return False
+        finally:
+            self._place = before
+
     def _type(self) -> str:
         name = self._name().text
         if name == "character" and self._take_word("varying"):
             name = "varchar"
+        if name == "double" and self._take_word("precision"):
+            name = "double precision"
+        if name in ("time", "timestamp") and self._is_word("with", "without"):
+            name = f"{name} {self._next().value} time zone"
+            self._expect(self._take_word("time") and self._take_word("zone"))
         if self._take_sign("["):
             self._expect(self._take_sign("]"))
             name += "[]"
@@ -445,14 +491,19 @@ class Parser:
             raise Unsaid("a type with a length")
         return name
 
-    def _is_value(self) -> bool:
+    def _is_value(self, may_be_typed: bool = True) -> bool:
         """Whether a value comes next, and no column."""
         token = self._token()
         if token is None:
             return False
         if token.kind in ("number", "string", "bytes", "slot"):
             return True
-        return token.is_word("null", "cast") or token.is_sign("+", "-", "(")
+        if token.is_word("null", "cast", "true", "false") or token.is_sign("+", "-", "("):
+            return True
+        self._place += 1
+        is_typed = may_be_typed and token.kind == "word" and self._is_typed()
+        self._place -= 1
+        return is_typed
 
     # conditions
 
@@ -468,14 +519,34 @@ class Parser:
     def _condition(self) -> List[Condition]:
         """One condition, or those between parentheses."""
         before = self._place
+        fault: Optional[Unsaid] = None
         if self._take_sign("("):
             try:
                 inside = self._conditions()
                 self._expect(self._take_sign(")"))
                 return inside
-            except Unsaid:
+            except Unsaid as unsaid:
+                fault = unsaid  # which tells more than what begins with a value does
                 self._place = before
-        return self._turned() if self._is_value() else [self._compared(self._column())]
+        if self._is_word("not"):
+            return [self._untrue()]
+        try:
+            return self._turned() if self._is_value() else [self._compared(self._column())]
+        except Unsaid as unsaid:
+            raise fault or unsaid from None
+
+    def _untrue(self) -> Condition:
+        """NOT before a column."""
+        after = self._token(1)
+        self._expect(after is not None and after.kind in ("word", "name"))
+        self._place += 1
+        column = self._column()
+        self._expect(self._ends_condition())
+        return Truth(column, False)
+
+    def _ends_condition(self) -> bool:
+        """Whether nothing of a condition stands behind a column."""
+        return self._token() is None or self._is_sign(")", ";") or self._is_word(*_BEHIND_CONDITION)
 
     def _turned(self) -> List[Condition]:
         """A value compared with a column; or a number with itself, which says nothing."""
@@ -493,10 +564,10 @@ class Parser:
             low = self._value()
             self._expect(self._take_word("and"))
             return Between(column, low, self._value())
+        if self._ends_condition():
+            return Truth(column, True)
         if self._take_word("is"):
-            is_not = self._take_word("not")
-            self._expect(self._take_word("null"))
-            return IsNull(column, is_not)
+            return self._is(column)
         if self._take_word("in"):
             return In(column, self._listed())
         sign = self._next()
@@ -506,6 +577,17 @@ class Parser:
         if sign.value == "=" and self._take_word("any"):
             return In(column, self._listed())
         return Comparison(column, _COMPARES[sign.value], self._value())
+
+    def _is(self, column: Column) -> Condition:
+        """What stands behind IS."""
+        is_not = self._take_word("not")
+        if not is_not and self._is_word("true", "false"):
+            return Truth(column, self._next().value == "true")
+        token = self._token()
+        if not is_not and token is not None and token.kind == "number":
+            return Comparison(column, "=", self._value())
+        self._expect(self._take_word("null", "unknown"))
+        return IsNull(column, is_not)
 
     def _listed(self) -> Tuple[Any, ...]:
         """The values of a list; a parameter without parentheses may have several, and is told by its Slot."""
@@ -532,7 +614,7 @@ class Parser:
             ahead = self._token(1)
             if ahead is not None and ahead.is_sign("("):
                 return self._count()
-        if self._is_value():
+        if self._is_value(False):  # a text behind a column's name may be what sqlite3 calls it
             item: Any = self._value()
             self._alias()
             return item
@@ -644,6 +726,7 @@ class Parser:
     def _made(self) -> Made:
         """An expression, up to the comma or parenthesis behind it, or to WHERE or RETURNING."""
         first, depth = self._place, 0
+        self._expect(not self._is_sign("?", ":", "%"))
         while depth or not (
             self._is_sign(",", ")", ";") or self._token() is None or self._is_word("where", "returning", "from")
         ):

@@ -1,164 +1,30 @@
-"""A session of a recording: the transaction that its connection has open, and what is written of each step of it."""
+"""The steps of a session: what is written of each call of the application, before it and when it has come back."""
 
 import re
-import threading
-from typing import Any, Callable, List, NamedTuple, Optional, Tuple
+from typing import Any, Callable, List, Optional, Tuple
 
+from . import temporary
+from .cascades import Counts
 from .drivers import Came, Driver
 from .effects import Control, control_of, is_beside, parts_of
-from .sql import tokens_of
-from .translation import Arguments, Plan, Told
+from .session import Point, Session
+from .sql import Constant, tokens_of
+from .plans import Plan
+from .prepared import Execution, Prepared, executed_by, prepared_by
+from .returning import Addition
+from .translation import Arguments, Told
 from .values import Unsaid
+from .verdict import HAS_NOT
 
-_PLAIN_WRITES = ("insert", "update", "delete", "select", "with")  # that leave nothing done where they fail
-
-
-class Point(NamedTuple):
-    """A savepoint: its name, and how much was held back when it was made."""
-
-    name: object
-    held: int
-
-
-class Session:
-    """The session of one connection. Whoever takes a step holds its lock."""
-
-    def __init__(self, recorder: Any, driver: Driver, number: int) -> None:
-        self.recorder, self.driver, self.number = recorder, driver, number
-        self.lock = threading.RLock()
-        self.is_closed = False
-        self.is_open = False  # whether its transaction's BEGIN is written, and its end isn't
-        self.is_explicit = False  # whether a BEGIN of the application's own has begun it
-        self.has_failed = False  # whether a statement of it has failed
-        self.awaits = False  # whether its COMMIT is written, and was refused so that it may be tried again
-        self.has_written = False
-        self.doubt: Optional[str] = None  # why nobody knows what its transaction has written
-        self.held: Optional[List[str]] = None  # what is held back, since a savepoint may undo it
-        self.points: List[Point] = []
-
-    # lines
-
-    def asked(self, command: str) -> str:
-        """The line of a command."""
-        return f"> {self.number} {command};\n"
-
-    def answered(self, lines: List[str]) -> str:
-        """The lines of a reply."""
-        return "".join([f"  {self.number} {line}\n" for line in lines])
-
-    def exchange(self, command: str, *reply: str) -> str:
-        """A command with its reply."""
-        return self.asked(command) + self.answered(list(reply))
-
-    def write(self, text: str) -> None:
-        """Writes lines, or holds them back."""
-        if self.held is not None:
-            self.held.append(text)
-        else:
-            self.recorder.write(text)
-
-    def flush(self) -> None:
-        """Writes what was held back."""
-        held, self.held, self.points = self.held, None, []
-        if held:
-            self.recorder.write("".join(held))
-
-    # transactions
-
-    def begun(self) -> str:
-        """The lines by which a transaction begins, where none is open."""
-        if self.is_open and self.driver.is_open() is False and not self.awaits:
-            self._ended_unseen()
-        if self.is_open:
-            return ""
-        self.is_open = True
-        return self.exchange("BEGIN", "BEGIN")
-
-    def _ended_unseen(self) -> None:
-        """Its transaction has ended by something that was no step: it may have been rolled back."""
-        if self.has_written and not self.driver.is_dead():
-            self.recorder.spoil("a transaction ended by a way that isn't recorded", "")
-        else:
-            self.recorder.write(self.exchange("ROLLBACK", "ROLLBACK"))
-        self.forget()
-
-    def forget(self) -> None:
-        """No transaction is open."""
-        self.is_open = self.is_explicit = self.awaits = self.has_failed = self.has_written = False
-        self.doubt, self.held, self.points = None, None, []
-
-    def committed(self, lines: str) -> None:
-        """Its transaction has committed, as these lines tell last."""
-        if self.doubt is not None:
-            self.recorder.spoil(self.doubt, "COMMIT")
-        self.recorder.write(lines, commits=True)
-        self.forget()
-
-    def has_autocommitted(self) -> bool:
-        """Whether what was a statement has ended its transaction too."""
-        is_open = self.driver.is_open()
-        if is_open is None:
-            return self.driver.is_autocommit() and not self.is_explicit
-        return not is_open
-
-    def settle(self, is_done: bool) -> None:
-        """Ends the transaction, where the statement that was its last has ended it."""
-        if not self.is_open or not self.has_autocommitted():
-            return
-        self.flush()
-        if is_done:
-            self.committed(self.exchange("COMMIT", "COMMIT"))
-        else:
-            self.recorder.write(self.exchange("ROLLBACK", "ROLLBACK"))
-            self.forget()
-
-    def part(self) -> None:
-        """Nobody knows whether its COMMIT was done: its number is used no more."""
-        self.forget()
-        self.number = self.recorder.other_number(self)
-
-    # steps
-
-    def guarded(self, step: Callable[..., Any], *words: Any) -> Any:
-        """Takes a part of a step. Whatever goes wrong with it, the application doesn't feel it."""
-        if self.recorder.is_over:
-            return None
-        try:
-            return step(*words)
-        except Exception as error:
-            return self.recorder.stop(f"a fault of the recorder, {type(error).__name__}: {error}")
-
-    def take(self, planned: Callable[[], "Step"], call: Callable[[], Any]) -> Any:
-        """Does a call of the application, as the step that is planned for it."""
-        with self.lock:
-            step = None if self.is_closed else self.guarded(planned)
-            if step is None:
-                return call()
-            self.guarded(step.before)
-            try:
-                value = call()
-            except BaseException as error:
-                self.guarded(step.failed, error)
-                raise
-            self.guarded(step.after)
-            return value
-
-    def close(self) -> None:
-        """Its connection is closed, which rolls back what is open. Where a COMMIT stays without a reply, the number is
-        used no more."""
-        with self.lock:
-            if self.is_closed:
-                return
-            self.is_closed = True
-            if self.is_open and not self.awaits:
-                self.recorder.write(self.exchange("ROLLBACK", "ROLLBACK"))
-            if not self.awaits:
-                self.recorder.give_back(self)
-            self.forget()
+# First words of a statement that ends no transaction, where it stands alone.
+_STAYS = frozenset("insert update delete select with merge truncate copy create alter drop comment grant revoke call".split())
+_ROLE = re.compile(r"\brole\b|\bauthorization\b|^\s*(?:reset|discard)\b", re.IGNORECASE)  # what may change the role
 
 
 class Step:
     """What is written before a call of the application, and after it, or where it has failed."""
+
+    addition: Optional[Addition] = None  # what is added to the text that is sent
 
     def __init__(self, session: Session) -> None:
         self.session = session
@@ -170,6 +36,10 @@ class Step:
             self.session.recorder.stop("a statement came behind a COMMIT that had failed")
         else:
             self.session.write(self.session.begun())
+
+    def does(self, call: Callable[[], Any]) -> Any:
+        """Does the call."""
+        return call()
 
     def after(self) -> None:
         """What is written when it has come back."""
@@ -236,16 +106,19 @@ class Commit(End):
         self._reply = "ROLLBACK" if session.driver.is_failed() else "COMMIT"
         if not session.awaits:
             session.flush()
-            session.write(session.asked("COMMIT"))
+            ahead = session.may_commit() if session.doubts and self._reply == "COMMIT" else ""
+            session.write(ahead + session.asked("COMMIT"))
 
     def after(self) -> None:
         if not self.is_asked:
             return
         session = self.session
         reply = session.answered([self._reply])
-        if session.has_failed and session.driver.is_open() is None:
+        if session.has_failed and not session.driver.tells_failure():
             session.part()  # some databases roll back what has failed, others don't, and the driver doesn't tell
         elif self._reply == "COMMIT":
+            if session.doubts:
+                session.write(session.answered(["ERROR 0A000"]))  # what has committed can't be said
             session.committed(reply)
         else:
             session.recorder.write(reply)
@@ -256,11 +129,12 @@ class Commit(End):
         if not self.is_asked:
             return
         if not session.driver.is_answer(error):
+            session.tell_doubts()
             session.part()
         elif session.driver.is_open():
             session.awaits = True
         else:
-            session.write(self.error(error))
+            session.write(self.error(error) + (HAS_NOT.format(session.number) + "\n" if session.may_end else ""))
             session.forget()
 
 
@@ -292,16 +166,25 @@ class Savepoint(Step):
     def __init__(self, session: Session, control: Control) -> None:
         super().__init__(session)
         self._control = control
+        self._begins = False
+
+    def before(self) -> None:
+        session, control = self.session, self._control
+        self._begins = control.does == "savepoint" and session.driver.is_open() is False
+        super().before()
+        if control.does == "release" and session.begun_by is not None and control.name == session.begun_by:
+            session.recorder.write(session.may_commit())
 
     def after(self) -> None:
         session, name = self.session, self._control.name
         if self._control.does == "savepoint":
+            session.begun_by = name if self._begins else session.begun_by
             session.held = [] if session.held is None else session.held
             session.points.append(Point(name, len(session.held)))
             return
         at = max((at for at, point in enumerate(session.points) if point.name == name), default=None)
         if at is None:
-            session.recorder.spoil("a savepoint that isn't recorded", f"{self._control.does} {name}")
+            session.recorder.spoil("a savepoint that isn't recorded", f"{self._control.does} {name}", session.number)
         elif self._control.does == "release":
             del session.points[at:]
             if not session.points:
@@ -313,9 +196,13 @@ class Savepoint(Step):
     def _undo(self, at: int) -> None:
         session = self.session
         assert session.held is not None
-        undone = session.held[session.points[at].held :]
-        del session.held[session.points[at].held :]
+        session.has_failed = False
+        session.temporary.forget()
+        start = session.points[at].held
+        undone = session.held[start:]
+        del session.held[start:]
         del session.points[at + 1 :]
+        session.doubts = [doubt for doubt in session.doubts if doubt.at < start]
         if undone:
             session.recorder.leave_out("ROLLBACK TO", "what a savepoint undoes is left out, with what was read between")
 
@@ -340,13 +227,23 @@ class Snapshot(Step):
 class Executed:
     """A cursor on which a statement is executed: what came of it, whose rows are kept for the application."""
 
-    def __init__(self, driver: Driver, raw: Callable[[], Any], keep: Callable[[Came], None]) -> None:
-        self._driver, self._raw, self._keep = driver, raw, keep
+    def __init__(self, driver: Driver, raw: Callable[[], Any], keep: Callable[[Came], None], adds: bool = False) -> None:
+        self._driver, self.raw, self._keep = driver, raw, keep
+        self.adds = adds  # whether what a step adds to a text is sent
 
-    def came(self, shows: bool) -> Came:
-        """What came of it."""
-        came = self._driver.came(self._raw(), shows)
-        self._keep(came)
+    def sent(self, value: object) -> object:
+        """What the driver sends in place of a value."""
+        return self._driver.sent(value, self.raw())
+
+    def came(self, shows: bool, addition: Optional[Addition] = None) -> Came:
+        """What came of it. The application doesn't see what was added."""
+        came = self._driver.came(self.raw(), shows)
+        if addition is None:
+            self._keep(came)
+            return came
+        served = came.served if came.served is not None else came.shown
+        rows = [] if addition.is_alone else [row[: len(row) - addition.hidden] for row in served]
+        self._keep(came._replace(served=rows))
         return came
 
 
@@ -354,10 +251,15 @@ class Statement(Step):
     """A statement that is said. One that writes a row of a known key and is a transaction by itself is told ahead, with
     its COMMIT, so that wherever the recording is cut off it may have been done or not."""
 
-    def __init__(self, session: Session, told: Told, text: str, cursor: Executed) -> None:
+    def __init__(
+        self, session: Session, told: Told, text: str, cursor: Executed, addition: Optional[Addition] = None
+    ) -> None:
         super().__init__(session)
-        self._told, self._text, self._cursor = told, text, cursor
+        self._told, self._text, self._cursor, self.addition = told, text, cursor, addition
+        self.by_rows: Optional[Callable[[str], Told]] = None  # how a query is said that can't be said as it stands
         self._is_ahead = False
+        self._counts: Optional[Counts] = None  # of rows that were changed before it
+        self._came: Optional[Came] = None
 
     def before(self) -> None:
         session, told = self.session, self._told
@@ -370,8 +272,24 @@ class Statement(Step):
         lines = begins + session.asked(told.first or "") if self.is_asked else begins
         if self._is_ahead:
             lines += session.answered([told.surely or ""]) + session.asked("COMMIT")
+        elif begins and told.writes and session.driver.may_commit(self._text):
+            lines = session.may_commit() + lines
         if lines:
             session.write(lines)
+        if told.cascades is not None:
+            self._counts = session.driver.counts(told.cascades.all)
+
+    def does(self, call: Callable[[], Any]) -> Any:
+        look = self._told.look()
+        if look is None:
+            return call()
+        return self.session.driver.looking(look, self._told.looked, call, lambda: self.session.guarded(self._fetch))
+
+    def _fetch(self) -> Came:
+        """What came of it."""
+        if self._came is None:
+            self._came = self._cursor.came(self._told.shows, self.addition)
+        return self._came
 
     def _is_alone(self) -> bool:
         return self.session.driver.is_autocommit() and not self.session.driver.is_open()
@@ -379,10 +297,12 @@ class Statement(Step):
     def after(self) -> None:
         session, told = self.session, self._told
         try:
-            came = self._cursor.came(told.shows)
+            came = self._fetch()
             if came.error is not None:
                 raise Unsaid("its rows couldn't be read")
             exchanges = told.exchanges(came.result)
+            if told.cascades is not None:
+                exchanges += told.cascaded(came.result, self._counts, session.driver.counts(told.cascades.all))
         except Unsaid as unsaid:
             self._cannot_be_said(str(unsaid))
             return
@@ -406,7 +326,7 @@ class Statement(Step):
         """It was a transaction by itself, told ahead: whether it was done so."""
         session = self.session
         if not session.has_autocommitted():
-            session.recorder.spoil("a statement in autocommit has begun a transaction", self._text)
+            session.recorder.spoil("a statement in autocommit has begun a transaction", self._text, session.number)
         elif reply == self._told.surely:
             session.committed(session.answered(["COMMIT"]))
         else:
@@ -416,13 +336,27 @@ class Statement(Step):
 
     def _cannot_be_said(self, why: str) -> None:
         session = self.session
-        if self._told.writes:
-            session.recorder.spoil(why, self._text)
-            return
-        if self.is_asked:
+        if self.is_asked and not self._is_ahead:
             session.write(session.answered(["ERROR 0A000"]))
-        session.recorder.leave_out(self._text, why)
+        if self._told.writes:
+            session.unsaid(why, self._text)
+        else:
+            self._say_rows(why)
         session.settle(True)
+
+    def _say_rows(self, why: str) -> None:
+        """Says the rows that a query has returned, and counts what else it has read."""
+        session = self.session
+        try:
+            if self.by_rows is not None and self._came is not None and self._came.error is None:
+                told = self.by_rows(why)
+                self.is_asked = False
+                self._write(told.exchanges(self._came.result))
+                if told.left_out is None:
+                    return
+        except Unsaid:
+            pass
+        session.recorder.leave_out(self._text, why)
 
     def failed(self, error: BaseException) -> None:
         session = self.session
@@ -432,14 +366,17 @@ class Statement(Step):
             return
         if self.is_asked:
             session.write(self.error(error))
-        if self._told.writes and not is_answer and not session.driver.is_dead():
-            session.doubt = "a write was broken off, and nobody knows whether it was done"
-        if self._told.writes and not is_answer and self._is_autocommit():
-            session.recorder.spoil("a write was broken off, and nobody knows whether it was done", self._text)
+        if self._told.writes and not is_answer:
+            self._broken_off()
         super().failed(error)
 
-    def _is_autocommit(self) -> bool:
-        return self.session.driver.is_autocommit() and self.session.has_autocommitted()
+    def _broken_off(self) -> None:
+        """Nobody knows whether a write was done; nor, where it was a transaction by itself, whether that has committed."""
+        session, why = self.session, "a write was broken off, and nobody knows whether it was done"
+        if session.may_end or (session.driver.is_autocommit() and session.has_autocommitted()):
+            session.recorder.spoil(why, self._text, session.number)
+        elif not session.driver.is_dead():
+            session.unsaid(why, self._text)
 
     def _failed_ahead(self, is_answer: bool) -> None:
         session = self.session
@@ -471,20 +408,56 @@ class LeftOut(Beside):
         super().after()
 
 
-class Spoils(Step):
-    """What can't be said, and may write: where it is done, the transcript is of no use."""
+class Prepares(Beside):
+    """A PREPARE, which does nothing yet."""
 
-    def __init__(self, session: Session, text: str, why: str) -> None:
+    def __init__(self, session: Session, prepared: Prepared) -> None:
         super().__init__(session)
-        self._text, self._why = text, why
+        self._prepared = prepared
 
     def after(self) -> None:
-        self.session.recorder.spoil(self._why, self._text)
+        self.session.prepared[self._prepared.name] = self._prepared.text
+        super().after()
+
+
+class OfTemporary(Beside):
+    """What makes, writes or drops temporary tables; `why` tells what is read for it, where something is."""
+
+    def __init__(self, session: Session, text: str, why: Optional[str], tokens: List[Any]) -> None:
+        super().__init__(session)
+        self._text, self._why, self._tokens = text, why, tokens
+
+    def after(self) -> None:
+        temporary.done(self._tokens, self.session.temporary)
+        if self._why is not None:
+            self.session.recorder.leave_out(self._text, self._why)
+        if not self.session.is_open:
+            self.session.temporary.committed()
+            self.session.temporary.forget()
+        super().after()
+
+
+class Spoils(Step):
+    """What can't be said, and may write: where it is done and commits, nothing behind it is judged. `stays` tells that it
+    can't end its transaction."""
+
+    def __init__(self, session: Session, text: str, why: str, stays: Optional[bool] = None) -> None:
+        super().__init__(session)
+        self._text, self._why = text, why
+        self._stays = stays_open(text) if stays is None else stays
+
+    def before(self) -> None:
+        super().before()
+        session = self.session
+        if not self._stays or session.driver.may_commit(self._text):
+            session.recorder.write(session.may_commit())
+
+    def after(self) -> None:
+        self.session.unsaid(self._why, self._text)
+        self.session.settle(True)
 
     def failed(self, error: BaseException) -> None:
-        first = self._text.split(None, 1)[0].lower() if self._text.split() else ""
-        is_one = ";" not in self._text.strip().rstrip(";")
-        if self.session.driver.is_answer(error) and first in _PLAIN_WRITES and is_one:
+        if self.session.driver.leaves_nothing(error, self._text):
             super().failed(error)
         else:
             self.after()
@@ -494,7 +467,7 @@ class NoText(Spoils):
     """What is executed and can't be read as a text. Where the driver finds fault with it too, nothing is done."""
 
     def __init__(self, session: Session, operation: Any) -> None:
-        super().__init__(session, type(operation).__name__, "what is executed is no text")
+        super().__init__(session, type(operation).__name__, "what is executed is no text", False)
 
     def failed(self, error: BaseException) -> None:
         if self.session.driver.is_answer(error):
@@ -510,19 +483,25 @@ class Many(Step):
         super().__init__(session)
         self._told, self._text, self._cursor = told, text, cursor
 
+    def before(self) -> None:
+        super().before()
+        session = self.session
+        if session.driver.may_commit(self._text):
+            session.recorder.write(session.may_commit())
+
     def after(self) -> None:
         session = self.session
         count = self._cursor.came(False).result.number if self._told else 0
         if count != len(self._told) or not all(told.surely for told in self._told):
-            session.recorder.spoil("nobody tells how many rows each of these changed", self._text)
-            return
-        session.write("".join([session.exchange(told.first or "", told.surely or "") for told in self._told]))
-        session.has_written = True
+            session.unsaid("nobody tells how many rows each of these changed", self._text)
+        else:
+            session.write("".join([session.exchange(told.first or "", told.surely or "") for told in self._told]))
+            session.has_written = True
         session.settle(True)
 
     def failed(self, error: BaseException) -> None:
         if not self.session.driver.is_answer(error):
-            self.session.recorder.spoil("writes were broken off, and nobody knows whether they were done", self._text)
+            self.session.unsaid("writes were broken off, and nobody knows whether they were done", self._text)
         super().failed(error)
 
 
@@ -549,12 +528,20 @@ class Setting(Step):
     """An attribute of sqlite3's connection that is set, which may commit."""
 
     def before(self) -> None:
-        """Nothing is known before."""
+        session = self.session
+        if session.is_open and not session.awaits:
+            session.recorder.write(session.may_commit())
 
     def after(self) -> None:
-        if self.session.is_open and self.session.driver.is_open() is False:
-            self.session.flush()
-            self.session.committed(self.session.exchange("COMMIT", "COMMIT"))
+        session = self.session
+        if session.is_open and session.driver.is_open() is False:
+            session.flush()
+            session.committed(session.exchange("COMMIT", "COMMIT"))
+        else:
+            session.settle(True)
+
+    def failed(self, error: BaseException) -> None:
+        self.after()
 
 
 class Script(Commit):
@@ -563,12 +550,18 @@ class Script(Commit):
     def __init__(self, session: Session, text: str) -> None:
         super().__init__(session)
         self._text = text
+        self._why = self._why_it_writes()
+
+    def before(self) -> None:
+        super().before()
+        if self._why is not None:
+            self.session.recorder.write(self.session.may_commit())
 
     def after(self) -> None:
+        if self._why is not None:
+            self.session.recorder.spoil(self._why, self._text, self.session.number)
         super().after()
-        why = self._why_it_writes()
-        if why is not None:
-            self.session.recorder.spoil(why, self._text)
+        self.session.may_end = False
 
     def failed(self, error: BaseException) -> None:
         self.after()
@@ -580,13 +573,19 @@ class Script(Commit):
             return "a script has transactions"
         if all(is_beside(part) for part in parts):
             return None
-        why: Optional[str] = recorder.why_it_may_write(tokens)
+        why: Optional[str] = recorder.translator(self.session.driver).why_it_may_write(tokens)
         if why is None:
             recorder.leave_out(self._text, "a script")
         return why
 
 
 # ---- the step of a call
+
+
+def stays_open(text: str) -> bool:
+    """Whether a text is one statement that can't end its transaction."""
+    words = text.strip().rstrip(";").rstrip().split(None, 1)
+    return bool(words) and words[0].lower() in _STAYS and ";" not in text.strip().rstrip(";")
 
 
 def _plan_of(session: Session, text: str, is_given: bool) -> Plan:
@@ -600,14 +599,104 @@ def step_of(session: Session, text: str, parameters: Any, cursor: Executed, is_s
     plan = _plan_of(session, text, parameters is not None)
     if plan.control is not None:
         return _control_step(session, plan.control, cursor)
-    if plan.saying is None:
-        return _unsaid_step(session, text, plan.why, plan.writes)
+    if plan.saying is None and plan.effect is None and plan.rows is None:
+        known = _known_step(session, text, parameters, cursor) if plan.writes is not None else None
+        return known or _unsaid_step(session, text, plan.why, plan.writes)
     if is_served:
-        return LeftOut(session, text, "its rows stay on the server")
+        writes = plan.effect is not None or (plan.saying is not None and plan.saying.writes)
+        return _unsaid_step(session, text, "its rows stay on the server", "it writes" if writes else None)
+    return _statement(session, plan, text, Arguments(parameters, cursor.sent), cursor)
+
+
+def _statement(session: Session, plan: Plan, text: str, arguments: Arguments, cursor: Executed) -> Step:
+    """The step of a statement that is said as it stands, or by its rows."""
+    told: Optional[Told] = None
+    why, writes = plan.why, plan.writes
+    if plan.saying is not None:
+        writes = "it writes" if plan.saying.writes else None
+        try:
+            told = plan.saying.told(arguments)
+        except Unsaid as unsaid:
+            why = str(unsaid)
+    if told is not None and (told.is_sure or plan.effect is None):
+        return _with_rows(Statement(session, told, text, cursor), session, plan, arguments, cursor)
+    if plan.rows is not None:
+        return _with_rows(Statement(session, Unknown(why or ""), text, cursor), session, plan, arguments, cursor)
+    if plan.effect is not None:
+        try:
+            return _effect_step(session, plan, text, arguments, cursor)
+        except Unsaid as unsaid:
+            why = str(unsaid) if plan.saying is None else why
+    return Statement(session, told, text, cursor) if told is not None else _unsaid_step(session, text, why, writes)
+
+
+def _known_step(session: Session, text: str, parameters: Any, cursor: Executed) -> Optional[Step]:
+    """The step of what is known by what the connection has done before: it speaks of temporary tables alone, or of a statement
+    that was prepared. None of any other."""
+    translator = session.recorder.translator(session.driver)
     try:
-        return Statement(session, plan.saying.told(Arguments(parameters, session.driver.adapts)), text, cursor)
-    except Unsaid as unsaid:
-        return _unsaid_step(session, text, str(unsaid), "it writes" if plan.saying.writes else None)
+        tokens = translator.tokens(text, parameters is not None)
+        plan = temporary.of(tokens, session.temporary, translator)
+        if plan is not None and plan.writes is None:
+            return OfTemporary(session, text, plan.why, tokens)
+        made = prepared_by(tokens, text)
+        if made is not None:
+            return Prepares(session, made)
+        return _executed_step(session, text, executed_by(tokens, translator.reading), Arguments(parameters, session.driver.sent), cursor)
+    except Unsaid:
+        return None
+
+
+def _executed_step(
+    session: Session, text: str, execution: Optional[Execution], given: Arguments, cursor: Executed
+) -> Optional[Step]:
+    """The step of an EXECUTE, where what was prepared can be said as it stands."""
+    prepared = session.prepared.get(execution.name) if execution is not None else None
+    if execution is None or prepared is None:
+        return None
+    values = [value.value if isinstance(value, Constant) else given.value(value.key) for value in execution.values]
+    plan = session.recorder.translator(session.driver).prepared().plan(session.recorder.spelling, prepared, True)
+    arguments = Arguments(values)
+    if plan.saying is not None:
+        told = plan.saying.told(arguments)
+        return _with_rows(Statement(session, told, text, cursor), session, plan, arguments, cursor) if told.is_sure else None
+    return _with_rows(Statement(session, Unknown(plan.why or ""), text, cursor), session, plan, arguments, cursor) if plan.rows else None
+
+
+class Unknown(Told):
+    """A query that can't be said as it stands."""
+
+    writes, shows = False, True
+
+    def __init__(self, why: str) -> None:
+        self._why = why
+
+    def exchanges(self, result: Any) -> List[Any]:
+        raise Unsaid(self._why)
+
+
+def _with_rows(step: Statement, session: Session, plan: Plan, arguments: Arguments, cursor: Executed) -> Statement:
+    """A step that says a query's rows, where it can't be said as it stands."""
+    if plan.rows is not None:
+        step.by_rows = lambda why: plan.rows.told(
+            arguments, lambda: session.driver.numbers(cursor.raw()), session.recorder.attributes, why
+        )
+    return step
+
+
+def _effect_step(session: Session, plan: Plan, text: str, arguments: Arguments, cursor: Executed) -> Step:
+    """The step of a write that is said by its rows."""
+    effect = plan.effect
+    if not cursor.adds:
+        raise Unsaid("nothing can be added to what is sent")
+    facts = session.facts(effect.table)
+    if not facts.may_return:
+        raise Unsaid("the rows that it writes can't be shown")
+    told = effect.told(arguments, facts)
+    addition = effect.addition(facts, session.driver.doubles(arguments.are_given))
+    if addition is not None and not addition.is_alone and not session.driver.is_plain(cursor.raw()):
+        raise Unsaid("its rows are no tuples, so that what is added to them can't be hidden")
+    return Statement(session, told, text, cursor, addition)
 
 
 def _control_step(session: Session, control: Control, cursor: Executed) -> Step:
@@ -621,6 +710,8 @@ def _control_step(session: Session, control: Control, cursor: Executed) -> Step:
 
 
 def _unsaid_step(session: Session, text: str, why: Optional[str], writes: Optional[str]) -> Step:
+    if _ROLE.search(text):
+        session.changes_role = True
     if why is None:
         return Beside(session)
     if writes is None:
@@ -634,12 +725,17 @@ def copy_of(session: Session, text: str) -> Step:
     return LeftOut(session, text, "COPY") if reads else Spoils(session, text, "COPY writes")
 
 
-def is_looped(session: Session, text: str) -> bool:
-    """Whether a text for several parameters is executed once for each. Not so where psycopg makes one transaction of all."""
-    driver = session.driver
+def is_written(session: Session, text: str) -> bool:
+    """Whether a text for several parameters is a write that can be said."""
     plan = _plan_of(session, text, True)
+    return plan.effect is not None or (plan.saying is not None and bool(plan.saying.writes))
+
+
+def is_looped(session: Session, text: str) -> bool:
+    """Whether it is executed once for each. Not so where psycopg makes one transaction of all."""
+    driver = session.driver
     is_one = driver.own_transactions and driver.is_autocommit() and not driver.is_open()
-    return plan.saying is not None and plan.saying.writes and not is_one
+    return is_written(session, text) and not is_one
 
 
 def many_of(session: Session, text: str, several: List[Any], cursor: Executed) -> Step:
@@ -652,6 +748,6 @@ def many_of(session: Session, text: str, several: List[Any], cursor: Executed) -
     if not plan.saying.writes:
         return LeftOut(session, text, "executemany of a SELECT")
     try:
-        return Many(session, [plan.saying.told(Arguments(parameters, session.driver.adapts)) for parameters in several], text, cursor)
+        return Many(session, [plan.saying.told(Arguments(parameters, cursor.sent)) for parameters in several], text, cursor)
     except Unsaid as unsaid:
         return Spoils(session, text, str(unsaid))

@@ -18,6 +18,18 @@ class Unsaid(Exception):
     """What no transcript can say, and why."""
 
 
+class Said(str):
+    """A text as it stands in a transcript, of a column whose own values are of another kind."""
+
+
+class Counted(int):
+    """A number as it stands in a transcript, of a column whose own values are of another kind."""
+
+
+class PerhapsNull:
+    """What a driver shows for null and for JSON's own null alike."""
+
+
 def _bigint(value: object) -> int:
     if isinstance(value, str):
         digits = _NUMBER.fullmatch(value)
@@ -54,7 +66,10 @@ _PLAIN: Dict[Kind, Callable[[object], Plain]] = {BIGINT: _bigint, TEXT: _text, B
 
 def plain(kind: Kind, value: object) -> Plain:
     """A value of a column of this kind; refuses what isn't one."""
-    return None if value is None else _PLAIN[kind](value)
+    if value is None:
+        return None
+    own: Optional[Callable[[object], Plain]] = getattr(kind, "plain", None)  # of a kind that isn't of the transcript's own
+    return _PLAIN[kind](value) if own is None else own(value)
 
 
 class Spelling:
@@ -65,6 +80,7 @@ class Spelling:
     def __init__(self) -> None:
         self._escaped: Optional[str] = None
         self._is_ordered = False
+        self._has_json_null = False  # whether JSON's own null is among the values
 
     def order_texts(self) -> None:
         """From now on texts are compared by order."""
@@ -75,25 +91,37 @@ class Spelling:
     def _without_newline(self, text: str) -> str:
         if "\n" not in text and "\\" not in text:
             return text
-        if self._is_ordered:
-            raise Unsaid("texts are compared by order, and this one has a newline or a backslash")
-        self._escaped = text
+        if type(text) is not Said:  # which is never compared by order
+            if self._is_ordered:
+                raise Unsaid("texts are compared by order, and this one has a newline or a backslash")
+            self._escaped = text
         return "".join(_ESCAPED_IN_LITERAL.get(letter, letter) for letter in text)
+
+    def _said(self, kind: Kind, value: object) -> Plain:
+        """A value as it stands in the transcript."""
+        if type(value) is PerhapsNull:
+            if self._has_json_null:
+                raise Unsaid("the driver shows a null of JSON as it shows null")
+            return None
+        said = plain(kind, value)
+        if said == "null" and getattr(kind, "type", None) in ("json", "jsonb"):
+            self._has_json_null = True
+        return said
 
     def literal(self, kind: Kind, value: object) -> str:
         """A value as a literal of a statement."""
-        said = plain(kind, value)
+        said = self._said(kind, value)
         if isinstance(said, str):
             return "'" + self._without_newline(said).replace("'", "''") + "'"
         if isinstance(said, bytes):
             return "'\\x" + said.hex() + "'"
-        return "NULL" if said is None else str(said)
+        return "NULL" if said is None else str(int(said))
 
     def copy_text(self, kind: Kind, value: object) -> str:
         """A value as a field of a row."""
-        said = plain(kind, value)
+        said = self._said(kind, value)
         if isinstance(said, str):
             return self._without_newline(said).translate(_TO_COPY)
         if isinstance(said, bytes):
             return "\\\\x" + said.hex()
-        return "\\N" if said is None else str(said)
+        return "\\N" if said is None else str(int(said))

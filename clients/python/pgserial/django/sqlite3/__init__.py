@@ -1,0 +1,1 @@
+"""The engine `pgserial.django.sqlite3`."""

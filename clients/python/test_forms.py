@@ -1,0 +1,62 @@
+"""Tests of how each form of statement that an application sends is said, and that no anomaly runs through one unseen.
+
+    PGSERIAL=path/to/pgserial PGSERIAL_DSN=.. python3 clients/python/test_forms.py
+
+Where $PGSERIAL_DSN names no database of PostgreSQL, sqlite3 alone is tried.
+"""
+
+import os
+import unittest
+from typing import List
+
+from statement_forms import FORMS
+from try_forms import ENDS, REFUSED, WORDS, Place, Postgres, Sqlite, Tried, counts, tried
+from test_recording import DSN, module
+
+
+WRITTEN_OF = {"psycopg2": -2, "sqlite3": -1}  # the columns of FORMS.md
+
+
+class Forms(unittest.TestCase):
+    """Each form is done alone, and with anomalies planted; see try_forms.py."""
+
+    def judged(self, place: Place, ending: int, refused: int) -> List[Tried]:
+        """Tries all forms in a place, of which no more than so many may end the verdict, or have their table refused."""
+        self.addCleanup(place.close)
+        results = list(tried(place))
+        for result in results:
+            with self.subTest(result.form.name, place=place.name):
+                self.assertEqual(result.faults, ())
+        found = counts(results)
+        self.assertLessEqual(found.get(ENDS, 0), ending, [result.form.name for result in results if result.said == ENDS])
+        self.assertLessEqual(found.get(REFUSED, 0), refused, [result.form.name for result in results if result.said == REFUSED])
+        if place.name in WRITTEN_OF:
+            self.assert_written(results)
+        return results
+
+    def assert_written(self, results: List[Tried]) -> None:
+        """FORMS.md says the same."""
+        with open(os.path.join(os.path.dirname(os.path.abspath(__file__)), "FORMS.md"), encoding="utf-8") as file:
+            rows = [line.split(" | ") for line in file.read().split("\n") if line.startswith("| `")]
+        at = WRITTEN_OF[results[0].place]
+        written = {" | ".join(row[:-2]): row[at].strip(" |") for row in rows}
+        for result in results:
+            shown = "| `" + result.form.name.replace("|", "\\|") + "`"
+            self.assertEqual(written.get(shown), WORDS[result.said], "python3 clients/python/try_forms.py --table > clients/python/FORMS.md")
+
+    @unittest.skipUnless(DSN and module("psycopg2"), "PostgreSQL or psycopg2 isn't there (Debian: postgresql, python3-psycopg2)")
+    def test_on_postgres(self) -> None:
+        results = self.judged(Postgres(module("psycopg2")), 13, 1)
+        self.assertGreaterEqual(len(results), 250)
+
+    def test_on_sqlite(self) -> None:
+        results = self.judged(Sqlite(), 5, 0)
+        self.assertGreaterEqual(len(results), 200)
+
+    def test_forms_have_names_of_their_own(self) -> None:
+        names = [form.name for form in FORMS]
+        self.assertEqual(len(names), len(set(names)))
+
+
+if __name__ == "__main__":
+    unittest.main()

@@ -1,0 +1,149 @@
+"""Tests of details of recordings that other tests pass by: words that look like the end of a transaction, names that meet, tables
+that aren't there, and what a setting or a second closing does.
+
+    PGSERIAL=path/to/pgserial python3 clients/python/test_recorded_details.py
+"""
+
+import contextlib
+import io
+import os
+import sqlite3
+import sys
+import unittest
+import warnings
+from typing import Any
+from unittest import mock
+
+from pgserial import edn, jepsen
+from pgserial import verdict as verdict_module
+from pgserial.keys import Refused
+from pgserial.recording import RecordingWarning
+from test_jepsen import answer
+from test_recorded_endings import said
+from test_recording import OnSqlite, Room
+
+
+class Details(OnSqlite):
+    """On sqlite3."""
+
+    def test_a_single_word_ends_no_transaction(self) -> None:
+        for text in ("ANALYZE", "REINDEX", "analyze;"):
+            recorder = self.recorder(verify_end=True)
+            connection = recorder.wrap(self.raw())
+            connection.execute("BEGIN")
+            connection.execute("UPDATE t SET v = v + 1 WHERE id = 1")
+            with warnings.catch_warnings():
+                warnings.simplefilter("ignore", RecordingWarning)
+                connection.execute(text)
+            connection.execute("COMMIT")
+            connection.close()
+            self.assertEqual(said(self.lines(), "ROLLBACK"), [], text)
+            self.assertIn(recorder.verdict().answer, ("yes", "unknown"), text)
+
+    def test_a_setting_that_commits_keeps_what_a_savepoint_holds_back(self) -> None:
+        recorder = self.recorder(verify_end=True)
+        connection = recorder.wrap(self.raw(isolation_level="DEFERRED"))
+        connection.execute("BEGIN")
+        connection.execute("SAVEPOINT a")
+        connection.execute("UPDATE t SET v = 7 WHERE id = 1")
+        connection.isolation_level = None
+        connection.close()
+        self.assertEqual(said(self.body(), "UPDATE", "COMMIT")[:2], ["UPDATE t SET v = 7 WHERE id = 1;", "COMMIT;"])
+        self.assertEqual(recorder.verdict().answer, "yes")
+
+    def test_names_that_would_be_the_same(self) -> None:
+        raw = self.raw()
+        raw.executescript('CREATE TABLE "x y" (id INTEGER PRIMARY KEY, "a b" INT, a_b INT); CREATE TABLE x_y (id INTEGER PRIMARY KEY, "a.b" INT)')
+        recorder = self.recorder(["x y", "x_y"], verify_end=True)
+        connection = recorder.wrap(raw)
+        connection.execute('INSERT INTO "x y" VALUES (1, 2, 3)')
+        connection.execute("INSERT INTO x_y VALUES (1, 4)")
+        connection.execute('UPDATE "x y" SET a_b = 5 WHERE id = 1')
+        connection.close()
+        created = [line for line in self.lines() if line.startswith("> CREATE")]
+        self.assertEqual(created[0], "> CREATE TABLE x_y (id bigint PRIMARY KEY, a_b bigint, a_b_ bigint);")
+        self.assertEqual(created[1], "> CREATE TABLE x_y_ (id bigint PRIMARY KEY, a_b bigint);")
+        self.assertEqual(recorder.verdict().answer, "yes")
+
+    def test_tables_and_columns_that_arent_there(self) -> None:
+        raw = self.raw()
+        raw.execute("CREATE VIEW seen AS SELECT * FROM t")
+        for tables, told in (({"t": ["id", "nothing"]}, "table t has no column nothing"), (["seen"], "no plain table|no table seen"), (["gone"], "no table gone")):
+            with self.subTest(str(tables)), self.assertRaisesRegex(Refused, told):
+                self.recorder(tables).wrap(raw)
+
+    def test_a_quoted_text_is_no_row_number(self) -> None:
+        recorder = self.recorder(verify_end=True)
+        connection = recorder.wrap(self.raw())
+        self.assertEqual(connection.execute('SELECT v FROM t WHERE "1" = 1').fetchall(), [])
+        self.assertEqual(connection.execute("SELECT v FROM t WHERE rowid = 1").fetchall(), [(10,)])
+        connection.execute("UPDATE t SET v = 11 WHERE _rowid_ = 1")
+        connection.close()
+        self.assertEqual(said(self.body(), "SELECT v"), ["SELECT v FROM t WHERE id = 1;"])
+        self.assertEqual(recorder.verdict().answer, "yes")
+
+    def test_bytes_in_a_text(self) -> None:
+        raw = self.raw()
+        raw.execute("CREATE TABLE b (id INTEGER PRIMARY KEY, raw BLOB)")
+        connection = self.recorder(["b"], verify_end=True).wrap(raw)
+        connection.execute("INSERT INTO b VALUES (1, x'0a0B'), (2, X'')")
+        connection.close()
+        self.assertEqual(said(self.lines(), "INSERT"), ["INSERT INTO b VALUES (1, '\\x0a0b');", "INSERT INTO b VALUES (2, '\\x');"])
+
+    def test_executemany_of_none_one_and_several(self) -> None:
+        for several in ([], [(5, 1)], [(5, 1), (6, 2)]):
+            recorder = self.recorder(verify_end=True)
+            raw = self.raw()
+            raw.execute("UPDATE t SET v = 10 * id")
+            plain = self.raw().executemany("UPDATE t SET v = ? WHERE id = ?", []).rowcount
+            connection = recorder.wrap(raw)
+            cursor = connection.executemany("UPDATE t SET v = ? WHERE id = ?", iter(several))
+            self.assertEqual(cursor.rowcount, len(several) or plain)
+            self.assertEqual(len(said(self.body(), "UPDATE")), len(several))
+            connection.close()
+            self.assertEqual(recorder.verdict().answer, "yes" if several else "unknown")
+
+    def test_a_second_closing_does_nothing(self) -> None:
+        recorder = self.recorder()
+        first = recorder.wrap(self.raw())
+        first.close()
+        second = recorder.wrap(self.raw())
+        second.execute("BEGIN")
+        first.close()
+        third = recorder.wrap(self.raw())
+        third.execute("BEGIN")
+        self.assertEqual([line for line in self.body() if line.startswith(">")], ["> 1 BEGIN;", "> 2 BEGIN;"])
+
+    def test_a_script_gives_its_own_cursor(self) -> None:
+        connection = self.recorder().wrap(self.raw())
+        cursor = connection.cursor()
+        self.assertIs(cursor.executescript(""), cursor)
+        self.assertIs(cursor.execute("SELECT 1"), cursor)
+
+
+class AtTheTerminal(Room):
+    """python3 -m pgserial.recording."""
+
+    def test_a_file_that_isnt_there(self) -> None:
+        told = io.StringIO()
+        with mock.patch.object(sys, "argv", ["recording", os.path.join(self.folder, "gone")]), contextlib.redirect_stderr(told):
+            self.assertEqual(verdict_module.main(), 1)
+        self.assertIn("No such file", told.getvalue())
+
+
+class Histories(unittest.TestCase):
+    """Jepsen's."""
+
+    def test_a_session_whose_end_isnt_known_is_no_others(self) -> None:
+        ops = [("invoke", 0, "[[:w x 1]]"), ("info", 0, "[[:w x 1]]"), ("invoke", 1, "[[:r x nil]]"), ("ok", 1, "[[:r x 1]]"), ("invoke", 2, "[[:w x 2]]"), ("ok", 2, "[[:w x 2]]")]
+        text = "".join(f"{{:type :{kind} :f :txn :value {value} :process {process}}}\n" for kind, process, value in ops)
+        self.assertEqual(answer(text), "yes")
+
+    def test_a_column_that_isnt_there(self) -> None:
+        text = "> CREATE TABLE t (id bigint PRIMARY KEY, v bigint);\n> 1 BEGIN;\n  1 BEGIN\n> 1 SELECT nothing FROM t WHERE id = 1;\n  1 SELECT 0\n> 1 COMMIT;\n  1 COMMIT\n"
+        with self.assertRaisesRegex(edn.Malformed, "line 4"):
+            jepsen.history(text)
+
+
+if __name__ == "__main__":
+    unittest.main()
