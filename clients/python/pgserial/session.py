@@ -222,14 +222,14 @@ class Session:
             if self.is_busy:  # the lock is this thread's: another task of it, or a function that the database calls back
                 self.recorder.stop("two tasks use one connection at once")
                 return call()
-            step = None if self.is_closed else self.guarded(planned)
-            if step is None:
-                return call()
-            self.is_busy = True
+            self.is_busy = True  # from here on: what a step is planned by may ask the database, and let another task go on
             try:
-                return self._taken(step, call)
+                step = None if self.is_closed else self.guarded(planned)
+                if step is not None:
+                    return self._taken(step, call)
             finally:
                 self.is_busy = False
+            return call()
 
     def _taken(self, step: Any, call: Callable[[], Any]) -> Any:
         self.guarded(step.before)
