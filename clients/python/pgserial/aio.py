@@ -111,12 +111,19 @@ class AsyncConnection(Proxy):
                 return await call()
             session.guarded(step.before)
             try:
-                value = await call()
-            except BaseException as error:
-                session.guarded(step.failed, error)
-                raise
-            session.guarded(step.after)
-            return value
+                return await self._taken(step, call)
+            finally:
+                if session.is_leaving and session.driver.is_dead():  # another task has closed it meanwhile
+                    session.close()
+
+    async def _taken(self, step: Step, call: Callable[[], Awaitable[Any]]) -> Any:
+        try:
+            value = await call()
+        except BaseException as error:
+            self._session.guarded(step.failed, error)
+            raise
+        self._session.finished(step)
+        return value
 
     def cursor(self, *words: Any, **named: Any) -> "AsyncCursor":
         """A cursor, recorded."""
@@ -140,7 +147,13 @@ class AsyncConnection(Proxy):
         """Closes the connection, and gives its session's number back."""
         await self._leaves(False)
         await self.wrapped.close()
-        self._session.close()
+        self._session.is_leaving = True
+        if not self._is_used():
+            self._session.close()
+
+    def _is_used(self) -> bool:
+        """Whether a task's call is under way, which may wait for what another does."""
+        return self._mutex is not None and self._mutex.locked()
 
     async def __aenter__(self) -> Any:
         await self.wrapped.__aenter__()
@@ -162,7 +175,7 @@ class AsyncConnection(Proxy):
     async def _leaves(self, commits: bool) -> None:
         """What is done as the connection is closed, but for closing it: then the tables may be read."""
         session = self._session
-        if session.recorder.verifies_end and not session.driver.is_dead():
+        if session.recorder.verifies_end and not session.driver.is_dead() and not self._is_used():
             await (self.commit() if commits else self.rollback())
             session.leaves()
 

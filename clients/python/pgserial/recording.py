@@ -274,11 +274,20 @@ class Recorder:
             return
         with self._lock:
             is_last = all(other.is_leaving for other in self._sessions.values()) and session.number in self._sessions
-        if is_last and not session.driver.is_dead():
-            if session.driver.is_open():
-                with contextlib.suppress(Exception):  # then it isn't idle
-                    session.driver.roll_back()
-            self._read_end([session])
+        if is_last and session.lock.acquire(blocking=False):  # another thread's statement may wait for what this one does
+            try:
+                self._read_end_alone(session)
+            finally:
+                session.lock.release()
+
+    def _read_end_alone(self, session: Session) -> None:
+        """Reads the tables by the connection that is closed last, unless it is within a call."""
+        if session.is_busy or session.driver.is_dead():
+            return
+        if session.driver.is_open():
+            with contextlib.suppress(Exception):  # then it isn't idle
+                session.driver.roll_back()
+        self._read_end([session])
 
     def _read_end(self, sessions: Iterable[Session]) -> None:
         if self._ending is not None and self._tables is not None:
