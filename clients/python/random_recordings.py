@@ -15,6 +15,7 @@ import contextlib
 import io
 import os
 import random
+import signal
 import sqlite3
 import sys
 import tempfile
@@ -63,7 +64,7 @@ class Plan:
 # ---- plans
 
 _BEGINS, _ENDS = ("begin",), ("commit", "commit", "commit", "commit", "rollback")
-_RARE = ("close", "autocommit", "with", "many", "adapter", "turning", "reset", "script", "server cursor", "copy", "procedure", "broken parameters", "block")
+_RARE = ("close", "autocommit", "with", "many", "adapter", "turning", "reset", "script", "server cursor", "copy", "procedure", "broken parameters", "block", "another database")
 _WEIGHTS = {"read": 5, "write": 7, "left out": 1, "error": 0.7, "beside": 0.7}
 
 
@@ -382,6 +383,29 @@ class Actor:
         if self.engine == "psycopg2" and "noisy" in self.play.plan.ignoring:
             self.connection.cursor().callproc(chance.choice(("f_read", "f_write")), [2])
 
+    def _another_database(self, chance: random.Random) -> None:
+        """A connection to another database, whose tables have the same names, is refused; what it does is none of the recording's."""
+        raw = self.play.world.beside()
+        if raw is None:
+            return
+        try:
+            if self.engine == "sqlite3" and chance.random() < 0.4:
+                self._attached(chance)
+                return
+            self.play.tell(f"session {self.number}: a connection to another database")
+            with contextlib.suppress(Refused):
+                self.play.wrapped(raw)
+                raise Wrong("a connection to another database is recorded with the first")
+            raw.cursor().execute("UPDATE t SET v = v + 1")
+            self.play.counts["another database: refused at wrap"] += 1
+        finally:
+            raw.close()
+
+    def _attached(self, chance: random.Random) -> None:
+        """Another file of sqlite3's beside the first, by one connection."""
+        self._execute(f"ATTACH '{self.play.world.beside_path()}' AS other")
+        self._execute(chance.choice(("SELECT id, v FROM other.t", "UPDATE other.t SET v = 3 WHERE id = 1", "SELECT id, v FROM t", "DELETE FROM other.u")))
+
     def _broken_parameters(self, chance: random.Random) -> None:
         """Parameters in which the driver finds fault."""
         text, given = chance.choice((("UPDATE t SET v = ? WHERE id = ?", (1,)), ("SELECT v FROM t WHERE id = ?", (object(),)), ("UPDATE t SET v = ? WHERE id = 1", (2**70,))))
@@ -446,6 +470,10 @@ class Play:
         has_kinds = "rows by name" not in self.plan.without
         raw = self.world.connect(chance, self.plan.level, self.plan.is_threaded, has_kinds)
         self.opened.append(raw)
+        return self.wrapped(raw)
+
+    def wrapped(self, raw: Any) -> Any:
+        """A connection, recorded where the recording is."""
         return raw if self.recorder is None else self.recorder.wrap(raw)
 
     def run(self) -> None:
@@ -749,13 +777,15 @@ def main() -> int:
     words.add_argument("--most", type=int, default=5, help="faults after which it ends")
     given = words.parse_args()
     begun = time.process_time()
+    signal.signal(signal.SIGTERM, signal.default_int_handler)
     with tempfile.TemporaryDirectory(dir="/dev/shm" if os.path.isdir("/dev/shm") else None) as folder, server() as dsn:
         machine = Machine(folder, dsn, given.engine, given.without.split(","))
         wrong = 0
-        for seed in range(given.seed, given.seed + given.count):
-            wrong += len(machine.run([seed]))
-            if wrong >= given.most:
-                break
+        with contextlib.suppress(KeyboardInterrupt):  # what was made until then is told
+            for seed in range(given.seed, given.seed + given.count):
+                wrong += len(machine.run([seed]))
+                if wrong >= given.most:
+                    break
         machine.close()
     for name, count in sorted(machine.counts.items()):
         print(f"{count:8} {name}")

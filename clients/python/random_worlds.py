@@ -48,6 +48,8 @@ _RESET = (
     "DROP TABLE IF EXISTS made, o.made; TRUNCATE t, u, o.t, plain, log, noisy RESTART IDENTITY;"
     f"{_ROWS}; {_MORE}; INSERT INTO o.t SELECT id, v + 50, w, name FROM t"
 )
+# What another database has, so that a read or write of it shows.
+_ELSEWHERE = "UPDATE t SET v = 900 + id, w = 900; UPDATE u SET v = 900 + id"
 
 
 def module(name: str) -> Any:
@@ -71,6 +73,14 @@ class World:
     def connect(self, chance: random.Random, level: str, is_patient: bool, has_kinds: bool = True) -> Any:
         """A connection of some mode. A patient one waits for locks; some have rows of other kinds than tuples."""
         raise NotImplementedError
+
+    def beside(self) -> Any:
+        """A connection to another database, whose tables have the same names; nothing where there is none."""
+        raise NotImplementedError
+
+    def beside_path(self) -> str:
+        """The file of that, where it is one."""
+        return ""
 
     def errors(self) -> Tuple[Any, ...]:
         """The errors that an application expects."""
@@ -123,6 +133,18 @@ class Sqlite(World):
             raw.row_factory = lambda cursor, row: {column[0]: value for column, value in zip(cursor.description, row)}
         return raw
 
+    def beside_path(self) -> str:
+        return self.path + "2"
+
+    def beside(self) -> Any:
+        with contextlib.suppress(FileNotFoundError):
+            os.unlink(self.beside_path())  # of which another recording may have a connection
+        shutil.copyfile(self._template, self.beside_path())
+        raw = sqlite3.connect(self.beside_path(), isolation_level=None)
+        raw.execute("PRAGMA synchronous = OFF")
+        raw.executescript(_ELSEWHERE)
+        return raw
+
     def errors(self) -> Tuple[Any, ...]:
         return (sqlite3.Error, sqlite3.Warning)
 
@@ -148,6 +170,29 @@ class Postgres(World):
             raise OSError("another machine plays on this database")
         for text in _POSTGRES:
             self._own.cursor().execute(text)
+        self._beside = self._made_beside()
+
+    def _made_beside(self) -> Optional[str]:
+        """The name of another database with the same tables; nothing where none can be made."""
+        name = f"{self.asked('SELECT current_database()')[0][0]}_beside"
+        with contextlib.suppress(self._driver.Error):
+            if not self.asked(f"SELECT 1 FROM pg_database WHERE datname = '{name}'"):
+                self._own.cursor().execute(f'CREATE DATABASE "{name}"')
+            other = self._driver.connect(self._dsn, dbname=name)
+            other.autocommit = True
+            for text in (*_POSTGRES, _RESET):
+                other.cursor().execute(text)
+            other.close()
+            return name
+        return None
+
+    def beside(self) -> Any:
+        if self._beside is None:
+            return None
+        raw = self._driver.connect(self._dsn, dbname=self._beside)
+        raw.autocommit = True
+        raw.cursor().execute(_ELSEWHERE)
+        return raw
 
     def reset(self, chance: random.Random) -> None:
         self._own.cursor().execute(_RESET)

@@ -169,6 +169,34 @@ class OnSqlite(test_recording.OnSqlite):
         first.execute("COMMIT")
         self.assertEqual((first.in_transaction, two.in_transaction, three.in_transaction, recorder.ended), (False, False, False, None))
 
+    def test_another_file_while_a_transaction_is_open(self) -> None:
+        connection = self.recorder().wrap(self.raw())
+        self.file += "2"
+        other = self.raw()
+        other.executescript("; ".join(T))
+        for text in ("BEGIN", "SELECT v FROM t", "UPDATE t SET v = 5"):
+            connection.execute(text)
+            with self.subTest(text), self.assertRaisesRegex(Refused, "to another database than the first"):
+                self.recorders[-1].wrap(other)
+
+    def test_databases_in_memory_while_a_transaction_is_open(self) -> None:
+        for name, is_one in ((":memory:", False), ("file:identity?mode=memory&cache=shared", True)):
+            for text in ("SELECT v FROM t WHERE id = 1", "UPDATE t SET v = 5 WHERE id = 1"):
+                first, second = self.memory(name), self.memory(name)
+                for connection in (first,) if is_one else (first, second):
+                    connection.executescript("DROP TABLE IF EXISTS t; PRAGMA user_version = 7; " + "; ".join(T))
+                recorder = self.recorder()
+                wrapped = recorder.wrap(first)
+                wrapped.execute("BEGIN")
+                wrapped.execute(text).fetchall()
+                with self.subTest(name, text=text), contextlib.nullcontext() if is_one else self.assertRaisesRegex(Refused, "to another database"):
+                    recorder.wrap(second)
+                wrapped.execute("COMMIT")
+                self.assertEqual([each.execute("PRAGMA user_version").fetchone() for each in (first, second)], [(7,), (7,)])
+                self.assertFalse(second.in_transaction)
+                for connection in (first, second):
+                    connection.close()
+
     def test_another_databases_table(self) -> None:
         raw = self.raw()
         raw.execute("ATTACH ? AS o", (os.path.join(self.folder, "other"),))

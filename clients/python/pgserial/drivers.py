@@ -529,6 +529,8 @@ class Sqlite(Driver):
     _converters: Mapping[str, object] = {}  # that were there as the connection was wrapped
     _declared: FrozenSet[str] = frozenset()  # the first words of the types of recorded tables' columns
 
+    _has_file = False  # whether its database is a file
+
     many_gives_cursor = True
 
     def is_open(self) -> Optional[bool]:
@@ -665,19 +667,22 @@ class Sqlite(Driver):
         hidden = [str(row[0]) for row in self.ask("SELECT name FROM sqlite_temp_master WHERE type IN ('table', 'view')")]
         path = next((row[2] for row in self.ask("PRAGMA database_list") if row[1] == "main"), "")
         status = os.stat(path) if path and os.path.exists(path) else None
+        self._has_file = status is not None
         key = (id(self._raw),) if status is None else (status.st_dev, status.st_ino)
         return key, [name for name in hidden if name.lower() in names]
 
     def meets(self, other: Driver) -> bool:
-        """Whether another connection to a database in memory shares this one's: only one of them can write at once. Where this
-        one is in use, nobody knows, and they are taken for one."""
-        if not isinstance(other, Sqlite) or self.is_open():
-            return isinstance(other, Sqlite)
+        """Whether another connection to a database in memory shares this one's: only one of them can write at once, and what
+        one has written the other may see. Where this one can't be asked, nobody knows, and they are taken for one."""
+        if not isinstance(other, Sqlite) or self.is_dead() or self._has_file or other._has_file:
+            return False
         try:
             other.ask("BEGIN IMMEDIATE")
         except self._module.OperationalError:
             return True
         try:
+            if self.is_open():
+                return self._sees(other)
             self.ask("BEGIN IMMEDIATE")
         except self._module.Error:
             return True
@@ -685,6 +690,12 @@ class Sqlite(Driver):
             other._raw.rollback()
         self._raw.rollback()
         return False
+
+    def _sees(self, other: Driver) -> bool:
+        """Whether it sees a number that another connection has written, which is about to roll back."""
+        before: Any = self.ask("PRAGMA user_version")[0][0]
+        other.ask(f"PRAGMA user_version = {before ^ 1}")
+        return bool(self.ask("PRAGMA user_version")[0][0] != before)
 
     def dangers(self, trusted: FrozenSet[str], recorded: Sequence[str]) -> Dangers:
         begins = not self.is_open()
