@@ -698,7 +698,7 @@ class Machine:
 
     def __init__(self, folder: str, dsn: Optional[str], engine: Optional[str] = None, without: Sequence[str] = ()) -> None:
         self.folder, self.without = folder, without
-        self.worlds = [world for world in worlds(folder, dsn) if engine in (None, world.engine)]
+        self.worlds = [world for world in worlds(folder, dsn) if engine is None or world.engine in engine.split(",")]
         self.counts: Counter[str] = collections.Counter()
 
     def close(self) -> None:
@@ -772,7 +772,7 @@ def main() -> int:
     words = argparse.ArgumentParser(description=__doc__, formatter_class=argparse.RawDescriptionHelpFormatter)
     words.add_argument("--count", type=int, default=20000)
     words.add_argument("--seed", type=int, default=1)
-    words.add_argument("--engine")
+    words.add_argument("--engine", help="one, or some with commas")
     words.add_argument("--without", default="", help="names of forms and steps that are left out, with commas")
     words.add_argument("--most", type=int, default=5, help="faults after which it ends")
     given = words.parse_args()

@@ -232,6 +232,23 @@ class OnSqlite(test_recording.OnSqlite):
             connection.execute("SELECT * FROM w")
             self.assertEqual(recorder.verdict().answer, "unknown")
 
+    def test_keys_that_are_no_row_numbers(self) -> None:
+        """`INTEGER PRIMARY KEY DESC` is no row number in SQLite, and an absent one is null."""
+        for number, (made, is_number) in enumerate((
+            ("id INTEGER PRIMARY KEY DESC, v INT", False), ("id INTEGER PRIMARY KEY, v INT", True), ("id INTEGER, v INT, PRIMARY KEY (id DESC)", True),
+            ("id INTEGER PRIMARY KEY AUTOINCREMENT, v INT", True), ("id INT PRIMARY KEY, v INT", False),
+        )):  # fmt: skip
+            raw = self.raw()
+            raw.execute(f"CREATE TABLE w{number} ({made})")
+            recorder = self.recorder([f"w{number}"])
+            connection = recorder.wrap(raw)
+            with self.subTest(made), warnings.catch_warnings():
+                warnings.simplefilter("ignore", RecordingWarning)
+                connection.execute(f"INSERT INTO w{number} (v) VALUES (5)")
+                self.assertEqual(connection.execute(f"SELECT id FROM w{number} WHERE v = 5").fetchall(), [(1 if is_number else None,)])
+                connection.execute(f"SELECT v FROM w{number} WHERE id = 1")
+                self.assertEqual((recorder.tables[0].makes_key, recorder.verdict().answer), (is_number, "yes" if is_number else "unknown"))
+
 
 if __name__ == "__main__":
     unittest.main()

@@ -8,6 +8,7 @@ import contextlib
 import io
 import os
 import sqlite3
+import subprocess
 import sys
 import unittest
 import warnings
@@ -16,11 +17,13 @@ from unittest import mock
 
 from pgserial import edn, jepsen
 from pgserial import verdict as verdict_module
+from pgserial.drivers import driver_of
 from pgserial.keys import Refused
 from pgserial.recording import RecordingWarning
+from pgserial.verdict import CLOSED
 from test_jepsen import answer
 from test_recorded_endings import said
-from test_recording import OnSqlite, Room
+from test_recording import HERE, OnSqlite, Room
 
 
 class Details(OnSqlite):
@@ -113,6 +116,86 @@ class Details(OnSqlite):
         third = recorder.wrap(self.raw())
         third.execute("BEGIN")
         self.assertEqual([line for line in self.body() if line.startswith(">")], ["> 1 BEGIN;", "> 2 BEGIN;"])
+
+    def test_a_second_closing_gives_no_number_back(self) -> None:
+        raw, other = self.raw(timeout=0), self.raw()
+        recorder = self.recorder()
+        connection = recorder.wrap(raw)
+        connection.execute("BEGIN")
+        connection.execute("UPDATE t SET v = 5 WHERE id = 1")
+        other.execute("BEGIN")
+        other.execute("SELECT * FROM t").fetchall()
+        with self.assertRaises(sqlite3.OperationalError):
+            connection.commit()  # which may be tried again
+        connection.close()
+        connection.close()
+        other.execute("COMMIT")
+        last = recorder.wrap(self.raw())
+        self.assertEqual(last.execute("SELECT v FROM t WHERE id = 1").fetchall(), [(10,)])
+        self.assertEqual([line for line in self.lines() if line[0] == ">"][-3:], ["> 2 BEGIN;", "> 2 SELECT v FROM t WHERE id = 1;", "> 2 COMMIT;"])
+        self.assertEqual(recorder.verdict().answer, "yes")
+
+    def test_what_was_written_unsaid_and_committed_beside_the_recorder(self) -> None:
+        recorder = self.recorder()
+        connection = recorder.wrap(self.raw())
+        connection.execute("SELECT v FROM t WHERE id = 1")
+        connection.execute("BEGIN")
+        connection.execute("UPDATE OR IGNORE t SET v = 5 WHERE id = 1")
+        connection.wrapped.commit()
+        with self.assertWarns(RecordingWarning):
+            connection.execute("SELECT v FROM t WHERE id = 1")
+        self.assertRegex(str(recorder.ended), "a transaction ended by a way that isn't recorded")
+        self.assertEqual(recorder.verdict().answer, "unknown")
+
+    def test_no_tables_before_the_first_connection(self) -> None:
+        recorder = self.recorder()
+        self.assertEqual(recorder.tables, ())
+        recorder.wrap(self.raw())
+        self.assertEqual([table.name for table in recorder.tables], ["t"])
+
+    def test_all_tables(self) -> None:
+        recorder = self.recorder(None)
+        recorder.wrap(self.raw()).execute("UPDATE t SET v = 5 WHERE id = 1")
+        self.assertEqual(([table.name for table in recorder.tables], recorder.verdict().answer), (["t"], "yes"))
+
+    def test_a_process_that_ends_closes_its_recordings(self) -> None:
+        text = f"""import sqlite3
+from pgserial.recording import Recorder
+kept = Recorder({self.path!r}, ["t"])
+connection = kept.wrap(sqlite3.connect({self.file!r}, isolation_level=None))
+connection.execute("UPDATE t SET v = 5 WHERE id = 1")
+"""
+        done = subprocess.run([sys.executable, "-B", "-c", text], cwd=HERE, stdout=subprocess.PIPE, stderr=subprocess.PIPE, text=True)
+        self.assertEqual((done.returncode, done.stdout, done.stderr), (0, "", f"{self.path}: 1 transactions that committed\n"))
+        self.assertIn(CLOSED, self.comments().split("\n"))
+
+    def test_rows_of_numbers_where_texts_are_turned(self) -> None:
+        raw = self.raw()
+        raw.execute("ALTER TABLE t ADD COLUMN n TEXT DEFAULT 'x'")
+        raw.text_factory = lambda data: data.decode("utf-8").upper()
+        recorder = self.recorder()
+        connection = recorder.wrap(raw)
+        self.assertEqual(connection.execute("SELECT id, v FROM t WHERE id = 1").fetchall(), [(1, 10)])
+        self.assertEqual((self.lines()[-3:-2], sum(recorder.left_out.values())), (["  1 | 1\t10"], 0))
+        self.assertEqual(connection.execute("SELECT n FROM t WHERE id = 1").fetchall(), [("X",)])
+        self.assertEqual(sum(recorder.left_out.values()), 1)
+
+    def test_what_an_old_sqlite_shows(self) -> None:
+        raw = self.raw()
+        for version, may in (((3, 34, 9), False), ((3, 35, 0), True), ((3, 36, 0), True)):
+            driver = driver_of(raw, None)
+            driver._module = mock.Mock(sqlite_version_info=version)
+            (table,) = [table for table, _ in driver_of(raw, None).opened({"t": None})]
+            self.assertEqual(driver.facts(table).may_return, may)
+
+    def test_what_a_closed_connection_may_commit(self) -> None:
+        raw = self.raw()
+        driver = driver_of(raw, None)
+        self.assertTrue(driver.may_commit("PRAGMA x"))
+        self.assertEqual(driver.identity(), f"the file {self.file}")
+        raw.close()
+        self.assertFalse(driver.may_commit("PRAGMA x"))
+        self.assertFalse(driver.is_autocommit())
 
     def test_a_script_gives_its_own_cursor(self) -> None:
         connection = self.recorder().wrap(self.raw())

@@ -318,7 +318,7 @@ class Cursor(Proxy):
         except BaseException:
             self._addition = None  # what was shown before, if anything
             raise
-        return self if value is not None and value is self.wrapped else value
+        return self if value is self.wrapped else value
 
     def _forget(self) -> None:
         """Nothing is kept of what was executed before."""
@@ -367,7 +367,7 @@ class Cursor(Proxy):
             lambda: NoText(session, operation) if text is None else many_of(session, text, several, self._looked_at()),
             lambda: self.wrapped.executemany(operation, several, *words, **named),
         )
-        return self if value is not None and value is self.wrapped else value
+        return self if value is self.wrapped else value
 
     # rows
 

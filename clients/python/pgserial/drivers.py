@@ -623,8 +623,12 @@ class Sqlite(Driver):
         return cursor
 
     def identity(self) -> Optional[str]:
-        found = [row[2] for row in self.ask("PRAGMA database_list") if row[1] == "main"]
-        return f"the file {found[0]}" if found and found[0] else None
+        path = self._path()
+        return f"the file {path}" if path else None
+
+    def _path(self) -> str:
+        """The file of its database, which stands before what is attached; none where it is in memory."""
+        return str(self.ask("PRAGMA database_list")[0][2] or "")
 
     def counts(self, cascades: Sequence[Cascade]) -> Optional[Counts]:
         return Counts(None, self._raw.total_changes, bool(self.ask("PRAGMA foreign_keys")[0][0]))
@@ -665,7 +669,7 @@ class Sqlite(Driver):
     def key(self, tables: Sequence[Table]) -> Tuple[Tuple[object, ...], List[str]]:
         names = {table.real.lower() for table in tables}
         hidden = [str(row[0]) for row in self.ask("SELECT name FROM sqlite_temp_master WHERE type IN ('table', 'view')")]
-        path = next((row[2] for row in self.ask("PRAGMA database_list") if row[1] == "main"), "")
+        path = self._path()
         status = os.stat(path) if path and os.path.exists(path) else None
         self._has_file = status is not None
         key = (id(self._raw),) if status is None else (status.st_dev, status.st_ino)

@@ -41,9 +41,6 @@ class _Nobody:
 
     give_back = leaves = drop
 
-    def functions_changed(self, driver: Driver) -> None:
-        """Nothing is told of any function."""
-
 
 NOBODY: Any = _Nobody()
 
@@ -114,7 +111,7 @@ class Follower:
     def recording(self, recorder: Any) -> Iterator[Any]:
         """While this goes on, what the connections do is recorded."""
         with self._lock:
-            if self.recorder is not NOBODY and not self.recorder.is_over:
+            if not self.recorder.is_over:  # NOBODY is
                 raise Refused("a recording is under way")
             self.recorder = recorder
         try:

@@ -93,9 +93,10 @@ def _table(ask: Any, name: str, wanted: Optional[Sequence[str]], taken: Iterable
     seen = [_column(row, is_utf8, collated) for row in rows]
     table = table_of(None, bare, seen, _keys(ask, quoted, rows), wanted, taken)
     keys = [row for row in rows if row[5]]
-    has_rowid = re.search(r"\bwithout\s+rowid\b", sql, re.IGNORECASE) is None
+    # A key that is the row's own number has no index: with DESC, or WITHOUT ROWID, it has one.
+    has_index = any(row[3] == "pk" for row in ask(f"PRAGMA index_list('{quoted}')"))
     is_row_number = len(keys) == 1 and keys[0][2].upper() == "INTEGER" and table.columns[0].real == keys[0][1]
-    return table._replace(makes_key=is_row_number and has_rowid, hazards=_hazards(ask, quoted, sql))
+    return table._replace(makes_key=is_row_number and not has_index, hazards=_hazards(ask, quoted, sql))
 
 
 # ---- foreign keys
