@@ -61,7 +61,7 @@ def explained(failure: Failure) -> List[str]:
         lines += [f"    wanted: {cut(told['wanted'])}", f"    came:   {cut(told['came'])}"]
     else:
         lines += ["    " + line for line in cut(told["said"]).splitlines()]
-    return [*lines, f"    alone:  ./pgserial test {failure.test.split(' ')[0].rstrip(':')}"]
+    return [*lines, f"    alone:  ./pgserial test {failure.alone()}"]
 
 
 class Run:
@@ -158,9 +158,8 @@ class Run:
         check, result = run.check, run.result
         self.shown.ended += 1
         whole = not any(tests for each, tests in self.chosen if each is check)
-        late = [failure for failure in result.failures if failure.is_timed]
-        self.again += [(check, failure) for failure in late]
-        failures = [failure for failure in result.failures if not failure.is_timed]
+        late = self.tried_again(check, result.failures)
+        failures = [failure for failure in result.failures if failure not in late]
         if whole and not result.skipped and result.cases() < check.least:
             said = f"{result.cases()} cases, where tests/cases.txt has {check.least}"
             failures.append(Failure(check.name, {"case": "", "said": said, "size": sys.maxsize, "where": ""}, False))
@@ -172,6 +171,17 @@ class Run:
         self.explain(failures)
         for reason, count in result.skipped.items():
             self.shown.line(f"  skipped: {count} of {check.name}: {reason}")
+
+    def tried_again(self, check: Check, failures: List[Failure]) -> List[Failure]:
+        """Those of the failures whose tests are run again alone: tests of times, and all others where that was asked for and they are few."""
+        tests: Dict[str, List[Failure]] = {}
+        for failure in sorted(failures, key=Failure.size):
+            tests.setdefault(failure.alone(), []).append(failure)
+        tests.pop(check.name, None)
+        any_test = self.asked.again and len(tests) <= FEW
+        chosen = [each for each in tests.values() if any_test or all(failure.is_timed for failure in each)]
+        self.again += [(check, each[0]) for each in chosen]
+        return [failure for each in chosen for failure in each]
 
     def explain(self, failures: List[Failure]) -> None:
         """Tells of the smallest case of each test that failed, of a few, and which others there are."""
@@ -188,9 +198,9 @@ class Run:
             self.shown.line(f"  and {len(smallest) - FEW} more tests: {', '.join(list(smallest)[FEW:])}")
 
     def alone(self) -> None:
-        """Runs tests of times again that have failed beside others, one by one."""
+        """Runs tests again that have failed beside others, one by one."""
         for check, before in self.again:
-            test = before.test[len(check.name) + 1 :]
+            test = before.alone()[len(check.name) + 1 :]
             once_more = self.start(check, [test])
             while once_more.read():
                 select.select([once_more.pipe], [], [], TELL)
@@ -235,6 +245,7 @@ def words(given: List[str]) -> argparse.Namespace:
     parser.add_argument("--program", metavar="FILE", help="by this program")
     parser.add_argument("--list", action="store_true", help="lists the checks, with the cases and the seconds of each")
     parser.add_argument("--preflight", action="store_true", help="looks for what the gate refuses before it proves anything, in less than a minute: disk, memory, layout, files, names, documents")
+    parser.add_argument("--again", action="store_true", help="run a test that fails once more, alone, as tests of times are, where a check has only a few of them; both runs are told, and the second one counts")
     parser.add_argument("--count", action="store_true", help="writes into tests/cases.txt how many cases each check has")
     asked = parser.parse_args(given)
     if sum(map(bool, (asked.proved, asked.unproved, asked.program))) > 1:

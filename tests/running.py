@@ -33,6 +33,10 @@ class Failure:
         """How large it is: one that is of no case comes behind those of cases."""
         return int(self.told["size"]) + (0 if self.told["case"] else 1 << 20)
 
+    def alone(self) -> str:
+        """The name by which the test is run alone."""
+        return self.test.split(" ")[0].rstrip(":")
+
 
 @dataclasses.dataclass
 class Result:

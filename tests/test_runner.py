@@ -67,6 +67,7 @@ class Timed(unittest.TestCase):
             file.write("x")
         self.assertGreaterEqual(os.path.getsize("seen"), {times})
 """
+WAVERS = TIMED.replace("    @timed\n", "")
 BROKEN = "import nothing_of_this_name\n"
 DIES = """
 import os
@@ -187,6 +188,27 @@ class Runner(unittest.TestCase):
         self.assertRegex(printed, r"(?s)ok     timed\.Timed\.test_slow, which failed beside others, passes alone\n  beside others:\n.*1 not greater than or equal to 2")
         self.assertEqual(printed.splitlines()[-1], "1 passed, 0 failed, 0 skipped")
 
+    def test_what_fails_is_run_again_alone_where_that_is_asked_for(self) -> None:
+        self.check("wavers", WAVERS.format(times=2))
+        self.assertEqual(self.run_it("--again")[0], 0)
+        os.unlink(os.path.join(self.top, "seen"))
+        status, printed, lines = self.run_it()
+        self.assertEqual((status, lines), (1, ["FAILED wavers 1 cases"]))
+        os.unlink(os.path.join(self.top, "seen"))
+        status, printed, lines = self.run_it("--again")
+        self.assertEqual((status, lines[0]), (0, "again wavers 1 cases"))
+        self.assertRegex(printed, r"(?s)ok     wavers\.Timed\.test_slow, which failed beside others, passes alone\n  beside others:\n.*1 not greater than or equal to 2")
+
+    def test_what_fails_twice_or_in_many_tests_is_a_failure(self) -> None:
+        self.check("bad", BAD)
+        status, printed, _ = self.run_it("--again")
+        self.assertEqual((status, printed.splitlines()[-1]), (1, "1 passed, 2 failed, 0 skipped"))
+        self.assertRegex(printed, r"(?s)FAILED bad\.Bad\.test_small, which failed beside others, fails alone\n  beside others:\n.*tiny.*  alone:\n.*tiny")
+        many = "".join(f"    def test_{number}(self):\n        self.fail()\n" for number in range(6))
+        self.check("bad", f"import unittest\n\n\nclass Bad(unittest.TestCase):\n{many}")
+        status, printed, _ = self.run_it("--again")
+        self.assertEqual((status, printed.splitlines()[-1]), (1, "0 passed, 6 failed, 0 skipped"))
+
     def test_times_that_fail_twice_are_told_twice(self) -> None:
         self.check("timed", TIMED.format(times=9))
         status, printed, _ = self.run_it()
@@ -206,10 +228,10 @@ class Runner(unittest.TestCase):
     def test_a_test_that_takes_too_long_is_ended(self) -> None:
         self.check("good", GOOD)
         self.check("waits", WAITS)
-        with unittest.mock.patch.dict(os.environ, {"PGSERIAL_TEST_LIMIT": "2"}):
+        with unittest.mock.patch.dict(os.environ, {"PGSERIAL_TEST_LIMIT": "8"}):
             status, printed, _ = self.run_it()
         self.assertEqual((status, printed.splitlines()[-1]), (1, "6 passed, 1 failed, 0 skipped"))
-        self.assertRegex(printed, r"waits\.Waits\.test_long\n    it hasn't ended in 2 s:")
+        self.assertRegex(printed, r"waits\.Waits\.test_long\n    it hasn't ended in 8 s:")
         self.assertEqual(sleepers(), [])
 
     def test_an_interrupt_ends_all_that_was_started(self) -> None:
