@@ -8,7 +8,10 @@ import unittest
 import warnings
 from typing import Any, List
 
+from pgserial.catalog import declared_table
+from pgserial.dangers import Dangers, sqlite_dangers
 from pgserial.recording import Recorder, RecordingWarning
+from pgserial.sql import tokens_of
 import test_recording
 from test_recording import DSN, drivers
 
@@ -132,13 +135,16 @@ class OnSqlite3(test_recording.OnSqlite):
             ("INSERT INTO log VALUES (3, 'x')", "CREATE TRIGGER g AFTER INSERT ON log BEGIN UPDATE t SET v = v - 1 WHERE id = 2; END"),
             ("UPDATE seen SET w = 'x'", "CREATE VIEW seen AS SELECT w FROM log; CREATE TRIGGER h INSTEAD OF UPDATE ON seen BEGIN UPDATE t SET v = v - 1 WHERE id = 2; END"),
             ("INSERT INTO log VALUES (4, lower(3))", ""), ("SELECT lower(3) FROM log", ""), ("SELECT x FROM called", "CREATE VIEW called AS SELECT lower(w) AS x FROM log"),
-            ("INSERT INTO t VALUES (9, lower(3)) RETURNING v", ""),
+            ("INSERT INTO t VALUES (9, lower(3)) RETURNING v", ""), ('INSERT INTO log VALUES (4, "LOWER"(3))', ""),
+            ('INSERT INTO "LOG" VALUES (3, \'x\')', "CREATE TRIGGER g AFTER INSERT ON Log BEGIN UPDATE t SET v = v - 1 WHERE id = 2; END"),
+            ('UPDATE "Seen" SET w = \'x\'', "CREATE VIEW seen AS SELECT w FROM log; CREATE TRIGGER h INSTEAD OF UPDATE ON Seen BEGIN UPDATE t SET v = v - 1 WHERE id = 2; END"),
+            ('SELECT x FROM "CALLED"', "CREATE VIEW called AS SELECT lower(w) AS x FROM log"),
         ):  # fmt: skip
             for registers_late in (False, True):
                 taken: List[int] = []
                 writer.executescript(f"DROP TABLE IF EXISTS log; CREATE TABLE log (id INTEGER PRIMARY KEY, w TEXT); INSERT INTO log VALUES (1, 'y'); {text}")
                 raw = self.raw()
-                calls = "lower" in made + text
+                calls = "lower" in (made + text).lower()
                 if calls and not registers_late:
                     raw.create_function("lower", 1, take)
                 recorder = self.recorder(["t"], ignoring=["log", "seen"])
@@ -163,6 +169,51 @@ class OnSqlite3(test_recording.OnSqlite):
         connection.execute("SELECT v FROM t WHERE id = 1")
         told = recorder.verdict()
         self.assertEqual((told.answer, told.ended, told.left_out), ("yes", None, ()))
+
+
+class Words(unittest.TestCase):
+    """What a text may write by names that are dangerous, without a database."""
+
+    DANGERS = Dangers(frozenset(("f", "F2")), frozenset(("a",)), ("###",), frozenset(("peek",)), frozenset(("noisy",)), first="public")
+
+    def why(self, text: str, **named: Any) -> Any:
+        return self.DANGERS._replace(**named).why(tokens_of(text, "qmark", False))
+
+    def test_functions(self) -> None:
+        for text, name in (("SELECT f(1)", "f"), ('SELECT "f" (1)', "f"), ("SELECT o.f(1)", "f"), ("SELECT (f(1))", "f"), ("SELECT t.a FROM t", "a"), ('SELECT (t)."a" FROM t', "a")):
+            with self.subTest(text):
+                self.assertEqual(self.why(text), f"it calls {name}, which may write (say reading=['{name}'] where it doesn't)")
+        for text in ("SELECT f FROM t", "SELECT t.f FROM t", "SELECT a FROM t", "SELECT a(1)", "SELECT g(1)", "SELECT 'f(1)'", "SELECT f", 'SELECT "F"(1)', "SELECT t.b"):
+            with self.subTest(text):
+                self.assertIsNone(self.why(text))
+        self.assertIsNone(self.why("SELECT f2(1)"))
+        self.assertIsNotNone(self.why("SELECT F(1)", folds=True))
+
+    def test_views_operators_and_casts(self) -> None:
+        self.assertEqual(self.why("SELECT * FROM peek"), "reading peek may write")
+        self.assertEqual(self.why("SELECT 1 ### 2"), "operator ### calls a function, which may write")
+        self.assertIsNone(self.why("SELECT 1 ## 2"))
+        self.assertEqual(self.why("SELECT 1", casts=True), "a cast of the database calls a function")
+
+    def test_what_is_written(self) -> None:
+        self.assertEqual([self.DANGERS.why_written(name) for name in ("noisy", "Noisy", "plain")], ["writing noisy may write other tables", None, None])
+        self.assertEqual(self.DANGERS._replace(folds=True).why_written("Noisy"), "writing Noisy may write other tables")
+
+    def test_more_functions_and_the_first_schema(self) -> None:
+        self.assertEqual(self.DANGERS.and_functions(frozenset(("g",))).functions, frozenset(("f", "F2", "g")))
+        made = declared_table("public.t", {"id": "bigint"}, [])
+        self.assertEqual([self.DANGERS.is_first(each) for each in (made, made._replace(schema="o"), None)], [True, False, False])
+
+    def test_of_sqlite(self) -> None:
+        raw = sqlite3.connect(":memory:")
+        self.addCleanup(raw.close)
+        raw.create_function("mine", 1, lambda value: value)
+        raw.create_function("Other", 0, lambda: 1)
+        raw.executescript("CREATE TABLE t (id INTEGER PRIMARY KEY); CREATE TABLE U (id INTEGER); CREATE VIEW One AS SELECT mine(id) FROM t; CREATE VIEW two AS SELECT id FROM t")
+        raw.executescript("CREATE TRIGGER r AFTER INSERT ON U BEGIN DELETE FROM t; END; CREATE TEMP TRIGGER q AFTER UPDATE ON t BEGIN DELETE FROM u; END")
+        found = sqlite_dangers(lambda query: raw.execute(query).fetchall(), frozenset(("other",)))
+        self.assertEqual((found.read, found.written, found.folds, found.are_fixed, found.operators), (frozenset(("one",)), frozenset(("one", "two", "u", "t")), True, False, ()))
+        self.assertEqual(("mine" in found.functions, "other" in found.functions, "abs" in found.functions), (True, False, False))
 
 
 if __name__ == "__main__":

@@ -4,6 +4,7 @@
 """
 
 import errno
+import gc
 import os
 import stat
 import tempfile
@@ -138,9 +139,17 @@ class Files(unittest.TestCase):
     def test_one_recorder_at_a_time(self) -> None:
         made = self.made(b"first\n")
         open_before = len(os.listdir("/proc/self/fd")) if os.path.isdir("/proc/self/fd") else 0
-        with self.assertRaisesRegex(Refused, f"another recorder writes {self.path}: where several processes record, each needs a file of its own"):
+        try:
             Output(self.path)
+        except Refused as refused:
+            kept: Any = refused  # and with it all that it has come by
+        self.assertIn(f"another recorder writes {self.path}: where several processes record, each needs a file of its own", str(kept))
         self.assertEqual((self.data(), len(os.listdir("/proc/self/fd")) if open_before else 0), (b"first\n", open_before))
+        number = os.open(self.path, os.O_RDONLY)  # likely that of the file which was refused
+        self.addCleanup(os.close, number)
+        del kept
+        gc.collect()
+        os.fstat(number)  # which isn't closed with that
         made.close()
         self.made()
         self.assertEqual(self.data(), b"")

@@ -234,4 +234,4 @@ def sqlite_dangers(ask: Ask, trusted: FrozenSet[str]) -> Dangers:
             written.add(str(table if kind == "trigger" else name).lower())
             if kind == "view" and any(function in str(text).lower() for function in functions):
                 read.add(str(name).lower())
-    return Dangers(functions, frozenset(), (), frozenset(read), frozenset(written), frozenset(), False, True)
+    return Dangers(functions, read=frozenset(read), written=frozenset(written), folds=True)

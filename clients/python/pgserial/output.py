@@ -15,6 +15,7 @@ except ImportError:  # not on Windows
 
 _UNLOCKED = (errno.ENOLCK, errno.ENOSYS, errno.EOPNOTSUPP, errno.EINVAL)  # where the file system has no locks
 _READ_BACK = 65536
+_CLOSED = -1  # no file
 
 
 class Output:
@@ -29,7 +30,7 @@ class Output:
                 self._lock()
                 os.ftruncate(self._file, 0)
             except BaseException:
-                os.close(self._file)
+                self.close()
                 raise
 
     def _lock(self) -> None:
@@ -47,12 +48,12 @@ class Output:
 
     def close(self) -> None:
         """Closes it."""
-        file, self._file = self._file, -1
+        file, self._file = self._file, _CLOSED
         with contextlib.suppress(OSError):  # somebody has closed it
             os.close(file)
 
     def __del__(self) -> None:
-        if getattr(self, "_file", -1) >= 0:
+        with contextlib.suppress(AttributeError):  # of one that couldn't be opened
             self.close()
 
     def _all(self, data: bytes) -> None:
@@ -85,7 +86,7 @@ class Output:
 
     def _over(self, line: bytes) -> None:
         """Writes a line in place of the last ones that have its length, whose room is there already."""
-        end = os.lseek(self._file, 0, os.SEEK_END)
+        end = os.fstat(self._file).st_size
         start = max(0, end - len(line) - _READ_BACK)
         os.lseek(self._file, start, os.SEEK_SET)
         data = os.read(self._file, end - start)
@@ -100,9 +101,8 @@ class Output:
         os.ftruncate(self._file, place + len(line))
 
     def _turn(self) -> None:
-        with open(self.path, "r+b") as file:
-            if file.read(1):
-                file.seek(0)
+        if os.path.getsize(self.path):
+            with open(self.path, "r+b") as file:
                 file.write(b"!")
 
 

@@ -501,8 +501,7 @@ def read_of(tokens: Tokens, reading: FrozenSet[str]) -> Read:
     conditions, others = _conditions(pieces, where, behind, reading) if where > stop else ((), False)
     cut = pieces.find(behind, end, "group", "having", "limit", "offset", "fetch", "skip") < end
     cut = cut or any(token.is_word("tablesample") for token in tokens[source:stop])
-    is_by_rows = all(not isinstance(item, Made) for item in items) or _is_by_rows(pieces, first, source)
-    is_whole = is_by_rows and not (cut or others or is_on or with_names or len(sources) != 1)
+    is_whole = _is_by_rows(pieces, first, source) and not (cut or others or is_on or with_names or len(sources) != 1)
     return Read(items, sources, conditions if len(sources) == 1 else (), is_whole, is_distinct, is_merged, with_names)
 
 
