@@ -123,6 +123,7 @@ FORMS: Dict[str, Form] = {
         "UPDATE t SET v = f_write({k}) WHERE id = {k}", "CALL p_write({k})"),
     # what is ignored writes recorded tables
     "a trigger of an ignored table": _both("spoils", "INSERT INTO noisy (note) VALUES ({s})"),
+    "a folded name": _sqlite("spoils", 'INSERT INTO "NOISY" (note) VALUES ({s})', 'INSERT INTO "Noisy" (note) VALUES ({s}), ({s})'),
     "a function into an ignored table": _postgres("spoils", "INSERT INTO log (note) VALUES (f_write({k})::text)", "INSERT INTO log (note) SELECT f_write({k})::text", "UPDATE log SET note = f_write({k})::text"),
     "a view writes": _postgres("spoils", "SELECT * FROM peek", "SELECT count(*) FROM peek WHERE done = 1"),
     "an operator writes": _postgres("spoils", "SELECT 1 ### {k}", "SELECT id FROM t WHERE v ### 1 = 1"),

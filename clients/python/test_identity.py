@@ -66,6 +66,14 @@ class OnPostgres(test_recording.Postgres):
             with self.assertRaisesRegex(Refused, "by the search path of the connection t is another table"):
                 recorder.wrap(raw)
 
+    def test_a_table_that_the_search_path_doesnt_reach(self) -> None:
+        for driver in self.each():
+            self.make("DROP SCHEMA IF EXISTS o CASCADE", "CREATE SCHEMA o", "CREATE TABLE o.t (id int PRIMARY KEY, v bigint)", "INSERT INTO o.t VALUES (1, 10)")
+            recorder = self.recorder(["o.t"])
+            recorder.wrap(self.raw(driver, True)).cursor().execute("UPDATE o.t SET v = 5 WHERE id = 1")
+            recorder.wrap(self.raw(driver, True)).cursor().execute("SELECT v FROM o.t WHERE id = 1")
+            self.assertEqual((recorder.verdict().answer, recorder.committed, recorder.ended), ("yes", 2, None))
+
     def test_tables_that_were_made_anew_are_others(self) -> None:
         for driver in self.each():
             recorder = self.recorder()

@@ -20,7 +20,7 @@ from pgserial import verdict as verdict_module
 from pgserial.drivers import driver_of
 from pgserial.keys import Refused
 from pgserial.recording import RecordingWarning
-from pgserial.verdict import CLOSED
+from pgserial.verdict import CLOSED, HAS_NOT, MAY_COMMIT
 from test_jepsen import answer
 from test_recorded_endings import said
 from test_recording import HERE, OnSqlite, Room
@@ -196,6 +196,55 @@ connection.execute("UPDATE t SET v = 5 WHERE id = 1")
         raw.close()
         self.assertFalse(driver.may_commit("PRAGMA x"))
         self.assertFalse(driver.is_autocommit())
+
+    def test_a_setting_that_ended_nothing_says_so(self) -> None:
+        connection = self.recorder().wrap(self.raw(isolation_level="DEFERRED"))
+        connection.execute("UPDATE t SET v = 5 WHERE id = 1")
+        connection.isolation_level = "IMMEDIATE"
+        self.assertEqual(self.comments().count(HAS_NOT.format(1)), self.comments().count(MAY_COMMIT.format(1)))
+        self.assertIn(HAS_NOT.format(1), self.comments())
+        connection.commit()
+        self.assertEqual(self.recorders[-1].verdict().answer, "yes")
+
+    def test_a_write_of_many_rows_that_fails_is_rolled_back(self) -> None:
+        raw = self.raw()
+        raw.execute("CREATE TABLE w (id INTEGER PRIMARY KEY, v INT CHECK (v < 100))")
+        raw.execute("INSERT INTO w VALUES (1, 10), (2, 95)")
+        recorder = self.recorder(["w"])
+        connection = recorder.wrap(raw)
+        with self.assertRaises(sqlite3.IntegrityError):
+            connection.execute("UPDATE w SET v = v + 10")
+        self.assertEqual((self.lines()[-2:], recorder.committed), (["> 1 ROLLBACK;", "  1 ROLLBACK"], 0))
+
+    def test_an_undone_savepoint_undoes_what_cant_be_said(self) -> None:
+        recorder = self.recorder()
+        connection = recorder.wrap(self.raw())
+        connection.execute("BEGIN")
+        connection.execute("UPDATE t SET v = 5 WHERE id = 1")
+        for text in ("SAVEPOINT a", "UPDATE OR IGNORE t SET v = 6 WHERE id = 1", "ROLLBACK TO a", "RELEASE a"):
+            connection.execute(text)
+        connection.execute("COMMIT")
+        told = recorder.verdict()
+        self.assertEqual((told.answer, told.ended), ("yes", None))
+
+    def test_what_a_savepoint_holds_back_unsaid_is_told_as_it_commits(self) -> None:
+        for texts in (("UPDATE OR IGNORE t SET v = 6 WHERE id = 1", "SAVEPOINT a", "ROLLBACK TO a"), ("SAVEPOINT a", "UPDATE OR IGNORE t SET v = 6 WHERE id = 1", "SAVEPOINT b", "ROLLBACK TO b", "RELEASE a")):
+            recorder = self.recorder()
+            connection = recorder.wrap(self.raw())
+            connection.execute("BEGIN")
+            for text in texts:
+                connection.execute(text)
+            with self.subTest(texts), self.assertWarns(RecordingWarning):
+                connection.execute("COMMIT")
+            self.assertEqual(recorder.verdict().answer, "unknown")
+
+    def test_texts_that_stop_too_early(self) -> None:
+        recorder = self.recorder()
+        connection = recorder.wrap(self.raw())
+        for text in ("CREATE TABLE", "CREATE TABLE t", "CREATE TABLE IF NOT EXISTS", "CREATE TABLE main.", "CREATE", "CREATE TEMP", "SAVEPOINT", "RELEASE", "ROLLBACK TO", "PRAGMA", "WITH", "INSERT", "UPDATE", "DELETE", "SELECT"):
+            with self.subTest(text), self.assertRaises(sqlite3.Error):
+                connection.execute(text)
+        self.assertEqual((recorder.ended, recorder.committed), (None, 0))
 
     def test_a_script_gives_its_own_cursor(self) -> None:
         connection = self.recorder().wrap(self.raw())

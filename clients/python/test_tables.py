@@ -6,14 +6,16 @@ driver's own objects.
 
 import unittest
 from typing import Any, List
+from unittest import mock
 
-from pgserial import BIGINT, TEXT
+from pgserial import BIGINT, TEXT, plans
 from pgserial.catalog import MADE, Column, Hazard, Names, Seen, constant, declared_table, default_of, numbered, said_name, table_of, without_columns
 from pgserial.keys import Candidate, Refused, chosen, key_text
 from pgserial.opening import opening_of, trusting
+from pgserial.plans import Translator
 from pgserial.proxies import Proxy, parameters_of, text_of
 from pgserial.sql import Name
-from pgserial.values import Unsaid
+from pgserial.values import Spelling, Unsaid
 
 SEEN = [Seen("id", "int", BIGINT, None), Seen("V", "bigint", BIGINT, 5), Seen("n", "varchar(9)", TEXT, None, False, 9), Seen("x", "point", None, None)]
 
@@ -138,6 +140,20 @@ class Named(unittest.TestCase):
 
     def test_what_isnt_ignored_since_it_reaches_a_recorded_table(self) -> None:
         self.assertFalse(Names([table("id")._replace(reached=("Log",))], False, ["Log"]).is_ignored(Name("Log", True)))
+
+
+class Plans(unittest.TestCase):
+    """What is kept of each text."""
+
+    def test_as_many_as_there_is_room_for(self) -> None:
+        translator, spelling = Translator(Names([table("id")], False), "qmark"), Spelling()
+        with mock.patch.object(plans, "_MOST_PLANS", 3):
+            counts = []
+            for at in range(7):
+                translator.plan(spelling, f"SELECT {at} FROM t", False)
+                counts.append(len(translator._plans))
+        self.assertEqual(counts, [1, 2, 3, 1, 2, 3, 1])
+        self.assertIs(translator.plan(spelling, "SELECT 6 FROM t", False), translator.plan(spelling, "SELECT 6 FROM t", False))
 
 
 class Openings(unittest.TestCase):

@@ -270,7 +270,8 @@ class Names:
         self._ignoring: FrozenSet[str] = frozenset(self._key(Name(name.rpartition(".")[2], True)) for name in ignoring)
         self.tables = tuple(tables)
         # What of these is written changes rows of recorded tables too.
-        self._ignoring -= {self._key(Name(name, True)) for table in tables for name in table.reached}
+        self._reached = {self._key(Name(name, True)) for table in tables for name in table.reached}
+        self._ignoring -= self._reached
 
     def _key(self, name: Name) -> str:
         return name.text.lower() if self.folds else name.text
@@ -282,6 +283,10 @@ class Names:
     def is_ignored(self, name: Optional[Name]) -> bool:
         """Whether what is written there is no matter."""
         return name is not None and self._key(name) in self._ignoring
+
+    def why_written(self, name: Name) -> Optional[str]:
+        """Why writing a table that isn't recorded changes rows of one that is; None where it doesn't."""
+        return f"foreign keys may change rows of recorded tables with those of {name.text}" if self._key(name) in self._reached else None
 
     def is_recorded(self, name: Name) -> bool:
         """Whether this is a recorded table's name, perhaps in another schema."""

@@ -93,7 +93,11 @@ _INHERITED = "SELECT i.inhrelid::bigint, i.inhparent::bigint FROM pg_catalog.pg_
 _NAMES = "SELECT c.oid::bigint, c.relname::text FROM pg_catalog.pg_class c WHERE c.relkind IN ('r', 'p', 'v', 'm', 'f') AND c.oid >= 16384"
 _CHANGED = """SELECT count(*) AS changed FROM pg_catalog.pg_settings s WHERE s.name IN ('standard_conforming_strings',
   'session_replication_role', 'extra_float_digits', 'transform_null_equals') AND s.setting IS DISTINCT FROM s.reset_val"""
-_CASTS = "SELECT c.castfunc::bigint FROM pg_catalog.pg_cast c WHERE c.castfunc >= 16384 AND c.castcontext <> 'e'"
+# What a cast may call: its function, or what a domain checks.
+_CASTS = """SELECT c.castfunc::bigint FROM pg_catalog.pg_cast c WHERE c.castfunc >= 16384
+UNION SELECT d.refobjid::bigint FROM pg_catalog.pg_depend d JOIN pg_catalog.pg_constraint k
+  ON d.classid = 'pg_catalog.pg_constraint'::pg_catalog.regclass AND d.objid = k.oid
+WHERE k.contypid <> 0 AND d.refclassid = 'pg_catalog.pg_proc'::pg_catalog.regclass AND d.refobjid >= 16384"""
 _OWN_LANGUAGES = ("c", "internal")  # of extensions
 
 

@@ -78,9 +78,9 @@ class Translator:
         """How it is said by its rows, where it can be so."""
         writes = plan.saying.writes if plan.saying is not None else plan.writes is not None
         try:
-            if writes and self._dangers.why(tokens) is None:
-                return self._effect(spelling, tokens, text, plan)
-            if not writes and (plan.saying is not None or plan.why is not None):
+            if writes:
+                return self._effect(spelling, tokens, text, plan) if self._dangers.why(tokens) is None else {}
+            if plan.saying is not None or plan.why is not None:
                 return {"rows": Rows(self._names, spelling, tokens, self._read_of(tokens))}
         except (Unsaid, RecursionError, IndexError):
             pass
@@ -140,6 +140,11 @@ class Translator:
         """Whether a recorded table has this name."""
         return self._names.is_recorded(name)
 
+    @property
+    def folds(self) -> bool:
+        """Whether names are the same whatever the case of their letters, as in SQLite."""
+        return self._names.folds
+
     def nothing(self) -> Plan:
         """What is to be done about what is no matter."""
         return Plan()
@@ -153,6 +158,7 @@ class Translator:
     def ignored(self, tokens: List[sql.Token], written: sql.Name) -> Plan:
         """What writes a table that no verdict is to speak of: whether it may write others, and whether it reads some."""
         why = unknown_function(tokens, self.reading, written) or self._dangers.why(tokens) or self._dangers.why_written(written.text)
+        why = why or self._names.why_written(written)
         if why is not None:
             return Plan(why=f"table {written.text} isn't recorded", writes=why)
         if any(token.kind in ("word", "name") and self._names.is_recorded(sql.Name(token.value, True)) for token in tokens):

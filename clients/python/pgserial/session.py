@@ -9,6 +9,7 @@ from .returning import Facts
 from .temporary import Temporary
 from .verdict import HAS_NOT, MAY_COMMIT
 
+_NOWHERE = -1  # the place of what isn't held back
 _ENDS = ("COMMIT", "ROLLBACK", "EXPORT", "IMPORT")  # commands that have no place of their own
 
 
@@ -103,7 +104,7 @@ class Session:
     def flush(self) -> None:
         """Writes what was held back."""
         held, self.held, self.points = self.held, None, []
-        self.doubts = [doubt._replace(at=-1) for doubt in self.doubts]
+        self.doubts = [doubt._replace(at=_NOWHERE) for doubt in self.doubts]
         if held:
             self.recorder.write("".join(held))
 
@@ -120,7 +121,7 @@ class Session:
             self.recorder.spoil(why, text, self.number)
             return
         self.write(f"-- written, {self.recorder.said(why, text)}\n")
-        at = -1 if self.held is None else len(self.held) - 1
+        at = _NOWHERE if self.held is None else len(self.held) - 1
         self.doubts.append(Doubt(why, text, self.recorder.place(), at))
 
     def tell_doubts(self) -> None:
@@ -205,8 +206,6 @@ class Session:
     def finished(self, step: Any) -> None:
         """Takes what comes behind a call. Where another thread has closed the connection meanwhile, nobody knows more than
         where it was lost."""
-        if self.recorder.is_over:
-            return
         try:
             step.after()
         except Exception as error:

@@ -6,6 +6,14 @@ from .effects import parts_of, written_table
 from .sql import Name, Token
 
 _BETWEEN = ("global", "local", "if", "not", "exists")
+# What may call functions, or tie a table to others.
+_UNSURE = ("default", "check", "generated", "like", "inherits", "partition", "of", "references")
+# Types that are the database's own, by their first words: what users have made may call functions.
+_TYPES = frozenset(
+    "smallint int integer bigint int2 int4 int8 smallserial serial bigserial numeric decimal real double float float4 float8 boolean bool text varchar "
+    "character char name uuid json jsonb bytea date time timetz timestamp timestamptz interval".split()
+)
+_CONSTRAINTS = ("primary", "unique", "constraint", "foreign", "exclude")
 
 
 class Temporary:
@@ -74,14 +82,31 @@ def dropped_by(tokens: List[Token]) -> List[Name]:
     return [Name(token.value, token.kind == "name") for token in rest] if all(token.kind in ("word", "name") for token in rest) else []
 
 
+def _are_plain(tokens: List[Token]) -> bool:
+    """Whether all columns that a text makes are of types of the database's own."""
+    depth = 0
+    for before, token, after, behind in zip((None, *tokens), tokens, (*tokens[1:], None), (*tokens[2:], None, None)):
+        if depth == 1 and before is not None and before.is_sign("(", ",") and not token.is_word(*_CONSTRAINTS):
+            if after is None or after.kind != "word" or after.value not in _TYPES or (behind is not None and behind.is_sign(".")):
+                return False
+        depth += token.is_sign("(") - token.is_sign(")")
+    return True
+
+
+def _is_qualified(tokens: List[Token], name: Name) -> bool:
+    """Whether a table's name stands behind that of a schema which has no temporary ones."""
+    at = next(at for at, token in enumerate(tokens) if token.value == name.text and at)
+    return tokens[at - 1].is_sign(".") and not tokens[at - 2].is_word("pg_temp", "temp")
+
+
 def of(tokens: List[Token], temporary: Temporary, translator: Any) -> Any:
     """What is to be done about a text that makes, writes or drops temporary tables alone: a plan for it; None of any other."""
     made = made_by(tokens)
-    has_defaults = any(token.is_word("default", "check", "generated") for token in tokens)  # which may call functions
-    if made is not None and not has_defaults and not translator.is_recorded(made.name):
-        return translator.made_temporary(made.query)
+    if made is not None and not translator.is_recorded(made.name) and not any(token.is_word(*_UNSURE) for token in tokens):
+        if made.query or translator.folds or _are_plain(tokens):  # SQLite has no types that users have made
+            return translator.made_temporary(made.query)
     written = written_table(tokens)
-    if written is not None and temporary.has(written):
+    if written is not None and temporary.has(written) and not _is_qualified(tokens, written):
         return translator.ignored(tokens, written)
     dropped = dropped_by(tokens)
     return translator.nothing() if dropped and all(temporary.has(name) for name in dropped) else None
