@@ -15,11 +15,13 @@ import warnings
 from typing import Any
 from unittest import mock
 
-from pgserial import edn, jepsen
+from pgserial import drivers, edn, effects, jepsen, recording, sqlite_catalog
 from pgserial import verdict as verdict_module
 from pgserial.drivers import driver_of
 from pgserial.keys import Refused
 from pgserial.recording import RecordingWarning
+from pgserial.sql import tokens_of
+from pgserial.steps import Inner
 from pgserial.verdict import CLOSED, HAS_NOT, MAY_COMMIT
 from test_jepsen import answer
 from test_recorded_endings import said
@@ -245,6 +247,104 @@ connection.execute("UPDATE t SET v = 5 WHERE id = 1")
             with self.subTest(text), self.assertRaises(sqlite3.Error):
                 connection.execute(text)
         self.assertEqual((recorder.ended, recorder.committed), (None, 0))
+
+    def test_what_isnt_said_by_itself_is_marked_once(self) -> None:
+        recorder = self.recorder()
+        connection = recorder.wrap(self.raw())
+        with self.assertWarns(RecordingWarning):
+            connection.execute("UPDATE OR IGNORE t SET v = 5 WHERE id = 1")
+        connection.execute("UPDATE t SET v = 6 WHERE id = 1")
+        self.assertEqual((self.comments().count("-- written"), sum(" not said" in line for line in self.lines())), (0, 1))
+
+    def test_a_script_that_fails_has_committed_what_was_open(self) -> None:
+        recorder = self.recorder()
+        connection = recorder.wrap(self.raw())
+        connection.execute("BEGIN")
+        connection.execute("UPDATE t SET v = 5 WHERE id = 1")
+        with self.assertRaises(sqlite3.OperationalError):
+            connection.executescript("SELECT nothing FROM t")
+        self.assertEqual(connection.execute("SELECT v FROM t WHERE id = 1").fetchall(), [(5,)])
+        told = recorder.verdict()
+        self.assertEqual((told.answer, told.committed, told.ended), ("yes", 2, None))
+
+    def test_what_ends_nothing_is_told_to_end_nothing(self) -> None:
+        for isolation, texts in (
+            ("DEFERRED", ("UPDATE t SET v = 5 WHERE id = 1", "COMMIT")), (None, ("BEGIN", "SAVEPOINT a", "UPDATE t SET v = 5 WHERE id = 1", "RELEASE a", "COMMIT")),
+            (None, ("BEGIN", "UPDATE t SET v = 5", "SELECT v FROM t", "COMMIT")), ("IMMEDIATE", ("DELETE FROM t WHERE id = 7", "COMMIT")),
+        ):  # fmt: skip
+            connection = self.recorder().wrap(self.raw(isolation_level=isolation))
+            connection.executescript("SELECT 1;")
+            for text in texts:
+                connection.execute(text)
+            with self.subTest(texts):
+                self.assertNotIn(MAY_COMMIT.format(1), self.comments())
+                self.assertNotIn(HAS_NOT.format(1), self.comments())
+            self.assertEqual(self.recorders[-1].verdict().answer, "yes")
+
+    def test_the_end_of_an_inner_transaction_that_fails_undoes_it(self) -> None:
+        recorder = self.recorder()
+        connection = recorder.wrap(self.raw())
+        for text in ("BEGIN", "UPDATE t SET v = 5 WHERE id = 1", "SAVEPOINT a", "UPDATE t SET v = 6 WHERE id = 1"):
+            connection.execute(text)
+        connection.wrapped.execute("ROLLBACK TO a")
+        Inner(connection._session, "a", True).failed(KeyError())
+        self.assertEqual(connection.execute("SELECT v FROM t WHERE id = 1").fetchall(), [(5,)])
+        connection.execute("COMMIT")
+        self.assertEqual((said(self.lines(), "UPDATE"), recorder.verdict().answer), (["UPDATE t SET v = 5 WHERE id = 1;"], "yes"))
+
+    def test_names_that_stand_otherwise_are_told(self) -> None:
+        raw = self.raw()
+        raw.executescript('CREATE TABLE "Order" ("From" INT NOT NULL, "to" INT NOT NULL, n TEXT, PRIMARY KEY ("From", "to")); CREATE TABLE w (id INTEGER PRIMARY KEY)')
+        self.recorder(["Order", "w"]).wrap(raw)
+        told = [line for line in self.comments().split("\n") if "stands as" in line or "is made of" in line]
+        self.assertEqual(told, ["-- Table Order stands as order.", "-- Column from_to of table order is made of its key: From, to.", "-- Column From of table Order stands as from_."])
+
+    def test_places_beyond_those_that_are_told_apart(self) -> None:
+        recorder = self.recorder()
+        connection = recorder.wrap(self.raw())
+        with mock.patch.object(recording, "_MOST_TOLD", 1):
+            for _ in range(2):
+                connection.execute("SELECT max(v) FROM t")
+            connection.execute("SELECT max(v) FROM t")
+            connection.execute("SELECT max(v) FROM t")
+        (left,) = recorder.verdict().left_out
+        self.assertEqual((left.count, [count for _, count in left.places]), (4, [2, 2]))
+        self.assertEqual(left.places[1][0], "elsewhere")
+
+    def test_executemany_of_none_forgets_what_was_before(self) -> None:
+        def used(connection: Any) -> Any:
+            cursor = connection.cursor()
+            cursor.execute("UPDATE t SET v = v + 1")
+            cursor.executemany("UPDATE t SET v = ? WHERE id = ?", [])
+            return cursor.rowcount, cursor.description
+
+        wanted = used(self.raw())
+        self.assertEqual(used(self.recorder().wrap(self.raw())), wanted)
+
+    def test_modes_of_a_newer_sqlite3(self) -> None:
+        driver = driver_of(self.raw(), None)
+        for autocommit, isolation, is_one in ((True, "DEFERRED", True), (True, None, True), (False, None, False), (False, "", False), (-1, None, True), (-1, "DEFERRED", False)):
+            driver._raw = mock.Mock(in_transaction=False, autocommit=autocommit, isolation_level=isolation)
+            with self.subTest(autocommit=autocommit, isolation=isolation):
+                self.assertEqual(driver.is_autocommit(), is_one)
+
+    def test_first_words(self) -> None:
+        self.assertEqual([drivers._first_word(text) for text in ("  Update t", "x", "", "  ")], ["update", "x", "", ""])
+        self.assertFalse(effects.is_beside(tokens_of("'set' x", "qmark")))
+        self.assertFalse(effects.is_beside(tokens_of('"show" x', "qmark")))
+        self.assertTrue(effects.is_beside(tokens_of("SHOW x", "qmark")))
+
+    def test_a_text_that_creates_a_table_and_cant_be_read(self) -> None:
+        for sql in ("CREATE TABLE t (id INTEGER 'x", "CREATE TABLE t (id INTEGER \0)"):
+            with self.assertRaisesRegex(Refused, "the text that creates a table can't be read: CREATE TABLE t"):
+                sqlite_catalog._collated(sql)
+        self.assertEqual(sqlite_catalog._collated("CREATE TABLE t (id INTEGER, n TEXT COLLATE NOCASE, m TEXT COLLATE BINARY, FOREIGN KEY (n) REFERENCES u (n))"), {"n"})
+
+    def test_a_table_of_another_kind(self) -> None:
+        raw = self.raw()
+        raw.execute("CREATE VIRTUAL TABLE w USING fts4(n)")
+        with self.assertRaisesRegex(Refused, "table w is no plain table"):
+            self.recorder(["w"]).wrap(raw)
 
     def test_a_script_gives_its_own_cursor(self) -> None:
         connection = self.recorder().wrap(self.raw())

@@ -206,7 +206,7 @@ def constant(expression: Optional[str]) -> object:
     if expression is None:
         return None
     try:
-        tokens = tokens_of(_CAST.sub("", expression.strip().strip("()")), "qmark", False)
+        tokens = tokens_of(_CAST.sub("", expression.strip().strip("()")), "qmark")
     except Unsaid:
         return MADE
     sign = tokens[0].value if tokens and tokens[0].is_sign("-", "+") else ""

@@ -264,7 +264,7 @@ class Cursor(Proxy):
         if session.driver.sends_several and not session.recorder.is_over and getattr(self.wrapped, "name", None) is None:
             text = text_of(operation, self._connection.wrapped)
             if text is not None and ";" in text.rstrip("; \t\n"):
-                whole = bound(self.wrapped, text if isinstance(operation, str) else operation, parameters)
+                whole = bound(self.wrapped, operation, parameters)
                 parts = session.guarded(statements_of, whole) if whole is not None else None
                 if parts:
                     return self._several(parts, whole or "")

@@ -366,7 +366,7 @@ class Recorder:
         with self._lock:
             key = (why, self.place())
             if key not in self._texts and len(self._texts) >= _MOST_TOLD:
-                key = (why, "other places")
+                key = (why, "elsewhere")
             self._left_out[key] += 1
             if key not in self._texts:
                 self._texts[key] = text

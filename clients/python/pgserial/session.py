@@ -128,13 +128,12 @@ class Session:
         """What its transaction has written unsaid may have been committed."""
         for doubt in self.doubts:
             self.recorder.spoil(doubt.why, doubt.text, self.number, doubt.place)
-        self.doubts = []
 
     # transactions
 
     def begun(self) -> str:
         """The lines by which a transaction begins, where none is open."""
-        if self.is_open and self.driver.is_open() is False and not self.awaits:
+        if self.is_open and self.driver.is_open() is False:
             self._ended_unseen()
         if self.is_open:
             return ""

@@ -13,7 +13,7 @@ def statements_of(text: str) -> Optional[List[str]]:
     if ";" not in text.rstrip().rstrip(";"):
         return None
     try:
-        tokens = tokens_of(text, "pyformat", False)
+        tokens = tokens_of(text, "pyformat")
     except Unsaid:
         return None
     parts = parts_of(tokens)

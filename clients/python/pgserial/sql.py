@@ -116,7 +116,7 @@ def _token(found: "re.Match[str]", count: int, doubled: bool) -> Token:
     return Token("sign", "%" if kind == "percent" else text, start)
 
 
-def tokens_of(text: str, style: str, is_given: bool) -> List[Token]:
+def tokens_of(text: str, style: str, is_given: bool = False) -> List[Token]:
     """The tokens of a text. In the styles with percent signs these mean something only where parameters are given."""
     is_percent = style in ("format", "pyformat")
     lexer = _BARE if is_percent and not is_given else _LEXERS[style]

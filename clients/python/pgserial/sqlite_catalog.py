@@ -22,7 +22,7 @@ def _quoted(name: str) -> str:
 def _collated(sql: str) -> Set[str]:
     """The columns whose texts are compared in another way than byte by byte, of the text that creates a table."""
     try:
-        tokens = tokens_of(sql, "qmark", False)
+        tokens = tokens_of(sql, "qmark")
     except Unsaid:
         raise Refused(f"the text that creates a table can't be read: {sql[:60]}") from None
     names: Set[str] = set()
