@@ -29,9 +29,10 @@ TOP = os.path.dirname(os.path.dirname(os.path.abspath(__file__)))
 FOLDER = os.path.join(TOP, "clients/python")
 PAGE = os.path.join(TOP, "docs/RECORDER-MUTANTS.md")
 RESULTS = os.path.join(TOP, "out/recorder-mutants.jsonl")
+HISTORIES = ("jepsen", "edn", "operations", "micros", "survey", "jepsen_writer", "elle", "backwards")  # of Jepsen's histories
 MODULES = (
     "recording", "session", "steps", "connections", "drivers", "effects", "translation", "values", "verdict", "output", "opening", "ending", "catalog",
-    "sqlite_catalog", "sent", "keys", "following", "sql", "jepsen", "returning", "shapes", "plans", "proxies", "dangers", "cascades",
+    "sqlite_catalog", "sent", "keys", "following", "sql", "returning", "shapes", "plans", "proxies", "dangers", "cascades", *HISTORIES,
 )  # fmt: skip
 PATIENCE = 100  # seconds for one command of tests
 _MACHINE = "random_recordings.py --seed {} --count {} --most 1 --engine {}"
@@ -41,7 +42,7 @@ _RANDOM, _VERDICT = _MACHINE.format(1, 40, "sqlite3"), "-m unittest -f test_verd
 # What is run one after another, until one fails: the tests of a module, and of all others those on sqlite3, recordings at random,
 # and what needs PostgreSQL.
 _STAGES: Dict[str, Tuple[str, ...]] = {
-    "jepsen": ("-m unittest -f test_jepsen test_recorded_endings.Histories",),
+    **{name: ("-m unittest -f test_jepsen test_elle.Forms test_elle.Names test_elle.Registers test_elle.Banks test_recorded_endings.Histories",) for name in HISTORIES},
     "verdict": (_SQLITE, _RANDOM),
     "output": (_SQLITE, _RANDOM),
     "": (
@@ -263,7 +264,7 @@ class Copy:
             names = [word for word in command.split() if word.startswith("test_")]
             there = [name for name in names if os.path.exists(os.path.join(self.folder, name.split(".")[0] + ".py"))]
             # Without a server survivors are few tests ahead: they are tried --again with one, and with all tests.
-            is_first = command in (_FAST, _SQLITE, _RANDOM) or module == "jepsen"
+            is_first = command in (_FAST, _SQLITE, _RANDOM) or module in HISTORIES
             if (there or not names) and (has_server or is_first):
                 yield " ".join([word for word in command.split() if not word.startswith("test_")] + there)
 

@@ -1,9 +1,9 @@
 """A reader and a writer of EDN, as far as Jepsen's histories need it (https://github.com/edn-format/edn)."""
 
-import bisect
+import io
 import re
 from dataclasses import dataclass
-from typing import Any, Dict, Iterator, List, Optional, Tuple
+from typing import Any, Dict, Iterable, Iterator, List, Optional, Tuple, Union
 
 MOST_NESTED = 100
 
@@ -13,7 +13,7 @@ class Malformed(ValueError):
 
     def __init__(self, line: int, why: str) -> None:
         super().__init__(f"history line {line}: {why}")
-        self.line = line
+        self.line, self.why = line, why
 
 
 @dataclass(frozen=True)
@@ -40,6 +40,7 @@ class Map(Dict[Any, Any]):
     line = 0
 
 
+_SPACES = " \t\n\r\f\v,"
 _ENDS = {"(": ")", "[": "]", "{": "}", "#{": "}"}
 _WHOLE = r"[+-]?(?:0|[1-9][0-9]*)"
 _DELIMITED = r"(?![^\s,;\"()\[\]{}])"
@@ -77,30 +78,76 @@ def _character(name: str) -> str:
 
 
 class Reader:
-    """Reads one form after another."""
+    """Reads one form after another of a text, or of its lines, which are read as they are needed."""
 
-    def __init__(self, text: str) -> None:
-        self._text, self._place, self._depth = text, 0, 0
-        self._newlines = [found.start() for found in re.finditer("\n", text)]
+    def __init__(self, text: Union[str, Iterable[str]]) -> None:
+        self._lines = iter(io.StringIO(text, newline="\n") if isinstance(text, str) else text)
+        self._text, self._place, self._depth = "", 0, 0  # what is at hand, and how far that is read
+        self._first = 1  # the line in which it begins
 
     def _line(self, place: int) -> int:
-        """The line of a place, counted from 1."""
-        return bisect.bisect_left(self._newlines, place) + 1
+        """The line of a place of what is at hand, counted from 1."""
+        return self._first + self._text.count("\n", 0, place)
 
     def fault(self, why: str) -> Malformed:
         """What is wrong where the reader stands."""
         return Malformed(self._line(self._place), why)
 
+    def _more(self) -> bool:
+        """Reads on, as much again as is at hand; whether there was more."""
+        self._first = self._line(self._place)
+        parts = [self._text[self._place :]]
+        wanted, has = len(parts[0]), 0
+        for line in self._lines:
+            parts.append(line)
+            has += len(line)
+            if has > wanted:
+                break
+        self._text, self._place = "".join(parts), 0
+        return has > 0
+
+    def line(self) -> Optional[Tuple[str, int]]:
+        """The next whole line, and its number, where none is begun and there is one."""
+        if self._text[self._place :].strip(_SPACES):
+            return None
+        self._first, self._text, self._place = self._line(len(self._text)), "", 0
+        line = next(self._lines, None)
+        if line is None:
+            return None
+        self._text, self._place = line, len(line)
+        return line, self._first
+
+    def again(self) -> None:
+        """Reads the line once more that was given last."""
+        self._place = 0
+
     def _token(self) -> Optional[Tuple[str, str, int]]:
         """The next token that says something: its kind, its text, its place."""
-        while self._place < len(self._text):
+        while self._place < len(self._text) or self._more():
             found = _TOKEN.match(self._text, self._place)
             if found is None:
+                if self._text[self._place] == '"' and self._more():  # a text of several lines
+                    continue
                 raise self.fault("this is no EDN")
             place, self._place = self._place, found.end()
             if found.lastgroup != "space":
                 return found.lastgroup or "", found[0], place
         return None
+
+    def items(self) -> Iterator[Any]:
+        """The forms of the text, or those of the one vector that it is."""
+        token = self._undiscarded()
+        is_vector = token is not None and token[0] == "open" and token[1] in ("(", "[")
+        closes = _ENDS[token[1]] if is_vector and token is not None else None
+        if is_vector:
+            token = self._undiscarded()
+        while token is not None and (token[0], token[1]) != ("close", closes):
+            yield self._form(token)
+            token = self._undiscarded()
+        if closes is not None and token is None:
+            raise self.fault("the text ends too early")
+        if closes is not None and self._undiscarded() is not None:
+            raise self.fault("a history that is one vector has something behind it")
 
     def forms(self) -> Iterator[Any]:
         """The forms of the text."""
@@ -154,7 +201,7 @@ class Reader:
             raise self.fault(f"more than {MOST_NESTED} forms stand within one another")
         kind, text, place = token
         if kind == "open":
-            form = self._collection(text, place)
+            form = self._collection(text, self._line(place) if text == "{" else 0)
         elif kind == "tag":  # a record or a date: what it tags says all that is needed
             self._form(self._due())
             form = self._form(self._due())
@@ -178,7 +225,7 @@ class Reader:
             raise ValueError(text)
         return Symbol(text)
 
-    def _collection(self, opens: str, place: int) -> Any:
+    def _collection(self, opens: str, line: int) -> Any:
         forms = self._until(_ENDS[opens])
         if opens in ("(", "["):
             return Vector(forms)
@@ -193,7 +240,7 @@ class Reader:
         if opens == "#{":
             return frozenset(keys)
         told = Map(zip(keys, forms[1::2]))
-        told.line = self._line(place)
+        told.line = line
         return told
 
     def _until(self, closes: str) -> List[Any]:
