@@ -5,13 +5,14 @@
 Databases as in test_recording.py.
 """
 
+import asyncio
 import contextlib
 import unittest
 import warnings
 from typing import Any, Callable, List
 
 from pgserial.recording import Recorder, RecordingWarning
-from test_recording import OnPostgres, T, drivers
+from test_recording import DSN, OnPostgres, T, drivers, module
 
 
 @unittest.skipUnless(drivers(), "PostgreSQL or psycopg2 isn't there (Debian: postgresql, python3-psycopg2)")
@@ -45,6 +46,64 @@ class Details(OnPostgres):
                 connection.cursor().execute("UPDATE t SET v = v + 1 WHERE id = 2")
                 self.assertEqual(self.lines()[-1], "  1 COMMIT")
             self.assertEqual((recorder.verdict().answer, recorder.committed), ("yes", 4))
+
+    def test_executemany_of_none(self) -> None:
+        for driver in self.each():
+
+            def use(connection: Any) -> Any:
+                cursor, seen = connection.cursor(), []  # type: Any, List[Any]
+                for text in ("UPDATE t SET v = v + 1", "SELECT * FROM t"):
+                    cursor.execute(text)
+                    cursor.executemany("UPDATE t SET v = %s WHERE id = %s", [])
+                    seen.append((cursor.rowcount, cursor.description is None))
+                return seen
+
+            self.alike(driver, use)
+
+    @unittest.skipUnless(module("psycopg"), "psycopg isn't there (Debian: python3-psycopg)")
+    def test_what_would_need_more_than_an_asynchronous_cursor_shows(self) -> None:
+        async def use() -> None:
+            raw = await module("psycopg").AsyncConnection.connect(DSN, autocommit=True)
+            connection = recorder.wrap(raw)
+            await connection.execute("UPDATE t SET v = 3 WHERE id = 1")
+            await connection.execute("UPDATE t SET v = v * 2 WHERE id = 1")
+            cursor = await connection.execute("SELECT * FROM t ORDER BY id")
+            self.assertEqual(await cursor.fetchall(), [(1, 6), (2, 20)])
+            await connection.close()
+
+        recorder = self.recorder()
+        with self.assertWarns(RecordingWarning):
+            asyncio.run(use())
+        self.assertEqual(recorder.verdict().answer, "unknown")
+
+    def test_values_with_types_that_cut_them(self) -> None:
+        for driver in self.each():
+            self.make(*T, "CREATE TABLE w (id int PRIMARY KEY, n text)", "INSERT INTO w VALUES (1, 'x'), (2, 'ab')")
+            recorder = self.recorder(["w"])
+            connection = recorder.wrap(self.raw(driver, True))
+            for text in ("UPDATE w SET n = 'abcdef'::varchar(2) WHERE id = 1", "SELECT n FROM w WHERE id = 1", "SELECT id FROM w WHERE n = 'abc'::varchar(2)", "UPDATE w SET n = 'abc'::char(2) WHERE id = 2", "SELECT n FROM w WHERE id = 2"):
+                connection.cursor().execute(text)
+            self.assertIn(recorder.verdict().answer, ("yes", "unknown"))
+            self.assertFalse([line for line in self.lines() if "'abcdef'" in line or "'abc'" in line])
+
+    def test_returning_of_several_tables(self) -> None:
+        for driver in self.each():
+            for shown in ("*", "u.*, t.id", "t.*, u.w", "u.w, t.*"):
+                self.make(*T, "CREATE TABLE u (w int, x int)", "INSERT INTO u VALUES (1, 7)")
+                recorder = self.recorder(["t"])
+                connection = recorder.wrap(self.raw(driver, True))
+                with warnings.catch_warnings():
+                    warnings.simplefilter("ignore", RecordingWarning)
+                    cursor = connection.cursor()
+                    cursor.execute(f"UPDATE t SET v = u.x FROM u WHERE t.id = u.w RETURNING {shown}")
+                    self.assertEqual(len(cursor.fetchall()), 1)
+                    cursor.execute("SELECT * FROM t")
+                    self.assertEqual(sorted(cursor.fetchall()), [(1, 7), (2, 20)])
+                with self.subTest(shown):
+                    told = recorder.verdict()
+                    self.assertIn(told.answer, ("yes", "unknown"))
+                    if shown == "*":
+                        self.assertIn("its RETURNING shows all columns of several tables", str(told.ended))
 
     def test_the_number_of_a_row(self) -> None:
         for driver in self.each():

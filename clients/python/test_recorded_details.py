@@ -18,10 +18,12 @@ from unittest import mock
 from pgserial import drivers, edn, effects, jepsen, recording, sqlite_catalog
 from pgserial import verdict as verdict_module
 from pgserial.drivers import driver_of
+from pgserial.following import Follower
 from pgserial.keys import Refused
 from pgserial.recording import RecordingWarning
 from pgserial.sql import tokens_of
 from pgserial.steps import Inner
+from pgserial.translation import Look
 from pgserial.verdict import CLOSED, HAS_NOT, MAY_COMMIT
 from test_jepsen import answer
 from test_recorded_endings import said
@@ -345,6 +347,139 @@ connection.execute("UPDATE t SET v = 5 WHERE id = 1")
         raw.execute("CREATE VIRTUAL TABLE w USING fts4(n)")
         with self.assertRaisesRegex(Refused, "table w is no plain table"):
             self.recorder(["w"]).wrap(raw)
+
+    def test_recordings_that_nobody_closes(self) -> None:
+        recorder = self.recorder()
+        recorder.wrap(self.raw()).execute("UPDATE t SET v = 5 WHERE id = 1")
+        recording._close_all()
+        self.assertIn(CLOSED, self.comments().split("\n"))
+
+    def test_an_absent_row_that_a_write_by_rows_has_read(self) -> None:
+        recorder = self.recorder()
+        connection = recorder.wrap(self.raw())
+        connection.execute("BEGIN")
+        connection.execute("UPDATE t SET v = v * 2 WHERE id = 7")
+        connection.execute("UPDATE t SET v = v * 2 WHERE id = 1")
+        connection.execute("COMMIT")
+        self.assertEqual(self.lines()[-7:-2], ["> 1 SELECT count(*) FROM t WHERE id = 7;", "  1 SELECT 1", "  1 | 0", "> 1 UPDATE t SET v = 20 WHERE id = 1;", "  1 UPDATE 1"])
+        self.assertEqual(recorder.verdict().answer, "yes")
+
+    def other(self, *made: str, **named: Any) -> Any:
+        """A connection to a database with these tables and foreign keys that hold."""
+        self.file += "_"
+        raw = self.raw(**named)
+        raw.executescript("; ".join(made))
+        raw.execute("PRAGMA foreign_keys = ON")
+        return raw
+
+    def test_a_conflict_at_other_columns_than_the_key(self) -> None:
+        raw = self.other("CREATE TABLE w (id INTEGER PRIMARY KEY, n INT UNIQUE, v INT)", "INSERT INTO w VALUES (1, 1, 1)")
+        recorder = self.recorder(["w"])
+        connection = recorder.wrap(raw)
+        with self.assertWarnsRegex(RecordingWarning, "nobody tells which rows it has put, and which were there"):
+            connection.execute("INSERT INTO w VALUES (9, 1, 9) ON CONFLICT (n) DO UPDATE SET v = 3")
+        connection.execute("SELECT * FROM w")
+        self.assertEqual(recorder.verdict().answer, "unknown")
+
+    def test_what_a_conflict_assigns_is_read(self) -> None:
+        recorder = self.recorder()
+        connection = recorder.wrap(self.raw())
+        connection.execute("INSERT INTO t VALUES (1, 5) ON CONFLICT (id) DO UPDATE SET v = v + 1.0")
+        self.assertEqual([kind for kind in recorder.left_out if "what it assigns" in kind], list(recorder.left_out))
+        self.assertEqual(len(recorder.left_out), 1)
+
+    def test_a_key_that_moves_where_foreign_keys_delete_alone(self) -> None:
+        raw = self.other("CREATE TABLE p (id INTEGER PRIMARY KEY, v INT)", "INSERT INTO p VALUES (1, 1), (2, 2)", "CREATE TABLE c (id INTEGER PRIMARY KEY, p INT REFERENCES p ON DELETE CASCADE)", "INSERT INTO c VALUES (1, 1)")
+        recorder = self.recorder(["p", "c"])
+        connection = recorder.wrap(raw)
+        connection.execute("UPDATE p SET id = 9 WHERE id = 2")
+        connection.execute("SELECT * FROM p")
+        told = recorder.verdict()
+        self.assertEqual((told.answer, told.ended), ("yes", None))
+
+    def test_foreign_keys_that_change_rows_with_a_column(self) -> None:
+        raw = self.other("CREATE TABLE p (id INTEGER PRIMARY KEY, code INT UNIQUE)", "INSERT INTO p VALUES (1, 1)", "CREATE TABLE c (id INTEGER PRIMARY KEY, p INT REFERENCES p (code) ON UPDATE CASCADE)", "INSERT INTO c VALUES (1, 1)")
+        recorder = self.recorder(["p", "c"])
+        connection = recorder.wrap(raw)
+        with self.assertWarnsRegex(RecordingWarning, "a foreign key of table c changes rows"):
+            connection.execute("UPDATE p SET code = 9 WHERE id = 1")
+        self.assertEqual(connection.execute("SELECT p FROM c").fetchall(), [(9,)])
+        self.assertEqual(recorder.verdict().answer, "unknown")
+
+    def test_several_foreign_keys_that_delete(self) -> None:
+        child = "CREATE TABLE c (id INTEGER PRIMARY KEY, p INT REFERENCES p ON DELETE CASCADE, q INT REFERENCES p ON DELETE SET NULL)"
+        raw = self.other("CREATE TABLE p (id INTEGER PRIMARY KEY)", "INSERT INTO p VALUES (1), (2), (3)", child, "INSERT INTO c VALUES (1, 1, 2)")
+        recorder = self.recorder(["p", "c"])
+        connection = recorder.wrap(raw)
+        connection.execute("DELETE FROM p WHERE id = 3")
+        self.assertIsNone(recorder.ended)
+        with self.assertWarns(RecordingWarning):
+            connection.execute("DELETE FROM p WHERE id = 1")
+        self.assertEqual(recorder.verdict().answer, "unknown")
+
+    def test_what_an_unrecorded_column_is_made_of_is_read(self) -> None:
+        raw = self.other("CREATE TABLE w (id INTEGER PRIMARY KEY, v INT, extra INT)", "INSERT INTO w VALUES (1, 1, 1)")
+        for text, count in (("UPDATE w SET extra = v + 1 WHERE id = 1", 1), ("UPDATE w SET extra = 3 WHERE id = 1", 0), ("UPDATE w SET extra = v * 2 WHERE id = 1", 1)):
+            recorder = self.recorder({"w": ["id", "v"]})
+            recorder.wrap(raw).execute(text)
+            with self.subTest(text):
+                self.assertEqual((sum(recorder.left_out.values()), recorder.ended), (count, None))
+
+    def test_rows_of_another_kind_where_it_is_looked_before(self) -> None:
+        for factory in (sqlite3.Row, lambda cursor, row: {"x": 1}, lambda cursor, row: "row"):
+            raw = self.other("CREATE TABLE w (id INTEGER PRIMARY KEY, v INT)", "INSERT INTO w VALUES (1, 1)")
+            raw.row_factory = factory
+            recorder = self.recorder(["w"])
+            connection = recorder.wrap(raw)
+            connection.execute("INSERT OR REPLACE INTO w VALUES (1, 5), (2, 6)")
+            raw.row_factory = None
+            self.assertEqual(connection.execute("SELECT * FROM w").fetchall(), [(1, 5), (2, 6)])
+            told = recorder.verdict()
+            self.assertEqual((told.answer, told.ended), ("yes", None))
+
+    def test_what_fails_behind_a_look_is_what_the_application_meets(self) -> None:
+        raw = self.raw()
+        driver = driver_of(raw, None)
+        look = Look("SELECT * FROM t", "SELECT 1")
+        for ends in ("ROLLBACK", "SELECT 1"):
+
+            def fails() -> None:
+                raw.execute(ends)  # noqa: B023
+                raise KeyError
+
+            self.assertRaises(KeyError, driver.looking, look, lambda rows: None, fails, lambda: None)
+            self.assertFalse(raw.in_transaction)
+
+    def test_the_end_isnt_read_by_a_closed_connection(self) -> None:
+        recorder = self.recorder(verify_end=True)
+        connection = recorder.wrap(self.raw())
+        connection.execute("UPDATE t SET v = 5 WHERE id = 1")
+        connection.wrapped.close()
+        self.assertIn("no connection was idle as the recording was closed", recorder.verdict().words)
+
+    def test_keys_of_several_columns(self) -> None:
+        raw = self.other("CREATE TABLE w (a INT, b INT, v INT, PRIMARY KEY (a, b)) WITHOUT ROWID", "INSERT INTO w VALUES (1, 1, 5), (1, 2, 6)")
+        recorder = self.recorder(["w"])
+        connection = recorder.wrap(raw)
+        for text in ("SELECT v FROM w WHERE a = 1 AND b = 2", "SELECT a, b, v FROM w WHERE b IN (1, 2) AND a = 1", "SELECT v FROM w WHERE a = 1", "UPDATE w SET v = 7 WHERE b = 1 AND a = 1", "DELETE FROM w WHERE a = 1 AND b = 7"):
+            connection.execute(text).fetchall()
+        told = [line.partition(" WHERE ")[2] for line in self.lines() if " WHERE " in line]
+        self.assertEqual(told, ["a_b = '1,2';", "a_b = '1,1';", "a_b = '1,2';", "a = 1;", "a_b = '1,1';", "a_b = '1,7';"])
+        self.assertEqual(recorder.verdict().answer, "yes")
+
+    def test_a_connection_that_isnt_admitted_ends_what_is_followed(self) -> None:
+        other = self.other("CREATE TABLE t (id INTEGER PRIMARY KEY, v INT)")
+        self.file = self.file[:-1]
+        follower = Follower()
+        first, second = follower.follow(self.raw()), follower.follow(other)
+        recorder = self.recorder()
+        with self.assertWarnsRegex(RecordingWarning, "to another database than the first"), follower.recording(recorder) as given:
+            first.execute("UPDATE t SET v = 5 WHERE id = 1")
+            second.execute("INSERT INTO t VALUES (1, 1)")
+        self.assertIs(given, recorder)
+        self.assertRegex(str(recorder.ended), "to another database than the first")
+        with self.assertRaisesRegex(Refused, "a recording is under way"), follower.recording(self.recorder()), follower.recording(recorder):
+            pass
 
     def test_a_script_gives_its_own_cursor(self) -> None:
         connection = self.recorder().wrap(self.raw())

@@ -7,8 +7,8 @@ import unittest
 from typing import Any, Optional
 
 from pgserial.effects import READING, Control, control_of, written_table
-from pgserial.shapes import Conflict, read_of, write_of
-from pgserial.sql import Constant, Made, Name, Sum, tokens_of
+from pgserial.shapes import Conflict, Reading, read_of, write_of
+from pgserial.sql import Column, Constant, Made, Name, Sum, tokens_of
 from pgserial.values import Unsaid
 
 
@@ -61,8 +61,20 @@ class Reads(unittest.TestCase):
             self.assertEqual(len(read(f"SELECT v FROM t WHERE {text}").conditions), count, text)
 
 
+    def test_what_is_shown(self) -> None:
+        for text, kind in (
+            ("v * 2", Reading), ("CASE WHEN true THEN 1 ELSE 2 END", Made), ('"case" || 1', Reading), ("5", Constant), ("v", Column), ("lower('x')", Made), ("count(*)", Reading), ("1 || date '2020-01-01'", Made),
+            ("current_date || 'x'", Made), ("1 + 2", Made), ("'a'::text || 'b'", Made), ("(SELECT 1)", Reading),
+        ):  # fmt: skip
+            with self.subTest(text):
+                self.assertIs(type(read(f"SELECT {text} FROM t").items[0]), kind)
+        self.assertRaises(Unsaid, read, "SELECT a.b.* + * FROM t")
+        for text in ("SELECT", "SELECT DISTINCT", "SELECT ALL", "SELECT DISTINCT ON (v)"):
+            read(text)
+
+
 class Writes(Reads):
-    test_plain_queries = test_what_a_query_has = test_what_is_no_plain_query = None  # type: ignore
+    test_plain_queries = test_what_a_query_has = test_what_is_no_plain_query = test_what_is_shown = None  # type: ignore
 
     def test_what_cant_be_read(self) -> None:
         self.refused(write, (

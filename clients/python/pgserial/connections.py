@@ -32,7 +32,7 @@ class Connection(Proxy):
     def __init__(self, wrapped: Any, session: Session) -> None:
         super().__init__(wrapped)
         self._session = session
-        weakref.finalize(self, session.recorder.drop, session).atexit = False
+        weakref.finalize(self, session.recorder.drop, session)
 
     def __setattr__(self, name: str, value: object) -> None:
         if name in ("isolation_level", "autocommit") and isinstance(self._session.driver, Sqlite):

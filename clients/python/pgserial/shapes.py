@@ -251,7 +251,7 @@ def _past_with(pieces: Pieces) -> Tuple[int, FrozenSet[str], bool]:
     raise Unsaid("its WITH can't be read")
 
 
-def _refuse_other_writes(tokens: Tokens, start: int) -> None:
+def _refuse_other_writes(tokens: Tokens, start: int = 0) -> None:
     """Refuses a statement of which another part writes too."""
     for at in range(start, len(tokens)):
         token = tokens[at]
@@ -484,7 +484,7 @@ def read_of(tokens: Tokens, reading: FrozenSet[str]) -> Read:
         raise Unsaid("it is no plain query")
     if pieces.find(start, end, "union", "intersect", "except", "into") < end or any(token.is_word(*_GROUPS) for token in tokens):
         raise Unsaid("it joins queries, or groups")
-    _refuse_other_writes(tokens, 0)
+    _refuse_other_writes(tokens)
     refuse_functions(tokens, reading)
     first = start + 1
     is_distinct, is_on = first < end and tokens[first].is_word("distinct"), False
