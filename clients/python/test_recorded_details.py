@@ -348,6 +348,32 @@ connection.execute("UPDATE t SET v = 5 WHERE id = 1")
         with self.assertRaisesRegex(Refused, "table w is no plain table"):
             self.recorder(["w"]).wrap(raw)
 
+    def test_a_setting_behind_a_commit_that_was_refused(self) -> None:
+        raw, other = self.raw(timeout=0, isolation_level="DEFERRED"), self.raw()
+        recorder = self.recorder()
+        connection = recorder.wrap(raw)
+        connection.execute("UPDATE t SET v = 5 WHERE id = 1")
+        other.execute("BEGIN")
+        other.execute("SELECT * FROM t").fetchall()
+        self.assertRaises(sqlite3.OperationalError, connection.commit)
+        connection.isolation_level = "IMMEDIATE"
+        other.execute("COMMIT")
+        connection.commit()
+        self.assertNotIn(MAY_COMMIT.format(1), self.comments())
+        told = recorder.verdict()
+        self.assertEqual((told.answer, told.committed), ("yes", 1))
+
+    def test_writes_of_a_table_without_a_key(self) -> None:
+        raw = self.other("CREATE TABLE w (n INT, v INT)", "INSERT INTO w VALUES (1, 1), (1, 1), (2, 2)")
+        recorder = self.recorder(["w"])
+        connection = recorder.wrap(raw)
+        for text in ("UPDATE w SET v = 5 WHERE n = 1", "DELETE FROM w WHERE n = 2", "UPDATE w SET v = v + 1"):
+            connection.execute(text)
+        self.assertEqual(said(self.lines(), "UPDATE", "DELETE"), ["UPDATE w SET v = 5 WHERE n = 1;", "DELETE FROM w WHERE n = 2;", "UPDATE w SET v = v + 1;"])
+        self.assertEqual(sorted(connection.execute("SELECT n, v FROM w").fetchall()), [(1, 6), (1, 6)])
+        told = recorder.verdict()
+        self.assertEqual((told.answer, told.committed, told.ended), ("yes", 4, None))
+
     def test_recordings_that_nobody_closes(self) -> None:
         recorder = self.recorder()
         recorder.wrap(self.raw()).execute("UPDATE t SET v = 5 WHERE id = 1")

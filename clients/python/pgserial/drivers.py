@@ -378,8 +378,7 @@ class Postgres(Driver):
     def facts(self, table: Table) -> Facts:
         if self.is_failed() or self.is_dead():
             return NOTHING
-        name = ".".join(self._quoted(part) for part in (table.schema, table.real) if part)
-        found: Any = self.ask(_FACTS.format(name=name.replace("'", "''")))
+        found: Any = self.ask(_FACTS.format(name=self._named(table)))
         if not found:
             return NOTHING
         kind, rules, policies, triggers, may_read, unique = found[0]
@@ -478,12 +477,16 @@ class Postgres(Driver):
         finally:
             self.undo()
 
+    def _named(self, table: Table) -> str:
+        """A table's name in its schema, within a literal."""
+        assert table.schema is not None
+        return f"{self._quoted(table.schema)}.{self._quoted(table.real)}".replace("'", "''")
+
     def attributes(self, tables: Sequence[Table]) -> Attributes:
         found: Dict[Tuple[int, int], Tuple[str, str]] = {}
         try:
             for table in tables:
-                name = ".".join(self._quoted(part) for part in (table.schema, table.real) if part)
-                columns: Any = self.ask(_ATTRIBUTES.format(name=name.replace("'", "''")))
+                columns: Any = self.ask(_ATTRIBUTES.format(name=self._named(table)))
                 found.update({(oid, number): (table.name, real) for oid, number, real in columns})
         finally:
             self.undo()

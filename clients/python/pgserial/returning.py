@@ -225,7 +225,7 @@ class EffectTold(Told):
         if effect.shows_passed is not None:
             self.reads.append(effect.shows_passed)
         self._prepare(arguments)
-        if effect.write.returning is not None and effect.shows_more():
+        if effect.shows_more():
             self.reads.append("what RETURNING shows")
         self._tell()
 
@@ -435,7 +435,7 @@ class _Put(EffectTold):
         """Refuses what nobody tells: which rows were put, and which changed or replaced."""
         conflict, facts = self.effect.write.conflict, self.facts
         assert conflict is not None
-        if conflict.does == "nothing" or (conflict.does == "update" and facts.tells_put):
+        if conflict.does == "nothing" or facts.tells_put:
             return
         is_known = facts.may_look and self._given is not None and self._is_by_key
         if not is_known or (conflict.does == "replace" and facts.has_other_unique):

@@ -172,7 +172,7 @@ class Savepoint(Step):
         session, control = self.session, self._control
         self._begins = control.does == "savepoint" and session.driver.is_open() is False
         super().before()
-        if control.does == "release" and session.begun_by is not None and control.name == session.begun_by:
+        if control.does == "release" and control.name == session.begun_by:
             session.recorder.write(session.may_commit())
 
     def after(self) -> None:
