@@ -32,6 +32,10 @@ class Cases:
 
 @unittest.skipUnless(drivers(), "PostgreSQL or psycopg2 isn't there (Debian: postgresql, python3-psycopg2)")
 class OnPostgres(test_recording.OnPostgres, Cases):
+    def setUp(self) -> None:
+        super().setUp()
+        self.addCleanup(self.make)  # a view keeps others from dropping the table
+
     def said(self, makes: Sequence[str], tables: Sequence[str], *texts: str) -> Any:
         self.make(*test_recording.T, *makes)
         recorder = self.recorder(tables, verify_end=True)
