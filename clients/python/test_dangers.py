@@ -8,6 +8,7 @@ import unittest
 import warnings
 from typing import Any, List
 
+from pgserial import dangers
 from pgserial.catalog import declared_table
 from pgserial.dangers import Dangers, sqlite_dangers
 from pgserial.recording import Recorder, RecordingWarning
@@ -203,6 +204,18 @@ class Words(unittest.TestCase):
         self.assertEqual(self.DANGERS.and_functions(frozenset(("g",))).functions, frozenset(("f", "F2", "g")))
         made = declared_table("public.t", {"id": "bigint"}, [])
         self.assertEqual([self.DANGERS.is_first(each) for each in (made, made._replace(schema="o"), None)], [True, False, False])
+
+    def test_functions_of_extensions(self) -> None:
+        functions = [(1, "lower", "c", 0, 0), (2, "lower2", "c", 0, 0), (3, "upper", "sql", 1, 0), (4, "mine", "sql", 1, 0), (5, "trusted", "sql", 1, 0), (6, "part", "sql", 0, 1)]
+        answers = {dangers._FUNCTIONS: functions, dangers._NAMES: [(20000, "t"), (20001, "seen"), (20002, "over")], dangers._CHANGED: [(0,)]}
+        answers[dangers._READ_USES] = [(20001, "pg_proc", 3), (20002, "pg_class", 20001), (20001, "pg_class", 20001), (20000, "pg_class", 20000)]
+
+        def ask(query: str) -> Any:
+            return [("public",)] if "current_schema" in query else answers.get(query, [])
+
+        found = dangers.postgres_dangers(ask, frozenset(("trusted",)), ["t"])
+        self.assertEqual((found.functions, found.attributes, found.read, found.first), (frozenset(("lower2", "upper", "mine", "part")), frozenset(("part",)), frozenset(("seen", "over")), "public"))
+        self.assertEqual((found.written, found.calling, found.operators, found.casts, found.are_fixed), (frozenset(("seen", "over")), frozenset(), (), False, True))
 
     def test_of_sqlite(self) -> None:
         raw = sqlite3.connect(":memory:")

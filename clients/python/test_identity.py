@@ -6,9 +6,10 @@
 import contextlib
 import os
 import sqlite3
+import threading
 import unittest
 import warnings
-from typing import Any
+from typing import Any, List
 
 import test_recording
 from pgserial.keys import Refused
@@ -186,6 +187,31 @@ class OnSqlite(test_recording.OnSqlite):
             connection.execute(text)
             with self.subTest(text), self.assertRaisesRegex(Refused, "to another database than the first"):
                 self.recorders[-1].wrap(other)
+
+    def test_another_file_where_a_connection_is_another_threads(self) -> None:
+        recorder = self.recorder()
+        kept: List[Any] = []
+
+        def begin() -> None:
+            kept.append(recorder.wrap(sqlite3.connect(self.file, isolation_level=None)))
+            kept[0].execute("BEGIN")
+            begun.set()
+            ended.wait(60)
+            kept[0].close()
+
+        begun, ended = threading.Event(), threading.Event()
+        thread = threading.Thread(target=begin)
+        thread.start()
+        try:
+            self.assertTrue(begun.wait(60))
+            self.file += "2"
+            other = self.raw()
+            other.executescript("; ".join(T))
+            with self.assertRaisesRegex(Refused, "to another database than the first"):
+                recorder.wrap(other)
+        finally:
+            ended.set()
+            thread.join()
 
     def test_databases_in_memory_while_a_transaction_is_open(self) -> None:
         for name, is_one in ((":memory:", False), ("file:identity?mode=memory&cache=shared", True)):

@@ -81,10 +81,10 @@ class Details(OnPostgres):
             self.make(*T, "CREATE TABLE w (id int PRIMARY KEY, n text)", "INSERT INTO w VALUES (1, 'x'), (2, 'ab')")
             recorder = self.recorder(["w"])
             connection = recorder.wrap(self.raw(driver, True))
-            for text in ("UPDATE w SET n = 'abcdef'::varchar(2) WHERE id = 1", "SELECT n FROM w WHERE id = 1", "SELECT id FROM w WHERE n = 'abc'::varchar(2)", "UPDATE w SET n = 'abc'::char(2) WHERE id = 2", "SELECT n FROM w WHERE id = 2"):
+            for text in ("UPDATE w SET n = 'abcdef'::varchar(2) WHERE id = 1", "SELECT n FROM w WHERE id = 1", "SELECT id FROM w WHERE n = 'abc'::varchar(2)", "UPDATE w SET n = 'abc'::char(2) WHERE id = 2", "SELECT n FROM w WHERE id = 2", "UPDATE w SET n = '05'::int WHERE id = 1", "SELECT n FROM w WHERE id = 1"):
                 connection.cursor().execute(text)
             self.assertIn(recorder.verdict().answer, ("yes", "unknown"))
-            self.assertFalse([line for line in self.lines() if "'abcdef'" in line or "'abc'" in line])
+            self.assertFalse([line for line in self.lines() if "'abcdef'" in line or "'abc'" in line or "'05'" in line])
 
     def test_returning_of_several_tables(self) -> None:
         for driver in self.each():
@@ -104,6 +104,17 @@ class Details(OnPostgres):
                     self.assertIn(told.answer, ("yes", "unknown"))
                     if shown == "*":
                         self.assertIn("its RETURNING shows all columns of several tables", str(told.ended))
+
+    def test_several_foreign_keys_of_one_table(self) -> None:
+        for driver in self.each():
+            self.make(*T, "CREATE TABLE c (id int PRIMARY KEY, a int REFERENCES t ON DELETE CASCADE, b int REFERENCES t ON DELETE CASCADE)", "INSERT INTO c VALUES (1, 1, 2)", "INSERT INTO t VALUES (3, 3)")
+            recorder = self.recorder(["t", "c"])
+            connection = recorder.wrap(self.raw(driver))
+            connection.cursor().execute("DELETE FROM t WHERE id = 3")
+            connection.cursor().execute("DELETE FROM t WHERE id = 1")
+            with self.assertWarnsRegex(RecordingWarning, "several foreign keys of table c change its rows, and nobody tells which"):
+                connection.commit()
+            self.assertEqual(recorder.verdict().answer, "unknown")
 
     def test_the_number_of_a_row(self) -> None:
         for driver in self.each():

@@ -10,6 +10,7 @@ import os
 import sqlite3
 import subprocess
 import sys
+import types
 import unittest
 import warnings
 from typing import Any
@@ -374,6 +375,60 @@ connection.execute("UPDATE t SET v = 5 WHERE id = 1")
         told = recorder.verdict()
         self.assertEqual((told.answer, told.committed, told.ended), ("yes", 4, None))
 
+    def test_what_foreign_keys_change_that_isnt_recorded(self) -> None:
+        made = ("CREATE TABLE p (id INTEGER PRIMARY KEY)", "INSERT INTO p VALUES (1), (2)", "CREATE TABLE c (id INTEGER PRIMARY KEY, p INT REFERENCES p ON DELETE SET NULL)", "INSERT INTO c VALUES (1, 1)")
+        recorder = self.recorder({"p": None, "c": ["id"]})
+        connection = recorder.wrap(self.other(*made))
+        connection.execute("DELETE FROM p WHERE id = 1")
+        connection.execute("SELECT id FROM c")
+        told = recorder.verdict()
+        self.assertEqual((told.answer, told.ended), ("yes", None))
+
+    def test_foreign_keys_in_turn(self) -> None:
+        for third, is_said in (("ON UPDATE CASCADE", True), ("ON DELETE CASCADE", False), ("ON DELETE SET NULL", False), ("", True)):
+            made = (
+                "CREATE TABLE p (id INTEGER PRIMARY KEY)", "INSERT INTO p VALUES (1), (2)", "CREATE TABLE c (id INTEGER PRIMARY KEY, p INT REFERENCES p ON DELETE CASCADE)", "INSERT INTO c VALUES (1, 1)",
+                f"CREATE TABLE d (id INTEGER PRIMARY KEY, c INT REFERENCES c {third})",
+            )  # fmt: skip
+            recorder = self.recorder(["p", "c", "d"])
+            connection = recorder.wrap(self.other(*made))
+            with warnings.catch_warnings():
+                warnings.simplefilter("ignore", RecordingWarning)
+                connection.execute("DELETE FROM p WHERE id = 1")
+            self.assertEqual(connection.execute("SELECT * FROM c").fetchall(), [])
+            with self.subTest(third):
+                self.assertEqual((recorder.verdict().answer, recorder.ended is None), ("yes" if is_said else "unknown", is_said))
+
+    def test_what_a_verdict_counts(self) -> None:
+        recorder = self.recorder()
+        connection = recorder.wrap(self.raw())
+        for ends in ("ROLLBACK", "COMMIT", "COMMIT"):
+            for text in ("BEGIN", "UPDATE t SET v = v + 1 WHERE id = 1", "SELECT v FROM t WHERE id = 1", ends):
+                connection.execute(text)
+        for text in ("BEGIN", "COMMIT", "BEGIN", "ROLLBACK"):
+            connection.execute(text)
+        told = recorder.verdict()
+        self.assertEqual((told.answer, told.committed, told.rolled_back, told.sessions, told.statements), ("yes", 2, 1, 1, 6))
+
+    def test_rows_that_a_delete_shows_where_nothing_is_added(self) -> None:
+        recorder = self.recorder()
+        connection = recorder.wrap(self.raw())
+        with mock.patch.object(drivers.Sqlite, "facts", lambda *_: drivers.NOTHING):
+            connection.execute("BEGIN")
+            self.assertEqual(len(connection.execute("DELETE FROM t WHERE v > 5 RETURNING id, v").fetchall()), 2)
+            connection.execute("COMMIT")
+        self.assertEqual(said(self.lines(), "SELECT", "DELETE"), ["SELECT * FROM t WHERE v > 5;", "DELETE FROM t WHERE v > 5;"])
+        told = recorder.verdict()
+        self.assertEqual((told.answer, told.ended), ("yes", None))
+
+    def test_a_write_by_a_key_of_several_columns_is_told_ahead(self) -> None:
+        raw = self.other("CREATE TABLE w (a INT, b INT, v INT, PRIMARY KEY (a, b)) WITHOUT ROWID", "INSERT INTO w VALUES (1, 1, 5), (1, 2, 6)")
+        connection = self.recorder(["w"]).wrap(raw)
+        connection.execute("UPDATE w SET v = 7 WHERE b = 1 AND a = 1")
+        self.assertNotIn(MAY_COMMIT.format(1), self.comments())
+        connection.execute("UPDATE w SET v = 7 WHERE a = 1")
+        self.assertIn(MAY_COMMIT.format(1), self.comments())
+
     def test_recordings_that_nobody_closes(self) -> None:
         recorder = self.recorder()
         recorder.wrap(self.raw()).execute("UPDATE t SET v = 5 WHERE id = 1")
@@ -522,6 +577,30 @@ class AtTheTerminal(Room):
         with mock.patch.object(sys, "argv", ["recording", os.path.join(self.folder, "gone")]), contextlib.redirect_stderr(told):
             self.assertEqual(verdict_module.main(), 1)
         self.assertIn("No such file", told.getvalue())
+
+
+class AnyDriver(OnSqlite):
+    """A driver of PEP 249 of which nothing is known but that it is in autocommit."""
+
+    def test_a_transaction_of_ones_own_in_autocommit(self) -> None:
+        made: Any = types.ModuleType("driver_of_any_kind")
+        made.paramstyle = "qmark"
+        sys.modules[made.__name__] = made
+        self.addCleanup(sys.modules.pop, made.__name__)
+
+        class Connection:
+            autocommit = True
+
+            def __init__(self, raw: sqlite3.Connection) -> None:
+                self.cursor, self.commit, self.rollback, self.close = raw.cursor, raw.commit, raw.rollback, raw.close
+
+        Connection.__module__ = made.__name__
+        recorder = self.recorder({"t": {"id": "bigint", "v": "bigint"}})
+        connection = recorder.wrap(Connection(self.raw()))
+        for text in ("UPDATE t SET v = 4 WHERE id = 1", "BEGIN", "UPDATE t SET v = 5 WHERE id = 1", "SELECT v FROM t WHERE id = 1", "COMMIT"):
+            connection.cursor().execute(text)
+        commands = [line[4:-1] for line in self.body() if line[0] == ">"]
+        self.assertEqual(commands, ["BEGIN", "UPDATE t SET v = 4 WHERE id = 1", "COMMIT", "BEGIN", "UPDATE t SET v = 5 WHERE id = 1", "SELECT v FROM t WHERE id = 1", "COMMIT"])
 
 
 class Histories(unittest.TestCase):

@@ -34,7 +34,7 @@ class Reads(unittest.TestCase):
             ("WITH", "its WITH can't be read"), ("WITH a AS NOT MATERIALIZED", "its WITH can't be read"), ("SELECT id FROM t UNION SELECT 2", "it joins queries, or groups"),
             ("SELECT id FROM t GROUP BY ROLLUP (id)", "it joins queries, or groups"), ("WITH a AS (DELETE FROM t RETURNING id) SELECT * FROM a", "DELETE stands in it"),
             ("SELECT id FROM t WHERE update = 1", "UPDATE stands in it"), ("SELECT insert FROM t", "INSERT stands in it"), ("SELECT replace FROM t", "REPLACE stands in it"),
-            ("SELECT f(1) FROM t", "it calls f"), ('SELECT "f"(1) FROM t', "it calls f"), ("SELECT id FROM t, f(1)", "it calls f"), ("SELECT (id FROM t", "its parentheses don't end"),
+            ("SELECT id FROM t FOR DELETE", "DELETE stands in it"), ("SELECT f(1) FROM t", "it calls f"), ('SELECT "f"(1) FROM t', "it calls f"), ("SELECT id FROM t, f(1)", "it calls f"), ("SELECT (id FROM t", "its parentheses don't end"),
         ))  # fmt: skip
 
     def test_plain_queries(self) -> None:
@@ -78,7 +78,7 @@ class Writes(Reads):
 
     def test_what_cant_be_read(self) -> None:
         self.refused(write, (
-            ("DELETE t WHERE id = 1", "its FROM can't be read"), ("DELETE", "its FROM can't be read"), ("DELETE FROM t LIMIT 1", "its table can't be read"), ("DELETE FROM t WHERE id = 1 LIMIT 1", "it has a LIMIT"),
+            ("DELETE t WHERE id = 1", "its FROM can't be read"), ("DELETE", "its FROM can't be read"), ("DELETE FROM", "it ends too early"), ("DELETE FROM t LIMIT 1", "its table can't be read"), ("DELETE FROM t WHERE id = 1 LIMIT 1", "it has a LIMIT"),
             ("INSERT t VALUES (1)", "its INTO can't be read"), ("INSERT", "its INTO can't be read"), ("INSERT OR FAIL INTO t VALUES (1)", "it has OR FAIL"), ("INSERT OR", "its INTO can't be read"),
             ("INSERT OR IGNORE INTO t VALUES (1) ON CONFLICT DO NOTHING", "it has two ways about conflicts"), ("UPDATE t SET v = f(1)", "it calls f"), ("UPDATE t SET v = 1 WHERE id IN (DELETE FROM u)", "DELETE stands in it"),
             ("UPDATE t SET v = 1 WHERE id = 1 ORDER BY id LIMIT 1", "it has a LIMIT"),

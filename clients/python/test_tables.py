@@ -156,6 +156,20 @@ class Plans(unittest.TestCase):
         self.assertIs(translator.plan(spelling, "SELECT 6 FROM t", False), translator.plan(spelling, "SELECT 6 FROM t", False))
 
 
+    def test_what_writes_an_ignored_table(self) -> None:
+        translator = Translator(Names([table("id")], False, ["log"]), "qmark")
+        for text, writes in (
+            ("INSERT INTO log VALUES (f(1))", True), ("INSERT INTO log VALUES (lower('x'))", False), ("DELETE FROM log", False), ("UPDATE log SET n = g(n)", True), ("INSERT INTO other VALUES (1)", True), ("SELECT max(id) FROM log", False),
+        ):  # fmt: skip
+            with self.subTest(text):
+                self.assertEqual(translator.plan(Spelling(), text, False).writes is not None, writes)
+
+    def test_a_query_that_its_parameters_keep_from_being_said(self) -> None:
+        translator = Translator(Names([table("id")], False), "qmark")
+        for text in ('SELECT id FROM "T" WHERE id = ?', 'SELECT id FROM "T" WHERE id % 2 = 1'):
+            self.assertIsNotNone(translator.plan(Spelling(), text, True).rows, text)
+
+
 class Openings(unittest.TestCase):
     def opened(self, made: Any, rows: List[List[object]]) -> Any:
         kept, said = opening_of(made, rows)

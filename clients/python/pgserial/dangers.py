@@ -143,7 +143,7 @@ class _Postgres:
             kind = str(kind).rpartition(".")[2]
             if kind == "pg_proc" and int(used) in self._volatile | self._from_extensions or kind == "pg_operator" and int(used) in self._operators:
                 found.add(int(relation))
-            elif kind == "pg_class" and relation != used:
+            elif kind == "pg_class":
                 by_relation.setdefault(int(relation), set()).add(int(used))
         while True:
             more = {relation for relation, used in by_relation.items() if used & found} - found

@@ -15,6 +15,7 @@ from .values import Spelling, Unsaid
 
 
 _MOST_PLANS = 4096
+_AS_IT_STANDS = True  # of a name
 
 
 class Plan(NamedTuple):
@@ -102,7 +103,8 @@ class Translator:
     def _unsaid(self, tokens: List[sql.Token], why: str) -> Plan:
         """What can't be said: whether it may write."""
         written = written_table(tokens)
-        if written is not None and self._names.is_ignored(written):
+        if self._names.is_ignored(written):
+            assert written is not None
             return self.ignored(tokens, written)
         writes = self.why_it_may_write(tokens)
         if writes is None and not any(token.is_word("from", "table", "fetch") for token in tokens):
@@ -124,7 +126,7 @@ class Translator:
         is_lenient = [token.value for token in tokens[start : start + 3]] == ["if", "not", "exists"]
         names = tokens[start + 3 * is_lenient :]
         is_qualified = len(names) > 2 and names[1].is_sign(".")
-        name = sql.Name(str(names[2 if is_qualified else 0].value), True) if names else sql.Name("", True)
+        name = sql.Name(str(names[2 if is_qualified else 0].value) if names else "", _AS_IT_STANDS)
         if self._names.is_ignored(name) and "partition" in words:
             return f"table {name.text} may be a partition of a recorded one"
         is_there = is_lenient and not is_qualified and self._dangers.is_first(self._names.recorded(name))
