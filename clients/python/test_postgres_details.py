@@ -116,6 +116,20 @@ class Details(OnPostgres):
                 connection.commit()
             self.assertEqual(recorder.verdict().answer, "unknown")
 
+    def test_a_text_that_is_broken_off(self) -> None:
+        for driver in self.each():
+            for autocommit in (True, False):
+                recorder = self.recorder()
+                connection = recorder.wrap(self.raw(driver, autocommit))
+                connection.cursor().execute("SELECT v FROM t WHERE id = 1")
+                connection.commit()
+                with warnings.catch_warnings(), self.subTest(driver.__name__, autocommit=autocommit):
+                    warnings.simplefilter("ignore", RecordingWarning)
+                    with self.assertRaises(driver.OperationalError):
+                        connection.cursor().execute("DO 'BEGIN UPDATE t SET v = 0; PERFORM pg_terminate_backend(pg_backend_pid()); END'")
+                    self.assertIn("DO may write", str(recorder.ended))
+                    self.assertEqual(recorder.verdict().answer, "unknown")
+
     def test_the_number_of_a_row(self) -> None:
         for driver in self.each():
 

@@ -429,6 +429,17 @@ connection.execute("UPDATE t SET v = 5 WHERE id = 1")
         connection.execute("UPDATE w SET v = 7 WHERE a = 1")
         self.assertIn(MAY_COMMIT.format(1), self.comments())
 
+    def test_texts_that_are_copied_are_no_sums(self) -> None:
+        for facts, updates, answer in ((drivers.Sqlite.facts, ["UPDATE w SET n = 'b' WHERE id = 1;"], "yes"), (lambda *_: drivers.NOTHING, [], "unknown")):
+            raw = self.other("CREATE TABLE w (id INTEGER PRIMARY KEY, n TEXT, m TEXT)", "INSERT INTO w VALUES (1, 'a', 'b')")
+            recorder = self.recorder(["w"])
+            connection = recorder.wrap(raw)
+            with mock.patch.object(drivers.Sqlite, "facts", facts), warnings.catch_warnings():
+                warnings.simplefilter("ignore", RecordingWarning)
+                connection.execute("UPDATE w SET n = m WHERE id = 1")
+            self.assertEqual(connection.execute("SELECT n FROM w").fetchall(), [("b",)])
+            self.assertEqual((said(self.lines(), "UPDATE"), recorder.verdict().answer), (updates, answer))
+
     def test_recordings_that_nobody_closes(self) -> None:
         recorder = self.recorder()
         recorder.wrap(self.raw()).execute("UPDATE t SET v = 5 WHERE id = 1")
