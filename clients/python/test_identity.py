@@ -266,6 +266,18 @@ class OnSqlite(test_recording.OnSqlite):
             connection.execute("SELECT * FROM w")
             self.assertEqual(recorder.verdict().answer, "unknown")
 
+    def test_a_column_of_the_name_of_row_numbers(self) -> None:
+        raw = self.raw()
+        raw.executescript("CREATE TABLE w (id INTEGER PRIMARY KEY, oid INT, v INT); INSERT INTO w VALUES (1, 2, 5), (2, 1, 6)")
+        recorder = self.recorder({"w": ["id", "v"]}, verify_end=True)
+        connection = recorder.wrap(raw)
+        self.assertEqual(connection.execute("SELECT v FROM w WHERE oid = 1").fetchall(), [(6,)])
+        connection.execute("UPDATE w SET v = 9 WHERE oid = 1")
+        self.assertEqual(connection.execute("SELECT v FROM w WHERE rowid = 2").fetchall(), [(9,)])
+        connection.close()
+        told = recorder.verdict()
+        self.assertEqual((told.answer, told.ended), ("yes", None))
+
     def test_keys_that_are_no_row_numbers(self) -> None:
         """`INTEGER PRIMARY KEY DESC` is no row number in SQLite, and an absent one is null."""
         for number, (made, is_number) in enumerate((

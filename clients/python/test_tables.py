@@ -137,6 +137,7 @@ class Named(unittest.TestCase):
         self.assertEqual([names.place(made, Name(name, False)) for name in ("rowid", "OID", "_rowid_")], [0, 0, 0])
         self.assertRaises(Unsaid, names.place, made._replace(makes_key=False), Name("rowid", False))
         self.assertRaises(Unsaid, names.place, made, Name("row", False))
+        self.assertRaises(Unsaid, names.place, made._replace(order=(*made.order, "oid")), Name("OID", False))  # a column of its own
 
     def test_what_isnt_ignored_since_it_reaches_a_recorded_table(self) -> None:
         self.assertFalse(Names([table("id")._replace(reached=("Log",))], False, ["Log"]).is_ignored(Name("Log", True)))

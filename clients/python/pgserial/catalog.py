@@ -312,7 +312,7 @@ class Names:
         for place, column in enumerate(table.columns):
             if self.is_column(name, column.real):
                 return place
-        if table.makes_key and name.text.lower() in ("rowid", "oid", "_rowid_"):
+        if table.makes_key and name.text.lower() in ("rowid", "oid", "_rowid_") and not self.is_other_column(table, name):
             return 0
         raise Unsaid(f"column {name.text} of table {table.real} isn't recorded")
 
