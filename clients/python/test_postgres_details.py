@@ -207,6 +207,19 @@ class Details(OnPostgres):
                     self.assertIsNone(recorder.ended)
                 self.assertEqual(recorder.verdict().answer, "yes")
 
+    def test_parameters_of_what_was_prepared(self) -> None:
+        for driver in self.each():
+            if driver.__name__ != "psycopg2":  # which puts them into the text that is sent
+                continue
+            recorder = self.recorder()
+            connection = recorder.wrap(self.raw(driver, False))
+            cursor = connection.cursor()
+            cursor.execute("PREPARE p AS UPDATE t SET v = $1 WHERE id = $2")
+            cursor.execute("EXECUTE p (%s, %s)", (5, 1))
+            connection.commit()
+            self.assertIsNone(recorder.ended)
+            self.assertTrue(any(line.endswith("UPDATE t SET v = 5 WHERE id = 1;") for line in self.lines()), self.lines())
+
     def test_what_others_than_recorded_tables_are_parted_into(self) -> None:
         for driver in self.each():
             recorder = self.recorder()

@@ -286,7 +286,7 @@ class Server:
         if schema is not None and dump is not None:
             raise ProgrammingError("tables come from a schema or from a dump, and not from both")
         lines = create_lines(schema)
-        self._shell = _inside(program, dump, events) if in_process else _Shell(_program(program), dump, events)
+        self._shell: Union[Inside, _Shell] = _inside(program, dump, events) if in_process else _Shell(_program(program), dump, events)
         self._changed = threading.Condition()  # held for each exchange, and notified when a transaction has ended
         self._connections: Dict[int, Connection] = {}
         self._in_transaction: Set[int] = set()
@@ -558,7 +558,7 @@ class Connection:
     def _is_own(self) -> bool:
         """Whether no other thread that goes on has a transaction open here."""
         owner = self._owner
-        return not self.in_transaction or owner in (None, threading.current_thread()) or not owner.is_alive()
+        return not self.in_transaction or owner is None or owner is threading.current_thread() or not owner.is_alive()
 
     def _answers(self, statements: Sequence[str]) -> List[Answer]:
         """The answers to statements, all of which are sent ahead; a transaction is begun, where none is there."""

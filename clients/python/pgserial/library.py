@@ -14,7 +14,7 @@ Each of these but the last keeps nothing. Threads may share a Library: a call gi
 """
 import ctypes
 import os
-from typing import NamedTuple
+from typing import Any, Callable, Container, NamedTuple, Optional, Tuple, Union
 
 from .bundle import bundled
 
@@ -34,13 +34,15 @@ WORDS = {
     TOO_MANY: "there are more schedules than may be run",
 }
 FIRST_ROOM = 1 << 12  # bytes
+Text = Union[str, bytes, bytearray, memoryview]
+Value = Union[None, int, str, bytes, bytearray, memoryview]  # of a literal's place
 
 
 class LibraryError(Exception):
     """Why a text wasn't done: the status, its line (0 where it is none's matter), and the output of the lines before; or what
     is told of a dump. `is_done` where a line is done and memory was refused to its answer alone."""
 
-    def __init__(self, status, line, text, is_done=False):
+    def __init__(self, status: int, line: int, text: str, is_done: bool = False) -> None:
         super().__init__(WORDS.get(status, f"status {status}").format(line=line))
         self.status, self.line, self.text, self.is_done = status, line, text, is_done
 
@@ -51,7 +53,7 @@ class Checked(NamedTuple):
     answer: str
     text: str
 
-    def __str__(self):
+    def __str__(self) -> str:
         return self.text
 
 
@@ -74,7 +76,7 @@ class Conversation:
     """A server that is kept between calls, which answers lines as `pgserial shell` does. `with library.open() as talk:` closes
     it. One thread uses it at a time. Where memory is refused (`MEMORY`), nothing has changed, and it goes on."""
 
-    def __init__(self, library, most_events, dump=None):
+    def __init__(self, library: "Library", most_events: int, dump: Optional[Text] = None) -> None:
         self._loaded, self._handle, self._report = library._loaded, _Handle(), _Report()
         self._words = ctypes.byref(self._handle), ctypes.byref(self._report)
         self._out = ctypes.create_string_buffer(FIRST_ROOM)
@@ -85,17 +87,17 @@ class Conversation:
         status = self._loaded.pgserial_open_dump(self._words[0], given, len(given), most_events, out, len(out), self._words[1])
         self._check(status, ctypes.string_at(out, self._report.length).decode())
 
-    def __enter__(self):
+    def __enter__(self) -> "Conversation":
         return self
 
-    def __exit__(self, *_):
+    def __exit__(self, *_: object) -> None:
         self.close()
 
-    def _check(self, status, text=""):
+    def _check(self, status: int, text: str = "") -> None:
         if status != DONE:
             raise LibraryError(status, self._report.line, text)
 
-    def _answer(self, status):
+    def _answer(self, status: int) -> bytes:
         """The answer of a call that has ended so."""
         if status not in (DONE, REFUSED, UNPRINTED):
             self._check(status)
@@ -112,16 +114,16 @@ class Conversation:
             raise LibraryError(status, 0, text.decode())
         return text
 
-    def ask_bytes(self, line):
+    def ask_bytes(self, line: bytes) -> bytes:
         """The answer to a line of bytes, which has no newline."""
         handle, report = self._words
         return self._answer(self._loaded.pgserial_call(handle, line, len(line), report))
 
-    def ask(self, line):
+    def ask(self, line: Text) -> str:
         """The answer to a line, which has no newline."""
         return self.ask_bytes(_bytes(line)).decode("utf-8", "backslashreplace")
 
-    def prepare(self, line):
+    def prepare(self, line: Text) -> Prepared:
         """A Prepared: a session's line, which has no newline, read once."""
         given, (handle, report) = _bytes(line), self._words
         status = self._loaded.pgserial_prepare(handle, given, len(given), report)
@@ -129,19 +131,19 @@ class Conversation:
             raise LibraryError(status, 0, "")
         return Prepared(self._report.line, self._report.length)
 
-    def _bind(self, number, place, value):
-        handle = self._words[0]
+    def _bind(self, number: int, place: int, value: Value) -> int:
+        handle, status = self._words[0], MISUSE
         if value is None:
-            return self._loaded.pgserial_bind_null(handle, number, place)
-        if isinstance(value, int):
-            if not -(1 << 63) <= value < 1 << 63:
-                return MISUSE
-            return self._loaded.pgserial_bind_bigint(handle, number, place, value)
-        given = _bytes(value)
-        bind = self._loaded.pgserial_bind_text if isinstance(value, str) else self._loaded.pgserial_bind_bytea
-        return bind(handle, number, place, given, len(given))
+            status = self._loaded.pgserial_bind_null(handle, number, place)
+        elif not isinstance(value, int):
+            given = _bytes(value)
+            bind = self._loaded.pgserial_bind_text if isinstance(value, str) else self._loaded.pgserial_bind_bytea
+            status = bind(handle, number, place, given, len(given))
+        elif -(1 << 63) <= value < 1 << 63:
+            status = self._loaded.pgserial_bind_bigint(handle, number, place, value)
+        return status
 
-    def execute(self, line, *values):
+    def execute(self, line: Prepared, *values: Value) -> int:
         """How many rows a Prepared of this conversation shows or has changed, with these values (None, an int, a str or bytes) for
         its first places; the others have those that they had last. `answer` has its reply."""
         for place, value in enumerate(values, 1):
@@ -150,52 +152,53 @@ class Conversation:
                 raise LibraryError(status, 0, "")
         status = self._loaded.pgserial_execute(self._words[0], line.number, self._words[1])
         if status == DONE:
-            return self._report.line
+            rows: int = self._report.line
+            return rows
         if status != REFUSED:
             raise LibraryError(status, 0, "")
         raise LibraryError(status, 0, self.answer())
 
-    def answer(self):
+    def answer(self) -> str:
         """The last answer."""
         return self._answer(DONE).decode("utf-8", "backslashreplace")
 
-    def forget(self):
+    def forget(self) -> None:
         """Forgets the lines that were read once."""
         self._check(self._loaded.pgserial_forget(self._words[0]))
 
-    def dump(self, session):
+    def dump(self, session: int) -> str:
         """A dump of the safe snapshot of a session's transaction."""
         handle, report = self._words
         return self._answer(self._loaded.pgserial_dump(handle, session, report)).decode("utf-8")
 
-    def serial_order(self):
+    def serial_order(self) -> str:
         """The committed transactions since the last checkpoint in the serial order, and the check of that."""
         return self._answer(self._loaded.pgserial_serial_order(*self._words)).decode()
 
-    def tables(self):
+    def tables(self) -> str:
         """The CREATE TABLE lines of the tables, and their number."""
         return self._answer(self._loaded.pgserial_tables(*self._words)).decode()
 
-    def close(self):
+    def close(self) -> None:
         """Gives back the server's memory; nothing where that was done."""
         if self._handle.is_open:
             self._check(self._loaded.pgserial_close(self._words[0]))
 
 
-def _bytes(text):
+def _bytes(text: Text) -> bytes:
     return text.encode() if isinstance(text, str) else bytes(text)
 
 
 class Library:
     """The library of a path, of `$PGSERIAL_LIBRARY`, the one that came with this package, or where the system finds it."""
 
-    def __init__(self, path=None):
+    def __init__(self, path: Optional[str] = None) -> None:
         self._loaded = ctypes.CDLL(path or os.environ.get("PGSERIAL_LIBRARY") or bundled(NAME) or NAME)
         self._loaded.pgserial_abi.restype = ctypes.c_uint32
         abi = self._loaded.pgserial_abi()
         if abi != ABI:
             raise OSError(f"{self._loaded._name} has the declarations of version {abi}, and not {ABI}")
-        self._run, self._audit, self._check = (self._call(name, ctypes.c_uint32) for name in ("run", "audit", "check"))
+        self._run, self._audit, self._check = [self._call(name, ctypes.c_uint32) for name in ("run", "audit", "check")]
         self._explore = self._call("explore", ctypes.c_uint32, ctypes.c_uint64)
         handle, report = ctypes.POINTER(_Handle), ctypes.POINTER(_Report)
         self._loaded.pgserial_open.argtypes = [handle, ctypes.c_uint32]
@@ -216,16 +219,17 @@ class Library:
         self._loaded.pgserial_execute.argtypes = [handle, number, report]
         self._loaded.pgserial_forget.argtypes = [handle]
 
-    def _call(self, name, *numbers):
+    def _call(self, name: str, *numbers: Any) -> Callable[..., int]:
         """A function of the library that takes a text and such numbers."""
-        call = getattr(self._loaded, f"pgserial_{name}")
+        call: Any = getattr(self._loaded, f"pgserial_{name}")
         call.restype = ctypes.c_int
         call.argtypes = [ctypes.c_char_p, ctypes.c_size_t, *numbers,
                          ctypes.c_void_p, ctypes.c_size_t, ctypes.POINTER(_Report)]
-        return call
+        made: Callable[..., int] = call
+        return made
 
     @staticmethod
-    def _answer(call, text, *numbers, right=(DONE,)):
+    def _answer(call: Callable[..., int], text: Text, *numbers: int, right: Container[int] = (DONE,)) -> Tuple[int, str]:
         """A call's status, which is one of the right ones, and its output, with as much room as that needs."""
         given = text.encode("utf-8", "surrogateescape") if isinstance(text, str) else bytes(text)
         report, room, status = _Report(), FIRST_ROOM, NEEDS_ROOM
@@ -238,24 +242,24 @@ class Library:
             raise LibraryError(status, report.line, answer)
         return status, answer
 
-    def run(self, script, most_events=MOST_EVENTS):
+    def run(self, script: Text, most_events: int = MOST_EVENTS) -> str:
         """The replies to the lines of a script, as `pgserial run` prints them."""
         return self._answer(self._run, script, most_events)[1]
 
-    def audit(self, script, most_events=MOST_EVENTS):
+    def audit(self, script: Text, most_events: int = MOST_EVENTS) -> str:
         """The committed transactions of a script in the serial order, as `pgserial audit` prints them."""
         return self._answer(self._audit, script, most_events)[1]
 
-    def check(self, transcript, has_time=True):
+    def check(self, transcript: Text, has_time: bool = True) -> Checked:
         """A Checked: whether some serial order explains the replies of a transcript, as `pgserial check` prints it. With time, who
         had ended before another began comes before it."""
         status, text = self._answer(self._check, transcript, int(has_time), right=ANSWERS)
         return Checked(ANSWERS[status], text)
 
-    def explore(self, script, most_events=MOST_EVENTS, most_schedules=MOST_SCHEDULES):
+    def explore(self, script: Text, most_events: int = MOST_EVENTS, most_schedules: int = MOST_SCHEDULES) -> str:
         """The outcomes of every interleaving of a script's lines after its setup, as `pgserial explore` prints them."""
         return self._answer(self._explore, script, most_events, most_schedules)[1]
 
-    def open(self, most_events=MOST_EVENTS, dump=None):
+    def open(self, most_events: int = MOST_EVENTS, dump: Optional[Text] = None) -> Conversation:
         """A Conversation: a server that is kept between calls, on the tables of a dump where one is given."""
         return Conversation(self, most_events, dump)

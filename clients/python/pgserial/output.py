@@ -108,4 +108,5 @@ class Output:
 
 def path_of(path: Any) -> str:
     """A path in which `{pid}` is this process's number."""
-    return os.fspath(path).replace("{pid}", str(os.getpid()))
+    given: str = os.fspath(path)
+    return given.replace("{pid}", str(os.getpid()))

@@ -5,6 +5,7 @@ from typing import Any, Callable, Dict, List, NamedTuple, Optional
 
 from .catalog import Table
 from .drivers import NOTHING, Driver
+from .places import Place
 from .returning import Facts
 from .temporary import Temporary
 from .verdict import HAS_NOT, MAY_COMMIT
@@ -83,7 +84,7 @@ class Session:
         if word in _ENDS:
             return ""
         places = self.recorder.places
-        place = places.transaction() if word == "BEGIN" else places.place()
+        place: Optional[Place] = places.transaction() if word == "BEGIN" else places.place()
         return "" if place is None else place.comment()
 
     def answered(self, lines: List[str]) -> str:

@@ -9,6 +9,7 @@ from .drivers import Came, Driver
 from .effects import Control, control_of, is_beside, parts_of
 from .session import Point, Session
 from .sql import Constant, tokens_of
+from .origins import Rows
 from .plans import Plan
 from .prepared import Execution, Prepared, executed_by, prepared_by
 from .returning import Addition
@@ -642,7 +643,7 @@ def _known_step(session: Session, text: str, parameters: Any, cursor: Executed) 
         made = prepared_by(tokens, text)
         if made is not None:
             return Prepares(session, made)
-        return _executed_step(session, text, executed_by(tokens, translator.reading), Arguments(parameters, session.driver.sent), cursor)
+        return _executed_step(session, text, executed_by(tokens, translator.reading), Arguments(parameters, cursor.sent), cursor)
     except Unsaid:
         return None
 
@@ -658,7 +659,7 @@ def _executed_step(
     plan = session.recorder.translator(session.driver).prepared().plan(session.recorder.spelling, prepared, True)
     arguments = Arguments(values)
     if plan.saying is not None:
-        told = plan.saying.told(arguments)
+        told: Told = plan.saying.told(arguments)
         return _with_rows(Statement(session, told, text, cursor), session, plan, arguments, cursor) if told.is_sure else None
     return _with_rows(Statement(session, Unknown(plan.why or ""), text, cursor), session, plan, arguments, cursor) if plan.rows else None
 
@@ -678,9 +679,8 @@ class Unknown(Told):
 def _with_rows(step: Statement, session: Session, plan: Plan, arguments: Arguments, cursor: Executed) -> Statement:
     """A step that says a query's rows, where it can't be said as it stands."""
     if plan.rows is not None:
-        step.by_rows = lambda why: plan.rows.told(
-            arguments, lambda: session.driver.numbers(cursor.raw()), session.recorder.attributes, why
-        )
+        rows: Rows = plan.rows
+        step.by_rows = lambda why: rows.told(arguments, lambda: session.driver.numbers(cursor.raw()), session.recorder.attributes, why)
     return step
 
 

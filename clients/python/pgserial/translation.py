@@ -206,8 +206,9 @@ class _Saying:
     def asked(self, column: Column, value: Any, arguments: Arguments) -> Plain:
         """The same, where a column is compared with it."""
         given = self._given(column, value, arguments)
-        is_of_its_type = isinstance(value, Cast) or given is None or not isinstance(column.kind, Form)
-        return plain(column.kind, given if is_of_its_type else column.kind.asked(given))
+        kind = column.kind
+        is_of_its_type = isinstance(value, Cast) or given is None or not isinstance(kind, Form)
+        return plain(kind, kind.asked(given) if isinstance(kind, Form) and not is_of_its_type else given)
 
     def literal(self, column: Column, value: Plain) -> str:
         """A value as a literal."""

@@ -42,7 +42,7 @@ class LeftOut(NamedTuple):
     """Reads that aren't known: why, how many, and of which places; each place is a function and its file and line."""
 
     kind: str
-    count: int
+    count: int  # type: ignore[assignment]  # in place of the tuple's method
     places: Tuple[Tuple[str, int], ...] = ()
 
 

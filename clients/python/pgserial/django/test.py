@@ -25,7 +25,7 @@ class SerializableTestCase(TransactionTestCase):
         recorder = recorder_of(self.recorded_database, path, self.recorded_tables)
         recorder.is_quiet = True
         with follower_of(self.recorded_database).recording(recorder):
-            super()._callTestMethod(method)  # type: ignore[misc]
+            super()._callTestMethod(method)
         told = recorder.verdict()
         if told.answer == "no":
             self.fail(f"not serializable. The recording is {path}\n{told}")
