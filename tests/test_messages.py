@@ -45,6 +45,10 @@ WAITS = [
     (True, "1 WAIT ;", "`WAIT`: `;` comes right behind this word"),
 ]
 
+# Characters that control a terminal or turn a text's direction, beside some that don't; and how they are shown there.
+CONTROLLING = "\x1b[31m\x07\x7f\u009b\u202a\u202e\u2066\u2069 \u00e9\u2029\u2065\u65e5"
+BY_NUMBERS = "\\x1b[31m\\x07\\x7f\\x9b\\u202a\\u202e\\u2066\\u2069 \u00e9\u2029\u2065\u65e5"
+
 # Rows of a table whose UPDATE takes a while.
 ROWS = 200000
 # The bytes that a file may have where a restore is to fail.
@@ -90,6 +94,15 @@ class AtATerminal(Case):
             for want, got in zip(wanted, came):
                 self.same(line, want, got[: len(want)] if want.endswith(": ") else got)
         self.same("what follows", [], shown)
+
+    def test_data_that_would_control_the_terminal(self) -> None:
+        """It is shown by numbers there, and goes through a pipe as it is."""
+        lines = "CREATE TABLE t (id bigint PRIMARY KEY, v text);\n1 BEGIN;\n1 INSERT INTO t VALUES (1, '{}');\n1 SELECT v FROM t;\n"
+        script = lines.format(CONTROLLING)
+        shown = "".join(piece for _, piece in self.shown(script))
+        self.same("at a terminal", f"1 BEGIN\n1 INSERT 0 1\n1 SELECT 1\n1 | {BY_NUMBERS}\n", shown)
+        piped = run("run", self.write("script", script)).stdout.decode()
+        self.same("through a pipe", f"1 BEGIN\n1 INSERT 0 1\n1 SELECT 1\n1 | {CONTROLLING}\n", piped)
 
     @timed
     def test_a_reply_is_shown_before_the_next_line_is_done(self) -> None:

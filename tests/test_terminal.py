@@ -61,10 +61,10 @@ class Terminal:
 TYPED = [
     ("create table doctor (id bigint primary key, name text);", "1=> ", r"CREATE TABLE\n"),
     ("BEGIN;", "1*=> ", r"1 BEGIN\n"),
-    ("insert into doctor values (1, 'ada')", "1*=> ", r"1 INSERT 0 1\n"),
+    ("insert into doctor values (1, 'ada');", "1*=> ", r"1 INSERT 0 1\n"),
     ("insert into doctor values (20, null);", "1*=> ", r"1 INSERT 0 1\n"),
-    ("select * from doctor", "1*=> ", r" id \| name ?\n----\+------\n 1  \| ada *\n 20 \| \\N *\n\(2 rows\)\n"),
-    ("select * from nurse", "1!=> ", r"1 ERROR 42P01 byte 14 [^\n]*undefined_table[^\n]*\n"),
+    ("select * from doctor;", "1*=> ", r" id \| name ?\n----\+------\n 1  \| ada *\n 20 \| \\N *\n\(2 rows\)\n"),
+    ("select * from nurse;", "1!=> ", r"1 ERROR 42P01 byte 14 [^\n]*undefined_table[^\n]*\n"),
     ("Commit;", "1=> ", r"1 ROLLBACK\n"),
     ("64 begin read only", "1=> ", r"64 BEGIN\n"),
     ("64", "64*=> ", r""),
@@ -77,7 +77,9 @@ TYPED = [
 ]
 
 # What somebody types who knows psql.
-HELP = r"(?s)SELECT .*\\serial.*\\q, exit, quit +ends the shell\n"
+HELP = r"(?s)SELECT .*\\serial.*\\q, exit, quit +ends the shell\n[^\n]*`rlwrap pgserial shell`\.\n"
+CLOSED = r"ERROR 42601: tables come before the first transaction: [^\n]*\n"
+SLIP = r"ERROR 42601: there is no such statement or command: \\\? lists what may be typed\n"
 STUMBLES = [
     ("help", "1=> ", HELP),
     ("Help;", "1=> ", HELP),
@@ -105,16 +107,18 @@ STUMBLES = [
     ("\\draw", "1=> ", r"\\draw FILE: a file's name is due\n"),
     ("\\dump;", "1=> ", r"\\dump FILE: a file's name is due\n"),
     ("\\i ", "1=> ", r"\\i FILE: a file's name is due\n"),
-    ("create table u (id bigint primary key)", "1=> ",
-     r"ERROR 42601: tables are created before the first line of a session\n"),
-    ("insert into t values (1, 1)", "1=> ", r"1 ERROR 25P01 \(no_active_sql_transaction: BEGIN comes first, alone on its line\)\n"),
+    ("create table u (id bigint primary key)", "1=> ", CLOSED),
+    ("\\autocommit", "1=> ", r"Autocommit is off\.\n"),
+    ("insert into t values (1, 1);", "1=> ", r"1 ERROR 25P01 \(no_active_sql_transaction: BEGIN comes first, alone on its line\)\n"),
+    ("\\autocommit perhaps", "1=> ", r"\\autocommit takes on, off, or nothing\n"),
+    ("\\autocommit ON;", "1=> ", r"Autocommit is on\.\n"),
     ("begin", "1*=> ", r"1 BEGIN\n"),
-    ("2 insert into t values (1, 1, 1)", "1*=> ",
+    ("2 insert into t values (1, 1, 1);", "1*=> ",
      r"2 ERROR 42601: this is no statement here, or has another number of values than the table has columns: byte 14\n"),
     ("selec * from t", "1!=> ", r"1 ERROR 42601: this is no statement here: byte 0\n"),
     ("rollback", "1=> ", r"1 ROLLBACK\n"),
     ("begin", "1*=> ", r"1 BEGIN\n"),
-    ("Update t set id = 2", "1!=> ",
+    ("Update t set id = 2;", "1!=> ",
      r"1 ERROR 42601: this is no statement here, or sets the key, or a column twice: byte 13\n"),
 ]
 
@@ -122,15 +126,15 @@ STUMBLES = [
 REFUSED = [
     ("create table doctor (id bigint primary key, oncall bigint not null)", "1=> ", r"CREATE TABLE\n"),
     ("begin", "1*=> ", r"1 BEGIN\n"),
-    ("insert into doctor values (1, 1)", "1*=> ", r"1 INSERT 0 1\n"),
-    ("insert into doctor values (2, 1)", "1*=> ", r"1 INSERT 0 1\n"),
+    ("insert into doctor values (1, 1);", "1*=> ", r"1 INSERT 0 1\n"),
+    ("insert into doctor values (2, 1);", "1*=> ", r"1 INSERT 0 1\n"),
     ("commit", "1=> ", r"1 COMMIT\n"),
     ("begin", "1*=> ", r"1 BEGIN\n"),
     ("2 begin", "1*=> ", r"2 BEGIN\n"),
-    ("select * from doctor", "1*=> ", r"(?s).*\(2 rows\)\n"),
-    ("2 select count(*) from doctor where oncall = 1", "1*=> ", r"(?s).*\(1 row\)\n"),
-    ("2 update doctor set oncall = 0 where id = 1", "1*=> ", r"2 UPDATE 1\n"),
-    ("update doctor set oncall = 0 where id = 2", "1*=> ", r"1 UPDATE 1\n"),
+    ("select * from doctor;", "1*=> ", r"(?s).*\(2 rows\)\n"),
+    ("2 select count(*) from doctor where oncall = 1;", "1*=> ", r"(?s).*\(1 row\)\n"),
+    ("2 update doctor set oncall = 0 where id = 1;", "1*=> ", r"2 UPDATE 1\n"),
+    ("update doctor set oncall = 0 where id = 2;", "1*=> ", r"1 UPDATE 1\n"),
     ("2 commit", "1*=> ", r"2 COMMIT\n"),
     ("commit", "1=> ", r"1 ERROR 40001 cause 3 2 3 \(serialization_failure: run the transaction again\)\n"),
     ("\\why", "1=> ",
@@ -143,6 +147,91 @@ REFUSED = [
      r"\(2 rows\)\n"),
 ]
 
+# What is typed by habit from psql and from sqlite3's shell: a page.
+OF_PSQL = r"there is no such word: [^\n]*\n"
+HABITS = [
+    ("\\l", "1=> ", OF_PSQL),
+    (".tables", "1=> ", r"TABLES 0\n"),
+    (".mode column", "1=> ", r"words begin with a backslash here: [^\n]*\n"),
+    ("create table account (", "1-> ", r""),
+    ("  id bigint primary key,  -- the number (of four digits);", "1-> ", r""),
+    ("  owner text not null,\t-- whose it is", "1-> ", r""),
+    ("  cents bigint", "1-> ", r""),
+    (");", "1=> ", r"CREATE TABLE\n"),
+    ("create table entry (id bigint primary key, account bigint references account,", "1-> ", r""),
+    ("  cents bigint)", "1=> ", r"CREATE TABLE\n"),
+    ("\\dt", "1=> ", r"CREATE TABLE account [^\n]*\nCREATE TABLE entry [^\n]*\nTABLES 2\n"),
+    ("creat table t (id bigint primary key);", "1=> ", SLIP),
+    ("insert into account values (1, 'ada', 100);", "1=> ", r"1 INSERT 0 1\n"),
+    ("insert into account values (2, 'bob;--', 50); insert into account values (3, 'eve''s; ;', null);", "1=> ", r"1 INSERT 0 1\n1 INSERT 0 1\n"),
+    ("select *", "1-> ", r""),
+    ("  from account  -- all of them; really", "1-> ", r""),
+    ("", "1-> ", r""),
+    ("  where cents >= 50;", "1=> ", r" id \| owner +\| cents \n-+\+-+\+-+\n 1  \| ada +\| 100 +\n 2  \| bob;-- \| 50 +\n\(2 rows\)\n"),
+    ("select count(*) from account", "1-> ", r""),
+    (";", "1=> ", r" count \n-+\n 3 +\n\(1 row\)\n"),
+    ("select owner from account where id = 3; -- only this", "1=> ", r" owner +\n-+\n eve's; ; \n\(1 row\)\n"),
+    ("\\x", "1=> ", r"rows are always shown as a table, each on its line\n"),
+    ("update account set cents = 0", "1-> ", r""),
+    ("\\r", "1=> ", r"Query buffer reset \(cleared\)\.\n"),
+    ("begin isolation level serializable; commit;", "1=> ", r"1 BEGIN\n1 COMMIT\n"),
+    ("START TRANSACTION;", "1*=> ", r"1 BEGIN\n"),
+    ("2 update account set cents = 5 where id = 1;", "1*=> ", r"2 UPDATE 1\n"),
+    ("update account set cents = cents + 1 where id = 1;", "1!=> ", r"1 ERROR 40001 [^\n]*run the transaction again\)\n"),
+    ("END;", "1=> ", r"1 ROLLBACK\n"),
+    ("2 begin; 2 update account set cents = 6 where id = 1;", "1=> ", r"2 BEGIN\n2 UPDATE 1\n"),
+    ("update account set cents = 7 where id = 1;", "1=> ",
+     r"1 ERROR 40001 row [^\n]*run the transaction again\)\nthe statement was a transaction by itself, of which nothing is left: type it again\n"),
+    ("2 abort", "1=> ", r"2 ROLLBACK\n"),
+    ("create table audit (id bigint primary key);", "1=> ", CLOSED),
+    ("selec * from account;", "1=> ", SLIP),
+    ("select * from acount;", "1=> ", r"1 ERROR 42P01 byte 14 [^\n]*\n"),
+    ("insert into account values (1, 'dup', 0);", "1=> ", r"1 ERROR 23505 [^\n]*\n"),
+    ("insert into account values (9, 'not ended);", "1=> ", r"1 ERROR 42601: [^\n]*\n"),
+    ("begin; update account set cents = 0 where id = 2; rollback;", "1=> ", r"1 BEGIN\n1 UPDATE 1\n1 ROLLBACK\n"),
+    ("begin; select id from account where id = 1", "1*-> ", r"1 BEGIN\n"),
+    (";commit", "1=> ", r" id \n-+\n 1  \n\(1 row\)\n1 COMMIT\n"),
+    ("\\e", "1=> ", r"no editor is started here: [^\n]*\\i FILE [^\n]*\n"),
+    ("\\set AUTOCOMMIT off", "1=> ", r"there are no variables: \\autocommit [^\n]*\n"),
+    ("\\h", "1=> ", HELP),
+    ("delete from account where id = 3; select id from account;", "1=> ", r"1 DELETE 1\n id \n-+\n 1  \n 2  \n\(2 rows\)\n"),
+    ("\\i windows", "1=> ",
+     r"1=> select id from account\n1-> where id = 2;\n id \n-+\n 2  \n\(1 row\)\n1=> delete from account where id = 2; select count\(\*\) from account;\n"
+     r"1 DELETE 1\n count \n-+\n 1 +\n\(1 row\)\n"),
+    ("\\serial", "1=> ", r"(?s)txn .*\ncheck yes\n"),
+    ("2; begin; \\i windows", "2*=> ", r"2 BEGIN\n\\i stands alone on a line that is typed: [^\n]*\n"),
+]
+
+# Statements by themselves, beside transactions of other sessions.
+ALONE = [
+    ("create table t (id bigint primary key, v bigint);", "1=> ", r"CREATE TABLE\n"),
+    ("insert into t values (1, 0); insert into t values (2, 0);", "1=> ", r"1 INSERT 0 1\n1 INSERT 0 1\n"),
+    ("2 begin; 2 select count(*) from t where v = 0;", "1=> ", r"2 BEGIN\n count \n-+\n 2 +\n\(1 row\)\n"),
+    ("2 insert into t values (3, 0);", "1=> ", r"2 INSERT 0 1\n"),
+    ("3 select * from t where id = 3;", "1=> ", r" id \| v \n-+\+-+\n\(0 rows\)\n"),
+    ("2 commit; select id from t where id = 3;", "1=> ", r"2 COMMIT\n id \n-+\n 3  \n\(1 row\)\n"),
+    ("\\timing on", "1=> ", r"Timing is on\.\n"),
+    ("select v from t where id = 1;", "1=> ", r" v \n-+\n 0 \n\(1 row\)\nTime: \d+\.\d{3} ms\n"),
+    ("\\timing off", "1=> ", r"Timing is off\.\n"),
+    ("begin", "1*=> ", r"1 BEGIN\n"),
+    ("insert into t values (4, 0); selec * from t;", "1!=> ", r"1 INSERT 0 1\n1 ERROR 42601: [^\n]*\n"),
+    ("insert into t values (5, 0);", "1!=> ", r"1 ERROR 25P02 [^\n]*\n"),
+    ("commit", "1=> ", r"1 ROLLBACK\n"),
+    ("select count(*) from t;", "1=> ", r" count \n-+\n 3 +\n\(1 row\)\n"),
+    ("\\autocommit off", "1=> ", r"Autocommit is off\.\n"),
+    ("select count(*) from t;", "1=> ", r"1 ERROR 25P01 [^\n]*\n"),
+]
+
+# There must be room for all that a transaction asks, and for its end.
+FEW = r"--events gives too little room for a transaction: [^\n]*\n"
+TABLE = ("create table t (id bigint primary key)", "1=> ", r"CREATE TABLE\n")
+ONE_EVENT = [TABLE, ("begin", "1=> ", FEW), ("insert into t values (1);", "1=> ", FEW), ("\\dump d", "1=> ", FEW),
+             ("create table u (id bigint primary key)", "1=> ", r"CREATE TABLE\n")]
+TWO_EVENTS = [TABLE, ("insert into t values (1);", "1=> ", FEW), ("\\dump d", "1=> ", FEW), ("begin", "1*=> ", r"1 BEGIN\n(nearly all[^\n]*\n)?"),
+              ("2 begin", "1*=> ", r"all but the last [^\n]*\n"), ("insert into t values (1);", "1*=> ", r"all but the last [^\n]*\n"),
+              ("commit", "1=> ", r"1 COMMIT\n(nearly all[^\n]*\n)?"), ("begin", "1=> ", r"all but the last [^\n]*\n"), ("checkpoint", "1=> ", r"CHECKPOINT\n"),
+              ("begin", "1*=> ", r"1 BEGIN\n(nearly all[^\n]*\n)?"), ("rollback", "1=> ", r"1 ROLLBACK\n(nearly all[^\n]*\n)?")]
+
 # Lines of which a terminal passes on a part alone, and those that are just short enough.
 LONG = r"ERROR 54000: the line is longer than a terminal passes on; use \\i FILE\n"
 PASSED_ON = 4094
@@ -150,13 +239,13 @@ LONG_LINES = [
     ("create table t (id bigint primary key, v bigint)", "1=> ", r"CREATE TABLE\n"),
     ("begin".ljust(4200) + ";", "1=> ", LONG),
     ("begin", "1*=> ", r"1 BEGIN\n"),
-    ("insert into t values (1, 1)", "1*=> ", r"1 INSERT 0 1\n"),
-    ("insert into t values (2, 1)", "1*=> ", r"1 INSERT 0 1\n"),
+    ("insert into t values (1, 1);", "1*=> ", r"1 INSERT 0 1\n"),
+    ("insert into t values (2, 1);", "1*=> ", r"1 INSERT 0 1\n"),
     ("delete from t where v = 1" + " " * 4100 + "and id = 1;", "1*=> ", LONG),
     ("delete from t where id = 1".ljust(PASSED_ON) + ";", "1*=> ", LONG),
     ("-- a comment".ljust(4300), "1*=> ", LONG),
     ("delete from t where id = 1".ljust(PASSED_ON - 1) + ";", "1*=> ", r"1 DELETE 1\n"),
-    ("select * from t", "1*=> ", r" id \| v ?\n----\+---\n 2  \| 1 \n\(1 row\)\n"),
+    ("select * from t;", "1*=> ", r" id \| v ?\n----\+---\n 2  \| 1 \n\(1 row\)\n"),
     ("\\i long", "1*=> ", r"(?s)1\*=> delete [^\n]*\n1 DELETE 1\n"),
 ]
 
@@ -166,13 +255,16 @@ SHOWN = [
     ("\\d DOCTOR", "1=> ",
      r" column \| kind   \| null        \| references ?\n-+\+-+\+-+\+-+\n id     \| bigint \| primary key \| +\n name   \| text   \| +\| +\n\(2 rows\)\n"),
     ("begin", "1*=> ", r"1 BEGIN\n"),
-    ("insert into doctor values (1, '\u65e5\u672c')", "1*=> ", r"1 INSERT 0 1\n"),
-    ("insert into doctor values (2, 'e\u0301')", "1*=> ", r"1 INSERT 0 1\n"),
-    ("insert into doctor values (3, 'abcdef')", "1*=> ", r"1 INSERT 0 1\n"),
-    ("select * from doctor", "1*=> ",
+    ("insert into doctor values (1, '\u65e5\u672c');", "1*=> ", r"1 INSERT 0 1\n"),
+    ("insert into doctor values (2, 'e\u0301');", "1*=> ", r"1 INSERT 0 1\n"),
+    ("insert into doctor values (3, 'abcdef');", "1*=> ", r"1 INSERT 0 1\n"),
+    ("select * from doctor;", "1*=> ",
      " id \\| name   \n----\\+--------\n 1  \\| \u65e5\u672c   \n 2  \\| e\u0301      \n 3  \\| abcdef \n\\(3 rows\\)\n"),
-    ("update doctor set name = '\u009b31m\u00e9\u0085' where id = 3", "1*=> ", r"1 UPDATE 1\n"),
-    ("select name from doctor where id = 3", "1*=> ", " name *\n-+\n \\\\x9b31m\u00e9\\\\x85 \n\\(1 row\\)\n"),
+    ("update doctor set name = '\u009b31m\u00e9\u0085' where id = 3;", "1*=> ", r"1 UPDATE 1\n"),
+    ("select name from doctor where id = 3;", "1*=> ", " name *\n-+\n \\\\x9b31m\u00e9\\\\x85 \n\\(1 row\\)\n"),
+    ("update doctor set name = 'a\u202eb\u202ac\u2066d\u2069\u2029\u2065\u206a' where id = 3;", "1*=> ", r"1 UPDATE 1\n"),
+    ("select name from doctor where id = 3;", "1*=> ",
+     " name +\n-+\n a\\\\u202eb\\\\u202ac\\\\u2066d\\\\u2069\u2029\u2065\u206a *\n\\(1 row\\)\n"),
     ("\\i \u009b31m", "1*=> ", r"\\x9b31m: there is no such file, or it can't be read\n"),
     ("\\draw no/\u009b31m", "1*=> ", r"no/\\x9b31m can't be written\n"),
 ]
@@ -181,10 +273,10 @@ SHOWN = [
 LIKE_ERRORS = [
     ("create table t (id bigint primary key, word text)", "1=> ", r"CREATE TABLE\n"),
     ("begin", "1*=> ", r"1 BEGIN\n"),
-    ("insert into t values (1, 'ERROR 40001')", "1*=> ", r"1 INSERT 0 1\n"),
-    ("insert into t values (2, 'ERROR 25P01 row')", "1*=> ", r"1 INSERT 0 1\n"),
-    ("select word from t", "1*=> ", r" word *\n-+\n ERROR 40001 *\n ERROR 25P01 row *\n\(2 rows\)\n"),
-    ("select * from t", "1*=> ", r" id \| word *\n-+\+-+\n 1  \| ERROR 40001 *\n 2  \| ERROR 25P01 row *\n\(2 rows\)\n"),
+    ("insert into t values (1, 'ERROR 40001');", "1*=> ", r"1 INSERT 0 1\n"),
+    ("insert into t values (2, 'ERROR 25P01 row');", "1*=> ", r"1 INSERT 0 1\n"),
+    ("select word from t;", "1*=> ", r" word *\n-+\n ERROR 40001 *\n ERROR 25P01 row *\n\(2 rows\)\n"),
+    ("select * from t;", "1*=> ", r" id \| word *\n-+\+-+\n 1  \| ERROR 40001 *\n 2  \| ERROR 25P01 row *\n\(2 rows\)\n"),
     ("3 rollback", "1*=> ", r"3 ERROR 25P01 \(no_active_sql_transaction: BEGIN comes first, alone on its line\)\n"),
 ]
 
@@ -192,13 +284,13 @@ LIKE_ERRORS = [
 BEHIND = [
     ("create table t (id bigint primary key)", "1=> ", r"CREATE TABLE\n"),
     ("3 begin", "1=> ", r"3 BEGIN\n"),
-    ("3 insert into t values (9)", "1=> ", r"3 INSERT 0 1\n"),
+    ("3 insert into t values (9);", "1=> ", r"3 INSERT 0 1\n"),
     ("3 commit", "1=> ", r"3 COMMIT\n"),
     ("checkpoint", "1=> ", r"CHECKPOINT\n"),
     ("begin", "1*=> ", r"1 BEGIN\n"),
     ("2 begin", "1*=> ", r"2 BEGIN\n"),
-    ("insert into t values (1)", "1*=> ", r"1 INSERT 0 1\n"),
-    ("2 insert into t values (1)", "1*=> ", r"2 ERROR 40001 row[^\n]*\n"),
+    ("insert into t values (1);", "1*=> ", r"1 INSERT 0 1\n"),
+    ("2 insert into t values (1);", "1*=> ", r"2 ERROR 40001 row[^\n]*\n"),
     ("2 rollback", "1*=> ", r"2 ROLLBACK\n"),
     ("commit", "1=> ", r"1 COMMIT\n"),
     ("checkpoint", "1=> ", r"CHECKPOINT\n"),
@@ -214,9 +306,9 @@ RECALLED = [
     ("create table t (id bigint primary key)", "1=> ", r"CREATE TABLE\n"),
     ("\\why", "1=> ", r"no transaction was refused for the sake of others\n"),
     ("begin", "1*=> ", r"1 BEGIN\n"),
-    ("insert into t values (1)", "1*=> ", r"1 INSERT 0 1\n"),
+    ("insert into t values (1);", "1*=> ", r"1 INSERT 0 1\n"),
     ("2 begin", "1*=> ", r"2 BEGIN\n"),
-    ("2 insert into t values (1)", "1*=> ", r"2 ERROR 40001 row[^\n]*\n"),
+    ("2 insert into t values (1);", "1*=> ", r"2 ERROR 40001 row[^\n]*\n"),
     ("\\why", "1*=> ", HOLDER),
     ("2 rollback", "1*=> ", r"2 ROLLBACK\n"),
     ("commit", "1=> ", r"1 COMMIT\n"),
@@ -229,24 +321,26 @@ RECALLED = [
 # What is left out before a transaction begins: a slip must not end the time in which tables are created.
 LEFT_OUT = r"CREATE TABLE or OPEN comes first, then BEGIN: this line was left out\n"
 EARLY = [
-    ("select 1", "1=> ", LEFT_OUT),
+    ("select 1;", "1=> ", LEFT_OUT),
     ("begin", "1=> ", LEFT_OUT),
     ("checkpoint", "1=> ", LEFT_OUT),
     ("poll", "1=> ", LEFT_OUT),
     ("65", "1=> ", LEFT_OUT),
     ("\\dump d", "1=> ", LEFT_OUT),
-    ("creat table t (id bigint primary key)", "1=> ", LEFT_OUT),
+    ("creat table t (id bigint primary key)", "1=> ", SLIP),
     ("create table t (id bigint primary key)", "1=> ", r"CREATE TABLE\n"),
     ("create table u (", "1-> ", r""),
-    ("  id bigint primary key, n varchar(20),", "1=> ", r"ERROR 42601: [^\n]+\n"),
-    ("  m bigint", "1=> ", LEFT_OUT),
-    (");", "1=> ", LEFT_OUT),
-    ("insert into t values (1)", "1=> ", LEFT_OUT),
-    ("2 beginning", "1=> ", LEFT_OUT),
-    ("BEGIN WORK", "1=> ", LEFT_OUT),
+    ("  id bigint primary key, n varchar(20),", "1-> ", r""),
+    ("  m bigint", "1-> ", r""),
+    (");", "1=> ", r"ERROR 42601: [^\n]+\n"),
+    ("\\autocommit off", "1=> ", r"Autocommit is off\.\n"),
+    ("insert into t values (1);", "1=> ", LEFT_OUT),
+    ("creat table t (id bigint primary key)", "1=> ", LEFT_OUT),
+    ("\\autocommit on", "1=> ", r"Autocommit is on\.\n"),
+    ("2 beginning", "1=> ", SLIP),
     ("create table u (id bigint primary key)", "1=> ", r"CREATE TABLE\n"),
     ("\\dump d", "1=> ", r"1 DUMP\n"),
-    ("insert into u values (1)", "1=> ", r"1 ERROR 25P01 [^\n]+\n"),
+    ("insert into u values (1);", "1=> ", r"1 INSERT 0 1\n"),
 ]
 
 # The last events are kept for the ends of transactions, of which a dump is one.
@@ -255,12 +349,12 @@ FULL = [
     ("create table t (id bigint primary key)", "1=> ", r"CREATE TABLE\n"),
     ("begin", "1*=> ", r"1 BEGIN\n"),
     ("2 begin", "1*=> ", r"2 BEGIN\n"),
-    ("insert into t values (1)", "1*=> ", r"1 INSERT 0 1\n"),
+    ("insert into t values (1);", "1*=> ", r"1 INSERT 0 1\n"),
     ("wait", "1*=> ", r"ERROR 42601: [^\n]*WAIT[^\n]*\n"),
     ("\\dump a b", "1*=> ", r"a dump's path has no spaces\n"),
     ("\\dump d", "1*=> ", r"3 WAIT\nnothing was dumped: [^\n]+\n"),
     ("\\dump d", "1*=> ", USED),
-    ("insert into t values (2)", "1*=> ", USED),
+    ("insert into t values (2);", "1*=> ", USED),
     ("5 commit", "1*=> ", USED),
     ("3 begin", "1*=> ", USED),
     ("selec", "1*=> ", USED),
@@ -271,7 +365,7 @@ FULL = [
     ("begin", "1=> ", USED),
     ("checkpoint", "1=> ", r"CHECKPOINT\n"),
     ("begin", "1*=> ", r"1 BEGIN\n"),
-    ("select * from t", "1*=> ", r" id ?\n----\n 1 *\n\(1 row\)\n"),
+    ("select * from t;", "1*=> ", r" id ?\n----\n 1 *\n\(1 row\)\n"),
     ("\\i marked", "1=> ", r"1\*=> rollback\n1 ROLLBACK\n"),
 ]
 
@@ -282,7 +376,7 @@ def documented():
         lines = file.read().split("```")[1].split("\n")[2:-1]
     turns = []
     for line in lines:
-        prompt = re.match(r"\d+[*!]?=> ", line)
+        prompt = re.match(r"\d+[*!]?[=-]> ", line)
         if prompt:
             turns.append((prompt[0], line[len(prompt[0]):], []))
         else:
@@ -297,6 +391,8 @@ def typed_as(turns, last, words=()):
             file.write("delete from t where v = 1".ljust(2 * PASSED_ON) + "and id = 2;\n")
         with open(os.path.join(folder, "marked"), "w", encoding="utf-8-sig") as file:
             file.write("rollback\n")
+        with open(os.path.join(folder, "windows"), "w", encoding="utf-8", newline="\r\n") as file:
+            file.write("select id from account\nwhere id = 2;\ndelete from account where id = 2; select count(*) from account;\n")
         with at_a_terminal(words, folder) as terminal:
             for line, prompt, wanted in turns:
                 shown = terminal.type(line, prompt)
@@ -320,8 +416,8 @@ def at_a_terminal(words=(), folder=None):
 
 # A write skew, whose second COMMIT is refused, from session 1's prompt.
 SKEW = [
-    ("begin", "1*=> "), ("2 begin", "1*=> "), ("select id from t where id = 1", "1*=> "), ("2 select id from t where id = 2", "1*=> "),
-    ("insert into t values (2)", "1*=> "), ("2 insert into t values (1)", "1*=> "), ("commit", "1=> "), ("2 commit", "1=> ")]
+    ("begin", "1*=> "), ("2 begin", "1*=> "), ("select id from t where id = 1;", "1*=> "), ("2 select id from t where id = 2;", "1*=> "),
+    ("insert into t values (2);", "1*=> "), ("2 insert into t values (1);", "1*=> "), ("commit", "1=> "), ("2 commit", "1=> ")]
 WHY = """2 # transaction {0} (session 1, line {2}) read t id = 1 (line {4}); transaction {1} (session 2, line {3}) wrote t id = 1 (line {7})
 2 # transaction {1} read t id = 2 (line {5}); transaction {0} wrote t id = 2 (line {6})
 2 # so each would have to come before the other; {0} committed first. Run transaction {1} again.
@@ -349,13 +445,13 @@ def drawn_there(shell, folder):
         first = len(asked) + 1
         for line, prompt in SKEW:
             shell.type(line, prompt)
-            words = line.replace("begin", "BEGIN").replace("commit", "COMMIT")
+            words = line.rstrip(";").replace("begin", "BEGIN").replace("commit", "COMMIT")
             asked.append(words if words[0].isdigit() else f"1 {words}")
         why = shell.type("\\why", "1=> ")
         if why != WHY.format(number, number + 1, *range(first, first + 6)):
             yield f"at a terminal it is told behind {first - 1} events why a transaction was refused: {why!r}"
 
-    for line in ("create table t (id bigint primary key)", "3 begin", "3 insert into t values (9)", "3 commit", "checkpoint"):
+    for line in ("create table t (id bigint primary key)", "3 begin", "3 insert into t values (9);", "3 commit", "checkpoint"):
         shell.type(line, "1=> ")
     # A checkpoint that is refused takes nothing away, and a line that is refused as none adds nothing.
     for line, prompt in ("begin", "1*=> "), ("checkpoint", "1*=> "), ("WAIT", "1*=> "), ("commit", "1=> "):
@@ -364,7 +460,7 @@ def drawn_there(shell, folder):
     yield from skew(3)
     yield from picture()
     with open(os.path.join(folder, "many"), "w", encoding="utf-8") as file:
-        file.write("delete from t\n".join(["begin\n", "commit\n"]) + "begin\ncommit\n" * 205)
+        file.write("delete from t;\n".join(["begin\n", "commit\n"]) + "begin\ncommit\n" * 205)
     shell.type("\\i many", "1=> ")
     asked += ["1 BEGIN", "1 delete from t", "1 COMMIT"] + ["1 BEGIN", "1 COMMIT"] * 205
     yield from skew(211)
@@ -373,10 +469,10 @@ def drawn_there(shell, folder):
 
 # What is refused with a code, where session 1 has a transaction alone.
 REFUSALS = {
-    "22003": "insert into t values (9223372036854775808, 1, null, '')", "22P02": "insert into t values (1, 1, '0', '')",
-    "22P04": "open none", "23502": "insert into t values (1, 1, null, null)", "23503": "insert into t values (1, 2, null, '')",
-    "23505": "insert into p values (1)", "25001": "begin", "25006": "2 insert into p values (3)", "25P01": "3 commit",
-    "25P02": "4 select * from p", "42703": "select w from p", "42804": "insert into p values ('')", "42P01": "select * from q", "55000": "poll"}
+    "22003": "insert into t values (9223372036854775808, 1, null, '');", "22P02": "insert into t values (1, 1, '0', '');",
+    "22P04": "open none", "23502": "insert into t values (1, 1, null, null);", "23503": "insert into t values (1, 2, null, '');",
+    "23505": "insert into p values (1);", "25001": "begin", "25006": "2 insert into p values (3);", "25P01": "3 commit",
+    "25P02": "4 select * from p;", "42703": "select w from p;", "42804": "insert into p values ('');", "42P01": "select * from q;", "55000": "poll"}
 
 
 def named_there(shell, folder):
@@ -393,7 +489,7 @@ def named_there(shell, folder):
     shown = {"22P04": told(REFUSALS["22P04"])}
     told("create table p (id bigint primary key)")
     told("create table t (id bigint primary key, p bigint references p, raw bytea, w text not null)")
-    for line in ("begin", "insert into p values (1)", "commit", "2 begin read only", "4 begin", "4 select * from q"):
+    for line in ("begin", "insert into p values (1);", "commit", "2 begin read only", "4 begin", "4 select * from q;"):
         told(line)
     for code, line in REFUSALS.items():
         if code not in shown:
@@ -444,6 +540,16 @@ class Sessions(Case):
 
     def test_of_somebody_who_knows_psql(self):
         self.type(STUMBLES, b"Exit\n")
+
+    def test_of_somebody_who_types_by_habit(self):
+        self.type(HABITS, b".quit\n")
+
+    def test_of_statements_by_themselves(self):
+        self.type(ALONE, b"\\q;\n")
+
+    def test_with_room_for_one_event_or_two(self):
+        self.type(ONE_EVENT, b"\\q\n", ("--events", "1"))
+        self.type(TWO_EVENTS, b"\\q\n", ("--events", "2"))
 
     def test_with_a_refused_commit(self):
         self.type(REFUSED, b"\\q\n")

@@ -12,7 +12,7 @@ use Rattle.command_shell.specs.Words.{HasBegun, IsUnbegunBy, end_status}
 
 -- a terminal at the prompt of session 1
 abbrev pub at_first : {F A : Type 0} → F → Over F A → At (Seen F A)
-at_first files p = record { attended = unasked files p; session = 1; is_timed = false; has_quit = false; begun = [] }
+at_first files p = record { attended = unasked files p; session = 1; is_timed = false; is_auto = true; has_quit = false; begun = [] }
 
 -- There was no prompt: it couldn't be written, or out of memory for it.
 abbrev pub IsMute : ℕ → List Turn → List Turn → Type 0

@@ -4,6 +4,9 @@
 
 #![tactic(auto)]
 
+mod screen;
+
+use crate::screen::Screen;
 use command_shell::prompt::words::prompt_words;
 use command_shell::words::shell_words;
 use commands::check::words::check_words;
@@ -185,7 +188,11 @@ fn main(rt: HostRuntime) -> ExitCode {
         errors: &errors,
     };
     greet(&rt, lent.as_slice());
-    let (mut out, mut err) = (NamingOutput::new(&rt), rt.stderr());
+    let (alloc, out, err) = (rt.alloc(), NamingOutput::new(&rt), rt.stderr());
+    let (mut out, mut err) = (
+        Screen::new(alloc, out, rt.stdout().is_terminal()),
+        Screen::new(alloc, err, rt.stderr().is_terminal()),
+    );
     let status = do_words(&rt, rt.alloc(), lent.as_slice(), &files, &mut out, &mut err);
     ExitCode::from(status)
 }

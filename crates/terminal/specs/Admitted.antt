@@ -1,10 +1,11 @@
 -- Lines that a terminal doesn't ask, since nothing could be done after them (ours).
-use Rattle.std.specs.Prelude.{ℕ, zero, suc, ◌+◌, ◌-◌, ◌==◌, ◌&&◌, ◌||◌, not, Bool, true, is_some, List, Option, Some, None, length, codes, nat_le, slice_index, if◌then◌else◌}
+use Rattle.std.specs.Prelude.{ℕ, zero, suc, ◌+◌, ◌-◌, ◌==◌, ◌&&◌, ◌||◌, not, Bool, true, false, is_some, List, Option, Some, None, length, codes, nat_le, slice_index, if◌then◌else◌}
 use Rattle.std.specs.Char.{is_ascii_digit}
 use Rattle.std.specs.Str.{bytes_eq}
 use Rattle.history.specs.Opening.{Recorded}
 use Rattle.shell.specs.Shells.{Held}
 use Rattle.terminal.specs.Marks.{mark_in}
+use Rattle.terminal.specs.Statements.{starts}
 use Rattle.terminal.specs.Typing.{begins, behind_word, first_word, session_in, session_of}
 use Rattle.terminal.specs.declared.admitting.Admission.{Admission}
 use Rattle.terminal.specs.declared.admitting.Admission.TheVariants as admission_of
@@ -27,6 +28,14 @@ is_end line = bytes_eq (behind_word line) (codes "COMMIT;") || bytes_eq (behind_
 -- a session's line that begins a transaction
 abbrev pub is_begin : List ℕ → Bool
 is_begin line = bytes_eq (behind_word line) (codes "BEGIN;") || bytes_eq (behind_word line) (codes "BEGIN READ ONLY;") || bytes_eq (behind_word line) (codes "BEGIN READ ONLY DEFERRABLE;")
+
+-- a line that creates or opens tables
+abbrev pub is_opening : List ℕ → Bool
+is_opening line = starts (codes "create ") line || starts (codes "open ") line
+
+-- how many events a line needs, with the end of its transaction: a statement by itself begins one and ends it
+abbrev pub events_of : Bool → ℕ
+events_of alone = if alone then 3 else 2
 
 module _ {A : Type 0} where
   -- how many more events a history has room for
@@ -53,22 +62,35 @@ module _ {A : Type 0} where
   abbrev pub has_room : Held A → ℕ → Bool
   has_room p n = has_room_on p.core p n
 
-  -- Before the server runs: a line that creates or opens tables, or one that begins a session's transaction where tables are created.
-  abbrev pub may_begin : Held A → List ℕ → Bool
-  may_begin p line = if is_sessions line then not (length p.created == 0) && is_begin line else not (begins (codes "CHECKPOINT") line)
+  -- whether a session has no transaction
+  abbrev pub is_idle : Held A → Option ℕ → Bool
+  is_idle p None = false
+  is_idle p (Some s) = one_of (mark_in p s) == 0
+
+  -- Before the server runs: a line that creates or opens tables; where there are tables, one that begins a session's transaction, or is one by itself.
+  abbrev pub may_begin : Held A → Bool → List ℕ → Bool
+  may_begin p alone line = if is_sessions line then not (length p.created == 0) && (alone || is_begin line) else not (begins (codes "CHECKPOINT") line)
 
   -- a line that ends a transaction of its session, which has one
   abbrev pub ends_one : Held A → List ℕ → Bool
   ends_one p line = is_end line && one_in p (session_in (first_word line)) == 1
 
-  -- While it runs: a session's line leaves room for the end of each transaction, or ends one.
-  abbrev pub admits_by : Held A → List ℕ → Admission
-  admits_by p line = if not (is_sessions line) || ends_one p line || has_room p 2 then admission_of.Asked else admission_of.Late
+  -- whether n events are asked, by the room for them
+  abbrev pub admits_events : Held A → ℕ → Admission
+  admits_events p n = if not (nat_le n p.most) then admission_of.Few else if has_room p n then admission_of.Asked else admission_of.Late
+
+  -- While it runs: no tables are created. A session's line leaves room for the end of each transaction, or ends one.
+  abbrev pub admits_by : Held A → Bool → List ℕ → Admission
+  admits_by p alone line = if is_opening line then admission_of.Closed else if not (is_sessions line) || ends_one p line then admission_of.Asked else admits_events p (events_of alone)
+
+  -- before it runs
+  abbrev pub admits_first : Held A → Bool → List ℕ → Admission
+  admits_first p alone line = if not (may_begin p alone line) then admission_of.Early else if is_sessions line then admits_events p (events_of alone) else admission_of.Asked
 
   -- Whether a dump is asked, whose transaction has three events.
   abbrev pub admits_dump : Held A → Admission
-  admits_dump p = if is_some p.core then (if has_room p 3 then admission_of.Asked else admission_of.Late) else if length p.created == 0 then admission_of.Early else admission_of.Asked
+  admits_dump p = if is_some p.core || not (length p.created == 0) then admits_events p 3 else admission_of.Early
 
-  -- whether a line is asked, and if not, why
-  abbrev pub admits : Held A → List ℕ → Admission
-  admits p line = if is_some p.core then admits_by p line else if may_begin p line then admission_of.Asked else admission_of.Early
+  -- whether a line is asked, which may be a transaction by itself, and if not, why
+  abbrev pub admits : Held A → Bool → List ℕ → Admission
+  admits p alone line = if is_some p.core then admits_by p alone line else admits_first p alone line

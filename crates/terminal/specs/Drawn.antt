@@ -25,11 +25,26 @@ shown_byte b = if is_shown b then b ∷ [] else numbered b
 abbrev pub is_control : ℕ → ℕ → Bool
 is_control b c = b == 194 && nat_lt 127 c && nat_lt c 160
 
+-- The three bytes of a character from U+202A to U+202E or from U+2066 to U+2069, which turns the direction of a text.
+abbrev pub turns : ℕ → ℕ → ℕ → Bool
+turns b c d = b == 226 && ((c == 128 && nat_lt 169 d && nat_lt d 175) || (c == 129 && nat_lt 165 d && nat_lt d 170))
+
+-- such a character by its number, as psql shows it
+abbrev pub turn_head : ℕ → List ℕ
+turn_head c = if c == 128 then codes "\\u202" else codes "\\u206"
+
+abbrev pub turn_text : ℕ → ℕ → List ℕ
+turn_text c d = turn_head c ++ digit_text (d % 16) ∷ []
+
 -- a text as it is shown: what controls a terminal by its number
 abbrev pub shown : List ℕ → List ℕ
 shown [] = []
 shown (b ∷ []) = shown_byte b
-shown (b ∷ c ∷ rest) = if is_control b c then numbered c ++ shown rest else shown_byte b ++ shown (c ∷ rest)
+shown (b ∷ c ∷ []) = if is_control b c then numbered c ++ shown [] else shown_byte b ++ shown (c ∷ [])
+shown (b ∷ c ∷ d ∷ rest) =
+    if is_control b c then numbered c ++ shown (d ∷ rest)
+    else if turns b c d then turn_text c d ++ shown rest
+    else shown_byte b ++ shown (c ∷ d ∷ rest)
 
 -- the rows of an answer, which are its lines after the first: each without the n bytes before its fields
 abbrev pub rows_in : ℕ → List ℕ → List (List ℕ)

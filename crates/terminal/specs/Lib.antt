@@ -1,9 +1,11 @@
+pub mod Alone
 pub mod Admitted
 pub mod Described
 pub mod Drawn
 pub mod Headers
 pub mod Marks
 pub mod Refused
+pub mod Statements
 pub mod Taken
 pub mod Terminals
 pub mod Tables

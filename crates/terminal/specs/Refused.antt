@@ -1,7 +1,7 @@
 -- What a terminal shows of a refusal of the syntax.
 use Rattle.std.specs.Prelude.{ℕ, ◌-◌, List, ◌++◌, length, codes, take, drop, if◌then◌else◌}
 use Rattle.terminal.specs.Typing.{begins, behind_word}
-use Rattle.terminal.specs.Taken.{starts}
+use Rattle.terminal.specs.Statements.{starts}
 
 -- how the refusal of a line's syntax begins, and how that of a statement does after the session's number
 abbrev pub refused : List ℕ

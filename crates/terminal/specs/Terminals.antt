@@ -4,10 +4,11 @@ use Rattle.std.specs.Fmt.{decimal}
 use Rattle.std.specs.List.{list_any, slice_split}
 use Rattle.shell.specs.Asked.{catalog_of}
 use Rattle.shell.specs.Shells.{Held}
-use Rattle.terminal.specs.Admitted.{admits, admits_dump}
+use Rattle.terminal.specs.Admitted.{admits, admits_dump, is_idle}
+use Rattle.terminal.specs.Alone.{answers_so, autocommit_text, beside, ending, no_autocommit_text, slip_text, told_alone}
 use Rattle.terminal.specs.declared.admitting.Admission.{Admission}
 use Rattle.terminal.specs.declared.admitting.Admission.TheVariants as admission_of
-use Rattle.terminal.specs.Typing.{behind_word, begins, line_of, session_in, text_in}
+use Rattle.terminal.specs.Typing.{behind_word, begins, first_word, line_of, session_in, text_in}
 use Rattle.terminal.specs.declared.typing.Typed.{Typed}
 use Rattle.terminal.specs.declared.typing.Typed.TheVariants as typed
 use Rattle.terminal.specs.Described.{table_described}
@@ -15,18 +16,15 @@ use Rattle.terminal.specs.Drawn.{drawn, shown}
 use Rattle.terminal.specs.Headers.{header_of}
 use Rattle.terminal.specs.Marks.{is_near, mark_in, prompt_text}
 use Rattle.terminal.specs.Refused.{worded}
-use Rattle.terminal.specs.Taken.{asks_for, cut_text, goes_on, is_cut, lacks_file, nameless_text, no_timing_text, timing_after, with_line}
+use Rattle.terminal.specs.Statements.{command_in, goes_on, is_statement, is_strange, pieces, session_at, with_line}
+use Rattle.terminal.specs.Taken.{asks_for, cut_text, is_cut, lacks_file, nameless_text, no_timing_text, strange_text, turned}
 use Rattle.terminal.specs.declared.attended.Aside.{Aside}
 use Rattle.terminal.specs.declared.attended.Aside.TheVariants as aside
 use Rattle.terminal.specs.declared.marks.Mark.TheVariants as mark
 
 -- what may be typed
 abbrev pub help_text : List ℕ
-help_text = codes "SELECT .., INSERT .., UPDATE .., DELETE ..   a statement of this session\nBEGIN [READ ONLY [DEFERRABLE]]               begins a transaction; COMMIT and ROLLBACK end it\nPOLL, EXPORT, IMPORT n, PRUNE, DUMP ..       other commands; CHECKPOINT makes room for events\nCREATE TABLE .., OPEN path                   before the first line of a session\n2                                            goes to session 2, of 64\n2 BEGIN                                      a line of session 2\n\\d [NAME]                                    the tables, or one of them\n\\serial                                      the committed transactions in their serial order\n\\why                                         why a transaction was refused last\n\\draw FILE                                   a picture of the transactions\n\\dump FILE                                   a dump of a safe snapshot\n\\i FILE                                      the lines of a file\n\\timing [on|off]                             tells how long answers take, or no longer\n\\?, help                                     this\n\\q, exit, quit                               ends the shell\n"
-
--- what is shown where there is no such word
-abbrev pub unknown_text : List ℕ
-unknown_text = codes "there is no such word: \\? tells what may be typed\n"
+help_text = codes "SELECT .., INSERT .., UPDATE .., DELETE ..;  a statement, over lines up to its ;\nBEGIN [READ ONLY [DEFERRABLE]]               begins a transaction; COMMIT and ROLLBACK end it\nPOLL, EXPORT, IMPORT n, PRUNE, DUMP ..       other commands; CHECKPOINT makes room for events\nCREATE TABLE .., OPEN path                   before the first transaction\n2                                            goes to session 2, of 64\n2 BEGIN                                      a line of session 2\n\\autocommit [on|off]                         whether a statement without BEGIN is a transaction by itself\n\\d [NAME]                                    the tables, or one of them\n\\serial                                      the committed transactions in their serial order\n\\why                                         why a transaction was refused last\n\\draw FILE                                   a picture of the transactions\n\\dump FILE                                   a dump of a safe snapshot\n\\i FILE                                      the lines of a file\n\\r                                           gives up a statement that goes on\n\\timing [on|off]                             tells how long answers take, or no longer\n\\?, help                                     this\n\\q, exit, quit                               ends the shell\nFor a history of lines and their editing, start it as `rlwrap pgserial shell`.\n"
 
 -- what is shown where no session may begin a dump
 abbrev pub no_session_text : List ℕ
@@ -43,6 +41,14 @@ early_text = codes "CREATE TABLE or OPEN comes first, then BEGIN: this line was 
 -- what is shown of a line whose event there is no room for
 abbrev pub late_text : List ℕ
 late_text = codes "all but the last of --events are used: COMMIT or ROLLBACK each transaction, then CHECKPOINT makes room\n"
+
+-- what is shown of a line that needs more room than there ever is
+abbrev pub few_text : List ℕ
+few_text = codes "--events gives too little room for a transaction: start the shell with more\n"
+
+-- what is shown of tables that come too late
+abbrev pub closed_text : List ℕ
+closed_text = codes "ERROR 42601: tables come before the first transaction: \\q, and start again with all of them\n"
 
 -- what is shown of a dump that is given up
 abbrev pub not_safe_text : List ℕ
@@ -88,6 +94,12 @@ module _ {A H : Type 0} where
   abbrev pub Asks : (H → List ℕ → H → List ℕ → Type 0) → (H → Held A) → H → List ℕ → H → List ℕ → Type 0
   Asks answers held p line q told = (text : List ℕ) × answers p line q text × (told ≡ drawn (header_of (held q)) (worded line text))
 
+  -- The handler p was asked a line as a transaction by itself, whose BEGIN and COMMIT, or ROLLBACK, were asked around it, and has become q; what is shown is its answer, drawn as above, or the refusal of COMMIT.
+  abbrev pub AsksAlone : (H → List ℕ → H → List ℕ → Type 0) → (H → Held A) → H → List ℕ → H → List ℕ → Type 0
+  AsksAlone answers held p line q told = (m : H) × (n : H) × (begun : List ℕ) × (text : List ℕ) × (last : List ℕ)
+      × answers p (beside line (codes "BEGIN;")) m begun × answers m line n text × answers n (beside line (ending (answers_so line (codes "ERROR ") text))) q last
+      × (told ≡ told_alone line (drawn (header_of (held n)) (worded line text)) text last)
+
   -- A session without a transaction makes the dump; or there is none.
   abbrev pub DumpsAt : (H → List ℕ → H → List ℕ → Type 0) → (H → Held A) → List ℕ → H → H → List ℕ → Type 0
   DumpsAt answers held path p q told = ((s : ℕ) × (mark_in (held p) s ≡ mark.Idle) × DumpsBy answers s path p q told) ⊎ ((q ≡ p) × (told ≡ no_session_text))
@@ -96,6 +108,8 @@ module _ {A H : Type 0} where
   DumpsAs admission_of.Asked answers held path p q told = DumpsAt answers held path p q told
   DumpsAs admission_of.Early answers held path p q told = (q ≡ p) × (told ≡ early_text)
   DumpsAs admission_of.Late answers held path p q told = (q ≡ p) × (told ≡ late_text)
+  DumpsAs admission_of.Few answers held path p q told = (q ≡ p) × (told ≡ few_text)
+  DumpsAs admission_of.Closed answers held path p q told = (q ≡ p) × (told ≡ closed_text)
 
   abbrev pub DumpsTo : Bool → (H → List ℕ → H → List ℕ → Type 0) → (H → Held A) → List ℕ → H → H → List ℕ → Type 0
   DumpsTo true answers held path p q told = (q ≡ p) × (told ≡ spaced_text)
@@ -105,11 +119,12 @@ module _ {A H : Type 0} where
   abbrev pub Dumps : (H → List ℕ → H → List ℕ → Type 0) → (H → Held A) → List ℕ → H → H → List ℕ → Type 0
   Dumps answers held path p q told = DumpsTo (list_any (λ b. b == 32) path) answers held path p q told
 
--- What a terminal knows: the handler, the session of the prompt, whether it shows how long answers take, whether it was asked to end, and the lines that the next one goes on from, if any.
+-- What a terminal knows: the handler, the session of the prompt, whether it shows how long answers take, whether a statement without BEGIN is a transaction by itself, whether it was asked to end, and the lines that the next one goes on from, if any.
 pub record At (H : Type 0) : Type 0 where
   pub attended : H
   pub session : ℕ
   pub is_timed : Bool
+  pub is_auto : Bool
   pub has_quit : Bool
   pub begun : List ℕ
 
@@ -156,11 +171,28 @@ abbrev pub Times : {H : Type 0} → Option Bool → At H → At H → List ℕ �
 Times None p q told = (q ≡ p) × (told ≡ no_timing_text)
 Times (Some is) p q told = (q ≡ record p { is_timed = is }) × (told ≡ timing_text is)
 
+-- A statement is a transaction by itself from then on, or no longer; or it isn't known which.
+abbrev pub Commits : {H : Type 0} → Option Bool → At H → At H → List ℕ → Type 0
+Commits None p q told = (q ≡ p) × (told ≡ no_autocommit_text)
+Commits (Some is) p q told = (q ≡ record p { is_auto = is }) × (told ≡ autocommit_text is)
+
+-- ---- lines in turn
+
+-- A line was done as this says, unless the conversation is to end: then nothing is.
+abbrev pub UnlessEnded : {H : Type 0} → Bool → (List ℕ → At H → At H → List ℕ → Type 0) → List ℕ → At H → At H → List ℕ → Type 0
+UnlessEnded true Done line p q told = (q ≡ p) × (told ≡ [])
+UnlessEnded false Done line p q told = Done line p q told
+
+-- Lines were done as this says, one after the other.
+abbrev pub InTurn : {H : Type 0} → (List ℕ → At H → At H → List ℕ → Type 0) → List (List ℕ) → At H → At H → List ℕ → Type 0
+InTurn Done [] p q told = (q ≡ p) × (told ≡ [])
+InTurn {H} Done (line ∷ more) p q told = (m : At H) × (first : List ℕ) × (rest : List ℕ) × UnlessEnded p.has_quit Done line p m first × InTurn Done more m q rest × (told ≡ first ++ rest)
+
 -- ---- the lines of files
 
--- a text without the newline at its end
-abbrev pub unended : List ℕ → List ℕ
-unended text = if not (length text == 0) && slice_index text (length text - 1) == 10 then take (length text - 1) text else text
+-- a text without this byte at its end
+abbrev pub without_last : ℕ → List ℕ → List ℕ
+without_last byte text = if not (length text == 0) && slice_index text (length text - 1) == byte then take (length text - 1) text else text
 
 -- a text without the byte order mark that it may begin with
 abbrev pub unmarked : List ℕ → List ℕ
@@ -168,7 +200,7 @@ unmarked text = if begins (239 ∷ 187 ∷ 191 ∷ []) text then drop 3 text els
 
 -- the lines of a file's text, of which the last may lack its newline
 abbrev pub lines_in : List ℕ → List (List ℕ)
-lines_in text = slice_split (λ b. b == 10) (unended (unmarked text))
+lines_in text = slice_split (λ b. b == 10) (without_last 10 (unmarked text))
 
 -- what is shown of a file that can't be read
 abbrev pub unread_text : List ℕ → List ℕ
@@ -176,7 +208,7 @@ unread_text path = shown path ++ codes ": there is no such file, or it can't be 
 
 -- what is shown of a file's line that asks for a file's lines
 abbrev pub nested_text : List ℕ
-nested_text = codes "a file can't ask for the lines of another\n"
+nested_text = codes "\\i stands alone on a line that is typed: a file can't ask for the lines of another\n"
 
 -- These bytes are what a file has, where it is known what it has.
 abbrev pub IsFile : Option (List ℕ) → List ℕ → Type 0
@@ -197,22 +229,33 @@ module _ {A H : Type 0} (held : H → Held A) where
   behind was q = if q.has_quit then [] else warning was (is_near (held q.attended)) ++ prompt_of q
 
 module _ {A H : Type 0} (answers : H → List ℕ → H → List ℕ → Type 0) (held : H → Held A) (tells : H → Aside → List ℕ → H → List ℕ → Type 0) where
+  -- A line was asked, as a transaction by itself or not.
+  abbrev pub AsksBy : Bool → H → List ℕ → H → List ℕ → Type 0
+  AsksBy true p line q told = AsksAlone answers held p line q told
+  AsksBy false p line q told = Asks answers held p line q told
+
   -- The handler p was asked a line, and its answer is shown, with how long it took where that is to be shown.
-  abbrev pub AsksTimed : Bool → H → List ℕ → H → List ℕ → Type 0
-  AsksTimed is_timed p line q told = (answer : List ℕ) × Asks answers held p line q answer × IsTimed is_timed answer told
+  abbrev pub AsksTimed : Bool → Bool → H → List ℕ → H → List ℕ → Type 0
+  AsksTimed alone is_timed p line q told = (answer : List ℕ) × AsksBy alone p line q answer × IsTimed is_timed answer told
 
-  abbrev pub AsksAs : Admission → At H → List ℕ → At H → List ℕ → Type 0
-  AsksAs admission_of.Asked p line q told = (h : H) × AsksTimed p.is_timed p.attended line h told × (q ≡ with p h)
-  AsksAs admission_of.Early p line q told = (q ≡ p) × (told ≡ early_text)
-  AsksAs admission_of.Late p line q told = (q ≡ p) × (told ≡ late_text)
+  abbrev pub AsksAs : Admission → Bool → At H → List ℕ → At H → List ℕ → Type 0
+  AsksAs admission_of.Asked alone p line q told = (h : H) × AsksTimed alone p.is_timed p.attended line h told × (q ≡ with p h)
+  AsksAs admission_of.Early alone p line q told = (q ≡ p) × (told ≡ early_text)
+  AsksAs admission_of.Late alone p line q told = (q ≡ p) × (told ≡ late_text)
+  AsksAs admission_of.Few alone p line q told = (q ≡ p) × (told ≡ few_text)
+  AsksAs admission_of.Closed alone p line q told = (q ≡ p) × (told ≡ closed_text)
 
-  -- The line was asked, unless it comes too early, or there is no room for its event.
-  abbrev pub AsksAdmitted : At H → List ℕ → At H → List ℕ → Type 0
-  AsksAdmitted p line q told = AsksAs (admits (held p.attended) line) p line q told
+  -- The line was asked, unless it comes too early or too late, or there is no room for its events.
+  abbrev pub AsksAdmitted : Bool → At H → List ℕ → At H → List ℕ → Type 0
+  AsksAdmitted alone p line q told = AsksAs (admits (held p.attended) alone line) alone p line q told
 
-  -- The line was asked that a command stands for.
+  -- whether a text speaks for a session without a transaction, whose statements are transactions by themselves
+  abbrev pub is_free : At H → List ℕ → Bool
+  is_free p text = p.is_auto && is_idle (held p.attended) (session_at p.session text)
+
+  -- The line was asked that a command stands for, unless that begins as nothing does.
   abbrev pub DoesCommand : At H → List ℕ → At H → List ℕ → Type 0
-  DoesCommand p text q told = AsksAdmitted p (line_of p.session text) q told
+  DoesCommand p text q told = OrRefused (is_free p text && is_strange (command_in text)) slip_text p q told (AsksAdmitted (is_free p text && is_statement (command_in text)) p (line_of p.session text) q told)
 
   -- The handler has shown something besides the answers, as a text asks; the shell is the same.
   abbrev pub TellsBeside : Aside → At H → List ℕ → At H → List ℕ → Type 0
@@ -224,42 +267,42 @@ module _ {A H : Type 0} (answers : H → List ℕ → H → List ℕ → Type 0)
   DoesAlone typed.Session p text q told = (q ≡ record p { session = unwrap_or (session_in text) p.session }) × (told ≡ [])
   DoesAlone typed.Help p text q told = (q ≡ p) × (told ≡ help_text)
   DoesAlone typed.Quit p text q told = (q ≡ record p { has_quit = true }) × (told ≡ [])
-  DoesAlone typed.Timing p text q told = Times (timing_after p.is_timed (behind_word text)) p q told
+  DoesAlone typed.Timing p text q told = Times (turned p.is_timed (behind_word text)) p q told
+  DoesAlone typed.Autocommit p text q told = Commits (turned p.is_auto (behind_word text)) p q told
   DoesAlone typed.Columns p text q told = (q ≡ p) × (told ≡ table_described (catalog_of (held p.attended)) (behind_word text))
   DoesAlone typed.Why p text q told = TellsBeside aside.Why p (behind_word text) q told
   DoesAlone typed.Drawing p text q told = TellsBeside aside.Drawing p (behind_word text) q told
   DoesAlone typed.Dump p text q told = (h : H) × Dumps answers held (behind_word text) p.attended h told × (q ≡ with p h)
+  DoesAlone typed.Tables p text q told = (h : H) × AsksPlainly answers p.attended (codes "\\d") h told × (q ≡ with p h)
   DoesAlone typed.Word p text q told = (h : H) × AsksPlainly answers p.attended text h told × (q ≡ with p h)
   DoesAlone typed.File p text q told = (q ≡ p) × (told ≡ nested_text)
-  DoesAlone typed.Unknown p text q told = (q ≡ p) × (told ≡ unknown_text)
+  DoesAlone typed.Unknown p text q told = (q ≡ p) × (told ≡ strange_text (first_word text))
   DoesAlone typed.Command p text q told = DoesCommand p text q told
 
   -- What a text alone asks for was done, and this is shown; where a file's name is missing, it is refused.
   abbrev pub DoesTextAlone : At H → List ℕ → At H → List ℕ → Type 0
   DoesTextAlone p text q told = OrRefused (lacks_file (asks_for text) text) (nameless_text text) p q told (DoesAlone (asks_for text) p text q told)
 
-  -- The next line goes on from these lines; or what they ask for was done, and this is shown.
+  -- The next line goes on from this piece of one; or what it asks for was done, and this is shown.
+  abbrev pub DoesPiece : List ℕ → At H → At H → List ℕ → Type 0
+  DoesPiece piece p q told = OrKept (goes_on piece) piece p q told (DoesTextAlone p (text_in piece) q told)
+
+  -- All that lines ask for was done, one after the other.
   abbrev pub DoesLinesAlone : At H → List ℕ → At H → List ℕ → Type 0
-  DoesLinesAlone p lines q told = OrKept (goes_on lines) lines p q told (DoesTextAlone p (text_in lines) q told)
+  DoesLinesAlone p lines q told = InTurn DoesPiece (pieces lines) p q told
 
-  -- A file's line was typed after the prompt, which is shown with it, and what it asks for was done.
+  -- A line was typed after the prompt, which is shown with it, and what it asks for was done.
+  abbrev pub TypesLine : List ℕ → At H → At H → List ℕ → Type 0
+  TypesLine line p q told = (text : List ℕ) × DoesLinesAlone (afresh p) (with_line p.begun line) q text × (told ≡ prompt_of held p ++ shown line ++ codes "\n" ++ text)
+
+  -- A file's line was typed after the prompt, which is shown with it, and what it asks for was done; a carriage return at its end is left out.
   abbrev pub PlaysLine : List ℕ → At H → At H → List ℕ → Type 0
-  PlaysLine line p q told = (text : List ℕ) × DoesLinesAlone (afresh p) (with_line p.begun line) q text × (told ≡ prompt_of held p ++ shown line ++ codes "\n" ++ text)
-
-  -- A file's line was typed, unless the conversation is to end: then nothing more is.
-  abbrev pub PlaysUnless : Bool → List ℕ → At H → At H → List ℕ → Type 0
-  PlaysUnless true line p q told = (q ≡ p) × (told ≡ [])
-  PlaysUnless false line p q told = PlaysLine line p q told
-
-  -- Lines of a file were typed, one after the other.
-  abbrev pub Plays : List (List ℕ) → At H → At H → List ℕ → Type 0
-  Plays [] p q told = (q ≡ p) × (told ≡ [])
-  Plays (line ∷ more) p q told = (m : At H) × (first : List ℕ) × (rest : List ℕ) × PlaysUnless p.has_quit line p m first × Plays more m q rest × (told ≡ first ++ rest)
+  PlaysLine line p q told = TypesLine (without_last 13 line) p q told
 
 module _ {A H : Type 0} (answers : H → List ℕ → H → List ℕ → Type 0) (held : H → Held A) (tells : H → Aside → List ℕ → H → List ℕ → Type 0) (files : H → List ℕ → Option (List ℕ)) where
   -- All lines of a path's file were typed; or it couldn't be read.
   abbrev pub PlaysFile : List ℕ → At H → At H → List ℕ → Type 0
-  PlaysFile path p q told = ((text : List ℕ) × IsFile (files p.attended path) text × Plays answers held tells (lines_in text) p q told) ⊎ ((q ≡ p) × (told ≡ unread_text path))
+  PlaysFile path p q told = ((text : List ℕ) × IsFile (files p.attended path) text × InTurn (PlaysLine answers held tells) (lines_in text) p q told) ⊎ ((q ≡ p) × (told ≡ unread_text path))
 
   abbrev pub DoesAs : Bool → Typed → At H → List ℕ → At H → List ℕ → Type 0
   DoesAs true t p text q told = PlaysFile (behind_word text) p q told
@@ -273,9 +316,13 @@ module _ {A H : Type 0} (answers : H → List ℕ → H → List ℕ → Type 0)
   abbrev pub DoesText : At H → List ℕ → At H → List ℕ → Type 0
   DoesText p text q told = OrRefused (lacks_file (asks_for text) text) (nameless_text text) p q told (Does (asks_for text) p text q told)
 
-  -- The next line goes on from these lines; or what they ask for was done, and this is shown.
+  abbrev pub DoesLinesAs : Bool → At H → List ℕ → At H → List ℕ → Type 0
+  DoesLinesAs true p lines q told = DoesText p (text_in lines) q told
+  DoesLinesAs false p lines q told = DoesLinesAlone answers held tells p lines q told
+
+  -- All that lines ask for was done: the word with a backslash with which they begin; or one thing after the other.
   abbrev pub DoesLines : At H → List ℕ → At H → List ℕ → Type 0
-  DoesLines p lines q told = OrKept (goes_on lines) lines p q told (DoesText p (text_in lines) q told)
+  DoesLines p lines q told = DoesLinesAs (begins (codes "\\") (text_in lines)) p lines q told
 
   -- What a typed line asks for, with those that it goes on from, was done, unless it may be cut off.
   abbrev pub DoesLine : At H → List ℕ → At H → List ℕ → Type 0

@@ -66,8 +66,11 @@ abbrev pub further_word : List ℕ → Typed
 further_word word =
     if bytes_eq word (codes "\\i") then typed.File
     else if bytes_eq word (codes "\\timing") then typed.Timing
+    else if bytes_eq word (codes "\\autocommit") then typed.Autocommit
     else if bytes_eq word (codes "\\why") then typed.Why
     else if bytes_eq word (codes "\\draw") then typed.Drawing
+    else if bytes_eq word (codes "\\dt") then typed.Tables
+    else if bytes_eq word (codes "\\h") then typed.Help
     else typed.Unknown
 
 -- what a word asks for, with what follows it
@@ -77,7 +80,7 @@ word_typed word behind =
     else if bytes_eq word (codes "\\q") then typed.Quit
     else if bytes_eq word (codes "\\serial") then typed.Word
     else if bytes_eq word (codes "\\dump") then typed.Dump
-    else if bytes_eq word (codes "\\d") then (if length behind == 0 then typed.Word else typed.Columns)
+    else if bytes_eq word (codes "\\d") then (if length behind == 0 then typed.Tables else typed.Columns)
     else further_word word
 
 -- what a text asks for
@@ -85,6 +88,7 @@ abbrev pub typed_as : List ℕ → Typed
 typed_as text =
     if length text == 0 || begins (codes "--") text then typed.Nothing
     else if slice_index text 0 == 92 then word_typed (first_word text) (behind_word text)
+    else if slice_index text 0 == 46 then typed.Unknown
     else if is_some (session_in text) then typed.Session
     else typed.Command
 
@@ -92,6 +96,20 @@ typed_as text =
 abbrev pub is_plain : List ℕ → Bool
 is_plain text = bytes_eq text (codes "BEGIN") || bytes_eq text (codes "BEGIN READ ONLY") || bytes_eq text (codes "BEGIN READ ONLY DEFERRABLE")
     || bytes_eq text (codes "COMMIT") || bytes_eq text (codes "ROLLBACK") || bytes_eq text (codes "POLL") || bytes_eq text (codes "EXPORT") || bytes_eq text (codes "PRUNE") || bytes_eq text (codes "WAIT")
+
+-- whether a text in capitals begins a transaction of the one isolation level that there is
+abbrev pub begins_serializable : List ℕ → Bool
+begins_serializable text =
+    bytes_eq text (codes "BEGIN ISOLATION LEVEL SERIALIZABLE") || bytes_eq text (codes "BEGIN TRANSACTION ISOLATION LEVEL SERIALIZABLE")
+    || bytes_eq text (codes "START TRANSACTION ISOLATION LEVEL SERIALIZABLE")
+
+-- what a text in capitals means that says it in other words of PostgreSQL's
+abbrev pub meant : List ℕ → List ℕ
+meant text =
+    if begins_serializable text || bytes_eq text (codes "BEGIN WORK") || bytes_eq text (codes "BEGIN TRANSACTION") || bytes_eq text (codes "START TRANSACTION") then codes "BEGIN"
+    else if bytes_eq text (codes "END") || bytes_eq text (codes "COMMIT WORK") || bytes_eq text (codes "COMMIT TRANSACTION") then codes "COMMIT"
+    else if bytes_eq text (codes "ABORT") || bytes_eq text (codes "ROLLBACK WORK") || bytes_eq text (codes "ROLLBACK TRANSACTION") then codes "ROLLBACK"
+    else text
 
 -- whether a text in capitals begins with a word that something follows
 abbrev pub has_head : List ℕ → Bool
@@ -103,7 +121,7 @@ headed text = capitals (first_word text) ++ drop (length (first_word text)) text
 
 -- a command as a script has it; a statement stays as it is
 abbrev pub command_text : List ℕ → List ℕ
-command_text text = if is_plain (capitals text) then capitals text else if has_head (capitals text) then headed text else text
+command_text text = if is_plain (meant (capitals text)) then meant (capitals text) else if has_head (capitals text) then headed text else text
 
 -- whether a text in capitals is no session's
 abbrev pub is_sessionless : List ℕ → Bool

@@ -5,6 +5,7 @@ ghost use Rattle.value.specs.Refusals.{out_of_memory};
 ghost use Rattle.terminal.specs.Admitted as spec;
 
 use crate::marks::{Mark, mark_in};
+use crate::statements::starts;
 use crate::typing::{begins, behind_word, first_word, session_in, session_of};
 use history::list::History;
 use history::session_id::SessionId;
@@ -21,6 +22,10 @@ pub enum Admission {
     Early,
     /// Not since the room that is left for events is kept for the ends of transactions.
     Late,
+    /// Not since there is never room for so many events.
+    Few,
+    /// Not since a transaction has begun: tables come before it.
+    Closed,
 }
 
 // One for a session that has a transaction, and nothing for another.
@@ -126,12 +131,46 @@ fn is_end(line: &[u8]) -> bool
     command == b"COMMIT;".as_slice() || command == b"ROLLBACK;".as_slice()
 }
 
-// Whether a line may come before the server runs: one of a session begins a transaction, where tables are created.
-fn may_begin<A: Allocator + Copy>(shell: &Shell<A>, line: &[u8]) -> bool
-    ensures { result ≡ spec.may_begin shell.now line.now }
+/// Whether a session has no transaction.
+pub(crate) fn is_idle<A: Allocator + Copy>(
+    alloc: A,
+    shell: &Shell<A>,
+    session: Option<SessionId>,
+) -> Result<bool, Refusal>
+    ensures idle { IfOk result (λ b. b ≡ spec.is_idle shell.now session) }
+    ensures memory { IfErr result (λ e. e ≡ out_of_memory) }
+{
+    match session {
+        Some(session) => {
+            let mark = mark_in(alloc, shell, session)?;
+            Ok(one_of(mark) == 0)
+        }
+        None => Ok(false),
+    }
+}
+
+// Whether a line creates or opens tables.
+fn is_opening(line: &[u8]) -> bool
+    ensures { result ≡ spec.is_opening line.now }
+{
+    starts(b"create ", line) || starts(b"open ", line)
+}
+
+// How many events a line needs, with the end of its transaction.
+fn events_of(alone: bool) -> usize
+    ensures events { result ≡ spec.events_of alone }
+    ensures few { result ≤ 3 }
+{
+    if alone { 3 } else { 2 }
+}
+
+// Whether a line may come before the server runs: one of a session begins a transaction, or is one by itself, where
+// tables are created.
+fn may_begin<A: Allocator + Copy>(shell: &Shell<A>, alone: bool, line: &[u8]) -> bool
+    ensures { result ≡ spec.may_begin shell.now alone line.now }
 {
     if is_sessions(line) {
-        !shell.created().is_empty() && is_begin(line)
+        !shell.created().is_empty() && (alone || is_begin(line))
     } else {
         !begins(b"CHECKPOINT", line)
     }
@@ -149,20 +188,61 @@ fn ends_one<A: Allocator + Copy>(alloc: A, shell: &Shell<A>, line: &[u8]) -> Res
     Ok(one == 1)
 }
 
-// Whether a line may come while the server runs.
-fn admits_by<A: Allocator + Copy>(
+// Whether so many events are asked, by the room for them.
+fn admits_events<A: Allocator + Copy>(
     alloc: A,
     shell: &Shell<A>,
-    line: &[u8],
+    events: usize,
 ) -> Result<Admission, Refusal>
-    ensures admission { IfOk result (λ a. a ≡ spec.admits_by shell.now line.now) }
+    requires { events ≤ 64 }
+    ensures admission { IfOk result (λ a. a ≡ spec.admits_events shell.now events) }
     ensures memory { IfErr result (λ e. e ≡ out_of_memory) }
 {
-    if !is_sessions(line) || ends_one(alloc, shell, line)? || has_room(alloc, shell, 2)? {
+    if events > shell.most_events() as usize {
+        Ok(Admission::Few)
+    } else if has_room(alloc, shell, events)? {
         Ok(Admission::Asked)
     } else {
         Ok(Admission::Late)
     }
+}
+
+// Whether a line may come while the server runs.
+fn admits_by<A: Allocator + Copy>(
+    alloc: A,
+    shell: &Shell<A>,
+    alone: bool,
+    line: &[u8],
+) -> Result<Admission, Refusal>
+    ensures admission { IfOk result (λ a. a ≡ spec.admits_by shell.now alone line.now) }
+    ensures memory { IfErr result (λ e. e ≡ out_of_memory) }
+{
+    if is_opening(line) {
+        return Ok(Admission::Closed);
+    }
+    if !is_sessions(line) || ends_one(alloc, shell, line)? {
+        return Ok(Admission::Asked);
+    }
+    admits_events(alloc, shell, events_of(alone))
+}
+
+// Whether a line may come before the server runs.
+fn admits_first<A: Allocator + Copy>(
+    alloc: A,
+    shell: &Shell<A>,
+    alone: bool,
+    line: &[u8],
+) -> Result<Admission, Refusal>
+    ensures admission { IfOk result (λ a. a ≡ spec.admits_first shell.now alone line.now) }
+    ensures memory { IfErr result (λ e. e ≡ out_of_memory) }
+{
+    if !may_begin(shell, alone, line) {
+        return Ok(Admission::Early);
+    }
+    if is_sessions(line) {
+        return admits_events(alloc, shell, events_of(alone));
+    }
+    Ok(Admission::Asked)
 }
 
 /// Whether a dump is asked, whose transaction has three events, and if not, why.
@@ -173,36 +253,26 @@ pub(crate) fn admits_dump<A: Allocator + Copy>(
     ensures admission { IfOk result (λ a. a ≡ spec.admits_dump shell.now) }
     ensures memory { IfErr result (λ e. e ≡ out_of_memory) }
 {
-    if shell.core().is_some() {
-        let is_asked = has_room(alloc, shell, 3)?;
-        return Ok(if is_asked {
-            Admission::Asked
-        } else {
-            Admission::Late
-        });
-    }
-    if shell.created().is_empty() {
-        Ok(Admission::Early)
+    if shell.core().is_some() || !shell.created().is_empty() {
+        admits_events(alloc, shell, 3)
     } else {
-        Ok(Admission::Asked)
+        Ok(Admission::Early)
     }
 }
 
-/// Whether a line is asked, and if not, why.
+/// Whether a line is asked, which may be a transaction by itself, and if not, why.
 pub(crate) fn admits<A: Allocator + Copy>(
     alloc: A,
     shell: &Shell<A>,
+    alone: bool,
     line: &[u8],
 ) -> Result<Admission, Refusal>
-    ensures admission { IfOk result (λ a. a ≡ spec.admits shell.now line.now) }
+    ensures admission { IfOk result (λ a. a ≡ spec.admits shell.now alone line.now) }
     ensures memory { IfErr result (λ e. e ≡ out_of_memory) }
 {
     if shell.core().is_some() {
-        return admits_by(alloc, shell, line);
-    }
-    if may_begin(shell, line) {
-        Ok(Admission::Asked)
+        admits_by(alloc, shell, alone, line)
     } else {
-        Ok(Admission::Early)
+        admits_first(alloc, shell, alone, line)
     }
 }

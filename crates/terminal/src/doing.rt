@@ -5,20 +5,23 @@ ghost use Rattle.value.specs.Refusals.{out_of_memory};
 ghost use Rattle.shell.specs.Asked.{catalog_of};
 ghost use Rattle.terminal.specs.Described.{table_described};
 ghost use Rattle.terminal.specs.Typing.{line_of as spec_line, session_in};
+ghost use Rattle.terminal.specs.Alone as alone;
 ghost use Rattle.terminal.specs.Taken as taken;
 ghost use Rattle.terminal.specs.Terminals as spec;
-ghost use Rattle.terminal.specs.Terminals.{AsksAdmitted, AsksPlainly, AsksTimed, DoesAlone, DoesCommand, DoesTextAlone, Dumps, OrRefused, TellsBeside, Times, with};
+ghost use Rattle.terminal.specs.Terminals.{AsksAdmitted, AsksPlainly, AsksTimed, Commits, DoesAlone, DoesCommand, DoesTextAlone, Dumps, OrRefused, TellsBeside, Times, with};
 
-use crate::admitting::{Admission, admits};
-use crate::answering::{ask_plainly, ask_timed};
+use crate::admitting::{Admission, admits, is_idle};
+use crate::answering::{Way, ask_plainly, ask_timed};
 use crate::attended::{Aside, Attended};
 use crate::describing::describe;
 use crate::dumping::dump;
-use crate::taking::{asks_for, lacks_file, timing_after};
+use crate::statements::{command_in, is_statement, is_strange, session_at};
+use crate::taking::{asks_for, lacks_file, strange_text, turned};
 use crate::terminal::{Prompt, Terminal};
-use crate::typing::{Typed, behind_word, line_of, session_in};
+use crate::typing::{Typed, behind_word, first_word, line_of, session_in};
 use crate::wording::{
-    early_text, help_text, late_text, nested_text, no_timing_text, timing_text, unknown_text,
+    autocommit_text, closed_text, early_text, few_text, help_text, late_text, nested_text,
+    no_autocommit_text, no_timing_text, slip_text, timing_text,
 };
 use std::alloc::Allocator;
 use value::refusal::Refusal;
@@ -88,12 +91,44 @@ fn turn_timing<A: Allocator, H: Drop>(
     text: &[u8],
 ) -> Result<(Terminal<H, A>, Vec<u8, A>), Refusal>
     ensures done { IfOk result (λ x.
-        Times (taken.timing_after terminal.is_timed text.now) terminal x.0 x.1.items) }
+        Times (taken.turned terminal.is_timed text.now) terminal x.0 x.1.items) }
     ensures memory { IfErr result (λ e. e ≡ out_of_memory) }
 {
-    match timing_after(terminal.prompt.is_timed, text) {
+    match turned(terminal.prompt.is_timed, text) {
         Some(is_timed) => set_timing(alloc, terminal, is_timed),
         None => tell(alloc, terminal, no_timing_text()),
+    }
+}
+
+// Takes a statement without BEGIN for a transaction by itself from now on, or no longer does.
+fn set_autocommit<A: Allocator, H: Drop>(
+    alloc: A,
+    terminal: Terminal<H, A>,
+    is_auto: bool,
+) -> Result<(Terminal<H, A>, Vec<u8, A>), Refusal>
+    ensures terminal { IfOk result (λ x. x.0 ≡ record terminal { is_auto = is_auto }) }
+    ensures told { IfOk result (λ x. x.1.items ≡ alone.autocommit_text is_auto) }
+    ensures memory { IfErr result (λ e. e ≡ out_of_memory) }
+{
+    let Terminal { attended, prompt } = terminal;
+    let told = Vec::from_slice(alloc, autocommit_text(is_auto))?;
+    let prompt = Prompt { is_auto, ..prompt };
+    Ok((Terminal { attended, prompt }, told))
+}
+
+// Takes a statement without BEGIN for a transaction by itself, or no longer does, as the text after the word says.
+fn turn_autocommit<A: Allocator, H: Drop>(
+    alloc: A,
+    terminal: Terminal<H, A>,
+    text: &[u8],
+) -> Result<(Terminal<H, A>, Vec<u8, A>), Refusal>
+    ensures done { IfOk result (λ x.
+        Commits (taken.turned terminal.is_auto text.now) terminal x.0 x.1.items) }
+    ensures memory { IfErr result (λ e. e ≡ out_of_memory) }
+{
+    match turned(terminal.prompt.is_auto, text) {
+        Some(is_auto) => set_autocommit(alloc, terminal, is_auto),
+        None => tell(alloc, terminal, no_autocommit_text()),
     }
 }
 
@@ -127,35 +162,40 @@ fn word_at<A: Allocator + Copy, H: Attended<A>>(
     Ok((Terminal { attended, prompt }, told))
 }
 
-// Asks a line.
+// Asks a line, as a transaction by itself or not.
 fn ask_at<A: Allocator + Copy, H: Attended<A>>(
     alloc: A,
     terminal: Terminal<H, A>,
+    alone: bool,
     line: &[u8],
 ) -> Result<(Terminal<H, A>, Vec<u8, A>), Refusal>
     ensures done { IfOk result (λ x. (h : H) ×
-        AsksTimed H.answers H.held H.tells terminal.is_timed terminal.attended line.now h x.1.items ×
+        AsksTimed H.answers H.held H.tells alone terminal.is_timed terminal.attended line.now h x.1.items ×
         (x.0 ≡ with terminal h)) }
     ensures memory { IfErr result (λ e. e ≡ out_of_memory) }
 {
     let Terminal { attended, prompt } = terminal;
-    let (attended, told) = ask_timed(alloc, attended, prompt.is_timed, line)?;
+    let is_timed = prompt.is_timed;
+    let (attended, told) = ask_timed(alloc, attended, Way { alone, is_timed }, line)?;
     Ok((Terminal { attended, prompt }, told))
 }
 
-// Asks a line, unless it comes too early, or there is no room for its event.
+// Asks a line, unless it comes too early or too late, or there is no room for its events.
 fn ask_admitted<A: Allocator + Copy, H: Attended<A>>(
     alloc: A,
     terminal: Terminal<H, A>,
+    alone: bool,
     line: &[u8],
 ) -> Result<(Terminal<H, A>, Vec<u8, A>), Refusal>
-    ensures done { IfOk result (λ x. AsksAdmitted H.answers H.held H.tells terminal line.now x.0 x.1.items) }
+    ensures done { IfOk result (λ x. AsksAdmitted H.answers H.held H.tells alone terminal line.now x.0 x.1.items) }
     ensures memory { IfErr result (λ e. e ≡ out_of_memory) }
 {
-    match admits(alloc, terminal.attended.shell(), line)? {
-        Admission::Asked => ask_at(alloc, terminal, line),
+    match admits(alloc, terminal.attended.shell(), alone, line)? {
+        Admission::Asked => ask_at(alloc, terminal, alone, line),
         Admission::Early => tell(alloc, terminal, early_text()),
         Admission::Late => tell(alloc, terminal, late_text()),
+        Admission::Few => tell(alloc, terminal, few_text()),
+        Admission::Closed => tell(alloc, terminal, closed_text()),
     }
 }
 
@@ -171,7 +211,38 @@ fn line_at<A: Allocator + Copy, H: Drop>(
     line_of(alloc, terminal.prompt.session, command)
 }
 
-// Asks the line that a command stands for.
+// Whether a text speaks for a session without a transaction, whose statements are transactions by themselves.
+fn is_free<A: Allocator + Copy, H: Attended<A>>(
+    alloc: A,
+    terminal: &Terminal<H, A>,
+    text: &[u8],
+) -> Result<bool, Refusal>
+    ensures free { IfOk result (λ b. b ≡ spec.is_free H.answers H.held H.tells terminal.now text.now) }
+    ensures memory { IfErr result (λ e. e ≡ out_of_memory) }
+{
+    if !terminal.prompt.is_auto {
+        return Ok(false);
+    }
+    let session = session_at(terminal.prompt.session, text);
+    is_idle(alloc, terminal.attended.shell(), session)
+}
+
+// Asks the line that a command stands for, as a transaction by itself or not.
+fn ask_command<A: Allocator + Copy, H: Attended<A>>(
+    alloc: A,
+    terminal: Terminal<H, A>,
+    alone: bool,
+    command: &[u8],
+) -> Result<(Terminal<H, A>, Vec<u8, A>), Refusal>
+    ensures done { IfOk result (λ x. AsksAdmitted H.answers H.held H.tells alone terminal
+        (spec_line terminal.session command.now) x.0 x.1.items) }
+    ensures memory { IfErr result (λ e. e ≡ out_of_memory) }
+{
+    let line = line_at(alloc, &terminal, command)?;
+    ask_admitted(alloc, terminal, alone, line.as_slice())
+}
+
+// Asks the line that a command stands for, unless that begins as nothing does.
 fn do_command<A: Allocator + Copy, H: Attended<A>>(
     alloc: A,
     terminal: Terminal<H, A>,
@@ -180,8 +251,14 @@ fn do_command<A: Allocator + Copy, H: Attended<A>>(
     ensures done { IfOk result (λ x. DoesCommand H.answers H.held H.tells terminal command.now x.0 x.1.items) }
     ensures memory { IfErr result (λ e. e ≡ out_of_memory) }
 {
-    let line = line_at(alloc, &terminal, command)?;
-    ask_admitted(alloc, terminal, line.as_slice())
+    let is_free = is_free(alloc, &terminal, command)?;
+    let words = command_in(command);
+    let is_strange = is_strange(alloc, words)?;
+    if is_free && is_strange {
+        tell(alloc, terminal, slip_text())
+    } else {
+        ask_command(alloc, terminal, is_free && is_statement(words), command)
+    }
 }
 
 // Shows the table of a name.
@@ -229,13 +306,15 @@ pub(crate) fn do_alone<A: Allocator + Copy, H: Attended<A>>(
         Typed::Help => tell(alloc, terminal, help_text()),
         Typed::Quit => Ok(quit(alloc, terminal)),
         Typed::Timing => turn_timing(alloc, terminal, behind_word(text)),
+        Typed::Autocommit => turn_autocommit(alloc, terminal, behind_word(text)),
         Typed::Columns => columns_at(alloc, terminal, behind_word(text)),
         Typed::Why => aside_at(alloc, terminal, Aside::Why, behind_word(text)),
         Typed::Drawing => aside_at(alloc, terminal, Aside::Drawing, behind_word(text)),
         Typed::Dump => dump_at(alloc, terminal, behind_word(text)),
+        Typed::Tables => word_at(alloc, terminal, b"\\d"),
         Typed::Word => word_at(alloc, terminal, text),
         Typed::File => tell(alloc, terminal, nested_text()),
-        Typed::Unknown => tell(alloc, terminal, unknown_text()),
+        Typed::Unknown => tell(alloc, terminal, strange_text(first_word(text))),
         Typed::Command => do_command(alloc, terminal, text),
     }
 }

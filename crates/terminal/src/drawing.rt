@@ -42,6 +42,31 @@ fn is_control(first: u8, second: u8) -> bool
     first == 194 && 127 < second && second < 160
 }
 
+// Whether three bytes are a character that turns the direction of a text.
+fn turns(first: u8, second: u8, third: u8) -> bool
+    ensures { result ≡ spec.turns first second third }
+{
+    first == 226
+        && ((second == 128 && 169 < third && third < 175)
+            || (second == 129 && 165 < third && third < 170))
+}
+
+// How the number of such a character begins.
+fn turn_head(second: u8) -> &'static [u8]
+    ensures { result.now ≡ spec.turn_head second }
+{
+    if second == 128 { b"\\u202" } else { b"\\u206" }
+}
+
+// Appends such a character by its number.
+fn append_turn<A: Allocator>(second: u8, third: u8, text: &mut Vec<u8, A>) -> Result<(), AllocError>
+    ensures { OnOk result (text.new.items ≡ text.old.items ++ spec.turn_text second third) }
+{
+    text.extend_from_slice(turn_head(second))?;
+    text.push(digit_text(third % 16))?;
+    Ok(())
+}
+
 // Appends a byte by its number.
 fn append_number<A: Allocator>(byte: u8, text: &mut Vec<u8, A>) -> Result<(), AllocError>
     ensures { OnOk result (text.new.items ≡ text.old.items ++ spec.numbered byte) }
@@ -64,8 +89,8 @@ fn append_shown<A: Allocator>(byte: u8, text: &mut Vec<u8, A>) -> Result<(), All
     append_number(byte, text)
 }
 
-// Appends the first byte of a text as it is shown, or the first two where they control a terminal, and returns the
-// rest.
+// Appends the first byte of a text as it is shown, or the first two or three where they control a terminal, and returns
+// the rest.
 fn append_first<'t, A: Allocator>(
     first: u8,
     more: &'t [u8],
@@ -78,6 +103,10 @@ fn append_first<'t, A: Allocator>(
     match more {
         [second, rest @ ..] if is_control(first, *second) => {
             append_number(*second, text)?;
+            Ok(rest)
+        }
+        [second, third, rest @ ..] if turns(first, *second, *third) => {
+            append_turn(*second, *third, text)?;
             Ok(rest)
         }
         _ => {

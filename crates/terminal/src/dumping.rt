@@ -15,7 +15,9 @@ use crate::attended::Attended;
 use crate::drawing::shown;
 use crate::marks::{Mark, mark_in};
 use crate::typing::begins;
-use crate::wording::{early_text, late_text, no_session_text, not_safe_text, spaced_text};
+use crate::wording::{
+    closed_text, early_text, few_text, late_text, no_session_text, not_safe_text, spaced_text,
+};
 use history::session_id::SessionId;
 use itoa::Buffer;
 use shell::shell::Shell;
@@ -206,6 +208,8 @@ fn dump_admitted<A: Allocator + Copy, H: Attended<A>>(
         Admission::Asked => dump_at(alloc, attended, path),
         Admission::Early => tell_only(alloc, attended, early_text()),
         Admission::Late => tell_only(alloc, attended, late_text()),
+        Admission::Few => tell_only(alloc, attended, few_text()),
+        Admission::Closed => tell_only(alloc, attended, closed_text()),
     }
 }
 

@@ -7,12 +7,12 @@ ghost use Rattle.terminal.specs.Terminals.{Does, DoesLine, DoesLines, DoesText, 
 
 use crate::attended::Attended;
 use crate::doing::{do_alone, tell, tell_nameless};
-use crate::lines::{keep_lines, prompt_of, take_lines};
+use crate::lines::{do_lines_alone, prompt_of, take_lines};
 use crate::marks::is_near;
 use crate::playing::play_file;
-use crate::taking::{asks_for, goes_on, is_cut, lacks_file};
+use crate::taking::{asks_for, is_cut, lacks_file};
 use crate::terminal::Terminal;
-use crate::typing::{Typed, behind_word, text_in};
+use crate::typing::{Typed, begins, behind_word, text_in};
 use crate::wording::{cut_text, near_text};
 use shell::conversation::handler::Handler;
 use std::alloc::Allocator;
@@ -64,20 +64,21 @@ fn do_text<A: Allocator + Copy, H: Attended<A>>(
     }
 }
 
-// Keeps lines that the next one goes on from, or does what they ask for.
+// Does all that lines ask for.
 fn do_lines<A: Allocator + Copy, H: Attended<A>>(
     alloc: A,
     terminal: Terminal<H, A>,
-    lines: Vec<u8, A>,
+    lines: &[u8],
 ) -> Result<(Terminal<H, A>, Vec<u8, A>), Refusal>
     ensures done { IfOk result (λ x.
-        DoesLines H.answers H.held H.tells H.files terminal lines.items x.0 x.1.items) }
+        DoesLines H.answers H.held H.tells H.files terminal lines.now x.0 x.1.items) }
     ensures memory { IfErr result (λ e. e ≡ out_of_memory) }
 {
-    if goes_on(lines.as_slice()) {
-        Ok(keep_lines(alloc, terminal, lines))
+    let text = text_in(lines);
+    if begins(b"\\", text) {
+        do_text(alloc, terminal, text)
     } else {
-        do_text(alloc, terminal, text_in(lines.as_slice()))
+        do_lines_alone(alloc, terminal, lines)
     }
 }
 
@@ -95,7 +96,7 @@ fn do_line<A: Allocator + Copy, H: Attended<A>>(
         return tell(alloc, terminal, cut_text());
     }
     let (terminal, lines) = take_lines(alloc, terminal, line)?;
-    do_lines(alloc, terminal, lines)
+    do_lines(alloc, terminal, lines.as_slice())
 }
 
 // What is shown where little room is left now, and more was before.

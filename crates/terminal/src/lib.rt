@@ -4,6 +4,7 @@
 
 mod admitting;
 pub mod aligned;
+mod alone;
 mod answering;
 pub mod attended;
 mod describing;
@@ -16,6 +17,7 @@ mod lines;
 mod marks;
 mod playing;
 mod refused;
+mod statements;
 mod taking;
 pub mod terminal;
 mod timing;

@@ -1,35 +1,19 @@
-//! Lines that go on from those before them: a CREATE TABLE may take several.
+//! Lines that go on from those before them, and what they ask for, one thing after the other.
 
-ghost use Rattle.std.specs.Prelude.{◌≡◌, [], IfOk, IfErr};
+ghost use Rattle.std.specs.Prelude.{◌≡◌, [], map, IfOk, IfErr};
 ghost use Rattle.value.specs.Refusals.{out_of_memory};
-ghost use Rattle.terminal.specs.Taken as taken;
+ghost use Rattle.terminal.specs.Statements as statements;
 ghost use Rattle.terminal.specs.Terminals as spec;
-ghost use Rattle.terminal.specs.Terminals.{DoesLinesAlone, afresh};
+ghost use Rattle.terminal.specs.Terminals.{DoesLinesAlone, DoesPiece, InTurn, UnlessEnded, afresh};
 
 use crate::attended::Attended;
 use crate::doing::do_text_alone;
 use crate::marks::prompt;
-use crate::taking::goes_on;
+use crate::statements::{goes_on, pieces, with_line};
 use crate::terminal::{Prompt, Terminal};
-use crate::typing::{begins, text_in};
+use crate::typing::text_in;
 use std::alloc::Allocator;
 use value::refusal::Refusal;
-
-// Lines with one more.
-fn with_line<A: Allocator>(mut begun: Vec<u8, A>, line: &[u8]) -> Result<Vec<u8, A>, Refusal>
-    ensures lines { IfOk result (λ lines. lines.items ≡ taken.with_line begun.items line.now) }
-    ensures memory { IfErr result (λ e. e ≡ out_of_memory) }
-{
-    let text = text_in(line);
-    if begun.is_empty() || begins(b"\\", text) {
-        begun.truncate(0);
-        begun.extend_from_slice(line)?;
-    } else if !begins(b"--", text) {
-        begun.push(b' ')?;
-        begun.extend_from_slice(line)?;
-    }
-    Ok(begun)
-}
 
 /// Takes the lines of a terminal that a line goes on from, with this line.
 pub(crate) fn take_lines<A: Allocator + Copy, H: Drop>(
@@ -38,28 +22,30 @@ pub(crate) fn take_lines<A: Allocator + Copy, H: Drop>(
     line: &[u8],
 ) -> Result<(Terminal<H, A>, Vec<u8, A>), Refusal>
     ensures terminal { IfOk result (λ x. x.0 ≡ afresh terminal) }
-    ensures lines { IfOk result (λ x. x.1.items ≡ taken.with_line terminal.begun line.now) }
+    ensures lines { IfOk result (λ x. x.1.items ≡ statements.with_line terminal.begun line.now) }
     ensures memory { IfErr result (λ e. e ≡ out_of_memory) }
 {
     let Terminal { attended, prompt } = terminal;
     let Prompt {
         session,
         is_timed,
+        is_auto,
         has_quit,
         begun,
     } = prompt;
-    let lines = with_line(begun, line)?;
+    let lines = with_line(alloc, begun, line)?;
     let prompt = Prompt {
         session,
         is_timed,
+        is_auto,
         has_quit,
         begun: Vec::new(alloc),
     };
     Ok((Terminal { attended, prompt }, lines))
 }
 
-/// Keeps lines that the next one goes on from, and shows nothing.
-pub(crate) fn keep_lines<A: Allocator, H: Drop>(
+// Keeps lines that the next one goes on from, and shows nothing.
+fn keep_lines<A: Allocator, H: Drop>(
     alloc: A,
     terminal: Terminal<H, A>,
     lines: Vec<u8, A>,
@@ -75,21 +61,73 @@ pub(crate) fn keep_lines<A: Allocator, H: Drop>(
     (Terminal { attended, prompt }, Vec::new(alloc))
 }
 
-/// Keeps lines that the next one goes on from, or does what they ask for. It refuses to type the lines of a file.
+// Keeps a piece of a line that the next one goes on from, or does what it asks for.
+fn do_piece<A: Allocator + Copy, H: Attended<A>>(
+    alloc: A,
+    terminal: Terminal<H, A>,
+    piece: &[u8],
+) -> Result<(Terminal<H, A>, Vec<u8, A>), Refusal>
+    ensures done { IfOk result (λ x.
+        DoesPiece H.answers H.held H.tells piece.now terminal x.0 x.1.items) }
+    ensures memory { IfErr result (λ e. e ≡ out_of_memory) }
+{
+    if goes_on(piece) {
+        let begun = Vec::from_slice(alloc, piece)?;
+        Ok(keep_lines(alloc, terminal, begun))
+    } else {
+        do_text_alone(alloc, terminal, text_in(piece))
+    }
+}
+
+// Does what a piece of a line asks for, unless the conversation is to end.
+fn do_unless<A: Allocator + Copy, H: Attended<A>>(
+    alloc: A,
+    terminal: Terminal<H, A>,
+    piece: &[u8],
+) -> Result<(Terminal<H, A>, Vec<u8, A>), Refusal>
+    ensures done { IfOk result (λ x. UnlessEnded terminal.has_quit (DoesPiece H.answers H.held H.tells) piece.now
+        terminal x.0 x.1.items) }
+    ensures memory { IfErr result (λ e. e ≡ out_of_memory) }
+{
+    if terminal.prompt.has_quit {
+        Ok((terminal, Vec::new(alloc)))
+    } else {
+        do_piece(alloc, terminal, piece)
+    }
+}
+
+// Does what pieces of lines ask for, one after the other.
+fn do_pieces<A: Allocator + Copy, H: Attended<A>>(
+    alloc: A,
+    terminal: Terminal<H, A>,
+    pieces: &[Vec<u8, A>],
+) -> Result<(Terminal<H, A>, Vec<u8, A>), Refusal>
+    ensures done { IfOk result (λ x. InTurn (DoesPiece H.answers H.held H.tells) (map (λ p. p.items) pieces.now)
+        terminal x.0 x.1.items) }
+    ensures memory { IfErr result (λ e. e ≡ out_of_memory) }
+{
+    let mut next = terminal;
+    let mut told = Vec::new(alloc);
+    for piece in pieces {
+        let (after, text) = do_unless(alloc, next, piece.as_slice())?;
+        next = after;
+        told.extend_from_slice(text.as_slice())?;
+    }
+    Ok((next, told))
+}
+
+/// Does all that lines ask for. It refuses to type the lines of a file.
 pub(crate) fn do_lines_alone<A: Allocator + Copy, H: Attended<A>>(
     alloc: A,
     terminal: Terminal<H, A>,
-    lines: Vec<u8, A>,
+    lines: &[u8],
 ) -> Result<(Terminal<H, A>, Vec<u8, A>), Refusal>
     ensures done { IfOk result (λ x.
-        DoesLinesAlone H.answers H.held H.tells terminal lines.items x.0 x.1.items) }
+        DoesLinesAlone H.answers H.held H.tells terminal lines.now x.0 x.1.items) }
     ensures memory { IfErr result (λ e. e ≡ out_of_memory) }
 {
-    if goes_on(lines.as_slice()) {
-        Ok(keep_lines(alloc, terminal, lines))
-    } else {
-        do_text_alone(alloc, terminal, text_in(lines.as_slice()))
-    }
+    let pieces = pieces(alloc, lines)?;
+    do_pieces(alloc, terminal, pieces.as_slice())
 }
 
 /// The prompt of a terminal.

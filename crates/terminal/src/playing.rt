@@ -4,7 +4,7 @@ ghost use Rattle.std.specs.Prelude.{◌≡◌, ◌-◌, ◌==◌, ◌++◌, code
 ghost use Rattle.value.specs.Refusals.{out_of_memory};
 ghost use Rattle.terminal.specs.Drawn as drawn;
 ghost use Rattle.terminal.specs.Terminals as spec;
-ghost use Rattle.terminal.specs.Terminals.{Plays, PlaysFile, PlaysLine, PlaysUnless};
+ghost use Rattle.terminal.specs.Terminals.{InTurn, PlaysFile, PlaysLine, TypesLine, UnlessEnded};
 
 use crate::attended::Attended;
 use crate::drawing::{parts_of, shown};
@@ -25,12 +25,12 @@ fn unmarked(text: &[u8]) -> &[u8]
     }
 }
 
-// A text without the newline at its end.
-fn unended(text: &[u8]) -> &[u8]
-    ensures { result.now ≡ spec.unended text.now }
+// A text without this byte at its end.
+fn without_last(byte: u8, text: &[u8]) -> &[u8]
+    ensures { result.now ≡ spec.without_last byte text.now }
 {
     let end = text.len().saturating_sub(1);
-    if !text.is_empty() && text[end] == b'\n' {
+    if !text.is_empty() && text[end] == byte {
         &text[..end]
     } else {
         text
@@ -54,7 +54,23 @@ fn typed_line<A: Allocator + Copy, H: Attended<A>>(
     Ok(text)
 }
 
-// Types a line of a file.
+// Types a line.
+fn type_line<A: Allocator + Copy, H: Attended<A>>(
+    alloc: A,
+    terminal: Terminal<H, A>,
+    line: &[u8],
+) -> Result<(Terminal<H, A>, Vec<u8, A>), Refusal>
+    ensures done { IfOk result (λ x. TypesLine H.answers H.held H.tells line.now terminal x.0 x.1.items) }
+    ensures memory { IfErr result (λ e. e ≡ out_of_memory) }
+{
+    let mut told = typed_line(alloc, &terminal, line)?;
+    let (terminal, lines) = take_lines(alloc, terminal, line)?;
+    let (next, answer) = do_lines_alone(alloc, terminal, lines.as_slice())?;
+    told.extend_from_slice(answer.as_slice())?;
+    Ok((next, told))
+}
+
+// Types a line of a file, without a carriage return at its end.
 fn play_line<A: Allocator + Copy, H: Attended<A>>(
     alloc: A,
     terminal: Terminal<H, A>,
@@ -63,11 +79,7 @@ fn play_line<A: Allocator + Copy, H: Attended<A>>(
     ensures done { IfOk result (λ x. PlaysLine H.answers H.held H.tells line.now terminal x.0 x.1.items) }
     ensures memory { IfErr result (λ e. e ≡ out_of_memory) }
 {
-    let mut told = typed_line(alloc, &terminal, line)?;
-    let (terminal, lines) = take_lines(alloc, terminal, line)?;
-    let (next, answer) = do_lines_alone(alloc, terminal, lines)?;
-    told.extend_from_slice(answer.as_slice())?;
-    Ok((next, told))
+    type_line(alloc, terminal, without_last(b'\r', line))
 }
 
 // Types a line of a file, unless the conversation is to end.
@@ -77,7 +89,7 @@ fn play_unless<A: Allocator + Copy, H: Attended<A>>(
     line: &[u8],
 ) -> Result<(Terminal<H, A>, Vec<u8, A>), Refusal>
     ensures done { IfOk result (λ x.
-        PlaysUnless H.answers H.held H.tells terminal.has_quit line.now terminal x.0 x.1.items) }
+        UnlessEnded terminal.has_quit (PlaysLine H.answers H.held H.tells) line.now terminal x.0 x.1.items) }
     ensures memory { IfErr result (λ e. e ≡ out_of_memory) }
 {
     if terminal.prompt.has_quit {
@@ -94,7 +106,7 @@ fn play<A: Allocator + Copy, H: Attended<A>>(
     lines: &[&[u8]],
 ) -> Result<(Terminal<H, A>, Vec<u8, A>), Refusal>
     ensures done { IfOk result (λ x.
-        Plays H.answers H.held H.tells (map (λ l. l.now) lines.now) terminal x.0 x.1.items) }
+        InTurn (PlaysLine H.answers H.held H.tells) (map (λ l. l.now) lines.now) terminal x.0 x.1.items) }
     ensures memory { IfErr result (λ e. e ≡ out_of_memory) }
 {
     let mut next = terminal;
@@ -114,10 +126,10 @@ fn play_text<A: Allocator + Copy, H: Attended<A>>(
     text: &[u8],
 ) -> Result<(Terminal<H, A>, Vec<u8, A>), Refusal>
     ensures done { IfOk result (λ x.
-        Plays H.answers H.held H.tells (spec.lines_in text.now) terminal x.0 x.1.items) }
+        InTurn (PlaysLine H.answers H.held H.tells) (spec.lines_in text.now) terminal x.0 x.1.items) }
     ensures memory { IfErr result (λ e. e ≡ out_of_memory) }
 {
-    let lines = parts_of(alloc, unended(unmarked(text)))?;
+    let lines = parts_of(alloc, without_last(b'\n', unmarked(text)))?;
     play(alloc, terminal, lines.as_slice())
 }
 

@@ -3,7 +3,7 @@
 ghost use Rattle.std.specs.Prelude.{◌≡◌, IfOk};
 ghost use Rattle.terminal.specs.Refused as spec;
 
-use crate::taking::starts;
+use crate::statements::starts;
 use crate::typing::{begins, behind_word};
 use std::alloc::{AllocError, Allocator};
 

@@ -1,9 +1,9 @@
 //! What a typed line is taken for.
 
-ghost use Rattle.std.specs.Prelude.{◌≡◌, take};
+ghost use Rattle.std.specs.Prelude.{◌≡◌};
 ghost use Rattle.terminal.specs.Taken as spec;
 
-use crate::typing::{Typed, behind_word, text_in, typed_as};
+use crate::typing::{Typed, begins, behind_word, typed_as};
 
 // The least number of bytes, without its newline, of a line that a terminal may have cut off.
 const LEAST_CUT: usize = 4095;
@@ -13,6 +13,25 @@ pub(crate) fn is_cut(line: &[u8]) -> bool
     ensures { result ≡ spec.is_cut line.now }
 {
     line.len() >= LEAST_CUT
+}
+
+// What a word of sqlite3's shell asks for.
+fn sqlite_word(text: &[u8]) -> Option<Typed>
+    ensures { result ≡ spec.sqlite_word text.now }
+{
+    if text.eq_ignore_ascii_case(b".help") {
+        Some(Typed::Help)
+    } else if text.eq_ignore_ascii_case(b".quit") {
+        Some(Typed::Quit)
+    } else if text.eq_ignore_ascii_case(b".exit") {
+        Some(Typed::Quit)
+    } else if text.eq_ignore_ascii_case(b".tables") {
+        Some(Typed::Tables)
+    } else if text.eq_ignore_ascii_case(b".schema") {
+        Some(Typed::Tables)
+    } else {
+        None
+    }
 }
 
 // What a word asks for that needs no backslash, in letters of any case.
@@ -26,7 +45,7 @@ fn bare_word(text: &[u8]) -> Option<Typed>
     } else if text.eq_ignore_ascii_case(b"quit") {
         Some(Typed::Quit)
     } else {
-        None
+        sqlite_word(text)
     }
 }
 
@@ -57,46 +76,36 @@ pub(crate) fn lacks_file(typed: Typed, text: &[u8]) -> bool
     takes_file(typed) && behind_word(text).is_empty()
 }
 
-// The first bytes of a text, `count` at most.
-fn first_bytes(count: usize, text: &[u8]) -> &[u8]
-    ensures { result.now ≡ take count text.now }
-{
-    &text[..text.len().min(count)]
-}
-
-/// Whether a text begins with a word, in letters of any case.
-pub(crate) fn starts(word: &[u8], text: &[u8]) -> bool
-    ensures { result ≡ spec.starts word.now text.now }
-{
-    first_bytes(word.len(), text).eq_ignore_ascii_case(word)
-}
-
-// Whether lines end a list of columns, or a command.
-fn has_end(lines: &[u8]) -> bool
-    ensures { result ≡ spec.has_end lines.now }
-{
-    lines.contains(&b')') || lines.contains(&b';')
-}
-
-/// Whether lines begin to create a table, and the next line goes on from them.
-pub(crate) fn goes_on(lines: &[u8]) -> bool
-    ensures { result ≡ spec.goes_on lines.now }
-{
-    let text = text_in(lines);
-    starts(b"create ", text) && starts(b"table", behind_word(text)) && !has_end(lines)
-}
-
-/// Whether answers are timed from then on, where a text says it after `\timing`.
-pub(crate) fn timing_after(was_timed: bool, text: &[u8]) -> Option<bool>
-    ensures { result ≡ spec.timing_after was_timed text.now }
+/// Whether something is on from then on, where a text says it after its word.
+pub(crate) fn turned(was_on: bool, text: &[u8]) -> Option<bool>
+    ensures { result ≡ spec.turned was_on text.now }
 {
     if text.is_empty() {
-        Some(!was_timed)
+        Some(!was_on)
     } else if text.eq_ignore_ascii_case(b"on") {
         Some(true)
     } else if text.eq_ignore_ascii_case(b"off") {
         Some(false)
     } else {
         None
+    }
+}
+
+/// What is shown where there is no such word, or psql alone has it.
+pub(crate) fn strange_text(word: &[u8]) -> &'static [u8]
+    ensures { result.now ≡ spec.strange_text word.now }
+{
+    if word == b"\\r".as_slice() {
+        b"Query buffer reset (cleared).\n"
+    } else if word == b"\\x".as_slice() {
+        b"rows are always shown as a table, each on its line\n"
+    } else if word == b"\\e".as_slice() {
+        b"no editor is started here: edit a file elsewhere, and \\i FILE types its lines\n"
+    } else if word == b"\\set".as_slice() {
+        b"there are no variables: \\autocommit and \\timing alone are turned on and off\n"
+    } else if begins(b".", word) {
+        b"words begin with a backslash here: \\? lists them\n"
+    } else {
+        b"there is no such word: \\? tells what may be typed\n"
     }
 }

@@ -33,6 +33,10 @@ pub enum Typed {
     Why,
     /// A picture to a file.
     Drawing,
+    /// That a statement without BEGIN is a transaction by itself, or no longer.
+    Autocommit,
+    /// The tables.
+    Tables,
     /// A word that a shell answers.
     Word,
     /// A word that is none.
@@ -141,10 +145,16 @@ fn further_word(word: &[u8]) -> Typed
         Typed::File
     } else if word == b"\\timing".as_slice() {
         Typed::Timing
+    } else if word == b"\\autocommit".as_slice() {
+        Typed::Autocommit
     } else if word == b"\\why".as_slice() {
         Typed::Why
     } else if word == b"\\draw".as_slice() {
         Typed::Drawing
+    } else if word == b"\\dt".as_slice() {
+        Typed::Tables
+    } else if word == b"\\h".as_slice() {
+        Typed::Help
     } else {
         Typed::Unknown
     }
@@ -164,7 +174,7 @@ fn word_typed(word: &[u8], behind: &[u8]) -> Typed
         Typed::Dump
     } else if word == b"\\d".as_slice() {
         if behind.is_empty() {
-            Typed::Word
+            Typed::Tables
         } else {
             Typed::Columns
         }
@@ -188,6 +198,8 @@ pub fn typed_as(text: &[u8]) -> Typed
         Typed::Nothing
     } else if text[0] == b'\\' {
         word_typed(first_word(text), behind_word(text))
+    } else if text[0] == b'.' {
+        Typed::Unknown
     } else if session_in(text).is_some() {
         Typed::Session
     } else {
@@ -195,8 +207,8 @@ pub fn typed_as(text: &[u8]) -> Typed
     }
 }
 
-// Whether a text is a command that is a few words.
-fn is_plain(text: &[u8]) -> bool
+/// Whether a text is a command that is a few words.
+pub(crate) fn is_plain(text: &[u8]) -> bool
     ensures { result ≡ spec.is_plain text.now }
 {
     text == b"BEGIN".as_slice()
@@ -210,22 +222,56 @@ fn is_plain(text: &[u8]) -> bool
         || text == b"WAIT".as_slice()
 }
 
-// Whether a text begins with a word that something follows.
-fn has_head(text: &[u8]) -> bool
+// Whether a text in capitals begins a transaction of the one isolation level that there is.
+fn begins_serializable(text: &[u8]) -> bool
+    ensures { result ≡ spec.begins_serializable text.now }
+{
+    text == b"BEGIN ISOLATION LEVEL SERIALIZABLE".as_slice()
+        || text == b"BEGIN TRANSACTION ISOLATION LEVEL SERIALIZABLE".as_slice()
+        || text == b"START TRANSACTION ISOLATION LEVEL SERIALIZABLE".as_slice()
+}
+
+/// What a text in capitals means that says it in other words of PostgreSQL's.
+pub(crate) fn meant(text: &[u8]) -> &[u8]
+    ensures { result.now ≡ spec.meant text.now }
+{
+    if begins_serializable(text)
+        || text == b"BEGIN WORK".as_slice()
+        || text == b"BEGIN TRANSACTION".as_slice()
+        || text == b"START TRANSACTION".as_slice()
+    {
+        b"BEGIN"
+    } else if text == b"END".as_slice()
+        || text == b"COMMIT WORK".as_slice()
+        || text == b"COMMIT TRANSACTION".as_slice()
+    {
+        b"COMMIT"
+    } else if text == b"ABORT".as_slice()
+        || text == b"ROLLBACK WORK".as_slice()
+        || text == b"ROLLBACK TRANSACTION".as_slice()
+    {
+        b"ROLLBACK"
+    } else {
+        text
+    }
+}
+
+/// Whether a text begins with a word that something follows.
+pub(crate) fn has_head(text: &[u8]) -> bool
     ensures { result ≡ spec.has_head text.now }
 {
     begins(b"IMPORT ", text) || begins(b"DUMP ", text) || begins(b"OPEN ", text)
 }
 
-// Whether a text is no session's.
-fn is_sessionless(text: &[u8]) -> bool
+/// Whether a text is no session's.
+pub(crate) fn is_sessionless(text: &[u8]) -> bool
     ensures { result ≡ spec.is_sessionless text.now }
 {
     text == b"CHECKPOINT".as_slice() || begins(b"CREATE ", text) || begins(b"OPEN ", text)
 }
 
-// A text in capitals.
-fn capitals<A: Allocator>(alloc: A, text: &[u8]) -> Result<Vec<u8, A>, Refusal>
+/// A text in capitals.
+pub(crate) fn capitals<A: Allocator>(alloc: A, text: &[u8]) -> Result<Vec<u8, A>, Refusal>
     ensures text { IfOk result (λ t. t.items ≡ spec.capitals text.now) }
     ensures memory { IfErr result (λ e. e ≡ out_of_memory) }
 {
@@ -251,8 +297,9 @@ fn command_text<A: Allocator + Copy>(alloc: A, text: &[u8]) -> Result<Vec<u8, A>
     ensures memory { IfErr result (λ e. e ≡ out_of_memory) }
 {
     let capitals = capitals(alloc, text)?;
-    if is_plain(capitals.as_slice()) {
-        return Ok(capitals);
+    let plain = meant(capitals.as_slice());
+    if is_plain(plain) {
+        return Ok(Vec::from_slice(alloc, plain)?);
     }
     if has_head(capitals.as_slice()) {
         return headed(alloc, text);

@@ -1,6 +1,7 @@
 //! The texts that a terminal shows by itself.
 
 ghost use Rattle.std.specs.Prelude.{◌≡◌};
+ghost use Rattle.terminal.specs.Alone as alone;
 ghost use Rattle.terminal.specs.Described.{no_table_text as absent_text};
 ghost use Rattle.terminal.specs.Taken as taken;
 ghost use Rattle.terminal.specs.Terminals as spec;
@@ -10,29 +11,25 @@ pub(crate) fn help_text() -> &'static [u8]
     ensures { result.now ≡ spec.help_text }
 {
     b"\
-      SELECT .., INSERT .., UPDATE .., DELETE ..   a statement of this session\n\
+      SELECT .., INSERT .., UPDATE .., DELETE ..;  a statement, over lines up to its ;\n\
       BEGIN [READ ONLY [DEFERRABLE]]               begins a transaction; COMMIT and ROLLBACK end it\n\
       POLL, EXPORT, IMPORT n, PRUNE, DUMP ..       other commands; CHECKPOINT makes room for events\n\
-      CREATE TABLE .., OPEN path                   before the first line of a session\n\
+      CREATE TABLE .., OPEN path                   before the first transaction\n\
       2                                            goes to session 2, of 64\n\
       2 BEGIN                                      a line of session 2\n\
+      \\autocommit [on|off]                         whether a statement without BEGIN is a transaction by itself\n\
       \\d [NAME]                                    the tables, or one of them\n\
       \\serial                                      the committed transactions in their serial order\n\
       \\why                                         why a transaction was refused last\n\
       \\draw FILE                                   a picture of the transactions\n\
       \\dump FILE                                   a dump of a safe snapshot\n\
       \\i FILE                                      the lines of a file\n\
+      \\r                                           gives up a statement that goes on\n\
       \\timing [on|off]                             tells how long answers take, or no longer\n\
       \\?, help                                     this\n\
       \\q, exit, quit                               ends the shell\n\
+      For a history of lines and their editing, start it as `rlwrap pgserial shell`.\n\
     "
-}
-
-/// What is shown where there is no such word.
-pub(crate) fn unknown_text() -> &'static [u8]
-    ensures { result.now ≡ spec.unknown_text }
-{
-    b"there is no such word: \\? tells what may be typed\n"
 }
 
 /// What is shown where there is no such table.
@@ -70,6 +67,20 @@ pub(crate) fn late_text() -> &'static [u8]
     b"all but the last of --events are used: COMMIT or ROLLBACK each transaction, then CHECKPOINT makes room\n"
 }
 
+/// What is shown of a line that needs more room than there ever is.
+pub(crate) fn few_text() -> &'static [u8]
+    ensures { result.now ≡ spec.few_text }
+{
+    b"--events gives too little room for a transaction: start the shell with more\n"
+}
+
+/// What is shown of tables that come too late.
+pub(crate) fn closed_text() -> &'static [u8]
+    ensures { result.now ≡ spec.closed_text }
+{
+    b"ERROR 42601: tables come before the first transaction: \\q, and start again with all of them\n"
+}
+
 /// What is shown of a dump that is given up.
 pub(crate) fn not_safe_text() -> &'static [u8]
     ensures { result.now ≡ spec.not_safe_text }
@@ -99,7 +110,7 @@ pub(crate) fn timing_text(is_timed: bool) -> &'static [u8]
 pub(crate) fn nested_text() -> &'static [u8]
     ensures { result.now ≡ spec.nested_text }
 {
-    b"a file can't ask for the lines of another\n"
+    b"\\i stands alone on a line that is typed: a file can't ask for the lines of another\n"
 }
 
 /// What is shown of a line that a terminal may have cut off.
@@ -114,4 +125,36 @@ pub(crate) fn no_timing_text() -> &'static [u8]
     ensures { result.now ≡ taken.no_timing_text }
 {
     b"\\timing takes on, off, or nothing\n"
+}
+
+/// What is shown once a statement is a transaction by itself, or no longer.
+pub(crate) fn autocommit_text(is_auto: bool) -> &'static [u8]
+    ensures { result.now ≡ alone.autocommit_text is_auto }
+{
+    if is_auto {
+        b"Autocommit is on.\n"
+    } else {
+        b"Autocommit is off.\n"
+    }
+}
+
+/// What is shown where `\autocommit` is neither on nor off.
+pub(crate) fn no_autocommit_text() -> &'static [u8]
+    ensures { result.now ≡ alone.no_autocommit_text }
+{
+    b"\\autocommit takes on, off, or nothing\n"
+}
+
+/// What is shown where there is no such statement.
+pub(crate) fn slip_text() -> &'static [u8]
+    ensures { result.now ≡ alone.slip_text }
+{
+    b"ERROR 42601: there is no such statement or command: \\? lists what may be typed\n"
+}
+
+/// What is shown behind a refusal for the sake of other transactions.
+pub(crate) fn again_text() -> &'static [u8]
+    ensures { result.now ≡ alone.again_text }
+{
+    b"the statement was a transaction by itself, of which nothing is left: type it again\n"
 }
