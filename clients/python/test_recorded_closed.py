@@ -156,6 +156,8 @@ class OnPostgres(Beside):
         self.assertTrue(raw.closed)
         self.terminate(number)
         self.rest(recorder, name, driver)
+        if not autocommit and driver.__name__ == "psycopg":  # what was open is rolled back
+            self.assertIsNone(recorder.ended)
         self.right(recorder)
 
     @unittest.skipUnless(module("psycopg"), "psycopg isn't there (Debian: python3-psycopg)")

@@ -25,6 +25,7 @@ from pgserial.recording import RecordingWarning
 from pgserial.sql import tokens_of
 from pgserial.steps import Inner
 from pgserial.translation import Look
+from pgserial.values import Unsaid
 from pgserial.verdict import CLOSED, HAS_NOT, MAY_COMMIT
 from test_jepsen import answer
 from test_recorded_endings import said
@@ -337,6 +338,26 @@ connection.execute("UPDATE t SET v = 5 WHERE id = 1")
         self.assertFalse(effects.is_beside(tokens_of('"show" x', "qmark")))
         self.assertTrue(effects.is_beside(tokens_of("SHOW x", "qmark")))
 
+    def test_codes_of_errors(self) -> None:
+        driver = driver_of(self.raw(), None)
+        for error, code in (
+            (sqlite3.IntegrityError("locked"), "23000"), (sqlite3.OperationalError("database is locked"), "55P03"), (sqlite3.DatabaseError("locked"), "XX000"), (sqlite3.OperationalError("no such table"), "XX000"),
+        ):  # fmt: skip
+            self.assertEqual(driver.code(error), code)
+
+    def test_rows_by_their_places(self) -> None:
+        self.assertEqual([drivers._positional(row, ["a", "b"]) for row in ((1, 2), [1, 2], {"b": 2, "a": 1}, "xy")], [(1, 2), (1, 2), [1, 2], ("x", "y")])
+        for row, names in (((1, 2), ["a"]), ((), ["a"]), (5, ["a"]), (None, []), ({"a": 1}, ["a", "a"])):
+            with self.assertRaisesRegex(Unsaid, "its rows are"):
+                drivers._positional(row, names)
+
+    def test_words_that_write(self) -> None:
+        for text, word in (
+            ("replace (", None), ("SELECT replace('a', 'b', 'c')", None), ("SELECT replace", "replace"), ("FOR UPDATE", None), ("FOR NO KEY UPDATE", None), ("DO UPDATE", "update"), ("SELECT 'insert'", None), ('"delete"', None),
+            ("WITH a AS (DELETE FROM t) SELECT 1", "delete"), ("update", "update"),
+        ):  # fmt: skip
+            self.assertEqual(effects._writing_word(tokens_of(text, "qmark")), word, text)
+
     def test_a_text_that_creates_a_table_and_cant_be_read(self) -> None:
         for sql in ("CREATE TABLE t (id INTEGER 'x", "CREATE TABLE t (id INTEGER \0)"):
             with self.assertRaisesRegex(Refused, "the text that creates a table can't be read: CREATE TABLE t"):
@@ -488,6 +509,16 @@ connection.execute("UPDATE t SET v = 5 WHERE id = 1")
         connection.execute("SELECT * FROM p")
         told = recorder.verdict()
         self.assertEqual((told.answer, told.ended), ("yes", None))
+
+    def test_a_conflict_that_deletes_nothing(self) -> None:
+        made = ("CREATE TABLE p (id INTEGER PRIMARY KEY, v INT)", "INSERT INTO p VALUES (1, 1)", "CREATE TABLE c (id INTEGER PRIMARY KEY, p INT REFERENCES p ON DELETE CASCADE)", "INSERT INTO c VALUES (1, 1)")
+        for text, is_said in (("INSERT INTO p VALUES (1, 5) ON CONFLICT (id) DO UPDATE SET v = 5", True), ("INSERT OR IGNORE INTO p VALUES (1, 5)", True), ("INSERT OR REPLACE INTO p VALUES (1, 5)", False)):
+            recorder = self.recorder(["p", "c"])
+            connection = recorder.wrap(self.other(*made))
+            with warnings.catch_warnings(), self.subTest(text):
+                warnings.simplefilter("ignore", RecordingWarning)
+                connection.execute(text)
+                self.assertEqual(recorder.ended is None, is_said)
 
     def test_foreign_keys_that_change_rows_with_a_column(self) -> None:
         raw = self.other("CREATE TABLE p (id INTEGER PRIMARY KEY, code INT UNIQUE)", "INSERT INTO p VALUES (1, 1)", "CREATE TABLE c (id INTEGER PRIMARY KEY, p INT REFERENCES p (code) ON UPDATE CASCADE)", "INSERT INTO c VALUES (1, 1)")

@@ -38,6 +38,12 @@ class Reasons(unittest.TestCase):
         for text, is_true in (("v", True), ("NOT v", False), ("(v)", True), ("(NOT v)", False)):
             self.assertEqual(tree(f"SELECT id FROM t WHERE {text} AND id = 3").where, (sql.Truth(column, is_true), sql.Comparison(sql.Column(sql.Name("id", False), None), "=", sql.Constant(3))))
 
+    def test_texts_with_types(self) -> None:
+        self.assertEqual(tree("SELECT id FROM t WHERE v = date '2020-01-01'").where[0].value, sql.Cast(sql.Constant("2020-01-01"), "date"))
+        for text in ("v = date 5", "v = date", "v = n 'x'", "v = date date"):
+            with self.subTest(text):
+                self.assertRaises(Unsaid, tree, f"SELECT id FROM t WHERE {text}")
+
     def test_values_that_are_compared(self) -> None:
         for text, sign in (("3 < v", ">"), ("3 >= v", "<="), ("3 = v", "="), ("3 <> v", "<>"), ("v != 3", "<>"), ("v < 3", "<")):
             self.assertEqual(tree(f"SELECT id FROM t WHERE {text}").where, (sql.Comparison(sql.Column(sql.Name("v", False), None), sign, sql.Constant(3)),))
@@ -48,6 +54,7 @@ class Reasons(unittest.TestCase):
         for text in (
             "SELECT count(*) AS n FROM t", "SELECT count(*) n FROM t", "SELECT id FROM t FOR UPDATE", "SELECT id FROM t FOR NO KEY UPDATE", "SELECT id FROM t FOR KEY SHARE", "SELECT id FROM t FOR SHARE OF t NOWAIT",
             "SELECT id FROM t FOR UPDATE NOWAIT", "SELECT id FROM t WHERE v IS NULL", "SELECT id FROM t WHERE v IS NOT NULL", "SELECT id FROM t WHERE v IS 5",
+            "SELECT id FROM t ORDER BY v IN (1, 2)", "UPDATE t SET v = 3 * (4 + v)", "SELECT id FROM t ORDER BY lower(n)",
         ):  # fmt: skip
             with self.subTest(text):
                 tree(text)
