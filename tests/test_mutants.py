@@ -5,7 +5,7 @@ import tempfile
 import unittest
 from unittest import mock
 
-from tools import mutants
+from tools import mutants, recorder_mutants
 
 
 class Drawn(unittest.TestCase):
@@ -65,3 +65,23 @@ class ThisRepository(unittest.TestCase):
             seen = {mutants.drawn(mutants.TOP, f"{commit}")[0] for commit in range(500)}
         there = {name for name in os.listdir(os.path.join(mutants.TOP, "crates")) if os.path.isdir(os.path.join(mutants.TOP, "crates", name, "wrong-bodies"))}
         self.assertEqual(seen, there)
+
+
+class OfTheRecorder(unittest.TestCase):
+    """What was tried of the recorder, in docs/."""
+
+    def test_the_page_is_made_of_the_file(self) -> None:
+        with open(recorder_mutants.PAGE, encoding="utf-8") as file:
+            self.assertEqual(file.read(), recorder_mutants.page(), "tools/recorder_mutants.py table writes it")
+
+    def test_enough_were_tried_and_few_survive_each_with_a_word(self) -> None:
+        tried = recorder_mutants.results()
+        survivors = {name: told["note"] for name, told in tried.items() if not told["seen by"]}
+        self.assertGreaterEqual(len(tried), 400)
+        self.assertLessEqual(len(survivors), 10)
+        self.assertEqual([name for name, note in survivors.items() if not note], [])
+
+    def test_most_of_them_are_still_in_the_sources(self) -> None:
+        there = {mutant.name for mutant in recorder_mutants.mutants(recorder_mutants.MODULES)}
+        tried = recorder_mutants.results()
+        self.assertGreater(sum(name in there for name in tried), 0.6 * len(tried), "try some of what the sources have now")

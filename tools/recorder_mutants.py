@@ -1,82 +1,56 @@
 #!/usr/bin/env python3
 """recorder_mutants try [--count N] [--seed S] [--module NAME..] [--dsn DSN]: changes a statement of the recorder's modules at a
-time, in a copy of clients/python, and runs the tests until one fails.
+time, in a copy of clients/python, and runs the tests that come to its lines, until one fails.
 
-recorder_mutants list: how many there are. recorder_mutants table: writes docs/RECORDER-MUTANTS.md of what was tried. What was done
-about a survivor stands there, and is kept.
+recorder_mutants list: how many there are. recorder_mutants table: writes docs/RECORDER-MUTANTS.md of docs/recorder-mutants.jsonl,
+which has a line for each mutant that was tried: its module, the function it stands in, its text before and after, what came of it,
+and a note, which is written by hand.
 
-A statement is removed, a condition is turned, or a constant is changed. Texts that only tell something aren't changed. A mutant is
-named by its module, the function it stands in, and its text before and after. --again tries those alone that have survived.
+A statement is removed, a condition is turned, or a constant is changed. Texts that only tell something aren't changed. --again
+tries those alone that have survived. Which test comes to which lines is found once for a text of the tests, and is kept in out/.
 """
 
 import argparse
 import ast
 import collections
 import hashlib
+import io
+import itertools
 import json
 import os
-import re
+import runpy
 import shutil
 import signal
 import subprocess
 import sys
 import tempfile
+import threading
 import time
+import unittest
 from dataclasses import dataclass
-from typing import Any, Dict, Iterator, List, Optional, Sequence, Tuple
+from typing import Any, Callable, Dict, List, Optional, Sequence, Set, Tuple
 
 TOP = os.path.dirname(os.path.dirname(os.path.abspath(__file__)))
 FOLDER = os.path.join(TOP, "clients/python")
 PAGE = os.path.join(TOP, "docs/RECORDER-MUTANTS.md")
-RESULTS = os.path.join(TOP, "out/recorder-mutants.jsonl")
-HISTORIES = ("jepsen", "edn", "operations", "micros", "survey", "jepsen_writer", "elle", "backwards")  # of Jepsen's histories
+RESULTS = os.path.join(TOP, "docs/recorder-mutants.jsonl")
+KEPT = os.path.join(TOP, "out/recorder-tests")
 MODULES = (
     "recording", "session", "steps", "connections", "drivers", "effects", "translation", "values", "verdict", "output", "opening", "ending", "catalog",
-    "sqlite_catalog", "sent", "keys", "following", "sql", "returning", "shapes", "plans", "proxies", "dangers", "cascades", *HISTORIES,
+    "sqlite_catalog", "sent", "keys", "following", "sql", "returning", "shapes", "plans", "proxies", "dangers", "cascades",
 )  # fmt: skip
-PATIENCE = 100  # seconds for one command of tests
-_MACHINE = "random_recordings.py --seed {} --count {} --most 1 --engine {}"
-_SQLITE = "-m unittest -f test_recording.Sqlite test_recorded_end.End test_recording.OtherDrivers test_recorded_endings.Sqlite test_recorded_details.Details"
-_FAST = "-m unittest -f test_translation test_recorded_endings.OtherTables " + _SQLITE[len("-m unittest -f ") :]
-_RANDOM, _VERDICT = _MACHINE.format(1, 40, "sqlite3"), "-m unittest -f test_verdict"
-# What is run one after another, until one fails: the tests of a module, and of all others those on sqlite3, recordings at random,
-# and what needs PostgreSQL.
-_STAGES: Dict[str, Tuple[str, ...]] = {
-    **{name: ("-m unittest -f test_jepsen test_elle.Forms test_elle.Names test_elle.Registers test_elle.Banks test_recorded_endings.Histories",) for name in HISTORIES},
-    "verdict": (_SQLITE, _RANDOM),
-    "output": (_SQLITE, _RANDOM),
-    "": (
-        _FAST, _RANDOM, "-m unittest -f test_recording.Postgres test_recorded_endings.Postgres",
-        _MACHINE.format(1000, 60, "psycopg2"), "-m unittest -f test_dangers", "-m unittest -f test_recorded_kinds", _MACHINE.format(2000, 60, "psycopg"),
-        "-m unittest -f test_recorded_end.EndOnPostgres test_recorded_threads.Alike", "-m unittest -f test_recorded_oddities test_places", _VERDICT,
-        "-m unittest -f test_sqlalchemy test_asyncio test_recorded_tpc",
-    ),
-}  # fmt: skip
-# Runs a command of tests, and writes the lines of the package to which it comes.
-_TRACER = """
-import json, os, runpy, sys, threading
-told, seen = sys.argv[1], set()
-def line(frame, event, word):
-    if event == "line":
-        seen.add((os.path.basename(frame.f_code.co_filename), frame.f_lineno))
-    return line
-def call(frame, event, word):
-    return line if os.path.basename(os.path.dirname(frame.f_code.co_filename)) == "pgserial" else None
-sys.argv = sys.argv[2:]
-sys.path.insert(0, os.getcwd())
-threading.settrace(call)
-sys.settrace(call)
-try:
-    if sys.argv[0] == "-m":
-        name, sys.argv = sys.argv[1], sys.argv[1:]
-        runpy.run_module(name, run_name="__main__", alter_sys=True)
-    else:
-        runpy.run_path(sys.argv[0], run_name="__main__")
-finally:
-    sys.settrace(None)
-    with open(told, "w") as file:
-        json.dump(sorted(seen), file)
-"""
+TESTS = (
+    "test_translation", "test_recording", "test_recorded_endings", "test_recorded_details", "test_recorded_end", "test_verdict", "test_returning",
+    "test_identity", "test_dangers", "test_adapters", "test_recorded_oddities", "test_recorded_closed", "test_places", "test_recorded_values",
+    "test_recorded_sqlite", "test_recorded_kinds", "test_asyncio", "test_sqlalchemy", "test_output", "test_in_process", "test_sql_reasons",
+    "test_tables", "test_temporary", "test_shapes", "test_postgres_details", "test_frameworks", "test_record",
+)  # fmt: skip
+MOST_SECONDS = 60.0  # for one test, traced: those that take longer are left out
+ENOUGH = 20.0  # seconds of tests for a mutant, the fastest first
+PATIENCE = 240  # seconds until a mutant's tests count as never ending
+MACHINES = ("sqlite3", "psycopg2")  # on which random recordings come last
+
+
 _TURNED = {
     ast.Lt: "<=", ast.LtE: "<", ast.Gt: ">=", ast.GtE: ">", ast.Eq: "!=", ast.NotEq: "==", ast.In: "not in", ast.NotIn: "in", ast.Is: "is not",
     ast.IsNot: "is",
@@ -100,6 +74,11 @@ class Mutant:
     def name(self) -> str:
         """Its name, which stays where other lines change."""
         return f"{self.module}.{self.function}: {self.kind}: {_short(self.before)}" + (f" -> {_short(self.after)}" if self.kind != "removed" else "")
+
+    def told(self) -> Dict[str, Any]:
+        """What is kept of it."""
+        after = "" if self.kind == "removed" else _short(self.after)
+        return {"module": self.module, "in": self.function, "kind": self.kind, "text": _short(self.before), "after": after}
 
     def text(self, source: str) -> str:
         """The module with it."""
@@ -231,80 +210,181 @@ def drawn(all_of_them: Sequence[Mutant], count: int, seed: int) -> List[Mutant]:
     return sorted(all_of_them, key=lambda each: hashlib.sha256(f"{seed} {each.name}".encode("utf-8")).digest())[:count]
 
 
+# ---- the tests, and the lines that they come to
+
+
+class Traced(unittest.TestResult):
+    """Keeps the lines of the package to which each test comes, and its seconds; nothing of one that fails."""
+
+    def __init__(self) -> None:
+        super().__init__()
+        self.found: Dict[str, Any] = {}
+        self._seen: Set[Tuple[str, int]] = set()
+        self._begun, self._failed = 0.0, 0
+
+    def call(self, frame: Any, event: str, word: Any) -> Any:
+        file = frame.f_code.co_filename
+        if os.path.basename(os.path.dirname(file)) != "pgserial":
+            return None
+        name, seen = os.path.basename(file)[:-3], self._seen
+
+        def line(frame: Any, event: str, word: Any) -> Any:
+            seen.add((name, frame.f_lineno))
+            return line
+
+        return line(frame, event, word)
+
+    def startTest(self, test: unittest.TestCase) -> None:
+        super().startTest(test)
+        self._seen = set()
+        self._begun, self._failed = time.monotonic(), len(self.failures) + len(self.errors) + len(self.skipped)
+
+    def stopTest(self, test: unittest.TestCase) -> None:
+        super().stopTest(test)
+        if len(self.failures) + len(self.errors) + len(self.skipped) == self._failed:
+            self.found[test.id()] = [round(time.monotonic() - self._begun, 3), sorted(self._seen)]
+
+
+def _traced(module: str, path: str) -> None:
+    """Runs the tests of a module, and writes what they come to."""
+    result = Traced()
+    threading.settrace(result.call)
+    tests = unittest.defaultTestLoader.loadTestsFromName(module)
+    sys.settrace(result.call)
+    try:
+        tests.run(result)
+    finally:
+        sys.settrace(None)
+    with open(path, "w", encoding="utf-8") as file:
+        json.dump(result.found, file)
+
+
+def _checksum(*paths: str) -> str:
+    """Of the text of the package, and of some files."""
+    told = hashlib.sha256()
+    package = os.path.join(FOLDER, "pgserial")
+    for path in [*(os.path.join(package, name) for name in sorted(os.listdir(package)) if name.endswith(".py")), *paths]:
+        with open(path, "rb") as file:
+            told.update(file.read())
+    return told.hexdigest()[:16]
+
+
 # ---- trying
+
+
+def forked(call: Callable[[], Any], folder: str, environment: Dict[str, str], seconds: float) -> Optional[int]:
+    """The status of a child that does a call in a folder; None where it doesn't end in time. What it has started ends with it."""
+    child = os.fork()
+    if child == 0:
+        status = 70
+        try:
+            os.setpgid(0, 0)
+            os.chdir(folder)
+            os.environ.update(environment)
+            sys.path[0] = folder
+            nothing = os.open(os.devnull, os.O_RDWR)
+            for number in (0, 1, 2):
+                os.dup2(nothing, number)
+            status = int(call() or 0)
+        except SystemExit as end:
+            status = int(end.code or 0)
+        finally:
+            os._exit(status)
+    until = time.monotonic() + seconds
+    try:
+        while time.monotonic() < until:
+            ended, status = os.waitpid(child, os.WNOHANG)
+            if ended:
+                return os.waitstatus_to_exitcode(status)
+            time.sleep(0.01)
+        return None
+    finally:
+        try:
+            os.killpg(child, signal.SIGKILL)
+            os.waitpid(child, 0)
+        except (ProcessLookupError, ChildProcessError):
+            pass
+
+
+def _first_failure(names: Sequence[str], path: str) -> int:
+    """Runs tests until one fails, whose name it writes."""
+    result = unittest.TestResult()
+    result.failfast = True
+    result.buffer = False
+    sys.stdout = sys.stderr = io.StringIO()
+    for name in names:
+        with open(path, "w", encoding="utf-8") as file:
+            file.write(name)
+        unittest.defaultTestLoader.loadTestsFromName(name).run(result)
+        if not result.wasSuccessful():
+            return 1
+    return 0
+
+
+def _machine(engine: str) -> int:
+    """Makes some recordings at random."""
+    sys.argv = ["random_recordings.py", "--seed", "1", "--count", "30", "--most", "1", "--engine", engine]
+    runpy.run_path("random_recordings.py", run_name="__main__")
+    return 0
 
 
 class Copy:
     """A copy of the client, in which one module is changed at a time."""
 
-    def __init__(self, folder: str, dsn: str) -> None:
+    def __init__(self, folder: str, dsn: str, plays: bool, first: Sequence[str], modules: Sequence[str]) -> None:
         self.folder = os.path.join(folder, "clients/python")
         shutil.copytree(FOLDER, self.folder, ignore=shutil.ignore_patterns("__pycache__"))
         compileall = [sys.executable, "-m", "compileall", "-q", "--invalidation-mode", "checked-hash", self.folder]
         subprocess.run(compileall, check=True)  # so that a changed module alone is compiled
         for other in ("examples", "docs", "tests"):
             os.symlink(os.path.join(TOP, other), os.path.join(folder, other))
-        self._covered: Dict[str, Any] = {}
-        self._environment = {**os.environ, "PYTHONPATH": self.folder, "PGSERIAL_DSN": dsn, "TMPDIR": folder}
+        self._environment = {"PGSERIAL_DSN": dsn, "TMPDIR": folder, "PYTHONPATH": self.folder, "PYTHONWARNINGS": "ignore"}
+        self._dsn, self._plays, self._first, self._modules, self._told = dsn, plays, first, modules, os.path.join(folder, "told")
+        self._tests: Dict[str, Tuple[float, Set[Tuple[str, int]]]] = {}
+        self._sources = {module: source_of(module) for module in MODULES}
 
-    def covers(self, command: str, mutant: Mutant) -> bool:
-        """Whether a command of tests comes to a mutant's lines."""
-        if command not in self._covered:
-            told = os.path.join(self.folder, "covered")
-            words = [sys.executable, "-B", "-c", _TRACER, told, *command.split()]
-            subprocess.run(words, cwd=self.folder, env=self._environment, stdout=subprocess.DEVNULL, stderr=subprocess.DEVNULL, timeout=900, check=False)
-            with open(told, encoding="utf-8") as file:
-                self._covered[command] = {tuple(place) for place in json.load(file)}
-            print(f"{len(self._covered[command])} lines are covered by {command}", flush=True)
-        return any((mutant.module + ".py", mutant.line + at) in self._covered[command] for at in range(mutant.before.count("\n") + 1))
+    def maps(self) -> None:
+        """Finds which test comes to which lines."""
+        os.makedirs(KEPT, exist_ok=True)
+        for module in self._modules:
+            text = os.path.join(FOLDER, module + ".py")
+            if not os.path.exists(text):
+                continue
+            kept = os.path.join(KEPT, f"{module}-{_checksum(text)}-{'server' if self._dsn else 'none'}")
+            if not os.path.exists(kept):
+                forked(lambda: _traced(module, kept), self.folder, self._environment, 1200)  # noqa: B023
+            with open(kept, encoding="utf-8") as file:
+                found = json.load(file)
+            print(f"{module}: {len(found)} tests in {sum(seconds for seconds, _ in found.values()):.1f} s", flush=True)
+            self._tests.update({name: (seconds, {tuple(each) for each in lines}) for name, (seconds, lines) in found.items()})
 
-    def stages(self, module: str, has_server: bool) -> Iterator[str]:
-        """The commands of tests for a module."""
-        for command in _STAGES.get(module, _STAGES[""]):
-            names = [word for word in command.split() if word.startswith("test_")]
-            there = [name for name in names if os.path.exists(os.path.join(self.folder, name.split(".")[0] + ".py"))]
-            # Without a server survivors are few tests ahead: they are tried --again with one, and with all tests.
-            is_first = command in (_FAST, _SQLITE, _RANDOM) or module in HISTORIES
-            if (there or not names) and (has_server or is_first):
-                yield " ".join([word for word in command.split() if not word.startswith("test_")] + there)
+    def tests_of(self, mutant: "Mutant") -> List[str]:
+        """The tests that come to its lines, the fastest first."""
+        lines = {(mutant.module, mutant.line + at) for at in range(mutant.before.count("\n") + 1)}
+        found = [(name, seconds) for name, (seconds, seen) in self._tests.items() if not lines.isdisjoint(seen) and seconds < MOST_SECONDS]
+        found = found or [(name, seconds) for name, (seconds, _) in self._tests.items()]  # of a class, whose lines are run once
+        found.sort(key=lambda each: (each[0].partition(".")[0] not in self._first, each[1]))
+        so_far = itertools.accumulate(seconds for _, seconds in found)
+        return [name for total, (name, seconds) in zip(so_far, found) if total - seconds < ENOUGH]
 
-    def fails(self, command: str) -> bool:
-        """Whether tests fail, or don't end."""
-        child = subprocess.Popen(
-            [sys.executable, "-B", *command.split()], cwd=self.folder, env=self._environment, stdout=subprocess.DEVNULL, stderr=subprocess.DEVNULL,
-            start_new_session=True,
-        )  # fmt: skip
+    def killer(self, mutant: "Mutant") -> Optional[str]:
+        """The test that fails with a mutant; None where all pass."""
+        path = os.path.join(self.folder, "pgserial", mutant.module + ".py")
+        with open(path, "w", encoding="utf-8") as file:
+            file.write(mutant.text(self._sources[mutant.module]))
         try:
-            return child.wait(PATIENCE) != 0
-        except subprocess.TimeoutExpired:
-            return True
+            names = self.tests_of(mutant)
+            if names and forked(lambda: _first_failure(names, self._told), self.folder, self._environment, PATIENCE) != 0:
+                with open(self._told, encoding="utf-8") as file:
+                    return file.read()
+            engines = MACHINES[: 2 if self._dsn else 1] if names and self._plays and mutant.module != "verdict" else ()
+            for engine in engines:
+                if forked(lambda: _machine(engine), self.folder, self._environment, PATIENCE) != 0:  # noqa: B023
+                    return f"random recordings on {engine}"
+            return None
         finally:
-            _end(child)
-
-    def killer(self, mutant: Optional[Mutant], has_server: bool) -> Optional[str]:
-        """The command that fails with a mutant; None where all pass."""
-        module = mutant.module if mutant else ""
-        path = os.path.join(self.folder, "pgserial", module + ".py")
-        if mutant:
-            for command in self.stages(module, has_server) if has_server else ():  # by the module as it is
-                self.covers(command, mutant)
             with open(path, "w", encoding="utf-8") as file:
-                file.write(mutant.text(source_of(module)))
-        try:
-            stages = [command for command in self.stages(module, has_server) if mutant is None or not has_server or self.covers(command, mutant)]
-            return next((command for command in stages if self.fails(command)), None)
-        finally:
-            if mutant:
-                shutil.copyfile(os.path.join(FOLDER, "pgserial", module + ".py"), path)
-
-
-def _end(child: "subprocess.Popen[bytes]") -> None:
-    """Ends a child, and what it has started."""
-    try:
-        os.killpg(child.pid, signal.SIGKILL)
-    except ProcessLookupError:
-        pass
-    child.wait()
+                file.write(self._sources[mutant.module])
 
 
 def results() -> Dict[str, Dict[str, Any]]:
@@ -312,7 +392,19 @@ def results() -> Dict[str, Dict[str, Any]]:
     if not os.path.exists(RESULTS):
         return {}
     with open(RESULTS, encoding="utf-8") as file:
-        return {told["name"]: told for told in map(json.loads, file)}
+        return {name_of(told): told for told in map(json.loads, file)}
+
+
+def name_of(told: Dict[str, Any]) -> str:
+    """The name of a mutant that was tried."""
+    return f"{told['module']}.{told['in']}: {told['kind']}: {told['text']}" + (f" -> {told['after']}" if told["after"] else "")
+
+
+def keep(tried: Dict[str, Dict[str, Any]]) -> None:
+    """Writes what was tried."""
+    with open(RESULTS, "w", encoding="utf-8") as file:
+        for name in sorted(tried):
+            file.write(json.dumps(tried[name], ensure_ascii=False) + "\n")
 
 
 def tries(given: argparse.Namespace) -> int:
@@ -320,71 +412,68 @@ def tries(given: argparse.Namespace) -> int:
     all_of_them = mutants(given.module or MODULES)
     known = results()
     if given.again:
-        chosen = [mutant for mutant in all_of_them if mutant.name in known and known[mutant.name]["killer"] is None]
+        chosen = [mutant for mutant in all_of_them if mutant.name in known and not known[mutant.name]["seen by"]]
     else:
         chosen = [mutant for mutant in drawn(all_of_them, given.count, given.seed) if mutant.name not in known]
-    os.makedirs(os.path.dirname(RESULTS), exist_ok=True)
+    for name in ("sqlite3", "psycopg2", "psycopg", "ctypes", "asyncio", "decimal", "sqlalchemy"):
+        try:
+            __import__(name)  # once, for all children
+        except ImportError:
+            pass
     with tempfile.TemporaryDirectory(dir="/dev/shm" if os.path.isdir("/dev/shm") else None) as folder:
-        copy = Copy(folder, given.dsn)
-        failing = copy.killer(None, bool(given.dsn))
-        if failing is not None:
-            print(f"recorder_mutants: the tests fail without a mutant: {failing}", file=sys.stderr)
-            return 1
+        copy = Copy(folder, given.dsn, given.machine, given.first, given.tests)
+        copy.maps()
         for at, mutant in enumerate(chosen, 1):
             begun = time.monotonic()
-            killer = copy.killer(mutant, bool(given.dsn))
-            told = {"name": mutant.name, "module": mutant.module, "kind": mutant.kind, "line": mutant.line, "killer": killer}
-            with open(RESULTS, "a", encoding="utf-8") as file:
-                file.write(json.dumps(told) + "\n")
-            print(f"{at} of {len(chosen)}, {time.monotonic() - begun:.1f} s: {'survives' if killer is None else 'is seen'}: {mutant.name}", flush=True)
+            killer = copy.killer(mutant)
+            tried = results()
+            note = tried.get(mutant.name, {}).get("note", "")
+            tried[mutant.name] = {**mutant.told(), "seen by": killer or "", "note": "" if killer else note}
+            keep(tried)
+            print(f"{at} of {len(chosen)}, {time.monotonic() - begun:.1f} s: {'survives' if killer is None else killer}: {mutant.name}", flush=True)
     return 0
 
 
 # ---- the page
 
-_ROW = re.compile(r"^\| `(.*)` \| (.*) \|$")
 _HEAD = """# Mutants of the recorder
 
-`tools/recorder_mutants.py try` changes one statement of the recorder's modules, in a copy. It removes it, turns a condition, or changes a constant. Then the tests of clients/python run until one fails. The first need sqlite3 alone; recordings at random follow. With `--dsn` it runs those on PostgreSQL too. A seed draws which mutants are tried.
+`tools/recorder_mutants.py try` changes one statement of the recorder's modules, in a copy. It removes it, turns a condition, or changes a constant. Then the tests that come to its lines run until one fails, the fastest first, and recordings at random last. With `--dsn` tests on PostgreSQL run too. A seed draws which mutants are tried.
 
-`tools/recorder_mutants.py table` writes this page. What stands here was tried on 30 November 2026 without a server. Tests on PostgreSQL may see some that survive here.
+`recorder-mutants.jsonl` has what came of each, with a note where one survives. `tools/recorder_mutants.py table` writes this page of it.
 """
-
-
-def _notes() -> Dict[str, str]:
-    """What stands on the page about survivors."""
-    if not os.path.exists(PAGE):
-        return {}
-    with open(PAGE, encoding="utf-8") as file:
-        rows = [_ROW.match(line.rstrip("\n")) for line in file]
-    return {row[1]: row[2] for row in rows if row}
 
 
 def _cell(name: str) -> str:
     return name.replace("|", "\\|").replace("`", "'")
 
 
-def table() -> int:
-    """Writes the page."""
-    tried, notes = results(), _notes()
+def page() -> str:
+    """The page."""
     by_module: Dict[str, List[Dict[str, Any]]] = collections.defaultdict(list)
-    for told in tried.values():
+    for told in results().values():
         by_module[told["module"]].append(told)
-    lines = [_HEAD, "| Module | There are | Tried | Seen by a test | Survive |", "|---|---|---|---|---|"]
-    totals = [0, 0, 0, 0]
-    for module in sorted(MODULES):
-        some = by_module.get(module, [])
-        counts = [len(mutants([module])), len(some), sum(told["killer"] is not None for told in some), sum(told["killer"] is None for told in some)]
+    lines = [_HEAD, "| Module | Tried | Seen by a test | Survive |", "|---|---|---|---|"]
+    totals = [0, 0, 0]
+    for module in sorted(by_module):
+        some = by_module[module]
+        counts = [len(some), sum(bool(told["seen by"]) for told in some), sum(not told["seen by"] for told in some)]
         totals = [total + count for total, count in zip(totals, counts)]
         lines.append(f"| {module} | " + " | ".join(map(str, counts)) + " |")
     lines += ["| all | " + " | ".join(map(str, totals)) + " |", ""]
-    survivors = sorted(_cell(told["name"]) for told in tried.values() if told["killer"] is None)
+    survivors = sorted((name, told["note"]) for name, told in results().items() if not told["seen by"])
     if survivors:
-        lines += ["## Those that survive", "", "| Mutant | Why, or what was done about it |", "|---|---|"]
-        lines += [f"| `{name}` | {notes.get(name, '')} |" for name in survivors]
+        lines += ["## Those that survive", "", "| Mutant | Why |", "|---|---|"]
+        lines += [f"| `{_cell(name)}` | {note} |" for name, note in survivors]
+    return "\n".join(lines) + "\n"
+
+
+def table() -> int:
+    """Writes the page."""
     with open(PAGE, "w", encoding="utf-8") as file:
-        file.write("\n".join(lines) + "\n")
-    print(f"{totals[1]} tried, {totals[3]} survive, {sum(not notes.get(name) for name in survivors)} of them without a word")
+        file.write(page())
+    without = [name for name, told in results().items() if not told["seen by"] and not told["note"]]
+    print(f"{len(results())} tried; {len(without)} survive without a note")
     return 0
 
 
@@ -395,7 +484,10 @@ def main() -> int:
     words.add_argument("--seed", type=int, default=1)
     words.add_argument("--module", nargs="*")
     words.add_argument("--dsn", default="", help="a database of PostgreSQL that the tests may change")
-    words.add_argument("--again", action="store_true")
+    words.add_argument("--again", action="store_true", help="those alone that have survived")
+    words.add_argument("--tests", nargs="*", default=TESTS, help="modules of tests that run")
+    words.add_argument("--first", nargs="*", default=(), help="modules of tests that run before others")
+    words.add_argument("--machine", action="store_true", help="recordings at random too, where all tests pass")
     given = words.parse_args()
     if given.does == "try":
         return tries(given)
