@@ -20,8 +20,8 @@ from typing import Any, Callable, Iterator, List, Sequence, Tuple
 from pgserial.recording import Recorder, RecordingWarning
 from test_recording import DSN, OnSqlite, Room, drivers, module
 
-PATIENCE = 60  # seconds for anything that a case waits for; each takes a moment
-_BOUNDS = "-c lock_timeout=30000 -c statement_timeout=40000 -c idle_in_transaction_session_timeout=50000"
+PATIENCE = 100  # seconds for anything that a case waits for; each takes a moment
+_BOUNDS = "-c lock_timeout=120000 -c statement_timeout=150000 -c idle_in_transaction_session_timeout=180000"
 _NUMBERS = itertools.count(1)
 
 
