@@ -107,7 +107,7 @@ def planned(seed: int, engine: str, without: Sequence[str] = ()) -> Plan:
     if "a full disk" in without:
         plan = replace(plan, room=None)
     most = MOST_TRIED if plan.is_core else 8
-    spoils = not plan.is_core and chance.random() < 0.15
+    spoils = not plan.is_core and chance.random() < 0.3
     rows: List[List[Step]] = [[] for _ in range(plan.sessions)]
     for _ in range(chance.randint(2 if level == SERIALIZABLE else 5, most)):
         session = chance.randrange(plan.sessions)
