@@ -152,7 +152,7 @@ def _reads() -> None:
     _read(counts, "SELECT w, sum(v) FROM t GROUP BY w HAVING sum(v) > 10")
     _read(counts, "SELECT id, v FROM t GROUP BY id, v")
     _read(counts, "SELECT id, v, count(*) FROM t GROUP BY ROLLUP (id, v)", None)
-    _read(counts, "SELECT string_agg(s, ',') FROM t", "SELECT group_concat(s) FROM t", touch="UPDATE t SET s = 'q' WHERE id = 1")
+    _read(counts, "SELECT string_agg(s, ',' ORDER BY id) FROM t", "SELECT group_concat(s) FROM t", touch="UPDATE t SET s = 'q' WHERE id = 1")
     _read(counts, "SELECT count(*) FILTER (WHERE v > 10) FROM t")
 
     joins = "several tables"
@@ -381,6 +381,7 @@ def _changes() -> None:
     _form(delete, "DELETE FROM t WHERE w = 1 RETURNING v + 1")
     _form(delete, "DELETE FROM t WHERE id = 1 OR v = 20 RETURNING *")
     _form(delete, "WITH d AS (DELETE FROM t WHERE w = 1 RETURNING id, v) SELECT * FROM d", None, touch=None)
+    _form(delete, "WITH d AS (UPDATE t SET v = v * 2 WHERE w = 1 RETURNING v) SELECT * FROM d", None)
     _form(delete, "WITH d AS (DELETE FROM t WHERE w = 1 RETURNING id, v) INSERT INTO u (id, n) SELECT id + 100, v FROM d", None, touch=None)
     _form(delete, "TRUNCATE t", None, touch=None)
 
@@ -467,6 +468,13 @@ def _table(told: str, does: Does, *made: str, sqlite: bool = False, tables: Sequ
     ))  # fmt: skip
 
 
+_CHANGED = (
+    "CREATE TABLE k (id bigint PRIMARY KEY, v bigint, changed timestamptz)", "INSERT INTO k VALUES (1, 3)",
+    "CREATE OR REPLACE FUNCTION more() RETURNS trigger LANGUAGE plpgsql AS 'BEGIN NEW.changed := now(); RETURN NEW; END'",
+    "CREATE TRIGGER more BEFORE INSERT OR UPDATE ON k FOR EACH ROW EXECUTE FUNCTION more()",
+)  # fmt: skip
+
+
 def _kinds() -> None:
     both = "both"
     _kind("boolean", "boolean", "false", "true", sqlite=both)
@@ -501,6 +509,10 @@ def _kinds() -> None:
         "CREATE OR REPLACE FUNCTION more() RETURNS trigger LANGUAGE plpgsql AS 'BEGIN NEW.v = NEW.v + 1; RETURN NEW; END'",
         "CREATE TRIGGER more BEFORE UPDATE ON k FOR EACH ROW EXECUTE FUNCTION more()",
     )
+    _table(
+        "a trigger that tells when a row was changed: UPDATE", "UPDATE k SET v = v + 1 WHERE id = 1", *_CHANGED, touch=None,
+    )
+    _table("a trigger that tells when a row was changed: INSERT", "INSERT INTO k (id, v) VALUES (2, 5)", *_CHANGED)
     _table(
         "a trigger that writes another table", "UPDATE k SET v = 5 WHERE id = 1", "CREATE TABLE k (id bigint PRIMARY KEY, v bigint)", "INSERT INTO k VALUES (1, 3)",
         "CREATE OR REPLACE FUNCTION more() RETURNS trigger LANGUAGE plpgsql AS 'BEGIN UPDATE t SET v = 7 WHERE id = 1; RETURN NEW; END'",

@@ -44,8 +44,7 @@ class InAProject(OnSqlite):
 
     def at(self) -> List[str]:
         """The lines that tell places, each with the command behind it."""
-        with open(self.path, encoding="utf-8") as file:
-            lines = file.read().split("\n")
+        lines = self.text().split("\n")
         return [f"{line[6:]}: {after}" for line, after in zip(lines, lines[1:]) if line.startswith("-- at ")]
 
     def test_each_transaction_and_statement_has_its_line(self) -> None:
@@ -97,14 +96,14 @@ class InAProject(OnSqlite):
         async def task(name: str) -> None:
             with places.named(name):
                 await asyncio.sleep(0)
-                seen.append(places.transaction())
+                seen.append(places.called(places.place()))
 
         async def main() -> None:
             await asyncio.gather(task("one"), task("two"))
 
         with places.named("outer"):
             asyncio.run(main())
-            thread = threading.Thread(target=lambda: seen.append(places.transaction()))
+            thread = threading.Thread(target=lambda: seen.append(places.called(places.place())))
             thread.start()
             thread.join()
         self.assertEqual([place.name for place in seen], ["one", "two", "<lambda>"])

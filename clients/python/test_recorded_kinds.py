@@ -331,8 +331,7 @@ class Kinds(Recorded):
                     self.assertEqual(told.answer, "yes", told.words)
 
     def lines_so_far(self) -> List[str]:
-        with open(self.path, encoding="utf-8") as file:
-            return [line for line in file if line[:1] in (">", " ")]
+        return [line + "\n" for line in self.lines()]
 
 
 @unittest.skipUnless(drivers(), "PostgreSQL or psycopg2 isn't there (Debian: postgresql, python3-psycopg2)")

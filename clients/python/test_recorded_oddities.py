@@ -313,7 +313,7 @@ recorder.close()
         os.close(recorder._output._file)
         with self.assertWarnsRegex(RecordingWarning, "can't be written"):
             connection.execute("UPDATE t SET v = 1")
-        recorder.close()
+            recorder.close()
 
     def test_a_verdict_that_cannot_be_given_from_the_command_line(self) -> None:
         with open(self.path, "w", encoding="utf-8") as file:

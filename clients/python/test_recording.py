@@ -23,6 +23,7 @@ import warnings
 from typing import Any, Dict, Iterator, List
 
 from pgserial.keys import Refused
+from pgserial.output import write_all_kept
 from pgserial.recording import Recorder, RecordingWarning, verdict
 
 HERE = os.path.dirname(os.path.abspath(__file__))
@@ -67,16 +68,20 @@ class Room(unittest.TestCase):
         self.addCleanup(recorder.close)
         return recorder
 
+    def text(self) -> str:
+        """The transcript."""
+        write_all_kept()
+        with open(self.path, encoding="utf-8") as file:
+            return file.read()
+
     def lines(self) -> List[str]:
         """The lines of the transcript, without comments."""
-        with open(self.path, encoding="utf-8") as file:
-            text = file.read()
+        text = self.text()
         self.assertTrue(text.endswith("\n"))
         return [line for line in text.split("\n")[:-1] if not line.startswith("--")]
 
     def comments(self) -> str:
-        with open(self.path, encoding="utf-8") as file:
-            return "\n".join(line for line in file.read().split("\n") if line.startswith("--"))
+        return "\n".join(line for line in self.text().split("\n") if line.startswith("--"))
 
 
 # ---- sqlite3

@@ -95,6 +95,7 @@ class Disks(OnSqlite):
     def test_a_line_that_isnt_whole_is_told(self) -> None:
         recorder = self.recorder()
         recorder.wrap(self.raw()).execute("UPDATE t SET v = v + 1 WHERE id = 1")
+        recorder.flush()
         with open(self.path, "a", encoding="utf-8") as file:
             file.write("> 1 UPDATE t SE")
         told = verdict(self.path)
@@ -316,8 +317,7 @@ class Beginnings(OnSqlite):
                 one.execute(text).fetchall()
         two.execute("SELECT * FROM t")
         two.execute("SELECT * FROM t")
-        with open(self.path, "rb") as file:
-            data = file.read()
+        data = self.text().encode("utf-8")
         recorder.close()
         return data
 

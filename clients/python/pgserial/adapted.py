@@ -2,7 +2,7 @@
 
 import asyncio
 import sys
-from typing import Any, Callable, Optional, Sequence
+from typing import Any, Callable, Iterable, Optional, Sequence
 
 from .cascades import Counts
 from .catalog import Cascade, Table
@@ -80,6 +80,9 @@ class Asyncpg(_Adapted, Postgres):
     def sent(self, value: object, cursor: Any) -> object:
         return Driver.sent(self, value, cursor)
 
+    def sends_own(self, kinds: Iterable[type], cursor: Any) -> bool:
+        return Driver.sends_own(self, kinds, cursor)
+
     def numbers(self, cursor: Any) -> Optional[Numbers]:
         return Driver.numbers(self, cursor)
 
@@ -114,7 +117,7 @@ class PsycopgAsync(_Adapted, Postgres):
         came = Driver.came(self, cursor, shows)
         if came.served is None:
             return came
-        rows = surely_known(self._adapting, cursor._cursor, list(came.result.rows))
+        rows = surely_known(self._adapting, cursor._cursor, cursor._cursor.description, came.result.rows)
         return came._replace(result=came.result._replace(rows=rows))
 
 

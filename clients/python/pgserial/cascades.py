@@ -79,7 +79,7 @@ class Cascades:
         """Refuses rows whose change changes others in turn, or fires triggers."""
         deletes = cascade.on_delete == "cascade"
         more = [each for each in child.cascades if (each.on_delete if deletes else each.on_update) is not None]
-        why = child.unsure("delete" if deletes else "update")
+        why = child.unsaid_by("delete" if deletes else "update")
         if more:
             why = f"a foreign key of table {more[0].child} changes rows with those of table {child.real} in turn"
         if why is not None:

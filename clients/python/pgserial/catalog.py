@@ -7,6 +7,7 @@ from typing import FrozenSet, Iterable, Iterator, List, Mapping, NamedTuple, Opt
 from . import BIGINT, BYTEA, TEXT, Kind
 from .keys import Candidate, Refused, chosen, key_text
 from .kinds import Form, named_form
+from .setters import Setter
 from .sql import Name, negated, tokens_of
 from .values import Plain, Unsaid, plain
 
@@ -39,11 +40,12 @@ class Column(NamedTuple):
 
 class Hazard(NamedTuple):
     """What may write unsaid where a table is written: by which statements (`insert`, `update`, `delete`), what it is, and the
-    function that it calls, where it is a trigger."""
+    function that it calls, where it is a trigger; and where it may do no more than that, which columns it sets."""
 
     verbs: FrozenSet[str]
     why: str
     function: Optional[str] = None
+    setter: Optional[Setter] = None
 
 
 class Cascade(NamedTuple):
@@ -76,6 +78,7 @@ class Table(NamedTuple):
     cascades: Tuple[Cascade, ...] = ()  # foreign keys by which other tables' rows are changed with those of this one
     numbers: Optional[Iterator[int]] = None
     reached: Tuple[str, ...] = ()  # tables that aren't recorded, whose foreign keys may change rows of this one
+    setters: Tuple[Setter, ...] = ()  # triggers that set columns
 
     def create(self) -> str:
         """The line that creates it. Constraints are left out: what they refuse is answered by an error, and left out too."""
@@ -106,6 +109,11 @@ class Table(NamedTuple):
     def unsure(self, verb: str) -> Optional[str]:
         """Why a statement that begins with this verb may write more than it says, where it may."""
         return next((hazard.why for hazard in self.hazards if verb in hazard.verbs), None)
+
+    def unsaid_by(self, verb: str) -> Optional[str]:
+        """Why a statement that begins with this verb can't be said as it stands: it may write more, or a trigger sets columns."""
+        setter = next((each for each in self.setters if verb in each.verbs), None)
+        return self.unsure(verb) or (f"its trigger {setter.name} sets column {setter.columns[0]}" if setter is not None else None)
 
 
 def said_name(real: str, taken: Iterable[str]) -> str:

@@ -2,9 +2,12 @@
 
 import contextlib
 import operator
+import re
 import weakref
+from functools import partial
 from typing import Any, Callable, Dict, Iterator, List, Optional, Tuple, Union
 
+from .copying import Teed, copied_from
 from .drivers import Came, Sqlite
 from .effects import Control
 from .proxies import Proxy, parameters_of, text_of
@@ -12,7 +15,7 @@ from .returning import Addition
 from .several import Whole, bound, statements_of
 from .session import Session
 from .steps import (
-    Begin, Commit, Executed, Inner, LeftOut, NoText, Rollback, Savepoint, Script, Setting, Spoils, Step, copy_of,
+    Begin, Commit, Executed, Inner, LeftOut, NoText, Rollback, Savepoint, Script, Setting, Spoils, Step, copied_step, copy_of,
     is_written, many_of, step_of,
 )  # fmt: skip
 
@@ -205,10 +208,21 @@ class Transaction(Proxy):
         return Commit(self._session) if is_kept else Rollback(self._session)
 
 
+class _Kept:
+    """What a cursor has of the statement that was executed last."""
+
+    came: Optional[Came] = None  # rows that the driver's cursor has given up
+    at = 0  # how many of them were asked for
+    ahead: Optional[List[Any]] = None  # all rows, where the driver's cursor stands behind the last and none was asked for
+    count: Optional[int] = None  # of the rows that several executions speak of
+    addition: Optional[Addition] = None  # what was added, and shows more than the application asks for
+    sent: Union[Addition, Whole, None] = None  # what differs from that in the text that was sent last
+
+
 class Cursor(Proxy):
     """A cursor that is recorded; `wrapped` is the driver's own."""
 
-    _own = frozenset(("wrapped", "_connection", "_came", "_at", "_count", "_addition", "_sent"))
+    _own = frozenset(("wrapped", "_connection", "_kept"))
     _special = {
         "callproc": "_callproc", "copy_from": "_copy_from", "copy_to": "_copy_to", "copy_expert": "_copy_expert",
         "copy": "_copy", "executescript": "_executescript", "stream": "_stream",
@@ -217,11 +231,7 @@ class Cursor(Proxy):
     def __init__(self, wrapped: Any, connection: Connection) -> None:
         super().__init__(wrapped)
         self._connection = connection
-        self._came: Optional[Came] = None  # rows that the driver's cursor has given up
-        self._at = 0
-        self._count: Optional[int] = None  # of the rows that several executions speak of
-        self._addition: Optional[Addition] = None  # what was added, and shows more than the application asks for
-        self._sent: Union[Addition, Whole, None] = None  # what differs from that in the text that was sent last
+        self._kept = _Kept()
 
     @property
     def connection(self) -> Connection:
@@ -231,29 +241,30 @@ class Cursor(Proxy):
     @property
     def rowcount(self) -> Any:
         """How many rows the last execution speaks of."""
-        return self.wrapped.rowcount if self._count is None else self._count
+        return self.wrapped.rowcount if self._kept.count is None else self._kept.count
 
     @property
     def description(self) -> Any:
         """The columns that the application has asked for."""
         description = self.wrapped.description
-        if self._addition is None or description is None:
+        if self._kept.addition is None or description is None:
             return description
-        return None if self._addition.is_alone else description[: len(description) - self._addition.hidden]
+        return None if self._kept.addition.is_alone else description[: len(description) - self._kept.addition.hidden]
 
     @property
     def query(self) -> Any:
         """The text that was sent, as psycopg2 tells it, without what was added."""
         query = self.wrapped.query
-        return query if self._sent is None or query is None else self._sent.without(query)
+        return query if self._kept.sent is None or query is None else self._kept.sent.without(query)
 
     @property
     def rownumber(self) -> Any:
         """How many rows were fetched, as some drivers tell it."""
+        self._rewind()
         number = self.wrapped.rownumber
-        if self._addition is None:
+        if self._kept.addition is None:
             return number
-        return self._connection._session.driver.no_rownumber if self._addition.is_alone else self._at
+        return self._connection._session.driver.no_rownumber if self._kept.addition.is_alone else self._kept.at
 
     # statements
 
@@ -280,7 +291,7 @@ class Cursor(Proxy):
                     value = self._executed(sent, None, self.wrapped.execute)
                 return value
         finally:
-            self._sent = Whole(whole)
+            self._kept.sent = Whole(whole)
 
     @contextlib.contextmanager
     def _as_one(self, is_one: bool) -> Iterator[None]:
@@ -310,19 +321,35 @@ class Cursor(Proxy):
             step = self._step(operation, parameters)
             if step.addition is not None:
                 text = text_of(operation, self._connection.wrapped) or ""
-                sent[0], self._addition, self._sent = step.addition.to(operation, text), step.addition, step.addition
+                sent[0], self._kept.addition, self._kept.sent = step.addition.to(operation, text), step.addition, step.addition
             return step
 
         try:
             value = self._connection._session.take(planned, lambda: call(sent[0]))
         except BaseException:
-            self._addition = None  # what was shown before, if anything
+            self._kept.addition = None  # what was shown before, if anything
             raise
         return self if value is self.wrapped else value
 
     def _forget(self) -> None:
         """Nothing is kept of what was executed before."""
-        self._came, self._count, self._addition, self._sent = None, None, None, None
+        self._kept = _Kept()
+
+    def _rewind(self) -> None:
+        """What comes is asked of the driver's cursor, which is to stand before its first row."""
+        if self._kept.ahead is not None:
+            self._kept.ahead = None
+            self._connection._session.driver.rewind(self.wrapped)
+
+    def __getattr__(self, name: str) -> Any:
+        if name != "close":
+            self._rewind()
+        return super().__getattr__(name)
+
+    def __setattr__(self, name: str, value: object) -> None:
+        if name not in self._own:
+            self._rewind()
+        super().__setattr__(name, value)
 
     def _step(self, operation: Any, parameters: Any) -> Step:
         session = self._connection._session
@@ -338,9 +365,11 @@ class Cursor(Proxy):
     def _keep(self, came: Came) -> None:
         """Rows that the driver's cursor has given up are kept for the application."""
         if came.served is not None:
-            self._came, self._at = came, 0
-        if self._addition is not None and isinstance(self._connection._session.driver, Sqlite):
-            self._count = self.wrapped.rowcount if self.wrapped.rowcount < 0 else came.result.number
+            self._kept.came, self._kept.at = came, 0
+        elif came.ahead is not None:
+            self._kept.ahead = came.ahead
+        if self._kept.addition is not None and isinstance(self._connection._session.driver, Sqlite):
+            self._kept.count = self.wrapped.rowcount if self.wrapped.rowcount < 0 else came.result.number
 
     def executemany(self, operation: Any, several: Any, *words: Any, **named: Any) -> Any:
         """Executes a statement once for each of several parameters."""
@@ -356,7 +385,7 @@ class Cursor(Proxy):
                 count, total = count + 1, total + max(self.rowcount, 0)
         if count == 0:
             return self._many(operation, text, [])
-        self._count = total
+        self._kept.count = total
         return self if session.driver.many_gives_cursor else None
 
     def _many(self, operation: Any, text: Optional[str], several: List[Any], *words: Any, **named: Any) -> Any:
@@ -373,50 +402,69 @@ class Cursor(Proxy):
 
     def fetchone(self) -> Any:
         """The next row."""
+        if self._kept.ahead is not None and len(self._kept.ahead) == 1:
+            return self._taken_ahead()[0]
         row = self._left(self.wrapped.fetchone)
-        if self._came is None:
+        if self._kept.came is None:
             return row
         rows = self._served(1)
         return rows[0] if rows else None
 
     def fetchmany(self, *words: Any, **named: Any) -> Any:
         """The next rows."""
+        if self._kept.ahead is not None and len(words) + len(named) < 2:
+            size = words[0] if words else named.get("size", self.wrapped.arraysize)
+            if type(size) is int and size >= len(self._kept.ahead) and size > 0:
+                return self._taken_ahead()
         rows = self._left(self.wrapped.fetchmany, *words, **named)
-        if self._came is None:
+        if self._kept.came is None:
             return rows
         size = words[0] if words else named.get("size", self.wrapped.arraysize)
         return self._served(self._connection._session.driver.most(operator.index(size)))
 
     def fetchall(self) -> Any:
         """The rows that are left."""
+        if self._kept.ahead is not None:
+            return self._taken_ahead()
         rows = self._left(self.wrapped.fetchall)
-        return rows if self._came is None else self._served(None)
+        return rows if self._kept.came is None else self._served(None)
 
     def _left(self, call: Callable[..., Any], *words: Any, **named: Any) -> Any:
         """What the driver gives. Where its rows are kept here it has none left, and says so; or it raises what it would
         have raised, at a number that is none or once it is closed."""
-        given = call(*words, **named) if self._came is None or self._came.error is None else None
-        error = self._connection._session.driver.nothing_to_fetch() if self._addition and self._addition.is_alone else None
+        self._rewind()
+        given = call(*words, **named) if self._kept.came is None or self._kept.came.error is None else None
+        error = self._connection._session.driver.nothing_to_fetch() if self._kept.addition and self._kept.addition.is_alone else None
         if error is not None:
             raise error
         return given
 
+    def _taken_ahead(self) -> List[Any]:
+        """All rows: the driver's cursor stands where it would stand if it had given them now."""
+        if not self._connection._session.driver.is_plain(self.wrapped):
+            return list(self._left(self.wrapped.fetchall))
+        rows, self._kept.ahead = self._kept.ahead, None
+        self.wrapped.fetchall()  # which raises where it is closed
+        return rows or []
+
     def _served(self, size: Optional[int]) -> List[Any]:
         """The next of the rows that are kept; all that are left where no size is given."""
-        came = self._came
+        came = self._kept.came
         assert came is not None and came.served is not None
-        end = len(came.served) if size is None else min(self._at + size, len(came.served))
-        rows, self._at = came.served[self._at : end], end
+        end = len(came.served) if size is None else min(self._kept.at + size, len(came.served))
+        rows, self._kept.at = came.served[self._kept.at : end], end
         if came.error is not None and (size is None or len(rows) < size):
             raise came.error
         made = came.maker() if came.maker is not None else None
         return rows if made is None else [made(row) for row in rows]
 
     def __iter__(self) -> Any:
-        return self if self._came is not None else iter(self.wrapped)
+        self._rewind()
+        return self if self._kept.came is not None else iter(self.wrapped)
 
     def __next__(self) -> Any:
-        if self._came is None:
+        self._rewind()
+        if self._kept.came is None:
             return next(self.wrapped)
         row = self.fetchone()
         if row is None:
@@ -447,9 +495,13 @@ class Cursor(Proxy):
             lambda: self.wrapped.callproc(name, *words),
         )
 
-    def _copy_from(self, *words: Any, **named: Any) -> Any:
+    def _copy_from(self, file: Any, table: Any, *words: Any, **named: Any) -> Any:
+        teed = Teed(file)
+        given = {**dict(zip(("sep", "null", "size", "columns"), words)), **named}
+        copied = partial(copied_from, table, given.get("columns"), given.get("sep", "\t"), given.get("null", "\\N"))
         return self._taken(
-            lambda session: Spoils(session, "copy_from", "COPY writes", True), lambda: self.wrapped.copy_from(*words, **named)
+            lambda session: copied_step(session, copied, teed, self._looked_at()),
+            lambda: self.wrapped.copy_from(teed, table, *words, **named),
         )
 
     def _copy_to(self, *words: Any, **named: Any) -> Any:
@@ -459,7 +511,15 @@ class Cursor(Proxy):
 
     def _copy_expert(self, text: Any, *words: Any, **named: Any) -> Any:
         said = text_of(text, self._connection.wrapped) or ""
-        return self._taken(lambda session: copy_of(session, said), lambda: self.wrapped.copy_expert(text, *words, **named))
+        file = words[0] if words else named.get("file")
+        if not hasattr(file, "read") or hasattr(file, "write") and re.search(r"\bto\s+stdout\b", said, re.IGNORECASE):
+            return self._taken(lambda session: copy_of(session, said), lambda: self.wrapped.copy_expert(text, *words, **named))
+        teed = Teed(file)
+        named = {name: value for name, value in named.items() if name != "file"}
+        return self._taken(
+            lambda session: copy_of(session, said, teed, self._looked_at()),
+            lambda: self.wrapped.copy_expert(text, teed, *words[1:], **named),
+        )
 
     def _copy(self, text: Any, *words: Any, **named: Any) -> Any:
         said = text_of(text, self._connection.wrapped) or ""

@@ -5,6 +5,7 @@ import re
 import contextlib
 import sys
 import time
+from functools import partial
 from typing import Any, Callable, Dict, FrozenSet, Iterable, List, Mapping, NamedTuple, Optional, Sequence, Set, Tuple, Union
 
 from .cascades import Counts
@@ -38,6 +39,7 @@ class Came(NamedTuple):
     maker: Optional[Callable[[], Optional[Callable[[Any], Any]]]] = None  # gives what makes them so when they are asked for
     error: Optional[BaseException] = None  # what the application meets behind these rows
     shown: Sequence[Sequence[object]] = ()  # where the cursor has its rows still, the same
+    ahead: Optional[Rows] = None  # where the cursor stands behind its last row, all of them as the application is to have them
 
 
 def _positional(row: Any, names: Sequence[str]) -> Sequence[object]:
@@ -153,6 +155,10 @@ class Driver:
             raise Unsaid(f"the driver sends something else in place of a {type(value).__name__}")
         return value
 
+    def sends_own(self, kinds: Iterable[type], cursor: Any) -> bool:
+        """Whether values that are just of these classes, int and str, are sent as they are."""
+        return True
+
     # rows
 
     def count(self, cursor: Any) -> int:
@@ -235,6 +241,9 @@ class Driver:
     def roll_back(self) -> None:
         """Rolls back what is open, on a connection that is about to be closed."""
         self._raw.rollback()
+
+    def rewind(self, cursor: Any) -> None:
+        """Goes back before a cursor's first row, whose rows were fetched."""
 
     def rows_now(self, tables: Sequence[Table]) -> List[Tuple[Table, Rows]]:
         """The rows that these tables have, all of one moment where the database is known. The connection is idle."""
@@ -327,7 +336,9 @@ class Postgres(Driver):
         self._adapting: Any = Psycopg(raw) if self.own_transactions else Psycopg2(raw)
 
     def _status(self) -> int:
-        return int(self._raw.info.transaction_status)
+        if self.own_transactions:
+            return int(self._raw.pgconn.transaction_status)
+        return int(self._raw.get_transaction_status())
 
     def is_open(self) -> Optional[bool]:
         return self._status() not in (self._IDLE, self._UNKNOWN)
@@ -367,18 +378,33 @@ class Postgres(Driver):
         sent: object = self._adapting.sent(value, cursor)
         return sent
 
+    def sends_own(self, kinds: Iterable[type], cursor: Any) -> bool:
+        return bool(self._adapting.sends_own(kinds, cursor))
+
     def came(self, cursor: Any, shows: bool) -> Came:
-        if not shows or cursor.description is None:
+        description = cursor.description
+        if not shows or description is None:
             return Came(Result(self.count(cursor)))
-        names = [column[0] for column in cursor.description]
         rows = self._rows(cursor)
-        shown = [_positional(row, names) for row in rows]
-        return Came(Result(self.count(cursor), surely_known(self._adapting, cursor, shown)), shown=shown)
+        is_plain = self.is_plain(cursor)
+        if is_plain:
+            shown: Sequence[Sequence[object]] = rows
+        else:
+            names = [column[0] for column in description]
+            shown = [_positional(row, names) for row in rows]
+            self.rewind(cursor)
+        known = surely_known(self._adapting, cursor, description, shown) if rows else shown
+        return Came(Result(self.count(cursor), known), shown=shown, ahead=rows if is_plain else None)
+
+    def rewind(self, cursor: Any) -> None:
+        if cursor.rowcount > 0:
+            cursor.scroll(0, mode="absolute")
 
     def facts(self, table: Table) -> Facts:
         if self.is_failed() or self.is_dead():
             return NOTHING
-        found: Any = self.ask(_FACTS.format(name=self._named(table)))
+        quiet = ", ".join("'" + each.name.replace("'", "''") + "'" for each in table.setters)
+        found: Any = self.ask(_FACTS.format(name=self._named(table), quiet=f"AND t.tgname NOT IN ({quiet})" if quiet else ""))
         if not found:
             return NOTHING
         kind, rules, policies, triggers, may_read, unique = found[0]
@@ -388,6 +414,8 @@ class Postgres(Driver):
         if self.own_transactions:
             return bool(cursor.row_factory is sys.modules["psycopg.rows"].tuple_row)
         kind = sys.modules["psycopg2.extensions"].cursor
+        if type(cursor) is kind:
+            return cursor.row_factory is None
         is_own = all(getattr(type(cursor), name) is getattr(kind, name) for name in ("fetchone", "fetchmany", "fetchall"))
         return is_own and getattr(cursor, "row_factory", None) is None
 
@@ -397,7 +425,7 @@ class Postgres(Driver):
         return error
 
     def _rows(self, cursor: Any) -> Rows:
-        """The rows that have come; the cursor stands before the first again."""
+        """The rows that have come; the cursor stands behind them."""
         if not self.own_transactions:
             try:
                 rows = cursor.fetchall()
@@ -405,14 +433,14 @@ class Postgres(Driver):
                 with contextlib.suppress(Exception):
                     cursor.scroll(0, mode="absolute")
                 raise Unsaid(f"its rows couldn't be read, {type(error).__name__}: {error}") from None
+        elif self.is_plain(cursor):
+            rows = cursor.fetchall()
         else:
             factory, cursor.row_factory = cursor.row_factory, tuple_row
             try:
                 rows = cursor.fetchall()
             finally:
                 cursor.row_factory = factory
-        if rows:
-            cursor.scroll(0, mode="absolute")
         return list(rows)
 
     def counts(self, cascades: Sequence[Cascade]) -> Optional[Counts]:
@@ -511,7 +539,7 @@ _ATTRIBUTES = """SELECT a.attrelid::bigint, a.attnum::int, a.attname::text FROM 
 WHERE a.attrelid = pg_catalog.to_regclass('{name}') AND a.attnum > 0 AND NOT a.attisdropped"""
 # Whether rows of a table may be shown; `unique` counts what else may find a row that is there.
 _FACTS = """SELECT c.relkind::text, c.relhasrules::int, pg_catalog.row_security_active(c.oid)::int,
-  (SELECT count(*) FROM pg_catalog.pg_trigger t WHERE NOT t.tgisinternal AND t.tgenabled <> 'D' AND t.tgtype::int & 1 = 1
+  (SELECT count(*) FROM pg_catalog.pg_trigger t WHERE NOT t.tgisinternal AND t.tgenabled <> 'D' AND t.tgtype::int & 1 = 1 {quiet}
     AND (t.tgrelid = c.oid OR t.tgrelid IN (SELECT relid FROM pg_catalog.pg_partition_tree(c.oid)))),
   (SELECT pg_catalog.bool_and(pg_catalog.has_column_privilege(c.oid, a.attnum, 'SELECT'))::int
     FROM pg_catalog.pg_attribute a WHERE a.attrelid = c.oid AND a.attnum > 0 AND NOT a.attisdropped),
@@ -523,6 +551,12 @@ NOTHING = Facts(False, False, False, True)
 def tuple_row(cursor: Any) -> Any:
     """psycopg's factory of rows that are tuples."""
     return sys.modules["psycopg.rows"].tuple_row(cursor)
+
+
+def _maker(cursor: Any) -> Optional[Callable[[Any], Any]]:
+    """What makes rows of sqlite3 the application's own."""
+    made = cursor.row_factory
+    return None if made is None else lambda row: made(cursor, row)
 
 
 class Sqlite(Driver):
@@ -577,6 +611,10 @@ class Sqlite(Driver):
             return adapter(value)
         raise Unsaid(f"the driver sends something else in place of a {type(value).__name__}")
 
+    def sends_own(self, kinds: Iterable[type], cursor: Any) -> bool:
+        adapters, protocol = self._module.adapters, self._module.PrepareProtocol
+        return all((kind, protocol) not in adapters for kind in kinds)
+
     def came(self, cursor: Any, shows: bool) -> Came:
         if cursor.description is None:
             return Came(Result(self.count(cursor), (), cursor.lastrowid))
@@ -585,11 +623,7 @@ class Sqlite(Driver):
             rows, error = self._taken(cursor)
         finally:
             cursor.row_factory = factory
-
-        def maker() -> Optional[Callable[[Any], Any]]:
-            made = cursor.row_factory
-            return None if made is None else lambda row: made(cursor, row)
-
+        maker = partial(_maker, cursor)
         if error is not None:
             return Came(Result(-1), rows, maker, error)
         return Came(Result(len(rows), self._known(rows), cursor.lastrowid), rows, maker)

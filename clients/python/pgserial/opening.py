@@ -3,6 +3,7 @@
 from typing import Callable, Dict, Iterable, List, Sequence, Tuple
 
 from .catalog import Hazard, Table, numbered, without_columns
+from .setters import Setter
 from .values import Plain, Unsaid, plain
 
 Row = Tuple[Plain, ...]
@@ -37,3 +38,10 @@ def trusting(table: Table, only_reads: Callable[[str], bool]) -> Table:
     """A table without those hazards of which the user says that they write nothing."""
     hazards: Iterable[Hazard] = table.hazards
     return table._replace(hazards=tuple(each for each in hazards if each.function is None or not only_reads(each.function)))
+
+
+def with_setters(table: Table, is_quiet: Callable[[Setter], bool]) -> Table:
+    """A table whose triggers that set columns, and surely do nothing else, are no hazards."""
+    setters = tuple(each.setter for each in table.hazards if each.setter is not None and is_quiet(each.setter))
+    hazards = tuple(each for each in table.hazards if each.setter not in setters or each.setter is None)
+    return table._replace(hazards=hazards, setters=setters)

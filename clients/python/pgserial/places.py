@@ -23,6 +23,7 @@ _INSTALLED = re.compile(r"[/\\](?:site|dist)-packages[/\\]")
 _AT = re.compile(r"-- at (\S+) (.+):([0-9]{1,9})")
 _UNPRINTABLE = re.compile(r"[^\x21-\x7e\u00a1-\u2027\u2030-\ud7ff\uf900-\ufffd]+")
 _LONGEST = 200
+_MOST_KNOWN = 65536
 
 
 class Place(NamedTuple):
@@ -58,7 +59,7 @@ class Places:
     def __init__(self, project: Any = None) -> None:
         self._project = os.path.join(os.path.realpath(os.getcwd() if project is None else os.fspath(project)), "")
         self._files: Dict[str, Tuple[int, str]] = {}  # how near to the application, and how it is shown
-        self._known: Dict[Tuple[Any, int], Place] = {}
+        self._known: Dict[Tuple[int, int], Tuple[Any, Place]] = {}  # by code, which is kept, and instruction
         self._name: contextvars.ContextVar[Optional[str]] = contextvars.ContextVar("name", default=None)
 
     @contextlib.contextmanager
@@ -100,17 +101,21 @@ class Places:
 
     def _of(self, frame: Any) -> Place:
         """The place of a frame."""
-        key = (frame.f_code, frame.f_lineno)
-        place = self._known.get(key)
-        if place is None:
-            place = Place(_function_of(frame), self._file(frame.f_code.co_filename)[1], frame.f_lineno)
-            if not frame.f_code.co_name.startswith("<"):  # else its name is that of the function around it
-                self._known[key] = place
+        code = frame.f_code
+        key = (id(code), frame.f_lasti)
+        known = self._known.get(key)
+        if known is not None:
+            return known[1]
+        place = Place(_function_of(frame), self._file(code.co_filename)[1], frame.f_lineno)
+        if not code.co_name.startswith("<"):  # else its name is that of the function around it
+            if len(self._known) >= _MOST_KNOWN:
+                self._known.clear()
+            self._known[key] = code, place
         return place
 
-    def transaction(self) -> Optional[Place]:
-        """The place of a transaction that begins here, with its name."""
-        place, name = self.place(), self._name.get()
+    def called(self, place: Optional[Place]) -> Optional[Place]:
+        """The place of a transaction that begins at one, with its name."""
+        name = self._name.get()
         return place if name is None or place is None else place._replace(name=name)
 
     def _file(self, name: str) -> Tuple[int, str]:

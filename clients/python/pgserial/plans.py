@@ -10,6 +10,7 @@ from .effects import READING, Control, control_of, is_beside, unknown_function, 
 from .origins import Rows
 from .returning import Effect
 from .sql import Parser, tokens_of
+from .templates import Templates
 from .translation import SAYINGS
 from .values import Spelling, Unsaid
 
@@ -20,9 +21,11 @@ _AS_IT_STANDS = True  # of a name
 
 class Plan(NamedTuple):
     """What is to be done about a text: it is said, or controls a transaction, or speaks of no rows that are recorded, or
-    can't be said; then `why`, and `writes` tells whether it may write. By `effect` a write is said by its rows, by `rows` a query is."""
+    can't be said; then `why`, and `writes` tells whether it may write. By `effect` a write is said by its rows, by `rows` a query is;
+    `templates` have what was said of it with other parameters."""
 
     saying: Any = None
+    templates: Optional[Templates] = None
     effect: Any = None
     rows: Any = None
     control: Optional[Control] = None
@@ -30,20 +33,24 @@ class Plan(NamedTuple):
     writes: Optional[str] = None
 
 
+def reading_of(dangers: Dangers, trusted: Iterable[str]) -> FrozenSet[str]:
+    """Functions that write nothing: of a name that users have made one of too, nobody knows which is called."""
+    return (READING - dangers.functions) | frozenset(name.lower() for name in trusted)
+
+
 class Translator:
     """Says statements in the words of a transcript."""
 
     def __init__(self, names: Names, style: str, reading: Iterable[str] = (), dangers: Dangers = NO_DANGERS) -> None:
-        self._names, self._style, self._dangers = names, style, dangers
-        # Functions that write nothing: of a name that users have made one of too, nobody knows which is called.
-        self.reading: FrozenSet[str] = (READING - dangers.functions) | frozenset(name.lower() for name in reading)
+        self.names, self._style, self._dangers = names, style, dangers
+        self.reading = reading_of(dangers, reading)
         self._plans: Dict[Tuple[str, bool], Plan] = {}
         self._prepared: Optional[Translator] = None
 
     def prepared(self) -> "Translator":
         """What says the statements that PREPARE prepares."""
         if self._prepared is None:
-            self._prepared = Translator(self._names, "numeric_dollar", self.reading, self._dangers)
+            self._prepared = Translator(self.names, "numeric_dollar", self.reading, self._dangers)
         return self._prepared
 
     def plan(self, spelling: Spelling, text: str, is_given: bool) -> Plan:
@@ -68,7 +75,8 @@ class Translator:
             return Plan() if why is None else Plan(why=why, writes="it writes")
         try:
             tree = Parser(tokens, self.reading).statement()
-            plan = Plan(saying=SAYINGS[type(tree)](self._names, spelling, tree))
+            saying = SAYINGS[type(tree)](self.names, spelling, tree)
+            plan = Plan(saying, Templates(saying, text))
         except Unsaid as unsaid:
             plan = self._unsaid(tokens, str(unsaid))
         except RecursionError:
@@ -82,15 +90,16 @@ class Translator:
             if writes:
                 return self._effect(spelling, tokens, text, plan) if self._dangers.why(tokens) is None else {}
             if plan.saying is not None or plan.why is not None:
-                return {"rows": Rows(self._names, spelling, tokens, self._read_of(tokens))}
+                return {"rows": Rows(self.names, spelling, tokens, self._read_of(tokens))}
         except (Unsaid, RecursionError, IndexError):
             pass
         return {}
 
     def _effect(self, spelling: Spelling, tokens: List[sql.Token], text: str, plan: Plan) -> Dict[str, Any]:
-        write = shapes.write_of(tokens, self.reading)
+        within, behind = shapes.shown_write(tokens)
+        write = shapes.write_of(within, self.reading)
         try:
-            return {"effect": Effect(self._names, spelling, write, tokens, text)}
+            return {"effect": Effect(self.names, spelling, write, tokens, text, behind)}
         except Unsaid as unsaid:
             return {} if plan.why is None else {"why": str(unsaid)}
 
@@ -103,7 +112,7 @@ class Translator:
     def _unsaid(self, tokens: List[sql.Token], why: str) -> Plan:
         """What can't be said: whether it may write."""
         written = written_table(tokens)
-        if self._names.is_ignored(written):
+        if self.names.is_ignored(written):
             assert written is not None
             return self.ignored(tokens, written)
         writes = self.why_it_may_write(tokens)
@@ -127,10 +136,10 @@ class Translator:
         names = tokens[start + 3 * is_lenient :]
         is_qualified = len(names) > 2 and names[1].is_sign(".")
         name = sql.Name(str(names[2 if is_qualified else 0].value) if names else "", _AS_IT_STANDS)
-        if self._names.is_ignored(name) and "partition" in words:
+        if self.names.is_ignored(name) and "partition" in words:
             return f"table {name.text} may be a partition of a recorded one"
-        is_there = is_lenient and not is_qualified and self._dangers.is_first(self._names.recorded(name))
-        if self._names.is_recorded(name) and not self._names.folds and not is_there:
+        is_there = is_lenient and not is_qualified and self._dangers.is_first(self.names.recorded(name))
+        if self.names.is_recorded(name) and not self.names.folds and not is_there:
             return f"a table of the name {name.text} is created"
         return self._dangers.why(tokens)
 
@@ -140,12 +149,12 @@ class Translator:
 
     def is_recorded(self, name: sql.Name) -> bool:
         """Whether a recorded table has this name."""
-        return self._names.is_recorded(name)
+        return self.names.is_recorded(name)
 
     @property
     def folds(self) -> bool:
         """Whether names are the same whatever the case of their letters, as in SQLite."""
-        return self._names.folds
+        return self.names.folds
 
     def nothing(self) -> Plan:
         """What is to be done about what is no matter."""
@@ -160,9 +169,9 @@ class Translator:
     def ignored(self, tokens: List[sql.Token], written: sql.Name) -> Plan:
         """What writes a table that no verdict is to speak of: whether it may write others, and whether it reads some."""
         why = unknown_function(tokens, self.reading, written) or self._dangers.why(tokens) or self._dangers.why_written(written.text)
-        why = why or self._names.why_written(written)
+        why = why or self.names.why_written(written)
         if why is not None:
             return Plan(why=f"table {written.text} isn't recorded", writes=why)
-        if any(token.kind in ("word", "name") and self._names.is_recorded(sql.Name(token.value, True)) for token in tokens):
+        if any(token.kind in ("word", "name") and self.names.is_recorded(sql.Name(token.value, True)) for token in tokens):
             return Plan(why=f"what is read to write table {written.text}")
         return Plan()

@@ -9,6 +9,7 @@ from .catalog import MADE, Cascade, Hazard, Seen, Table, default_of, table_of
 from .keys import Candidate, Missing, Refused
 from .kinds import Form, array_of, enum_form, form_of, varchar_of
 from .references import Reference, with_references
+from .setters import setter_of
 
 _KINDS: Dict[str, Kind] = {"int2": BIGINT, "int4": BIGINT, "int8": BIGINT, "text": TEXT, "varchar": TEXT, "bytea": BYTEA}
 _TABLE = """SELECT c.oid::bigint, n.nspname::text, c.relname::text, c.relkind::text, c.relrowsecurity::int,
@@ -39,8 +40,9 @@ WHERE i.indrelid = {oid} AND i.indisunique AND i.indisvalid AND i.indpred IS NUL
   AND NOT EXISTS (SELECT FROM unnest(i.indkey::int2[]) WITH ORDINALITY u(number, at) JOIN pg_catalog.pg_attribute a
     ON a.attrelid = i.indrelid AND a.attnum = u.number WHERE u.at <= i.indnkeyatts AND NOT a.attnotnull)
 ORDER BY i.indisprimary DESC, i.indnkeyatts, i.indexrelid"""
-_TRIGGERS = """SELECT DISTINCT t.tgname::text, t.tgtype::int, f.proname::text
-FROM pg_catalog.pg_trigger t JOIN pg_catalog.pg_proc f ON f.oid = t.tgfoid
+_TRIGGERS = """SELECT DISTINCT t.tgname::text, t.tgtype::int, f.proname::text, (t.tgattr::text = '' AND t.tgqual IS NULL)::int,
+  l.lanname::text, f.prosrc::text
+FROM pg_catalog.pg_trigger t JOIN pg_catalog.pg_proc f ON f.oid = t.tgfoid JOIN pg_catalog.pg_language l ON l.oid = f.prolang
 WHERE NOT t.tgisinternal AND t.tgenabled <> 'D'
   AND (t.tgrelid = {oid} OR t.tgrelid IN (SELECT p.relid FROM pg_catalog.pg_partition_tree({oid}) p)) ORDER BY 1"""
 _RULES = "SELECT r.rulename::text, r.ev_type::text FROM pg_catalog.pg_rewrite r WHERE r.ev_class = {oid} AND r.ev_enabled <> 'D'"
@@ -157,11 +159,12 @@ def _plain_table(ask: Any, name: str) -> Sequence[Any]:
 def _hazards(ask: Any, oid: int, is_partitioned: bool) -> Tuple[Hazard, ...]:
     """The triggers and rules of a table."""
     hazards = []
-    for name, bits, function in ask(_TRIGGERS.format(oid=oid)):
+    for name, bits, function, is_always, language, body in ask(_TRIGGERS.format(oid=oid)):
         verbs = frozenset(verb for bit, verb in _VERBS.items() if bits & bit)
         verbs = _ALL if is_partitioned and verbs else verbs  # an UPDATE may move a row from one partition to another
         why = f"it has trigger {name}, which may write (say reading=[{function!r}] where it neither writes nor changes the row)"
-        hazards.append(Hazard(verbs, why, function))
+        setter = None if is_partitioned else setter_of(name, bits, verbs, bool(is_always), language, body)
+        hazards.append(Hazard(verbs, why, function, setter))
     for name, event in ask(_RULES.format(oid=oid)):
         hazards.append(Hazard(frozenset([_RULED[event]] if event in _RULED else []), f"it has rule {name}, which may write"))
     return tuple(hazards)

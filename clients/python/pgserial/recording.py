@@ -29,11 +29,11 @@ from .drivers import Driver, driver_of, wanted_tables
 from .ending import Ending
 from .following import Follower
 from .keys import Missing, Refused
-from .opening import opening_of, trusting
+from .opening import opening_of, trusting, with_setters
 from .origins import Attributes
 from .output import Output, path_of
 from .places import Places
-from .plans import Translator
+from .plans import Translator, reading_of
 from .proxies import Proxy
 from .session import Session
 from .values import MOST_BYTES, Plain, Spelling
@@ -105,8 +105,8 @@ class Recorder:
         self._texts: Dict[Tuple[str, str], str] = {}  # of what is left out, the first
         self._ending = Ending(self) if verify_end else None
         self._lock = threading.RLock()
-        self._process = os.getpid()
-        self._output: Optional[Output] = Output(self.path)
+        self._is_elsewhere = False  # whether this is another process than the one that records
+        self._output: Optional[Output] = Output(self.path, self._write_late)
         _not_closed.add(self)
 
     # what an application calls
@@ -151,16 +151,17 @@ class Recorder:
 
     def close(self) -> None:
         """Ends the recording, and tells on standard error what it has. A process that has it of another doesn't end it."""
-        if os.getpid() == self._process:
+        if not self._is_elsewhere:
             self._read_end(list(self._sessions.values()))
         with self._lock:
-            if self._output is None or os.getpid() != self._process:
+            if self._output is None or self._is_elsewhere:
                 return
             if not self.is_open and self.unopened is not None:
                 self.stop(self.unopened)
             if not self.is_over:
                 unread = self._ending.unread() if self._ending is not None else ""
                 self.write("".join([*self._left_out_lines(), unread, CLOSED + "\n"]))
+                self._write_kept(self._output.write_kept)
                 self.is_over = True
             self._output.close()
             self._output = None
@@ -224,6 +225,7 @@ class Recorder:
             lines += ["> 1 BEGIN;", "  1 BEGIN", *rows, "> 1 COMMIT;", "  1 COMMIT"]
         self._tables = [self._trusting(table) for table, _ in opened]
         self.write("".join([line + "\n" for line in [*lines, BEGINS]]))
+        self.flush()
 
     def _take_every_table(self, driver: Driver) -> List[str]:
         """Takes all tables that can be recorded for those that are named, and gives comments on the others, which no verdict
@@ -240,6 +242,8 @@ class Recorder:
     def _trusting(self, table: Table) -> Table:
         """A table with what may write unsaid where it is written, but for the functions that write nothing."""
         trusted = trusting(table, lambda function: function.lower() in self._trusted)
+        reading = reading_of(self._dangers, self._trusted)
+        trusted = with_setters(trusted, lambda setter: setter.is_quiet(reading) and self._dangers.why(setter.tokens) is None)
         if table.real not in self._dangers.calling:
             return trusted
         why = "a default or a constraint of it calls a function, which may write (name it by reading=[..] where it doesn't)"
@@ -344,22 +348,51 @@ class Recorder:
                 self._translators.clear()
 
     def write(self, text: str, commits: bool = False) -> None:
-        """Writes whole lines."""
+        """Writes whole lines. They stand in the file at most a second later."""
         with self._lock:
             if self.is_over or not text:
                 return
-            if os.getpid() != self._process:
+            if self._is_elsewhere:
                 self.stop("another process uses a connection that is recorded")
                 return
             assert self._output is not None
             try:
                 self._output.add(text.encode("utf-8"))
                 self.committed += commits
-                return
             except OSError as error:
-                self._end(f"it can't be written, {error.strerror} ({self.place()})")
-                self.is_over = True
+                self._cannot_write(error)
+
+    def flush(self) -> None:
+        """Writes what is kept back now, for who reads the file meanwhile."""
+        with self._lock:
+            if self._output is not None and not self.is_over and not self._is_elsewhere:
+                self._write_kept(self._output.write_kept)
+
+    def _write_late(self) -> None:
+        """Writes what was kept back for long enough."""
+        with self._lock:
+            if self._output is not None and not self.is_over:
+                self._write_kept(self._output.write_late)
+
+    def _write_kept(self, writes: Callable[[], None]) -> None:
+        """Writes what is kept back, or ends the recording where that fails."""
+        try:
+            writes()
+        except OSError as error:
+            self._cannot_write(error)
+
+    def _cannot_write(self, error: OSError) -> None:
+        """Ends the recording."""
+        self._end(f"it can't be written, {error.strerror} ({self.place()})")
+        self.is_over = True
         self._warn(f"the recording {self.path} ends: {self.ended}")
+
+    def forked(self) -> None:
+        """This is another process: what is kept back is that of the one that records."""
+        self._is_elsewhere = True
+        self._lock = threading.RLock()
+        if self._output is not None:
+            self._output.forget()
 
     def leave_out(self, text: str, why: str) -> None:
         """Counts a statement that can't be said, and only reads; it is told once for each place."""
@@ -380,6 +413,7 @@ class Recorder:
     def stop(self, why: str) -> None:
         """Ends the recording; what is written so far is judged. The application goes on."""
         with self._lock:
+            self.flush()
             if self.is_over:
                 return
             self._end(f"{_shown(why)} ({self.place()})")
@@ -390,6 +424,7 @@ class Recorder:
         """Marks that a session may have written something that the transcript doesn't say. What stands before the session's
         last line is judged; the recording goes on, so that all such statements are found."""
         with self._lock:
+            self.flush()
             if self.is_over:
                 return
             is_first = self.ended is None
@@ -448,6 +483,15 @@ class Recorder:
 
 
 _not_closed: "weakref.WeakSet[Recorder]" = weakref.WeakSet()
+
+
+def _forked() -> None:
+    for recorder in list(_not_closed):
+        recorder.forked()
+
+
+if hasattr(os, "register_at_fork"):  # not on Windows
+    os.register_at_fork(after_in_child=_forked)
 
 
 @atexit.register

@@ -58,7 +58,11 @@ class _Condition(NamedTuple):
 class Effect(_Saying):
     """A write, said by its rows."""
 
-    def __init__(self, names: Names, spelling: Spelling, write: Write, tokens: Sequence[Token], text: str) -> None:
+    shows_written = True
+
+    def __init__(
+        self, names: Names, spelling: Spelling, write: Write, tokens: Sequence[Token], text: str, behind: Optional[Token] = None
+    ) -> None:
         self.verb_name = write.verb.lower()
         super().__init__(names, spelling, write)
         if self.table.numbers is not None and (write.verb != "INSERT" or write.conflict is not None):
@@ -67,13 +71,28 @@ class Effect(_Saying):
             self.refuse_hazards({"update": "update", "replace": "delete"}.get(write.conflict.does, ""))
         self.write = write
         self.qualifies = not names.folds
-        self._at = next((token.start for token in tokens if token.is_sign(";")), len(text))
+        ends = behind or next((token for token in tokens if token.is_sign(";")), None)
+        self._at = len(text) if ends is None else ends.start
         self.own = None if write.returning is None else self._own_shown(write.returning)
         self.changed = [each for each in write.assigned if not names.is_other_column(self.table, each.name)]
         self.moves = any(names.place(self.table, each.name) in self.table.key_places for each in self.changed)
+        self._set_by_triggers()
         self._refuse_cascades()
         self.needed = self._needed()
         self.shows_passed, self.passes = self.passes, None
+
+    def _set_by_triggers(self) -> None:
+        """What triggers set stands in the place of what is assigned."""
+        setters = [each for each in self.table.setters if self.verb_name in each.verbs]
+        others = [each for each in self.table.setters if self.write.conflict is not None]
+        columns = {name: each.reads for each in setters for name in each.columns}
+        set_by = [Assigned(sql.Name(name, True), Made("a trigger"), reads) for name, reads in columns.items()]
+        set_by = [each for each in set_by if not self.names.is_other_column(self.table, each.name)]
+        places = {self.names.place(self.table, each.name) for each in set_by}
+        if (set_by and self.moves) or others or not places.isdisjoint(self.table.key_places):
+            raise Unsaid(f"a trigger of table {self.table.real} sets columns")
+        if self.write.verb == "UPDATE":
+            self.changed = [each for each in self.changed if self.names.place(self.table, each.name) not in places] + set_by
 
     def _refuse_cascades(self) -> None:
         """Refuses what changes other rows by foreign keys."""

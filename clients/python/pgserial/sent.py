@@ -6,7 +6,7 @@ import math
 import sys
 import uuid
 from decimal import Decimal
-from typing import Any, Callable, Dict, List, Optional, Sequence, Tuple
+from typing import Any, Callable, Dict, Iterable, List, Optional, Sequence, Tuple
 
 from .kinds import Parsed
 from .values import PerhapsNull, Unsaid
@@ -73,6 +73,11 @@ class Psycopg2:
         # A float is sent as the digits of its text, and not as a double.
         return Decimal(repr(value)) if type(value) is float and math.isfinite(value) else value
 
+    def sends_own(self, kinds: Iterable[type], _: Any) -> bool:
+        """Whether numbers and texts, of just these classes, are sent as they are."""
+        adapters, protocol, own = self._extensions.adapters, self._extensions.ISQLQuote, self._own
+        return all(adapters.get((kind, protocol)) is (own.Int if kind is int else own.QuotedString) for kind in kinds)
+
     def _adapter(self, kind: type) -> Tuple[type, Any]:
         """What adapts values of a class, and the class for which that is registered."""
         adapters, protocol = self._extensions.adapters, self._extensions.ISQLQuote
@@ -133,11 +138,20 @@ class Psycopg2:
             self._probed[id(caster), oid] = caster, True if is_text else False if shown == value else None
         return self._probed[id(caster), oid][1]
 
-    def turns(self, cursor: Any, place: int) -> bool:
-        """Whether the values that are shown at a place may be others, as the application has registered it."""
-        oid = cursor.description[place].type_code
+    def turned(self, cursor: Any, oids: Sequence[int]) -> List[int]:
+        """The places at which the values that are shown may be others, as the application has registered it."""
+        own, shared, casters = cursor.string_types, self._raw.string_types, self._extensions.string_types
+        if not own and not shared:
+            found = [(place, oid, casters.get(oid)) for place, oid in enumerate(oids)]
+            return [place for place, oid, caster in found if not self._is_own_caster(caster, oid) and self._turns(cursor, oid)]
+        return [place for place, oid in enumerate(oids) if self._turns(cursor, oid)]
+
+    def _is_own_caster(self, caster: Any, oid: int) -> bool:
+        return caster is None or (id(caster) in self._casters and oid in caster.values)
+
+    def _turns(self, cursor: Any, oid: int) -> bool:
         caster = None if oid in _JSON_OIDS else self._caster(cursor, oid)
-        if caster is None or (id(caster) in self._casters and oid in caster.values):
+        if self._is_own_caster(caster, oid):
             return False
         text, value = _PROBES.get(oid, ("", None))
         return not text or self._probe(caster, oid, cursor, text, value) is None
@@ -184,6 +198,11 @@ class Psycopg:
                 raise Unsaid(f"its JSON can't be made: {type(error).__name__}") from None
         return value
 
+    def sends_own(self, kinds: Iterable[type], cursor: Any) -> bool:
+        """Whether numbers and texts, of just these classes, are sent as they are."""
+        adapters = (self._raw if cursor is None else cursor).adapters
+        return all(self._is_sent_by_own(adapters, kind) for kind in kinds)
+
     def _is_sent_by_own(self, adapters: Any, kind: type) -> bool:
         """Whether the driver's own dumpers send values of a class, in each form that it may choose."""
         found = 0
@@ -197,13 +216,13 @@ class Psycopg:
             found += 1
         return found > 0
 
-    def turns(self, cursor: Any, place: int) -> bool:
-        """Whether the values that are shown at a place may be others, as the application has registered it."""
-        column, form = cursor.description[place], cursor.pgresult.fformat(place)
-        if column.type_code in _JSON_OIDS:
-            return False
-        known = cursor.adapters.types.get(column.type_code)  # of an array, what its elements are
-        oids = {column.type_code, known.oid if known is not None else column.type_code}
+    def turned(self, cursor: Any, oids: Sequence[int]) -> List[int]:
+        """The places at which the values that are shown may be others, as the application has registered it."""
+        return [place for place, oid in enumerate(oids) if oid not in _JSON_OIDS and self._turns(cursor, oid, cursor.pgresult.fformat(place))]
+
+    def _turns(self, cursor: Any, oid: int, form: Any) -> bool:
+        known = cursor.adapters.types.get(oid)  # of an array, what its elements are
+        oids = {oid, known.oid if known is not None else oid}
         loaders = [cursor.adapters.get_loader(oid, form) for oid in oids]
         return any(loader is not None and not _is_own(loader) for loader in loaders)
 
@@ -238,14 +257,15 @@ def _is_own(kind: Any) -> bool:
     return str(kind.__module__).startswith(("psycopg.", "psycopg_c.", "psycopg_binary."))
 
 
-def surely_known(adapting: Any, cursor: Any, rows: List[Sequence[object]]) -> List[Sequence[object]]:
+def surely_known(adapting: Any, cursor: Any, description: Any, rows: Sequence[Sequence[object]]) -> Sequence[Sequence[object]]:
     """The rows that came. Values of JSON stand so that each is surely known, and those that the application has made of others
     as unknown ones."""
-    places = range(len(cursor.description)) if rows else range(0)
+    oids = [column.type_code for column in description] if rows else []
     told: List[Tuple[int, Callable[[int, object], object]]] = [
-        (place, adapting.json_of(cursor, place)) for place in places if cursor.description[place].type_code in _JSON_OIDS
+        (place, adapting.json_of(cursor, place)) for place, oid in enumerate(oids) if oid in _JSON_OIDS
     ]
-    told += [(place, lambda row, value: value if value is None else Unknown()) for place in places if adapting.turns(cursor, place)]
+    unknown = adapting.turned(cursor, oids)
+    told += [(place, lambda row, value: value if value is None else Unknown()) for place in unknown]
     if not told:
         return rows
     made: List[Sequence[object]] = []

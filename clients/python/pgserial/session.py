@@ -11,6 +11,7 @@ from .temporary import Temporary
 from .verdict import HAS_NOT, MAY_COMMIT
 
 _NOWHERE = -1  # the place of what isn't held back
+_UNKNOWN = object()
 _ENDS = ("COMMIT", "ROLLBACK", "EXPORT", "IMPORT")  # commands that have no place of their own
 
 
@@ -57,6 +58,7 @@ class Session:
         self._facts: Dict[str, Facts] = {}  # of the tables that it writes, as the connection's role finds them
         self.temporary = Temporary()
         self.prepared: Dict[str, str] = {}  # texts that PREPARE has given a name
+        self._place: Any = _UNKNOWN  # that the call which is under way has come from
         self.changes_role = False  # whether that role may have changed, so that they are looked up each time
 
     def facts(self, table: Table) -> Facts:
@@ -84,12 +86,18 @@ class Session:
         if word in _ENDS:
             return ""
         places = self.recorder.places
-        place: Optional[Place] = places.transaction() if word == "BEGIN" else places.place()
+        place: Optional[Place] = places.place() if self._place is _UNKNOWN else self._place
+        self._place = place if self.is_busy else _UNKNOWN
+        place = places.called(place) if word == "BEGIN" else place
         return "" if place is None else place.comment()
 
     def answered(self, lines: List[str]) -> str:
         """The lines of a reply."""
-        return "".join([f"  {self.number} {line}\n" for line in lines])
+        if len(lines) == 1:
+            return f"  {self.number} {lines[0]}\n"
+        start = f"  {self.number} "
+        between = "\n" + start
+        return f"{start}{between.join(lines)}\n" if lines else ""
 
     def exchange(self, command: str, *reply: str) -> str:
         """A command with its reply."""
@@ -222,12 +230,14 @@ class Session:
                 self.recorder.stop("two tasks use one connection at once")
                 return call()
             self.is_busy = True  # from here on: what a step is planned by may ask the database, and let another task go on
+            self._place = _UNKNOWN
             try:
                 step = None if self.is_closed else self.guarded(planned)
                 if step is not None:
                     return self._taken(step, call)
             finally:
                 self.is_busy = False
+                self._place = _UNKNOWN
             return call()
 
     def _taken(self, step: Any, call: Callable[[], Any]) -> Any:

@@ -311,6 +311,24 @@ def write_of(tokens: Tokens, reading: FrozenSet[str]) -> Write:
     raise Unsaid("it is no INSERT, UPDATE or DELETE")
 
 
+def shown_write(tokens: Tokens) -> Tuple[Tokens, Optional[Token]]:
+    """The statement that writes in `WITH name AS (..) SELECT * FROM name`, and the token behind it; or the tokens as they are."""
+    try:
+        kept = _without_end(tokens)
+        pieces = Pieces(kept)
+        start, names, is_recursive = _past_with(pieces)
+    except Unsaid:
+        return tokens, None
+    behind = kept[start:]
+    is_all = len(behind) == 4 and behind[0].is_word("select") and behind[1].is_sign("*") and behind[2].is_word("from")
+    if is_recursive or not is_all or len(names) != 1 or [str(behind[3].value)] != list(names) or not kept[2].is_word("as"):
+        return tokens, None
+    opens = next(at for at, token in enumerate(kept) if token.is_sign("("))
+    within = kept[opens + 1 : start - 1]
+    is_written = bool(within) and within[0].is_word("insert", "update", "delete") and any(token.is_word("returning") for token in within)
+    return (within, kept[start - 1]) if is_written else (tokens, None)
+
+
 def _table(pieces: Pieces, start: int, reading: FrozenSet[str]) -> Tuple[Table, int]:
     """The table that is written, and what stands behind it."""
     parser = Parser(pieces.tokens[start:], reading)

@@ -10,6 +10,7 @@ from .kinds import Form, casts_of
 from .sql import Between, Cast, Comparison, Constant, Count, In, IsNull, Made, Slot, Star, Sum, Truth
 from .values import MOST_BYTES, Plain, Spelling, Unsaid, plain
 
+_SEVERAL = 4  # rows, from which on they are said column by column
 Exchange = Tuple[str, List[str]]  # a command, and the lines of its reply
 
 
@@ -32,13 +33,20 @@ class Look(NamedTuple):
 class Arguments:
     """The parameters of one execution. `sent` tells what the driver sends in place of a value."""
 
+    are_marked = False  # whether others than an application's
+
     def __init__(self, parameters: Any, sent: Callable[[object], object] = lambda value: value) -> None:
-        self._parameters, self._sent = parameters, sent
+        self.parameters, self._sent = parameters, sent
         self.are_given = parameters is not None
+
+    def given_to(self, column: Column, value: object) -> None:
+        """A value is for a column."""
 
     def value(self, key: sql.Key) -> object:
         """The value of a parameter."""
-        given = self._parameters
+        given = self.parameters
+        if type(given) in (tuple, list) and type(key) is int and 0 <= key < len(given):
+            return self._one(given[key])
         if isinstance(given, Mapping):  # one that makes what it lacks isn't asked for it, since the driver asks too
             is_there = isinstance(key, str) and key in given
         elif isinstance(given, Sequence):
@@ -50,7 +58,7 @@ class Arguments:
         return self._one(given[key])
 
     def _one(self, value: object) -> object:
-        if isinstance(value, (list, tuple)):
+        if isinstance(value, (list, tuple)):  # of an array, or of several keys
             return type(value)([self._one(each) for each in value]) if type(value) in (list, tuple) else self._sent(value)
         return self._sent(value)
 
@@ -153,17 +161,18 @@ class _Saying:
 
     writes = True
     verb_name = ""  # as triggers know it
+    shows_written = False  # whether what was written is shown
     passes: Optional[str] = None  # what of it isn't said, since a column that it shows can't be
 
     def __init__(self, names: Names, spelling: Spelling, tree: Any) -> None:
-        self.names, self.spelling = names, spelling
+        self.names, self.spelling, self.tree = names, spelling, tree
         self.called = tree.table
         self.table = names.table(tree.table.schema, tree.table.name)
         self.refuse_hazards(self.verb_name)
 
     def refuse_hazards(self, verb: str) -> None:
         """Refuses a write by which triggers or rules may write too."""
-        hazard = self.table.unsure(verb)
+        hazard = self.table.unsure(verb) if self.shows_written else self.table.unsaid_by(verb)
         if hazard is not None:
             raise Unsaid(f"table {self.table.real} can't be written: {hazard}")
 
@@ -201,6 +210,8 @@ class _Saying:
                 raise Unsaid(f"a {value.type} for column {column.real}")
             value = value.value
         given: object = arguments.value(value.key) if isinstance(value, Slot) else value.value
+        if arguments.are_marked:
+            arguments.given_to(column, given)
         return given
 
     def asked(self, column: Column, value: Any, arguments: Arguments) -> Plain:
@@ -340,8 +351,16 @@ class _Saying:
         """A SELECT of these columns, or of how many rows there are."""
         if not shown:
             return f"SELECT count(*) FROM {self.table.name}{where}", ["SELECT 1", f"| {len(rows)}"]
-        lines = [f"SELECT {len(rows)}"] + ["| " + self.fields(shown, row) for row in rows]
-        return self.select_text(shown, where), lines
+        return self.select_text(shown, where), [f"SELECT {len(rows)}", *self.rows(shown, rows)]
+
+    def rows(self, shown: Sequence[Tuple[int, int]], rows: Sequence[Sequence[object]]) -> List[str]:
+        """Rows that came, as a reply has them."""
+        if len(rows) < _SEVERAL:
+            return ["| " + self.fields(shown, row) for row in rows]
+        columns = self.table.columns
+        came = list(zip(*rows))
+        texts = [self.spelling.copy_texts(columns[place].kind, came[at]) for at, place in shown]
+        return ["| " + text for text in (texts[0] if len(texts) == 1 else map("\t".join, zip(*texts)))]
 
     def select_text(self, shown: Sequence[Tuple[int, int]], where: str) -> str:
         """The text of that SELECT."""
@@ -436,7 +455,6 @@ class _Select(_Saying):
 
     def __init__(self, names: Names, spelling: Spelling, tree: sql.Select) -> None:
         super().__init__(names, spelling, tree)
-        self.tree = tree
         self.counts = len(tree.shown) == 1 and isinstance(tree.shown[0], Count)
         self.columns = () if self.counts else self.shown(tree.shown)
 
@@ -480,12 +498,17 @@ class _InsertTold(Told):
 
     def exchanges(self, result: Result) -> List[Exchange]:
         """An INSERT for each row."""
-        if result.number not in (-1, len(self._rows)):
-            raise Unsaid(f"{result.number} of {len(self._rows)} rows were inserted")
+        reply = self.reply(result.number)
         if self.shows and len(result.rows) != len(self._rows):
             raise Unsaid(f"{len(result.rows)} of {len(self._rows)} rows came back")
         rows = [self._with_made(at, row, result) for at, row in enumerate(self._rows)]
-        return [(self._saying.text(row), ["INSERT 0 1"]) for row in rows]
+        return [(self._saying.text(row), [reply]) for row in rows]
+
+    def reply(self, number: int) -> str:
+        """The reply to each, where so many rows were inserted."""
+        if number not in (-1, len(self._rows)):
+            raise Unsaid(f"{number} of {len(self._rows)} rows were inserted")
+        return "INSERT 0 1"
 
     def _with_made(self, at: int, row: List[Any], result: Result) -> List[Any]:
         """A row with the values that came."""
@@ -588,17 +611,23 @@ class _ChangeTold(Told):
 
     def exchanges(self, result: Result) -> List[Exchange]:
         """The change, and what it shows."""
-        if result.number < 0:
-            raise Unsaid("nobody tells how many rows it changed")
         texts = [self._verb + where for where, _ in self._alternatives]
-        told = [(text, [f"{self._saying.word} {count}"]) for text, count in zip(texts, self._counts(result.number))]
+        told = [(text, [self.reply(count)]) for text, count in zip(texts, self._counts(result.number))]
         if not self._says_rows:
             return told
         seen = self._saying.select(self._saying.columns, self._alternatives[0][0], result.rows)
         return [seen, *told] if self._saying.shows_before else [*told, seen]
 
+    def reply(self, number: int) -> str:
+        """The reply to one that has changed so many rows."""
+        if number < 0:
+            raise Unsaid("nobody tells how many rows it changed")
+        return f"{self._saying.word} {number}"
+
     def _counts(self, count: int) -> List[int]:
         """How many rows each of them changed."""
+        if count < 0:
+            raise Unsaid("nobody tells how many rows it changed")
         several = len(self._alternatives)
         if self._where.place is None:
             return [count]

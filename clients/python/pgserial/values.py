@@ -1,7 +1,7 @@
 """Values as a transcript spells them: literals of its statements, and COPY text of its replies."""
 
 import re
-from typing import Callable, Dict, Optional, Union
+from typing import Any, Callable, Dict, Optional, Sequence, Union
 
 from . import BIGINT, BYTEA, TEXT, Kind
 
@@ -68,6 +68,10 @@ def plain(kind: Kind, value: object) -> Plain:
     """A value of a column of this kind; refuses what isn't one."""
     if value is None:
         return None
+    if kind is BIGINT:
+        return _bigint(value)
+    if kind is TEXT:
+        return _text(value)
     own: Optional[Callable[[object], Plain]] = getattr(kind, "plain", None)  # of a kind that isn't of the transcript's own
     return _PLAIN[kind](value) if own is None else own(value)
 
@@ -110,6 +114,8 @@ class Spelling:
 
     def literal(self, kind: Kind, value: object) -> str:
         """A value as a literal of a statement."""
+        if type(value) is int and kind is BIGINT and -(2**63) <= value < 2**63:
+            return int.__repr__(value)
         said = self._said(kind, value)
         if isinstance(said, str):
             return "'" + self._without_newline(said).replace("'", "''") + "'"
@@ -117,8 +123,26 @@ class Spelling:
             return "'\\x" + said.hex() + "'"
         return "NULL" if said is None else str(int(said))
 
+    def copy_texts(self, kind: Kind, values: Sequence[object]) -> Sequence[str]:
+        """Several values of a column as fields of rows."""
+        kinds = set(map(type, values))
+        if kind is BIGINT and kinds == {int}:
+            numbers: Any = values
+            if -(2**63) <= min(numbers) and max(numbers) < 2**63:
+                return list(map(int.__repr__, numbers))
+        if kind is TEXT and kinds == {str}:
+            texts: Any = values
+            joined = "".join(texts)
+            if joined.isprintable() and "\\" not in joined:  # half characters aren't printable
+                return list(texts)
+        return [self.copy_text(kind, value) for value in values]
+
     def copy_text(self, kind: Kind, value: object) -> str:
         """A value as a field of a row."""
+        if type(value) is int and kind is BIGINT and -(2**63) <= value < 2**63:
+            return int.__repr__(value)
+        if type(value) is str and kind is TEXT and value.isprintable() and "\\" not in value:
+            return value
         said = self._said(kind, value)
         if isinstance(said, str):
             return self._without_newline(said).translate(_TO_COPY)

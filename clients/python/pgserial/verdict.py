@@ -14,6 +14,7 @@ from typing import Any, Dict, List, NamedTuple, Optional, Sequence, Set, Tuple
 
 from . import InterfaceError, _program
 from .ending import other_row, why_unread, without_ends
+from .output import write_all_kept
 from .places import with_places
 
 NOT_SAID = "not said, "  # how the command of a session's mark begins, and a comment on a read
@@ -415,6 +416,7 @@ def verdict(path: Any, program: Any = None, words: Sequence[str] = (), strict: b
     """What `pgserial check` tells of a recording, which may be the beginning that a killed process has left.
 
     Where `strict`, a yes over reads that aren't known is `unknown`."""
+    write_all_kept()
     with open(path, "rb") as file:
         data = file.read()
     cut = judged_part(data)
