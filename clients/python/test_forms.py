@@ -10,10 +10,11 @@ import unittest
 from typing import List
 
 from statement_forms import FORMS
-from try_forms import ENDS, REFUSED, WORDS, Place, Postgres, Sqlite, Tried, counts, tried
+from try_forms import ENDS, REFUSED, WORDS, Place, Postgres, Sqlite, Tried, counts, postgres_places
 from test_recording import DSN, module
 
 
+GROUPS = ("UPDATE", "ON CONFLICT")  # of forms that other drivers are tried with
 WRITTEN_OF = {"psycopg2": -2, "sqlite3": -1}  # the columns of FORMS.md
 
 
@@ -23,16 +24,20 @@ class Forms(unittest.TestCase):
     def judged(self, place: Place, ending: int, refused: int) -> List[Tried]:
         """Tries all forms in a place, of which no more than so many may end the verdict, or have their table refused."""
         self.addCleanup(place.close)
-        results = list(tried(place))
-        for result in results:
-            with self.subTest(result.form.name, place=place.name):
-                self.assertEqual(result.faults, ())
+        results = place.tried(lambda form: True)
+        self.assert_right(results)
         found = counts(results)
         self.assertLessEqual(found.get(ENDS, 0), ending, [result.form.name for result in results if result.said == ENDS])
         self.assertLessEqual(found.get(REFUSED, 0), refused, [result.form.name for result in results if result.said == REFUSED])
         if place.name in WRITTEN_OF:
             self.assert_written(results)
         return results
+
+    def assert_right(self, results: List[Tried]) -> None:
+        """No verdict is wrong, and no form behaves otherwise than without a recorder."""
+        for result in results:
+            with self.subTest(result.form.name, place=result.place):
+                self.assertEqual(result.faults, ())
 
     def assert_written(self, results: List[Tried]) -> None:
         """FORMS.md says the same."""
@@ -46,8 +51,22 @@ class Forms(unittest.TestCase):
 
     @unittest.skipUnless(DSN and module("psycopg2"), "PostgreSQL or psycopg2 isn't there (Debian: postgresql, python3-psycopg2)")
     def test_on_postgres(self) -> None:
-        results = self.judged(Postgres(module("psycopg2")), 13, 1)
+        results = self.judged(Postgres(module("psycopg2")), 10, 1)
         self.assertGreaterEqual(len(results), 250)
+
+    @unittest.skipUnless(DSN, "PostgreSQL isn't there (Debian: postgresql)")
+    def test_writes_by_other_drivers(self) -> None:
+        """pg8000 isn't known, so that nothing is added to what it sends."""
+        for place in postgres_places():
+            if place.name == "psycopg2":
+                place.close()
+                continue
+            self.addCleanup(place.close)
+            results = place.tried(lambda form: form.group in GROUPS)
+            self.assert_right(results)
+            self.assertGreaterEqual(len(results), 50, place.name)
+            ended = [result.form.name for result in results if result.said == ENDS]
+            self.assertLessEqual(len(ended), len(results) if place.name == "pg8000" else 2, (place.name, ended))
 
     def test_on_sqlite(self) -> None:
         results = self.judged(Sqlite(), 5, 0)

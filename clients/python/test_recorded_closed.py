@@ -226,6 +226,30 @@ class OnPostgres(Beside):
         self.rest(recorder, name, driver)
         self.right(recorder)
 
+    def test_an_error_of_a_connection_that_was_closed_amid_a_statement(self) -> None:
+        """What a driver raises then may look as if nothing had been sent."""
+        errors = (ValueError("file descriptor cannot be a negative integer (-1)"), KeyError("-1 is not registered"))
+        for driver, autocommit, error in itertools.product(drivers(), (False, True), (*errors, None)):
+            with self.subTest(driver.__name__, autocommit=autocommit, error=error):
+                name, seen = self.table(), []  # type: Tuple[str, List[Any]]
+                raised = error or driver.InterfaceError("connection already closed")
+
+                class Broken(driver.extensions.cursor if driver.__name__ == "psycopg2" else driver.Cursor):  # type: ignore
+                    """A cursor whose connection is closed once the server has done the statement."""
+
+                    def execute(own, text: Any, *words: Any, **named: Any) -> Any:  # noqa: N805
+                        value = super().execute(text, *words, **named)
+                        if "UPDATE" in (text.decode() if isinstance(text, bytes) else str(text)):
+                            raw.close()  # noqa: B023
+                            raise raised  # noqa: B023
+                        return value
+
+                recorder = self.recorder([name])
+                raw = self.raw(driver, autocommit, cursor_factory=Broken)
+                self.tries(recorder.wrap(raw), [f"UPDATE {name} SET v = v + 2 WHERE id = 1"], seen)
+                self.rest(recorder, name, driver)
+                self.right(recorder, ("yes", "unknown"))
+
     # at any moment
 
     def test_at_any_moment(self) -> None:

@@ -16,6 +16,7 @@ import uuid
 from typing import Any, List, Sequence, Tuple
 
 from pgserial.recording import Recorder, RecordingWarning
+from pgserial.setters import setter_of
 from test_recording import DSN, OnPostgres, drivers
 
 UTC, INDIA = datetime.timezone.utc, datetime.timezone(datetime.timedelta(hours=5, minutes=30))
@@ -526,7 +527,44 @@ class Keys(Recorded):
             self.assertIn("-- Column until of table t isn't recorded: it has a value that can't be said", self.comments())
             self.all_said(recorder, "yes")
 
-    TRIGGER = "CREATE FUNCTION twice() RETURNS trigger LANGUAGE plpgsql AS 'BEGIN NEW.v = 2 * NEW.v; RETURN NEW; END'"
+    TRIGGER = "CREATE FUNCTION twice() RETURNS trigger LANGUAGE plpgsql AS 'DECLARE n int := 2; BEGIN NEW.v = n * NEW.v; RETURN NEW; END'"
+
+    def test_a_trigger_that_sets_columns(self) -> None:
+        for driver in self.each():
+            self.make(
+                "CREATE TABLE t (id int PRIMARY KEY, v int, w text)", "INSERT INTO t VALUES (1, 10, 'a')",
+                "CREATE FUNCTION tells() RETURNS trigger LANGUAGE plpgsql AS $$BEGIN -- it tells\n NEW.w := 'v ' || NEW.v; RETURN NEW; END$$",
+                "CREATE TRIGGER b BEFORE INSERT OR UPDATE ON t FOR EACH ROW EXECUTE FUNCTION tells()",
+            )  # fmt: skip
+            recorder, one, _ = self.two(driver)
+            do(one, "UPDATE t SET v = v + 1 WHERE id = 1")
+            do(one, "INSERT INTO t (id, v) VALUES (2, 20)")
+            do(one, "DELETE FROM t WHERE id = 2")
+            one.commit()
+            self.assertEqual(
+                [line for line in self.lines() if line.startswith(("> 1 UPDATE", "> 1 INSERT", "> 1 DELETE"))][1:],
+                ["> 1 UPDATE t SET v = v + 1, w = 'v 11' WHERE id = 1;", "> 1 INSERT INTO t VALUES (2, 20, 'v 20');", "> 1 DELETE FROM t WHERE id = 2;"],
+            )
+            self.assertEqual(dict(recorder.left_out), {"what an UPDATE has read: what it assigns": 1})  # it reads v
+            self.assertEqual(recorder.verdict().answer, "yes")
+
+    def test_which_triggers_are_known_to_set_columns_alone(self) -> None:
+        rows, writes = 1 + 2 + 4 + 16, frozenset(("insert", "update"))
+        for body, columns, reads in (
+            ("BEGIN NEW.changed = now(); RETURN NEW; END;", ("changed",), False), ("begin new.a := 1; new.B := new.c + 1; return new; end", ("a", "b"), True),
+            ('BEGIN NEW."A" := 1; RETURN NEW; END', ("A",), False), ("BEGIN RETURN NEW; END", None, False), ("BEGIN NEW.a := 1; RETURN OLD; END", None, False),
+            ("BEGIN NEW.a := 1; RETURN NULL; END", None, False), ("BEGIN NEW.a := (SELECT max(v) FROM t); RETURN NEW; END", None, False),
+            ("BEGIN PERFORM f(); NEW.a := 1; RETURN NEW; END", None, False), ("BEGIN IF NEW.a = 1 THEN NEW.a := 2; END IF; RETURN NEW; END", None, False),
+            ("BEGIN NEW := OLD; RETURN NEW; END", None, False), ("BEGIN UPDATE t SET v = 1; RETURN NEW; END", None, False), ("DECLARE x int; BEGIN NEW.a := 1; RETURN NEW; END", None, False),
+            ("BEGIN NEW.a := 1 INTO x; RETURN NEW; END", None, False),
+        ):  # fmt: skip
+            found = setter_of("b", rows, writes, True, "plpgsql", body)
+            self.assertEqual(None if found is None else (found.columns, found.reads), None if columns is None else (columns, reads), body)
+        body = "BEGIN NEW.a := lower(NEW.b); RETURN NEW; END"
+        for bits, is_always, language in ((rows - 1, True, "plpgsql"), (rows - 2, True, "plpgsql"), (rows + 8, True, "plpgsql"), (rows, False, "plpgsql"), (rows, True, "sql")):
+            self.assertIsNone(setter_of("b", bits, writes, is_always, language, body))
+        known = setter_of("b", rows, writes, True, "plpgsql", body)
+        self.assertEqual([known is not None and known.is_quiet(frozenset(reading)) for reading in (("lower",), ())], [True, False])
 
     def test_triggers_matter_where_the_table_is_written(self) -> None:
         for driver in self.each():

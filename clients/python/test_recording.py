@@ -890,8 +890,9 @@ class Postgres(OnPostgres):
             connection.commit()
             self.assertIn("> 1 INSERT INTO t VALUES (4, 40);", self.body())
             self.assertEqual(verdict(self.path).answer, "yes")
-            with self.assertWarns(RecordingWarning):
-                if driver.__name__ == "psycopg2":
+            is_said = driver.__name__ == "psycopg2"
+            with contextlib.nullcontext() if is_said else self.assertWarns(RecordingWarning):
+                if is_said:
                     cursor.copy_from(io.StringIO("5\t50\n"), "t")
                 else:
                     with cursor.copy("COPY t FROM STDIN") as copy:
@@ -899,7 +900,8 @@ class Postgres(OnPostgres):
                 connection.commit()
             cursor.execute("SELECT count(*) FROM t")
             self.assertEqual(cursor.fetchone(), (5,))
-            self.assertEqual(recorder.verdict().answer, "unknown")
+            self.assertEqual("> 1 INSERT INTO t VALUES (5, 50);" in self.body(), is_said)
+            self.assertEqual(recorder.verdict().answer, "yes" if is_said else "unknown")
 
     def test_executemany_in_autocommit(self) -> None:
         for driver in self.each():

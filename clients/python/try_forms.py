@@ -3,12 +3,13 @@ runs through it.
 
     PGSERIAL=path/to/pgserial PGSERIAL_DSN=.. python3 clients/python/try_forms.py [--table] [--only TEXT] [PLACE ..]
 
-PLACE is psycopg2, psycopg or sqlite3; all that are there without one. `--table` prints the README's table of what is said.
+PLACE is psycopg2, psycopg, pg8000, asyncpg (as SQLAlchemy adapts it) or sqlite3; all that are there without one. `--table` prints the README's table of what is said.
 Each form is done alone, and what it has left is read: the verdict must not be `no`. Then an anomaly is planted that needs
 what the form has written, and one that needs what it has read: the verdict must not be a yes that leaves nothing out.
 """
 
 import argparse
+import asyncio
 import collections
 import contextlib
 import io
@@ -17,7 +18,7 @@ import sqlite3
 import sys
 import tempfile
 import warnings
-from typing import Any, Dict, Iterator, List, NamedTuple, Optional, Sequence, Tuple
+from typing import Any, Callable, Dict, Iterator, List, NamedTuple, Optional, Sequence, Tuple
 
 from pgserial.catalog import Refused
 from pgserial.recording import Recorder
@@ -95,12 +96,20 @@ class Place:
     def recorder(self, form: Form) -> Iterator[Recorder]:
         with warnings.catch_warnings(), contextlib.redirect_stderr(io.StringIO()):
             warnings.simplefilter("ignore")
-            recorder = Recorder(self.path, form.tables)
+            recorder = Recorder(self.path, self.tables(form))
             try:
                 yield recorder
             finally:
                 recorder.close()
                 self.end()
+
+    def tables(self, form: Form) -> Any:
+        """The tables that are recorded."""
+        return form.tables
+
+    def tried(self, only: Callable[[Form], bool]) -> List[Tried]:
+        """Those forms, tried here."""
+        return [Trial(self, form).tried() for form in FORMS if self.does(form) is not None and only(form)]
 
     def end(self) -> None:
         """Ends what the connections have open."""
@@ -129,15 +138,19 @@ ALTER SEQUENCE p_id_seq RESTART"""
 class Postgres(Place):
     """A database of PostgreSQL, by psycopg2 or psycopg. What is planted are write skews, at REPEATABLE READ."""
 
-    def __init__(self, driver: Any) -> None:
+    def __init__(self, driver: Any, others: Any = None) -> None:
         super().__init__()
-        self.driver, self.name = driver, driver.__name__
-        self.connections = [driver.connect(DSN) for _ in range(2)]
+        self.driver, self.name = driver, (others or driver).__name__
+        self.connections = self.connected() if others is None else []
         self.setup = driver.connect(DSN)
         self.setup.autocommit = True
         cursor = self.setup.cursor()
         cursor.execute("SET client_min_messages = warning")
         self.made_of: Any = None
+
+    def connected(self) -> List[Any]:
+        """Two connections."""
+        return [self.driver.connect(DSN) for _ in range(2)]
 
     def does(self, form: Form) -> Any:
         if self.name == "psycopg" and (callable(form.postgres) or form.parameters is not None and form.many):
@@ -202,6 +215,76 @@ class Postgres(Place):
             self.plain(bob, "UPDATE z SET v = 1 WHERE id = 1")
             bob.commit()
             return str(recorder.verdict())
+
+
+def words_of(dsn: str) -> Dict[str, str]:
+    """The words of a DSN as libpq has it."""
+    return dict(word.split("=", 1) for word in dsn.split())
+
+
+class Other(Postgres):
+    """A driver of PostgreSQL beside those two, by which the tables are made: forms that are texts are tried."""
+
+    def does(self, form: Form) -> Any:
+        text = form.postgres
+        return None if callable(text) or form.tables != RECORDED or form.before or ";" in str(text) else text
+
+
+class Pg8000(Other):
+    """pg8000, which isn't known: the kinds of the columns are said."""
+
+    KINDS = {
+        "t": {"id": "bigint", "v": "bigint", "w": "bigint", "s": "text"}, "u": {"id": "bigint", "t_id": "bigint", "n": "bigint"},
+        "p": {"id": "bigint", "v": "bigint", "s": "text"}, "z": {"id": "bigint", "v": "bigint"},
+    }  # fmt: skip
+
+    def __init__(self, driver: Any) -> None:
+        self.pg8000 = module("pg8000")
+        super().__init__(driver, self.pg8000)
+        self.connections = self.connected()
+
+    def does(self, form: Form) -> Any:
+        text = super().does(form)
+        return None if form.parameters is None and "%" in str(text) else text
+
+    def connected(self) -> List[Any]:
+        words = words_of(DSN)
+        host = words.get("host", "")
+        where = {"unix_sock": f"{host}/.s.PGSQL.{words.get('port', 5432)}"} if host.startswith("/") else {"host": host}
+        return [self.pg8000.connect(user=words["user"], database=words["dbname"], **where) for _ in range(2)]
+
+    def tables(self, form: Form) -> Any:
+        return {name: self.KINDS[name] for name in form.tables}
+
+
+class Asyncpg(Other):
+    """asyncpg, as SQLAlchemy adapts it. It is used within a task of an event loop; see `tried`."""
+
+    def __init__(self, driver: Any) -> None:
+        super().__init__(driver, module("asyncpg"))
+
+    def connected(self) -> List[Any]:
+        from sqlalchemy.ext.asyncio import create_async_engine
+
+        words = words_of(DSN)
+        engine = create_async_engine(f"postgresql+asyncpg://{words['user']}@/{words['dbname']}?host={words['host']}").sync_engine
+        _, named = engine.dialect.create_connect_args(engine.url)
+        return [engine.dialect.dbapi.connect(**named) for _ in range(2)]
+
+    def tried(self, only: Callable[[Form], bool]) -> List[Tried]:
+        """All forms, tried within a task."""
+        from sqlalchemy.util import greenlet_spawn
+
+        def tries() -> List[Tried]:
+            self.connections = self.connected()
+            results = list(super(Asyncpg, self).tried(only))
+            self.end()
+            for connection in self.connections:
+                connection.close()
+            self.connections = []
+            return results
+
+        return asyncio.run(greenlet_spawn(tries))
 
 
 class Sqlite(Place):
@@ -383,23 +466,23 @@ class Trial:
             self.faults.append(f"an anomaly by {what} is {told!r}")
 
 
-def places(names: Sequence[str]) -> List[Place]:
-    """The places that are there."""
-    found: List[Place] = []
-    for name in ("psycopg2", "psycopg"):
-        driver = module(name) if DSN and (not names or name in names) else None
-        if driver is not None:
-            found.append(Postgres(driver))
-    if not names or "sqlite3" in names:
-        found.append(Sqlite())
+def postgres_places(names: Sequence[str] = ()) -> List[Place]:
+    """Those of PostgreSQL that are there."""
+    driver = (module("psycopg2") or module("psycopg")) if DSN else None
+    found: List[Place] = [Postgres(module(name)) for name in ("psycopg2", "psycopg") if driver and module(name) and (not names or name in names)]
+    if driver and module("pg8000") and (not names or "pg8000" in names):
+        found.append(Pg8000(driver))
+    if driver and module("asyncpg") and module("sqlalchemy") and (not names or "asyncpg" in names):
+        found.append(Asyncpg(driver))
     return found
 
 
-def tried(place: Place, only: str = "") -> Iterator[Tried]:
-    """All forms, tried in a place."""
-    for form in FORMS:
-        if place.does(form) is not None and only in form.name:
-            yield Trial(place, form).tried()
+def places(names: Sequence[str]) -> List[Place]:
+    """The places that are there."""
+    found = postgres_places(names)
+    if not names or "sqlite3" in names:
+        found.append(Sqlite())
+    return found
 
 
 def counts(results: Sequence[Tried]) -> Dict[str, int]:
@@ -456,7 +539,7 @@ def main() -> int:
     given = words.parse_args()
     results: List[Tried] = []
     for place in places(given.places):
-        some = list(tried(place, given.only))
+        some = place.tried(lambda form: given.only in form.name)
         place.close()
         results += some
         print(f"{place.name}: {len(some)} forms; " + ", ".join(f"{WORDS[said]}: {count}" for said, count in sorted(counts(some).items())), file=sys.stderr)

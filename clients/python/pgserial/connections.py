@@ -12,6 +12,7 @@ from .drivers import Came, Sqlite
 from .effects import Control
 from .proxies import Proxy, parameters_of, text_of
 from .returning import Addition
+from .serving import Serving
 from .several import Whole, bound, statements_of
 from .session import Session
 from .steps import (
@@ -217,6 +218,7 @@ class _Kept:
     count: Optional[int] = None  # of the rows that several executions speak of
     addition: Optional[Addition] = None  # what was added, and shows more than the application asks for
     sent: Union[Addition, Whole, None] = None  # what differs from that in the text that was sent last
+    serving: Optional[Serving] = None  # what says rows that come from the server later
 
 
 class Cursor(Proxy):
@@ -225,7 +227,7 @@ class Cursor(Proxy):
     _own = frozenset(("wrapped", "_connection", "_kept"))
     _special = {
         "callproc": "_callproc", "copy_from": "_copy_from", "copy_to": "_copy_to", "copy_expert": "_copy_expert",
-        "copy": "_copy", "executescript": "_executescript", "stream": "_stream",
+        "copy": "_copy", "executescript": "_executescript", "stream": "_stream", "scroll": "_scroll",
     }  # fmt: skip
 
     def __init__(self, wrapped: Any, connection: Connection) -> None:
@@ -319,6 +321,7 @@ class Cursor(Proxy):
 
         def planned() -> Step:
             step = self._step(operation, parameters)
+            self._kept.serving = step.serving
             if step.addition is not None:
                 text = text_of(operation, self._connection.wrapped) or ""
                 sent[0], self._kept.addition, self._kept.sent = step.addition.to(operation, text), step.addition, step.addition
@@ -406,6 +409,7 @@ class Cursor(Proxy):
             return self._taken_ahead()[0]
         row = self._left(self.wrapped.fetchone)
         if self._kept.came is None:
+            self._say_served([] if row is None else [row])
             return row
         rows = self._served(1)
         return rows[0] if rows else None
@@ -418,6 +422,7 @@ class Cursor(Proxy):
                 return self._taken_ahead()
         rows = self._left(self.wrapped.fetchmany, *words, **named)
         if self._kept.came is None:
+            self._say_served(rows)
             return rows
         size = words[0] if words else named.get("size", self.wrapped.arraysize)
         return self._served(self._connection._session.driver.most(operator.index(size)))
@@ -427,7 +432,21 @@ class Cursor(Proxy):
         if self._kept.ahead is not None:
             return self._taken_ahead()
         rows = self._left(self.wrapped.fetchall)
-        return rows if self._kept.came is None else self._served(None)
+        if self._kept.came is None:
+            self._say_served(rows)
+            return rows
+        served = self._served(None)
+        return tuple(served) if isinstance(rows, tuple) else served
+
+    def _say_served(self, rows: Any) -> None:
+        """Rows that stayed on the server have come."""
+        if self._kept.serving is not None and rows:
+            self._kept.serving.say(rows, self.wrapped)
+
+    def _iterated(self) -> Iterator[Any]:
+        for row in self.wrapped:
+            self._say_served([row])
+            yield row
 
     def _left(self, call: Callable[..., Any], *words: Any, **named: Any) -> Any:
         """What the driver gives. Where its rows are kept here it has none left, and says so; or it raises what it would
@@ -460,12 +479,16 @@ class Cursor(Proxy):
 
     def __iter__(self) -> Any:
         self._rewind()
+        if self._kept.serving is not None:
+            return self._iterated()
         return self if self._kept.came is not None else iter(self.wrapped)
 
     def __next__(self) -> Any:
         self._rewind()
         if self._kept.came is None:
-            return next(self.wrapped)
+            row = next(self.wrapped)
+            self._say_served([row])
+            return row
         row = self.fetchone()
         if row is None:
             raise StopIteration
@@ -479,6 +502,17 @@ class Cursor(Proxy):
         return type(self.wrapped).__exit__(self.wrapped, kind, error, trace)
 
     # what some drivers have
+
+    def _scroll(self, value: int, mode: str = "relative") -> Any:
+        """Goes to another row: the driver's cursor, or among the rows that are kept here."""
+        kept = self._kept
+        if kept.came is None or kept.came.served is None or mode not in ("relative", "absolute"):
+            return self.wrapped.scroll(value, mode)
+        place = value if mode == "absolute" else kept.at + value
+        if not 0 <= place < len(kept.came.served):
+            raise self._connection._session.driver.out_of_bounds()
+        kept.at = place
+        return None
 
     def _taken(self, step: Callable[[Session], Step], call: Callable[[], Any]) -> Any:
         session = self._connection._session

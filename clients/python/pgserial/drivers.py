@@ -223,6 +223,10 @@ class Driver:
         """What is raised where rows are asked for and the statement shows none."""
         return None
 
+    def out_of_bounds(self) -> BaseException:
+        """What is raised where a cursor is to go to a row that isn't there."""
+        return IndexError("no such row")
+
     # tables
 
     def opened(self, names: Wanted) -> List[Tuple[Table, Rows]]:
@@ -241,6 +245,10 @@ class Driver:
     def roll_back(self) -> None:
         """Rolls back what is open, on a connection that is about to be closed."""
         self._raw.rollback()
+
+    def known(self, cursor: Any, rows: Sequence[Sequence[object]]) -> Sequence[Sequence[object]]:
+        """Rows that have come, where what the application may have made of others stands as unknown values."""
+        return rows
 
     def rewind(self, cursor: Any) -> None:
         """Goes back before a cursor's first row, whose rows were fetched."""
@@ -362,8 +370,8 @@ class Postgres(Driver):
     def is_answer(self, error: BaseException) -> bool:
         # 08: the connection is lost; 57P: the server is going down; 40003: the server doesn't know either.
         code = self.code(error)
-        if code == "XX000":
-            return super().is_answer(error)
+        if code == "XX000":  # of a connection that was closed amid a statement it may look as if that hadn't been sent
+            return super().is_answer(error) and not self.is_dead()
         return code[:2] != "08" and code[:3] != "57P" and code != "40003"
 
     def leaves_nothing(self, error: BaseException, text: str) -> bool:
@@ -396,6 +404,9 @@ class Postgres(Driver):
         known = surely_known(self._adapting, cursor, description, shown) if rows else shown
         return Came(Result(self.count(cursor), known), shown=shown, ahead=rows if is_plain else None)
 
+    def known(self, cursor: Any, rows: Sequence[Sequence[object]]) -> Sequence[Sequence[object]]:
+        return surely_known(self._adapting, cursor, cursor.description, rows)
+
     def rewind(self, cursor: Any) -> None:
         if cursor.rowcount > 0:
             cursor.scroll(0, mode="absolute")
@@ -422,6 +433,12 @@ class Postgres(Driver):
     def nothing_to_fetch(self) -> Optional[BaseException]:
         words = "the last operation didn't produce a result" if self.own_transactions else "no results to fetch"
         error: BaseException = self._module.ProgrammingError(words)
+        return error
+
+    def out_of_bounds(self) -> BaseException:
+        if self.own_transactions:
+            return IndexError("position out of bound")
+        error: BaseException = self._module.ProgrammingError("scroll destination out of bounds")
         return error
 
     def _rows(self, cursor: Any) -> Rows:

@@ -5,6 +5,7 @@ from typing import Any, Callable, Dict, Iterable, List, Mapping, NamedTuple, Opt
 
 from . import sql
 from .catalog import Names, Table
+from .returning import Addition, _quoted
 from .shapes import Read, Reading
 from .sql import Star, Token
 from .translation import Arguments, Exchange, Result, Told, _behind_where, _Saying
@@ -34,8 +35,40 @@ class Rows:
         self._sources = [self._table(source.table) for source in read.sources] if read is not None else []
         self._single = frozenset(table.name for table in names.tables if self._stands_once(table))
         self._sayings: Dict[str, _Saying] = {}
-        if read is None or not (self._may_show_a_key(read) or (read.is_whole and self._sources[0] is not None)):
+        self.added = self._hidden(read) if read is not None else ()  # keys that it doesn't show: of which sources, and columns
+        if read is None or not (self.added or self._may_show_a_key(read) or (read.is_whole and self._sources[0] is not None)):
             raise Unsaid("it shows no recorded table's key")
+
+    def _hidden(self, read: Read) -> Tuple[Tuple[int, int], ...]:
+        """The columns of keys that could be shown beside what it shows, each with its source."""
+        called = [str((source.table.alias or source.table.name).text).lower() if source.table else "" for source in read.sources]
+        shown = [self._item(item) for item in read.items]
+        if read.end is None or any(several is None for several in shown):
+            return ()
+        known = {(origin.source, origin.place) for several in shown for origin in several or () if origin is not None}
+        found: List[Tuple[int, int]] = []
+        for at, table in enumerate(self._sources):
+            if table is not None and table.key_places and called.count(called[at]) == 1:
+                missing = [place for place in table.key_places if (at, place) not in known]
+                found += [(at, place) for place in missing]
+        return tuple(found)
+
+    @property
+    def tables(self) -> List[Table]:
+        """The recorded tables whose keys could be shown."""
+        return [table for at, table in enumerate(self._sources) if table is not None and at in {at for at, _ in self.added}]
+
+    def addition(self, is_doubled: bool) -> Optional[Addition]:
+        """What is added so that these keys are shown; None where there are none."""
+        if not self.added or self._read is None or self._read.end is None:
+            return None
+        columns = []
+        for at, place in self.added:
+            called, table = self._read.sources[at].table, self._sources[at]
+            assert called is not None and table is not None
+            columns.append(_quoted((called.alias or called.name).text) + "." + _quoted(table.columns[place].real))
+        text = ", ".join(columns)
+        return Addition("\n, " + (text.replace("%", "%%") if is_doubled else text) + " ", self._read.end, len(columns), False)
 
     def _table(self, table: Optional[sql.Table]) -> Optional[Table]:
         assert self._read is not None
@@ -83,7 +116,13 @@ class Rows:
             if several is None:
                 return [None] * width
             found += several
+        if len(found) < width:
+            found += [self._origin_at(at, place) for at, place in self.added]
         return found if len(found) == width else [None] * width
+
+    def _origin_at(self, at: int, place: int) -> Optional[Origin]:
+        table = self._sources[at]
+        return Origin(at, table, place) if table is not None else None
 
     def _item(self, item: Any) -> Optional[List[Optional[Origin]]]:
         """The origins of what an item shows; None where nobody knows how many columns it has."""
@@ -150,9 +189,11 @@ class Rows:
 
     # what is said
 
-    def told(self, arguments: Arguments, numbers: Callable[[], Optional[Numbers]], attributes: Attributes, why: str) -> "RowsTold":
-        """One execution of it; and why it isn't said as it stands."""
-        return RowsTold(self, arguments, numbers, attributes, why)
+    def told(
+        self, arguments: Arguments, numbers: Callable[[], Optional[Numbers]], attributes: Attributes, why: str, is_part: bool = False
+    ) -> "RowsTold":
+        """One execution of it; and why it isn't said as it stands. `is_part` tells that other rows may come."""
+        return RowsTold(self, arguments, numbers, attributes, why, is_part)
 
     def saying(self, table: Table) -> _Saying:
         """What says things of a table."""
@@ -225,9 +266,12 @@ class RowsTold(Told):
 
     writes, shows = False, True
 
-    def __init__(self, rows: Rows, arguments: Arguments, numbers: Callable[[], Optional[Numbers]], attributes: Attributes, why: str) -> None:
+    def __init__(
+        self, rows: Rows, arguments: Arguments, numbers: Callable[[], Optional[Numbers]], attributes: Attributes, why: str, is_part: bool
+    ) -> None:
         self._rows, self._numbers, self._attributes = rows, numbers, attributes
-        self._texts, self._is_whole = rows.beside(arguments)
+        self._texts, is_whole = rows.beside(arguments)
+        self._is_whole = is_whole and not is_part
         self.left_out = why
 
     def exchanges(self, result: Result) -> List[Exchange]:

@@ -50,6 +50,7 @@ class Session:
         self.has_failed = False  # whether a statement of it has failed
         self.awaits = False  # whether its COMMIT is written, and was refused so that it may be tried again
         self.has_written = False
+        self.changes = 0  # how often it has written, or ended a transaction
         self.may_end = False  # whether a statement may commit by itself, as a comment says
         self.begun_by: object = None  # the savepoint that has begun its transaction
         self.doubts: List[Doubt] = []
@@ -123,9 +124,14 @@ class Session:
         self.may_end = True
         return MAY_COMMIT.format(self.number) + "\n"
 
+    def wrote(self) -> None:
+        """Its transaction has written."""
+        self.has_written = True
+        self.changes += 1
+
     def unsaid(self, why: str, text: str) -> None:
         """Something was written that can't be said. Within a transaction that is a matter when it commits."""
-        self.has_written = True
+        self.wrote()
         if not self.is_open or not self.driver.is_open() or self.may_end:
             self.recorder.spoil(why, text, self.number)
             return
@@ -161,6 +167,7 @@ class Session:
     def forget(self) -> None:
         """No transaction is open."""
         self.temporary.forget()
+        self.changes += 1
         self.is_open = self.is_explicit = self.awaits = self.has_failed = self.has_written = self.may_end = self.is_alone = False
         self.doubts, self.held, self.points, self.begun_by = [], None, [], None
 

@@ -116,6 +116,7 @@ class Read(NamedTuple):
     is_distinct: bool  # whether each is shown once
     is_merged: bool  # whether columns of two tables may stand for one another
     with_names: FrozenSet[str]
+    end: Optional[int]  # where in the text what it shows ends, if more may be shown of each row and nothing else changes
 
 
 def _reader(pieces: Pieces, start: int, end: int, reading: FrozenSet[str]) -> Parser:
@@ -519,8 +520,13 @@ def read_of(tokens: Tokens, reading: FrozenSet[str]) -> Read:
     conditions, others = _conditions(pieces, where, behind, reading) if where > stop else ((), False)
     cut = pieces.find(behind, end, "group", "having", "limit", "offset", "fetch", "skip") < end
     cut = cut or any(token.is_word("tablesample") for token in tokens[source:stop])
-    is_whole = _is_by_rows(pieces, first, source) and not (cut or others or is_on or with_names or len(sources) != 1)
-    return Read(items, sources, conditions if len(sources) == 1 else (), is_whole, is_distinct, is_merged, with_names)
+    is_by_rows = _is_by_rows(pieces, first, source)
+    is_whole = is_by_rows and not (cut or others or is_on or with_names or len(sources) != 1)
+    is_plain = is_by_rows and not is_distinct and pieces.find(behind, end, "group", "having") == end and source < end
+    return Read(
+        items, sources, conditions if len(sources) == 1 else (), is_whole, is_distinct, is_merged, with_names,
+        tokens[source].start if is_plain else None,
+    )  # fmt: skip
 
 
 def _is_by_rows(pieces: Pieces, start: int, end: int) -> bool:

@@ -14,6 +14,7 @@ from .origins import Rows
 from .plans import Plan
 from .prepared import Execution, Prepared, executed_by, prepared_by
 from .returning import Addition
+from .serving import Serving
 from .translation import Arguments, Told
 from .values import Unsaid
 from .verdict import HAS_NOT
@@ -27,6 +28,7 @@ class Step:
     """What is written before a call of the application, and after it, or where it has failed."""
 
     addition: Optional[Addition] = None  # what is added to the text that is sent
+    serving: Optional[Serving] = None  # what says rows that come later
 
     def __init__(self, session: Session) -> None:
         self.session = session
@@ -199,6 +201,7 @@ class Savepoint(Step):
         session = self.session
         assert session.held is not None
         session.has_failed = False
+        session.changes += 1
         session.temporary.forget()
         start = session.points[at].held
         undone = session.held[start:]
@@ -244,7 +247,7 @@ class Executed:
     def came(self, shows: bool, addition: Optional[Addition] = None) -> Came:
         """What came of it. The application doesn't see what was added."""
         came = self._driver.came(self.raw(), shows)
-        if came.ahead is not None and (addition is not None or not self.adds):
+        if came.ahead is not None and not self.adds:
             self._driver.rewind(self.raw())
             came = came._replace(ahead=None)
         if addition is None:
@@ -320,7 +323,8 @@ class Statement(Step):
         if self._is_ahead:
             self._told_ahead(exchanges[0][1][0])
             return
-        session.has_written = session.has_written or told.writes
+        if told.writes:
+            session.wrote()
         self._write(exchanges)
         session.settle(True)
 
@@ -417,6 +421,19 @@ class LeftOut(Beside):
         super().after()
 
 
+class Served(LeftOut):
+    """A query whose rows stay on the server."""
+
+    def __init__(self, session: Session, text: str, serving: Optional[Serving]) -> None:
+        super().__init__(session, text, "its rows stay on the server")
+        self.serving = serving
+
+    def after(self) -> None:
+        super().after()
+        if self.serving is not None:
+            self.serving.opened()
+
+
 class Prepares(Beside):
     """A PREPARE, which does nothing yet."""
 
@@ -487,7 +504,7 @@ class CopiedIn(Spoils):
             self._why = f"COPY writes: {unsaid}"
             super().after()
             return
-        session.has_written = True
+        session.wrote()
         session.write("".join([session.asked(command) + session.answered(reply) for command, reply in exchanges]))
         session.settle(True)
 
@@ -525,7 +542,7 @@ class Many(Step):
             session.unsaid("nobody tells how many rows each of these changed", self._text)
         else:
             session.write("".join([session.exchange(told.first or "", told.surely or "") for told in self._told]))
-            session.has_written = True
+            session.wrote()
         session.settle(True)
 
     def failed(self, error: BaseException) -> None:
@@ -632,8 +649,9 @@ def step_of(session: Session, text: str, parameters: Any, cursor: Executed, is_s
         known = _known_step(session, text, parameters, cursor) if plan.writes is not None else None
         return known or _unsaid_step(session, text, plan.why, plan.writes)
     if is_served:
-        writes = plan.effect is not None or (plan.saying is not None and plan.saying.writes)
-        return _unsaid_step(session, text, "its rows stay on the server", "it writes" if writes else None)
+        if plan.effect is not None or (plan.saying is not None and plan.saying.writes):
+            return _unsaid_step(session, text, "its rows stay on the server", "it writes")
+        return Served(session, text, Serving(session, plan, Arguments(parameters, cursor.sent)) if plan.rows is not None else None)
     return _statement(session, plan, text, Arguments(parameters, cursor.sent), cursor)
 
 
@@ -649,9 +667,11 @@ def _statement(session: Session, plan: Plan, text: str, arguments: Arguments, cu
         except Unsaid as unsaid:
             why = str(unsaid)
     if told is not None and (told.is_sure or plan.effect is None):
-        return _with_rows(Statement(session, told, text, cursor), session, plan, arguments, cursor)
+        addition = None if told.is_whole else _keys_added(session, plan, arguments, cursor)
+        return _with_rows(Statement(session, told, text, cursor, addition), session, plan, arguments, cursor)
     if plan.rows is not None:
-        return _with_rows(Statement(session, Unknown(why or ""), text, cursor), session, plan, arguments, cursor)
+        addition = _keys_added(session, plan, arguments, cursor)
+        return _with_rows(Statement(session, Unknown(why or ""), text, cursor, addition), session, plan, arguments, cursor)
     if plan.effect is not None:
         try:
             return _effect_step(session, plan, text, arguments, cursor)
@@ -711,6 +731,17 @@ def _with_rows(step: Statement, session: Session, plan: Plan, arguments: Argumen
         rows: Rows = plan.rows
         step.by_rows = lambda why: rows.told(arguments, lambda: session.driver.numbers(cursor.raw()), session.recorder.attributes, why)
     return step
+
+
+def _keys_added(session: Session, plan: Plan, arguments: Arguments, cursor: Executed) -> Optional[Addition]:
+    """What is added to a query that may have to be said by its rows, so that their keys are shown."""
+    rows = plan.rows
+    if rows is None or not rows.added or not cursor.adds or not session.driver.is_plain(cursor.raw()):
+        return None
+    if not all(session.facts(table).may_return for table in rows.tables):
+        return None
+    addition: Optional[Addition] = rows.addition(session.driver.doubles(arguments.are_given))
+    return addition
 
 
 def _effect_step(session: Session, plan: Plan, text: str, arguments: Arguments, cursor: Executed) -> Step:

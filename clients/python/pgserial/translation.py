@@ -70,6 +70,7 @@ class Told:
     surely: Optional[str] = None  # the reply to it, where it changes one row and no other could come of it but none
     writes = True
     is_sure = True  # whether it can be said whatever comes of it
+    is_whole = True  # whether that is so of what it shows
     shows = False  # whether the rows that it shows are needed
     left_out: Optional[str] = None  # what of it can't be said, and only reads
     cascades: Optional[Cascades] = None  # foreign keys that change rows with those that it deletes
@@ -416,6 +417,7 @@ class _SelectTold(Told):
         self._saying = saying
         self._where = saying.where(saying.tree.where, arguments)
         self._limit = saying.limit(arguments, self._where)
+        self.is_whole = self._limit is None
         self._alternatives = saying.alternatives(self._where)
         if self._where.place is not None and self._where.place not in [place for _, place in saying.columns]:
             raise Unsaid("it has a list of values for a column that it doesn't show")
