@@ -341,7 +341,7 @@ def _alchemy_writes(a: Any, t: Any, b: Any) -> Dict[str, Callable[[Any], Any]]:
         "query.update()": lambda s: s.query(a).filter(a.id == 1).update({"age": 5}, synchronize_session=False),
         "query.update() of an expression": lambda s: s.query(a).filter(a.name == "ada").update({a.age: a.age * 2}, synchronize_session=False),
         "query.update(), fetched": lambda s: s.query(a).filter(a.age > 20).update({"age": 5}, synchronize_session="fetch"),
-        "query.delete()": lambda s: s.query(b).filter(b.title == "first").delete(synchronize_session=False),
+        "query.delete()": lambda s: s.query(b).filter(b.title == "second").delete(synchronize_session=False),
         "update() with or_": lambda s: s.execute(update(a).where(or_(a.id == 1, a.age > 35)).values(age=1), execution_options={"synchronize_session": False}),
         "update() with in_": lambda s: s.execute(update(a).where(a.name.in_(["ada", "bob"])).values(age=1), execution_options={"synchronize_session": False}),
         "update() with case": lambda s: s.execute(update(a).values(age=case((a.id == 1, 7), else_=a.age)), execution_options={"synchronize_session": False}),

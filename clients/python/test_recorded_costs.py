@@ -17,6 +17,7 @@ import warnings
 from typing import Any, Dict, List, Optional, Tuple
 
 from pgserial.copying import Copied, Teed, rows_of
+from pgserial.following import Follower
 from pgserial.output import Output
 from pgserial.plans import Translator
 from pgserial.recording import Recorder, RecordingWarning, verdict
@@ -301,6 +302,18 @@ class Postgres(OnPostgres):
                 asked(self.lines())[-3:], ["SELECT id FROM t WHERE id = 1 AND v = 10;", "SELECT v, id FROM t WHERE id = 1;", "SELECT a, b FROM u WHERE a_b = '1,2';"]
             )
             self.assertEqual(recorder.verdict().answer, "yes")
+
+    def test_a_cursor_on_the_server_is_the_first_that_a_followed_connection_has(self) -> None:
+        """The tables are read before it is made: that rolls back, behind which it couldn't be used."""
+        for driver in self.each():
+            follower = Follower()
+            with follower.recording(self.recorder()):
+                connection = follower.follow(self.raw(driver))
+                cursor = connection.cursor("some")
+                cursor.execute("SELECT id, v FROM t ORDER BY id")
+                self.assertEqual(cursor.fetchall(), [(1, 10), (2, 20)])
+                connection.commit()
+            self.assertEqual(verdict(self.path).answer, "yes")
 
     def test_a_cursor_on_the_server(self) -> None:
         for driver in self.each():

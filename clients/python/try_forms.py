@@ -20,6 +20,7 @@ import tempfile
 import warnings
 from typing import Any, Callable, Dict, Iterator, List, NamedTuple, Optional, Sequence, Tuple
 
+import orm_forms
 from pgserial.catalog import Refused
 from pgserial.recording import Recorder
 from statement_forms import FORMS, RECORDED, ROWS, TABLES, Form
@@ -520,6 +521,11 @@ def line_of(name: str, found: Dict[str, str]) -> str:
     return f"| `{shown}` | {found.get('psycopg2', '')} | {found.get('sqlite3', '')} |"
 
 
+def mappers() -> List[str]:
+    """What share of the operations of object mappers is said."""
+    return ["", "## Object mappers", "", *orm_forms.table(orm_forms.done())]
+
+
 def _counted(results: Sequence[Tried]) -> List[str]:
     """How many forms are said, and how, in each place."""
     lines = ["| | PostgreSQL | sqlite3 |", "|---|---|---|"]
@@ -544,7 +550,7 @@ def main() -> int:
         results += some
         print(f"{place.name}: {len(some)} forms; " + ", ".join(f"{WORDS[said]}: {count}" for said, count in sorted(counts(some).items())), file=sys.stderr)
     if given.table:
-        print(table(results))
+        print("\n".join([table(results), *mappers()]))
     for result in results:
         if not given.table and (given.all or result.said in (ENDS, REFUSED) or result.faults):
             print(f"{result.place}: {result.form.name[:110]}: {WORDS[result.said]}: {result.why[:260] if result.said in (ENDS, REFUSED) or given.all else ''}")

@@ -46,6 +46,8 @@ class Connection(Proxy):
 
     def cursor(self, *words: Any, **named: Any) -> "Cursor":
         """A cursor of the driver's, recorded."""
+        session = self._session  # reading the tables rolls back, behind which a cursor on the server couldn't be used
+        assert session is not None
         return Cursor(self.wrapped.cursor(*words, **named), self)
 
     def commit(self, *words: Any) -> Any:

@@ -25,13 +25,13 @@ _MOST_KEPT, _LATEST = 1 << 18, 0.5  # bytes that are kept back, and seconds
 
 class Output:
     """A file that one recorder writes. Whoever calls it holds the recorder's lock. `writes_kept` takes that lock and calls
-    `write_kept`, for what was kept back for so long."""
+    `write_late`, for what was kept back for long enough; without it nothing is kept back."""
 
-    def __init__(self, path: str, writes_kept: Callable[[], None]) -> None:
+    def __init__(self, path: str, writes_kept: Optional[Callable[[], None]] = None) -> None:
         self.path = path
         self._kept: List[bytes] = []
         self._size = 0  # of what is kept back
-        self._writes_kept = weakref.WeakMethod(writes_kept)
+        self._writes_kept = None if writes_kept is None else weakref.WeakMethod(writes_kept)
         self._process = os.getpid()
         self._is_due = False  # whether a thread is waiting to write that
         self._is_lost = False  # whether lines were lost, behind which none may stand
@@ -81,6 +81,9 @@ class Output:
 
     def add(self, data: bytes) -> None:
         """Adds lines, which are written together with those that come soon."""
+        if self._writes_kept is None:
+            self._write(data)
+            return
         self._kept.append(data)
         self._size += len(data)
         if self._size >= _MOST_KEPT or not (self._is_due or self._is_soon()):
@@ -169,9 +172,9 @@ class Output:
 _open: "weakref.WeakSet[Output]" = weakref.WeakSet()
 
 
-def _write_kept(writes_kept: "weakref.WeakMethod[Callable[[], None]]") -> None:
+def _write_kept(writes_kept: "Optional[weakref.WeakMethod[Callable[[], None]]]") -> None:
     """Writes what a recorder has kept back, where it is there still."""
-    writes = writes_kept()
+    writes = writes_kept() if writes_kept is not None else None
     if writes is not None:
         writes()
 
