@@ -14,13 +14,13 @@ import sys
 import time
 import unittest
 import warnings
-from typing import Any, Dict, List, Optional, Tuple
+from typing import Any, List, Optional
 
 from pgserial.copying import Copied, Teed, rows_of
 from pgserial.following import Follower
 from pgserial.output import Output
 from pgserial.plans import Translator
-from pgserial.recording import Recorder, RecordingWarning, verdict
+from pgserial.recording import RecordingWarning, verdict
 from pgserial.sql import Name, Table
 from pgserial.values import Spelling, Unsaid
 from test_recording import HERE, OnPostgres, OnSqlite, drivers

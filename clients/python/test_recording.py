@@ -255,7 +255,7 @@ class Sqlite(OnSqlite):
         for _ in range(3):
             self.assertEqual(connection.execute("SELECT sum(v) FROM t").fetchall(), [(30,)])
         connection.execute("SELECT v FROM t WHERE v = 1 OR v = 2")
-        self.assertEqual(self.body(), [])
+        self.assertEqual([line for line in self.body() if "SELECT" in line], [])
         connection.execute("SELECT v FROM t WHERE v = 1")
         told = recorder.verdict()
         self.assertEqual(told.answer, "yes")
@@ -720,7 +720,7 @@ class Postgres(OnPostgres):
             self.assertEqual(self.body()[2:6], ["> 1 SELECT * FROM t;", "  1 SELECT 2", "  1 | 1\t10", "  1 | 2\t20"])
             self.assertIsInstance(connection, type(connection.wrapped))
 
-    def test_a_cursor_on_the_server_is_left_out(self) -> None:
+    def test_a_cursor_on_the_server_is_said_by_its_rows(self) -> None:
         for driver in self.each():
             recorder = self.recorder()
             connection = recorder.wrap(self.raw(driver))
@@ -728,7 +728,8 @@ class Postgres(OnPostgres):
             cursor.execute("SELECT * FROM t ORDER BY id")
             self.assertEqual(list(cursor), [(1, 10), (2, 20)])
             connection.commit()
-            self.assertEqual(self.body(), ["> 1 BEGIN;", "  1 BEGIN", "> 1 COMMIT;", "  1 COMMIT"])
+            rows = ["> 1 SELECT * FROM t WHERE id = 1;", "  1 SELECT 1", "  1 | 1\t10", "> 1 SELECT * FROM t WHERE id = 2;", "  1 SELECT 1", "  1 | 2\t20"]
+            self.assertEqual(self.body(), ["> 1 BEGIN;", "  1 BEGIN", *rows, "> 1 COMMIT;", "  1 COMMIT"])
             self.assertIn("its rows stay on the server", recorder.verdict().words)
 
     def test_values_that_the_database_makes(self) -> None:

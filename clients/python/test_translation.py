@@ -264,7 +264,7 @@ class Statements(unittest.TestCase):
             "SELECT * FROM t WHERE v = id", "SELECT * FROM t OFFSET 1", "SELECT * FROM t FOR UPDATE SKIP LOCKED", "SELECT * FROM other", "SELECT v ISNULL FROM t",
             "WITH x AS (SELECT * FROM t) SELECT * FROM x", "SELECT my_look() FROM t", "SELECT made_at FROM accounts WHERE made_at > 3", "SELECT v::text FROM t",
             "SELECT (SELECT 1) FROM t", "SELECT * FROM t WHERE v IN (SELECT id FROM accounts)", "EXPLAIN DELETE FROM t", "SELECT coalesce(v, 0) FROM t FOR UPDATE",
-            "TABLE t", "SELECT 1; SELECT * FROM t;", "SELECT * FROM t UNION SELECT * FROM t", "SELECT v FROM t WHERE v = 1.5", "SELECT v FROM t WHERE v = 'x'",
+            "TABLE t", "SELECT 1; SELECT * FROM t;", "SELECT * FROM t UNION SELECT * FROM t", "(SELECT * FROM t) UNION (SELECT * FROM t)", "SELECT v FROM t WHERE v = 1.5", "SELECT v FROM t WHERE v = 'x'",
         ):  # fmt: skip
             with self.subTest(text):
                 plan = self.plan(text, None)

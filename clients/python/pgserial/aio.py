@@ -9,14 +9,16 @@ from typing import Any, AsyncIterator, Awaitable, Callable, Dict, Iterator, List
 
 from .cascades import Counts
 from .catalog import Cascade, Table
-from .drivers import NOTHING, Came, Postgres, Rows, Wanted, tuple_row
+from .copy_steps import copy_of
+from .drivers import NOTHING, Came, Postgres, Rows, tuple_row
 from .effects import Control
 from .proxies import Proxy, parameters_of, text_of
 from .returning import Facts
 from .session import Session
 from .steps import (
-    Begin, Commit, Executed, Inner, NoText, Rollback, Savepoint, Step, copy_of, is_looped, many_of, step_of,
+    Begin, Commit, Executed, Inner, NoText, Rollback, Savepoint, Step, is_looped, many_of, step_of,
 )  # fmt: skip
+from .wanted import Wanted
 
 
 class Awaited(Postgres):

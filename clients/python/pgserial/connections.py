@@ -7,6 +7,7 @@ import weakref
 from functools import partial
 from typing import Any, Callable, Dict, Iterator, List, Optional, Tuple, Union
 
+from .copy_steps import copied_step, copy_of
 from .copying import Teed, copied_from
 from .drivers import Came, Sqlite
 from .effects import Control
@@ -16,7 +17,7 @@ from .serving import Serving
 from .several import Whole, bound, statements_of
 from .session import Session
 from .steps import (
-    Begin, Commit, Executed, Inner, LeftOut, NoText, Rollback, Savepoint, Script, Setting, Spoils, Step, copied_step, copy_of,
+    Begin, Commit, Executed, Inner, LeftOut, NoText, Rollback, Savepoint, Script, Setting, Spoils, Step, 
     is_written, many_of, step_of,
 )  # fmt: skip
 

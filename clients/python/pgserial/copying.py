@@ -1,7 +1,7 @@
 """COPY into a table: the rows that an application gives, read beside the driver, are said as an INSERT each."""
 
 import re
-from typing import Any, Callable, Dict, List, NamedTuple, Optional, Tuple
+from typing import Any, Callable, List, NamedTuple, Optional, Tuple
 
 from . import sql
 from .plans import Translator

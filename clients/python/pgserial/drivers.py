@@ -6,14 +6,14 @@ import contextlib
 import sys
 import time
 from functools import partial
-from typing import Any, Callable, Dict, FrozenSet, Iterable, List, Mapping, NamedTuple, Optional, Sequence, Set, Tuple, Union
+from typing import Any, Callable, Dict, FrozenSet, Iterable, List, Mapping, NamedTuple, Optional, Sequence, Set, Tuple
 
 from .cascades import Counts
 from .catalog import Cascade, Column, Table, declared_table
 from .dangers import Dangers, postgres_dangers, postgres_key, sqlite_dangers, sqlite_functions
 from .keys import Refused
 from .kinds import Form
-from .postgres_catalog import postgres_tables
+from .postgres_catalog import ATTRIBUTES, FACTS, postgres_tables
 from .origins import Attributes, Numbers
 from .returning import Facts
 from .sent import Psycopg, Psycopg2, Unknown, surely_known
@@ -21,10 +21,9 @@ from .sql import PARAMSTYLES
 from .sqlite_catalog import sqlite_tables
 from .translation import Look, Result
 from .values import Unsaid
+from .wanted import Wanted
 
 Rows = List[Sequence[object]]
-# The tables that are named: each with all its columns, with those that are named, or with the kinds that are said.
-Wanted = Mapping[str, Union[None, Sequence[str], Mapping[str, str]]]
 _SURE = ("IntegrityError", "ProgrammingError", "DataError", "NotSupportedError", "InterfaceError")
 _PLAIN_WRITES = ("insert", "update", "delete", "select", "with")  # that leave nothing done where they fail, on any database
 _BEFORE_IT_IS_SENT = (TypeError, ValueError, LookupError, OverflowError)  # where a driver finds fault with parameters
@@ -415,7 +414,7 @@ class Postgres(Driver):
         if self.is_failed() or self.is_dead():
             return NOTHING
         quiet = ", ".join("'" + each.name.replace("'", "''") + "'" for each in table.setters)
-        found: Any = self.ask(_FACTS.format(name=self._named(table), quiet=f"AND t.tgname NOT IN ({quiet})" if quiet else ""))
+        found: Any = self.ask(FACTS.format(name=self._named(table), quiet=f"AND t.tgname NOT IN ({quiet})" if quiet else ""))
         if not found:
             return NOTHING
         kind, rules, policies, triggers, may_read, unique = found[0]
@@ -531,7 +530,7 @@ class Postgres(Driver):
         found: Dict[Tuple[int, int], Tuple[str, str]] = {}
         try:
             for table in tables:
-                columns: Any = self.ask(_ATTRIBUTES.format(name=self._named(table)))
+                columns: Any = self.ask(ATTRIBUTES.format(name=self._named(table)))
                 found.update({(oid, number): (table.name, real) for oid, number, real in columns})
         finally:
             self.undo()
@@ -552,16 +551,6 @@ class Postgres(Driver):
             self._raw.rollback()
 
 
-_ATTRIBUTES = """SELECT a.attrelid::bigint, a.attnum::int, a.attname::text FROM pg_catalog.pg_attribute a
-WHERE a.attrelid = pg_catalog.to_regclass('{name}') AND a.attnum > 0 AND NOT a.attisdropped"""
-# Whether rows of a table may be shown; `unique` counts what else may find a row that is there.
-_FACTS = """SELECT c.relkind::text, c.relhasrules::int, pg_catalog.row_security_active(c.oid)::int,
-  (SELECT count(*) FROM pg_catalog.pg_trigger t WHERE NOT t.tgisinternal AND t.tgenabled <> 'D' AND t.tgtype::int & 1 = 1 {quiet}
-    AND (t.tgrelid = c.oid OR t.tgrelid IN (SELECT relid FROM pg_catalog.pg_partition_tree(c.oid)))),
-  (SELECT pg_catalog.bool_and(pg_catalog.has_column_privilege(c.oid, a.attnum, 'SELECT'))::int
-    FROM pg_catalog.pg_attribute a WHERE a.attrelid = c.oid AND a.attnum > 0 AND NOT a.attisdropped),
-  (SELECT count(*) FROM pg_catalog.pg_index i WHERE i.indrelid = c.oid AND (i.indisunique OR i.indisexclusion) AND NOT i.indisprimary)
-FROM pg_catalog.pg_class c WHERE c.oid = pg_catalog.to_regclass('{name}')"""
 NOTHING = Facts(False, False, False, True)
 
 
@@ -807,25 +796,3 @@ def driver_of(raw: Any, style: Optional[str]) -> Driver:
     if known is None:
         return Driver(raw, sys.modules.get(modules[0]), style)
     return _DRIVERS[known](raw, sys.modules[known], style)
-
-
-def wanted_tables(tables: Any) -> Wanted:
-    """The tables that are named, each with the columns that are named, or None for all."""
-    if isinstance(tables, (str, bytes)) or not isinstance(tables, Iterable):
-        raise Refused("tables are a list of names, or a mapping of names to lists of columns")
-    tables = tables if isinstance(tables, Mapping) else list(tables)
-    for name in tables:
-        if not isinstance(name, str):
-            raise Refused(f"a table's name is a str, and no {type(name).__name__}")
-    if not isinstance(tables, Mapping):
-        return {name: None for name in tables}
-    return {name: _wanted_columns(name, columns) for name, columns in tables.items()}
-
-
-def _wanted_columns(table: str, columns: Any) -> Union[None, Sequence[str], Mapping[str, str]]:
-    """The columns that are named of a table: some, with their kinds perhaps, or None for all."""
-    if columns is None or isinstance(columns, Mapping):
-        return columns
-    if isinstance(columns, (str, bytes)) or not isinstance(columns, Iterable):
-        raise Refused(f"the columns of table {table} are a list of names, or a mapping of names to kinds")
-    return list(columns)

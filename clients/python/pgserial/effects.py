@@ -157,7 +157,7 @@ def why_it_may_write(tokens: List[Token], reading: FrozenSet[str], are_fixed: bo
 
 def _why_one_may_write(tokens: List[Token], reading: FrozenSet[str], are_fixed: bool) -> Optional[str]:
     """The same of one statement."""
-    first = tokens[0]
+    first = next((token for token in tokens if not token.is_sign("(")), tokens[0])
     if first.kind != "word" or first.value not in _READS:
         return f"{str(first.value).upper()} may write"
     is_explained = first.value == "explain" and not any(token.is_word("analyze") for token in tokens)

@@ -58,6 +58,16 @@ FROM pg_catalog.pg_constraint k JOIN pg_catalog.pg_class c ON c.oid = k.conrelid
   JOIN pg_catalog.pg_namespace n ON n.oid = c.relnamespace JOIN pg_catalog.pg_class p ON p.oid = k.confrelid
 WHERE k.contype = 'f' AND k.conparentid = 0
   AND (k.confdeltype NOT IN ('a', 'r') OR k.confupdtype NOT IN ('a', 'r')) ORDER BY k.conname"""
+ATTRIBUTES = """SELECT a.attrelid::bigint, a.attnum::int, a.attname::text FROM pg_catalog.pg_attribute a
+WHERE a.attrelid = pg_catalog.to_regclass('{name}') AND a.attnum > 0 AND NOT a.attisdropped"""
+# Whether rows of a table may be shown; `unique` counts what else may find a row that is there.
+FACTS = """SELECT c.relkind::text, c.relhasrules::int, pg_catalog.row_security_active(c.oid)::int,
+  (SELECT count(*) FROM pg_catalog.pg_trigger t WHERE NOT t.tgisinternal AND t.tgenabled <> 'D' AND t.tgtype::int & 1 = 1 {quiet}
+    AND (t.tgrelid = c.oid OR t.tgrelid IN (SELECT relid FROM pg_catalog.pg_partition_tree(c.oid)))),
+  (SELECT pg_catalog.bool_and(pg_catalog.has_column_privilege(c.oid, a.attnum, 'SELECT'))::int
+    FROM pg_catalog.pg_attribute a WHERE a.attrelid = c.oid AND a.attnum > 0 AND NOT a.attisdropped),
+  (SELECT count(*) FROM pg_catalog.pg_index i WHERE i.indrelid = c.oid AND (i.indisunique OR i.indisexclusion) AND NOT i.indisprimary)
+FROM pg_catalog.pg_class c WHERE c.oid = pg_catalog.to_regclass('{name}')"""
 _ACTIONS = {"c": "cascade", "n": "set null", "d": "set default"}
 _VERBS = {4: "insert", 8: "delete", 16: "update"}  # by the bits of a trigger's type
 _RULED = {"2": "update", "3": "insert", "4": "delete"}

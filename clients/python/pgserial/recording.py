@@ -25,7 +25,7 @@ from typing import Any, Callable, ContextManager, Counter, Deque, Dict, FrozenSe
 from .catalog import MOST_TABLES, Hazard, Names, Table
 from .connections import Connection, Cursor, Transaction, recorded_connection
 from .dangers import NO_DANGERS
-from .drivers import Driver, driver_of, wanted_tables
+from .drivers import Driver, driver_of
 from .ending import Ending
 from .following import Follower
 from .keys import Missing, Refused
@@ -38,6 +38,7 @@ from .proxies import Proxy
 from .session import Session
 from .values import MOST_BYTES, Plain, Spelling
 from .verdict import BEGINS, CLOSED, LEFT_OUT, NOT_RECORDED, NOT_SAID, RECORDED, Verdict, main, printable, verdict
+from .wanted import wanted_tables
 
 __all__ = ["Connection", "Cursor", "Recorder", "RecordingWarning", "Refused", "Transaction", "Verdict", "verdict"]
 

@@ -5,7 +5,6 @@ from typing import Any, Callable, Iterable, List, Optional, Tuple
 
 from . import temporary
 from .cascades import Counts
-from .copying import Copied, Copying, Teed, copied_by
 from .drivers import Came, Driver
 from .effects import Control, control_of, is_beside, parts_of
 from .session import Point, Session
@@ -489,26 +488,6 @@ class Spoils(Step):
             self.after()
 
 
-class CopiedIn(Spoils):
-    """A COPY into a table, whose rows are said."""
-
-    def __init__(self, session: Session, text: str, copying: Copying, cursor: "Executed") -> None:
-        super().__init__(session, text, "COPY writes", True)
-        self._copying, self._cursor = copying, cursor
-
-    def after(self) -> None:
-        session = self.session
-        try:
-            exchanges = self._copying.exchanges(self._cursor.came(False).result.number)
-        except Unsaid as unsaid:
-            self._why = f"COPY writes: {unsaid}"
-            super().after()
-            return
-        session.wrote()
-        session.write("".join([session.asked(command) + session.answered(reply) for command, reply in exchanges]))
-        session.settle(True)
-
-
 class NoText(Spoils):
     """What is executed and can't be read as a text. Where the driver finds fault with it too, nothing is done."""
 
@@ -777,36 +756,6 @@ def _unsaid_step(session: Session, text: str, why: Optional[str], writes: Option
     if writes is None:
         return LeftOut(session, text, why)
     return Spoils(session, text, why if writes == "it writes" else f"{why}; {writes}")
-
-
-def copy_of(session: Session, text: str, teed: Optional[Teed] = None, cursor: Optional[Executed] = None) -> Step:
-    """The step of a COPY; `teed` has what it copies, where that can be read."""
-    reads = re.search(r"\bto\s+(stdout|'|program)", text, re.IGNORECASE) is not None
-    if reads:
-        return LeftOut(session, text, "COPY")
-    try:
-        translator = session.recorder.translator(session.driver)
-        return _copied_step(session, text, copied_by(translator.tokens(text, False)), teed, cursor)
-    except Unsaid as unsaid:
-        return Spoils(session, text, f"COPY writes: {unsaid}")
-
-
-def copied_step(session: Session, copied: Callable[[], Copied], teed: Teed, cursor: Executed) -> Step:
-    """The step of psycopg2's `copy_from`."""
-    try:
-        return _copied_step(session, "copy_from", copied(), teed, cursor)
-    except Unsaid as unsaid:
-        return Spoils(session, "copy_from", f"COPY writes: {unsaid}", True)
-
-
-def _copied_step(session: Session, text: str, copied: Copied, teed: Optional[Teed], cursor: Optional[Executed]) -> Step:
-    recorder = session.recorder
-    if teed is None or cursor is None:
-        raise Unsaid("its rows aren't known")
-    translator = recorder.translator(session.driver)
-    if translator.names.is_ignored(copied.table.name):
-        raise Unsaid("the table isn't recorded")
-    return CopiedIn(session, text, Copying(translator, recorder.spelling, copied, teed.text), cursor)
 
 
 def is_written(session: Session, text: str) -> bool:
