@@ -43,7 +43,8 @@ class Rows:
         """The columns of keys that could be shown beside what it shows, each with its source."""
         called = [str((source.table.alias or source.table.name).text).lower() if source.table else "" for source in read.sources]
         shown = [self._item(item) for item in read.items]
-        is_odd = any(isinstance(item, sql.Column) and several == [None] for item, several in zip(read.items, shown))
+        knows_all = not read.is_merged and None not in self._sources
+        is_odd = knows_all and any(isinstance(item, sql.Column) and several == [None] for item, several in zip(read.items, shown))
         if read.end is None or is_odd or any(several is None for several in shown):
             return ()
         known = {(origin.source, origin.place) for several in shown for origin in several or () if origin is not None}

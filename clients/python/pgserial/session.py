@@ -87,9 +87,9 @@ class Session:
         if word in _ENDS:
             return ""
         places = self.recorder.places
-        place: Optional[Place] = places.place() if self._place is _UNKNOWN else self._place
-        self._place = place if self.is_busy else _UNKNOWN
-        place = places.called(place) if word == "BEGIN" else place
+        found: Optional[Place] = places.place() if self._place is _UNKNOWN else self._place
+        self._place = found if self.is_busy else _UNKNOWN
+        place: Optional[Place] = places.called(found) if word == "BEGIN" else found
         return "" if place is None else place.comment()
 
     def answered(self, lines: List[str]) -> str:

@@ -43,7 +43,7 @@ class _Marked(Arguments):
         super().__init__(())
         self.holes: Dict[Key, Any] = {}
         for at, (key, kind) in enumerate(kinds):
-            hole = _Number(_NUMBERS[turn] + at) if kind is int else _Text(f"{_TEXTS[turn]}{at:02x}")
+            hole: Any = _Number(_NUMBERS[turn] + at) if kind is int else _Text(f"{_TEXTS[turn]}{at:02x}")
             hole.columns = []
             self.holes[key] = hole
 
@@ -89,7 +89,7 @@ class _Selected(Told):
     def exchanges(self, result: Result) -> List[Exchange]:
         saying, rows = self._model._saying, result.rows
         if saying.columns:
-            return [(self.first or "", [f"SELECT {len(rows)}", *saying.rows(saying.columns, rows)])]
+            return [(self.first or "", [f"SELECT {len(rows)}", *saying.reply_rows(saying.columns, rows)])]
         said: List[Exchange] = self._model.exchanges(result)
         return [(self.first or "", said[0][1])]
 

@@ -352,9 +352,9 @@ class _Saying:
         """A SELECT of these columns, or of how many rows there are."""
         if not shown:
             return f"SELECT count(*) FROM {self.table.name}{where}", ["SELECT 1", f"| {len(rows)}"]
-        return self.select_text(shown, where), [f"SELECT {len(rows)}", *self.rows(shown, rows)]
+        return self.select_text(shown, where), [f"SELECT {len(rows)}", *self.reply_rows(shown, rows)]
 
-    def rows(self, shown: Sequence[Tuple[int, int]], rows: Sequence[Sequence[object]]) -> List[str]:
+    def reply_rows(self, shown: Sequence[Tuple[int, int]], rows: Sequence[Sequence[object]]) -> List[str]:
         """Rows that came, as a reply has them."""
         if len(rows) < _SEVERAL:
             return ["| " + self.fields(shown, row) for row in rows]
