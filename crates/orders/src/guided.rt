@@ -32,7 +32,7 @@ use std::alloc::Allocator;
 use value::refusal::Refusal;
 
 /// How many rows are walked in a step.
-const ROWS: u64 = 64;
+const ROWS: u64 = 256;
 
 /// How many transactions are run or taken back, and how many steps are taken, at most.
 #[derive(Clone, Copy)]
@@ -105,7 +105,7 @@ fn step<A: Allocator + Copy>(
     }
 }
 
-// Goes on within bounds until all are done, or all has been tried.
+// Goes on within bounds until all are done, all has been tried, or nothing goes further.
 fn go_all<A: Allocator + Copy>(
     alloc: A,
     catalog: &Catalog<A>,
@@ -121,7 +121,8 @@ fn go_all<A: Allocator + Copy>(
     ensures memory { IfErr result (λ e. e ≡ out_of_memory) }
 {
     for _ in 0..bounds.turns {
-        if is_complete(recorded, walk.done()) || walk.work() / ROWS >= bounds.steps {
+        let is_over = guide.is_stuck() || walk.work() / ROWS >= bounds.steps;
+        if is_over || is_complete(recorded, walk.done()) {
             return Ok(());
         }
         if !step(alloc, catalog, recorded, walk, guide)? {

@@ -19,6 +19,8 @@ use value::refusal::Refusal;
 
 /// How many failed configurations are remembered at most.
 const MOST_FAILED: usize = 2_000_000;
+/// How many transactions are tried at most, one after the other, without coming further than before.
+const MOST_STILL: u64 = 20_000;
 
 /// Who is tried after a transaction: the choices from a place on, up to those of the next frame, and which of them comes
 /// next.
@@ -42,6 +44,9 @@ pub(crate) struct Guide<A: Allocator> {
     choices: Vec<usize, A>,
     // A number made of the rows.
     rows: u64,
+    // How far the search has come at most, and how many transactions it has tried since.
+    longest: usize,
+    still: u64,
     // Numbers made of who is done and of the rows, where no order goes on.
     failed: BTreeSet<(u64, u64), A>,
 }
@@ -111,6 +116,8 @@ impl<A: Allocator + Copy> Guide<A> {
             frames: Vec::new(alloc),
             choices: Vec::new(alloc),
             rows: 0,
+            longest: 0,
+            still: 0,
             failed: BTreeSet::new(alloc),
         };
         guide.push_frame(alloc, transactions, walk, None, 0)?;
@@ -152,6 +159,7 @@ impl<A: Allocator + Copy> Guide<A> {
 
     /// The transaction that is tried next; none where all have been tried that may come here.
     pub(crate) fn next_choice(&mut self) -> Option<usize> {
+        self.still = self.still.saturating_add(1);
         let frame = self.frames.last_mut()?;
         match self.choices.get(frame.next) {
             Some(place) => {
@@ -187,7 +195,16 @@ impl<A: Allocator + Copy> Guide<A> {
         self.waiting.leave(place);
         self.crowd.leave(place);
         self.push_frame(alloc, transactions, walk, Some(place), before)?;
+        if self.longest < self.frames.len() {
+            self.longest = self.frames.len();
+            self.still = 0;
+        }
         Ok(true)
+    }
+
+    /// Whether the search has tried many transactions without coming further.
+    pub(crate) fn is_stuck(&self) -> bool {
+        self.still >= MOST_STILL
     }
 
     /// Remembers that no order goes on from here: whether there is a transaction to be taken back.
