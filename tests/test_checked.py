@@ -103,13 +103,19 @@ FORMS = (("source", "later", "common"), ("sourceless", "found"), ("too-many", "t
 def changed(rows, change):
     return {key: change(key, value) for key, value in rows.items()}
 
+def is_met(part, key, value):
+    """Whether a row satisfies one part of a condition."""
+    name, how, number = part.split()
+    has = value if name == "v" else key
+    return {"=": has == int(number), "<": has < int(number), ">": has > int(number)}[how]
+
 def is_chosen(statement, key, value):
     """Whether a row satisfies the condition of a statement, if it has one."""
     condition = statement.partition(" WHERE ")[2]
-    numbers = [int(number) for number in re.findall(r"\d+", condition)]
     if "BETWEEN" in condition:
-        return numbers[0] <= key <= numbers[1]
-    return not condition or (value < numbers[0] if condition.startswith("v") else key == numbers[0])
+        least, most = [int(number) for number in re.findall(r"\d+", condition)]
+        return least <= key <= most
+    return not condition or all(is_met(part, key, value) for part in condition.split(" AND "))
 
 def answer(tables, statement):
     """The reply to a statement, line by line, and the tables after it; no reply where it would be refused."""
@@ -148,6 +154,8 @@ def near(chance):
         *[f"SELECT v FROM {table} WHERE id = {key}"] * 4, f"SELECT * FROM {table}", f"SELECT count(*) FROM {table} WHERE id BETWEEN 1 AND 3",
         *[f"UPDATE {table} SET v = {value} WHERE id = {key}"] * 4, f"UPDATE {table} SET v = v + 1",
         f"SELECT count(*) FROM {table} WHERE v < {value}", f"SELECT v FROM {table}", f"UPDATE {table} SET v = {value} WHERE v < 50",
+        *[f"SELECT count(*) FROM {table} WHERE v > {value - 10} AND v < {value + 40}"] * 2, f"UPDATE {table} SET v = {value} WHERE v > 10 AND v < 50",
+        f"DELETE FROM {table} WHERE v > {value} AND v < {value + 20}", f"SELECT v FROM {table} WHERE v > 10 AND v < {value}",
         *[f"INSERT INTO {table} VALUES ({key + 1}, {value})"] * 2, f"DELETE FROM {table} WHERE id = {key + 1}"])
 
 def drawn(chance, count):

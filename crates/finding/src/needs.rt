@@ -97,23 +97,84 @@ impl<A: Allocator + Copy> History<A> {
     ) -> Result<(), Refusal>
         ensures { IfErr result (λ e. e ≡ out_of_memory) }
     {
-        let columns = match self.visits.get(visit) {
-            Some(visit) => needed_columns(alloc, visit, must_tell)?,
-            None => Vec::new(alloc),
+        let (columns, ways) = match self.visits.get(visit) {
+            Some(visit) => (needed_columns(alloc, visit, must_tell)?, visit.ways.len()),
+            None => (Vec::new(alloc), 0),
         };
+        let is_choice = ways > 1 && columns.len() > 1;
+        if !must_tell && is_choice && !self.is_doubtful(alloc, visit, columns.as_slice())? {
+            return Ok(());
+        }
         for column in &columns {
-            self.add_need(alloc, visit, *column, must_tell)?;
+            self.add_need(alloc, visit, *column, must_tell, is_choice)?;
         }
         Ok(())
     }
 
-    // Adds what a visit needed of a column.
+    // Whether time doesn't tell all that can be known of some of the columns of a visit, or tells of no way of it that all
+    // of them are as it asks.
+    fn is_doubtful(&mut self, alloc: A, visit: usize, columns: &[u32]) -> Result<bool, Refusal>
+        ensures { IfErr result (λ e. e ≡ out_of_memory) }
+    {
+        let Some(key) = self.key_of(visit) else {
+            return Ok(false);
+        };
+        let mut windows = Vec::with_capacity(alloc, columns.len())?;
+        for column in columns {
+            let number = self.find_column(alloc, key, *column)?;
+            let window = self.window(alloc, number, self.place_of(visit), *column)?;
+            if !self.is_told(&window, visit, *column) {
+                return Ok(true);
+            }
+            windows.push((*column, window))?;
+        }
+        Ok(!self.has_way(visit, windows.as_slice()))
+    }
+
+    // Whether all columns are as one of the ways of a visit asks.
+    fn has_way(&self, reader: usize, windows: &[(u32, Window<A>)]) -> bool {
+        let Some(visit) = self.visits.get(reader) else {
+            return false;
+        };
+        for way in visit.ways.as_slice().chunks(1) {
+            if self.fits_each(windows, reader, way) {
+                return true;
+            }
+        }
+        false
+    }
+
+    // Whether each column is as one of some ways asks.
+    fn fits_each(&self, windows: &[(u32, Window<A>)], reader: usize, ways: &[Way<A>]) -> bool {
+        for (column, window) in windows {
+            if !self.fits(window, reader, *column, ways) {
+                return false;
+            }
+        }
+        true
+    }
+
+    // Whether a column is as each way of a visit asks.
+    fn fits_all(&self, window: &Window<A>, reader: usize, column: u32) -> bool {
+        let Some(visit) = self.visits.get(reader) else {
+            return false;
+        };
+        for way in visit.ways.as_slice().chunks(1) {
+            if !self.fits(window, reader, column, way) {
+                return false;
+            }
+        }
+        true
+    }
+
+    // Adds what a visit needed of a column. Where its ways differ in several columns, also what rules out some of them.
     fn add_need(
         &mut self,
         alloc: A,
         visit: usize,
         column: u32,
         must_tell: bool,
+        is_choice: bool,
     ) -> Result<(), Refusal>
         ensures { IfErr result (λ e. e ≡ out_of_memory) }
     {
@@ -122,7 +183,8 @@ impl<A: Allocator + Copy> History<A> {
         };
         let number = self.find_column(alloc, key, column)?;
         let window = self.window(alloc, number, self.place_of(visit), column)?;
-        if !must_tell && self.is_told(&window, visit, column) {
+        let is_told = !must_tell && self.is_told(&window, visit, column);
+        if is_told && (!is_choice || self.fits_all(&window, visit, column)) {
             return Ok(());
         }
         let first = self.candidates.len();
@@ -279,28 +341,31 @@ impl<A: Allocator + Copy> History<A> {
         if visit.sums(column) || (visit.ways.len() != 1 && visit.may_write()) {
             return false;
         }
+        self.fits(window, reader, column, visit.ways.as_slice())
+    }
+
+    // Whether a column is as one of some ways of a reader asks, where only one has written it before, or none.
+    fn fits(&self, window: &Window<A>, reader: usize, column: u32, ways: &[Way<A>]) -> bool {
         match window.candidates.as_slice() {
-            [] => self.opening_serves(visit, reader, column),
-            [writer] => !window.from_opening && self.serves(*writer, visit, column),
+            [] => one_allows(ways, column, self.opening(reader, column)),
+            [writer] => !window.from_opening && self.serves(*writer, reader, column, ways),
             _ => false,
         }
     }
 
-    // Whether the opening has what a reader asks of a column.
-    fn opening_serves(&self, visit: &Visit<A>, reader: usize, column: u32) -> bool {
-        one_allows(visit.ways.as_slice(), column, self.opening(reader, column))
-    }
-
-    // Whether a writer who had ended before a reader began surely left what the reader asks of a column.
-    fn serves(&self, writer: usize, reader: &Visit<A>, column: u32) -> bool {
-        if !self.times.precedes(self.place_of(writer), reader.place) {
+    // Whether a writer who had ended before a reader began surely left what some ways of the reader ask of a column.
+    fn serves(&self, writer: usize, reader: usize, column: u32, ways: &[Way<A>]) -> bool {
+        if !self
+            .times
+            .precedes(self.place_of(writer), self.place_of(reader))
+        {
             return false;
         }
         let (Some(visit), Some(spot)) = (self.visits.get(writer), self.spot_of(writer)) else {
             return false;
         };
         match visit.ways.as_slice() {
-            [way] => leaves_asked(way, spot.key.value(), column, reader.ways.as_slice()),
+            [way] => leaves_asked(way, spot.key.value(), column, ways),
             _ => false,
         }
     }

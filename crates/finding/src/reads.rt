@@ -25,12 +25,17 @@ pub(crate) struct Asked<'a, A: Allocator> {
     pub(crate) condition: Option<&'a Condition<A>>,
 }
 
-/// Whether a statement chose a row, as time tells, and whether by all ways that time leaves.
+/// Whether a statement chose a row, as time tells, and of how many conditions on columns beside the key time was asked.
 #[derive(Clone, Copy)]
 pub(crate) struct Choice {
     pub(crate) is_chosen: bool,
-    pub(crate) is_sure: bool,
+    pub(crate) parts: usize,
 }
+
+/// Ways tell which of so many conditions a row failed, where no more statements than so many looked at it.
+const MOST_PARTS: usize = 4;
+
+const MOST_LOOKS: usize = 2;
 
 /// Of how many conditions on columns beside the key time was asked, whether it tells of each, and whether one fails.
 #[derive(Clone, Copy)]
@@ -38,6 +43,11 @@ struct Met {
     asked: usize,
     is_told: bool,
     fails: bool,
+}
+
+// Whether by all ways that time leaves a row was chosen, where all of its conditions hold.
+fn is_sure(parts: usize, looks: usize) -> bool {
+    parts <= 1 || (parts <= MOST_PARTS && looks <= MOST_LOOKS)
 }
 
 // Whether a state is what is asked.
@@ -201,12 +211,24 @@ impl<A: Allocator + Copy> History<A> {
         if self.sums_of(at.0).is_empty() || !self.are_told_by_time(alloc, statements, at)? {
             return Ok(false);
         }
+        let looks = self.looks(statements, at.1);
         for (number, one) in statements.chunks(1).enumerate() {
             if self.looks_at(one, at.1) {
-                self.count(alloc, one, at, number)?;
+                self.count(alloc, one, at, (number, looks))?;
             }
         }
         Ok(true)
+    }
+
+    // How many statements look at a key.
+    fn looks(&self, statements: &[Answered<A>], key: usize) -> usize {
+        let mut count: usize = 0;
+        for one in statements.chunks(1) {
+            if self.looks_at(one, key) {
+                count = count.saturating_add(1);
+            }
+        }
+        count
     }
 
     // Whether all of them only count, and time tells whether they chose the row.
@@ -261,16 +283,17 @@ impl<A: Allocator + Copy> History<A> {
         }
     }
 
-    // Counts what time tells of a statement.
+    // Counts what time tells of a statement, one of so many that look at the key.
     fn count(
         &mut self,
         alloc: A,
         one: &[Answered<A>],
         at: (usize, usize),
-        number: usize,
+        among: (usize, usize),
     ) -> Result<(), Refusal>
         ensures { IfErr result (λ e. e ≡ out_of_memory) }
     {
+        let (number, looks) = among;
         let (Some(sum), Some(choice)) = (self.sum_at(at.0, number), self.choice(alloc, one, at)?)
         else {
             return Ok(());
@@ -280,15 +303,14 @@ impl<A: Allocator + Copy> History<A> {
         }
         if let Some(sum) = self.sums.get_mut(sum) {
             sum.most = sum.most.saturating_add(1);
-            if choice.is_sure {
+            if is_sure(choice.parts, looks) {
                 sum.least = sum.least.saturating_add(1);
             }
         }
         Ok(())
     }
 
-    /// Whether a statement, the only one of a list, chose the row of a key, where time tells. Where more than one condition
-    /// is asked of a row, no way tells that they fail.
+    /// Whether a statement, the only one of a list, chose the row of a key, where time tells.
     pub(crate) fn choice(
         &mut self,
         alloc: A,
@@ -307,12 +329,12 @@ impl<A: Allocator + Copy> History<A> {
         Ok(if met.fails {
             Some(Choice {
                 is_chosen: false,
-                is_sure: true,
+                parts: met.asked,
             })
         } else if met.is_told {
             Some(Choice {
                 is_chosen: true,
-                is_sure: met.asked == 1,
+                parts: met.asked,
             })
         } else {
             None
@@ -356,7 +378,7 @@ impl<A: Allocator + Copy> History<A> {
         match self.is_asked(alloc, at, 0, &asked)? {
             Some(is_chosen) => Ok(Some(Choice {
                 is_chosen,
-                is_sure: true,
+                parts: 0,
             })),
             None => Ok(None),
         }

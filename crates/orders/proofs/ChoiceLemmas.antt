@@ -1,5 +1,6 @@
 -- The ways in which a row satisfies conditions, and in which it doesn't.
-use Rattle.std.proofs.Common.{◌≡◌, refl, sym, ap, ◌∙◌, ℕ, zero, suc, Bool, true, false, true≢false, cond, not, ◌&&◌, ◌||◌, List, [], ◌∷◌, ◌++◌, map, Option, Some, None}
+use Rattle.std.proofs.Common.{arith, ◌≡◌, refl, sym, ap, subst, ◌∙◌, ℕ, zero, suc, ◌≤◌, Bool, true, false, true≢false, cond, not, ◌&&◌, ◌||◌, inl, inr, List, [], ◌∷◌, ◌++◌, length, map, Option, Some, None}
+use Rattle.std.specs.Prelude.{nat_le}
 use Rattle.std.proofs.lemmas.Bool.{and_parts, and_from}
 use Rattle.std.specs.List.{filter, list_all, list_any}
 use Rattle.value.specs.declared.value.Value.{Value}
@@ -13,9 +14,9 @@ use Rattle.orders.specs.declared.ways.way.Field.TheVariants as becomes
 use Rattle.orders.specs.declared.ways.way.After.{After}
 use Rattle.orders.specs.declared.ways.way.After.TheVariants as comes
 use Rattle.orders.specs.declared.ways.way.Way.{Way}
-use Rattle.orders.specs.Ways.{column_of, value_meets, is_met, starts, row_before, FieldIs, Ends, Holds}
+use Rattle.orders.specs.Ways.{column_of, value_meets, is_met, starts, row_before, FieldIs, Ends, Holds, IsOneOf}
 pub use Rattle.orders.specs.Counts.{is_chosen}
-use Rattle.orders.specs.Symbolic.{known, field_of, field_now, field_passes, field_fails, is_kept, passes, fails, is_asked, holds_before, fails_before, asking, is_gone, is_row, chosen_way, denied, left_way}
+use Rattle.orders.specs.Symbolic.{known, field_of, field_now, field_passes, field_fails, is_kept, passes, fails, is_asked, holds_before, fails_before, asking, is_gone, is_row, chosen_way, most_parts, is_denied, failing, are_apart, denied, left_ways}
 use Rattle.orders.proofs.WayLemmas.{holds_by}
 use Rattle.orders.proofs.FieldLemmas.{now_is, field_now-suc}
 
@@ -35,6 +36,10 @@ module _ {A : Type 0} where
   -- Some way, of which this holds.
   abbrev pub There : Option (Way A) → (Way A → Type 0) → Type 0
   There o P = (w : Way A) × (o ≡ Some w) × P w
+
+  -- One of some ways, of which this holds.
+  abbrev pub Stands : List (Way A) → (Way A → Type 0) → Type 0
+  Stands ws P = (w : Way A) × IsOneOf w ws × P w
 
   -- as counted, surely and maybe
   abbrev pub Same : Way A → Way A → Type 0
@@ -140,39 +145,25 @@ module _ {A : Type 0} where
       go (comes.Row fs) (Some gs) g end n true e = absurd (true≢false (sym (all_pass k w before gs cs g e) ∙ n))
       go (comes.Row fs) (Some gs) g end n false e = refl
 
-  none_doubted : (k : Value A) (w : Way A) (before : Option (List (Value A))) (gs : List (Value A)) (cs : List (Condition A)) → Holds k w before (Some gs) → filter (λ c. not (passes k w c)) cs ≡ [] → satisfies cs (k, gs) ≡ true
-  none_doubted k w before gs [] h e = refl
-  none_doubted k w before gs (c ∷ cs) h e = go (passes k w c) refl e (none_doubted k w before gs cs h)
+  -- one of the conditions that may fail does
+  doubted_fails : (k : Value A) (w : Way A) (before : Option (List (Value A))) (gs : List (Value A)) (cs : List (Condition A)) → Holds k w before (Some gs) → satisfies cs (k, gs) ≡ false → satisfies (filter (λ c. not (passes k w c)) cs) (k, gs) ≡ false
+  doubted_fails k w before gs [] h s = s
+  doubted_fails k w before gs (c ∷ cs) h s = go (passes k w c) refl (doubted_fails k w before gs cs h)
     where
       doubted : List (Condition A)
       doubted = filter (λ d. not (passes k w d)) cs
-
-      go : (b : Bool) → passes k w c ≡ b → cond (not b) (c ∷ doubted) doubted ≡ [] → (doubted ≡ [] → satisfies cs (k, gs) ≡ true) → satisfies (c ∷ cs) (k, gs) ≡ true
-      go true q f rest = and_from _ _ (passes_is k w before gs c h q) (rest f)
-      go false q f rest = cc
-
-  one_doubted : (k : Value A) (w : Way A) (before : Option (List (Value A))) (gs : List (Value A)) (cs : List (Condition A)) (x : Condition A) → Holds k w before (Some gs) → filter (λ c. not (passes k w c)) cs ≡ x ∷ [] → satisfies cs (k, gs) ≡ false
-      → holds (k, gs) x ≡ false
-  one_doubted k w before gs [] x h e s = cc
-  one_doubted k w before gs (c ∷ cs) x h e s = go (passes k w c) refl e (one_doubted k w before gs cs x h)
-    where
-      doubted : List (Condition A)
-      doubted = filter (λ d. not (passes k w d)) cs
-
-      first_only : (a b : Bool) → b ≡ true → (a && b) ≡ false → a ≡ false
-      first_only true b p q = absurd (true≢false (sym p ∙ q))
-      first_only false b p q = refl
 
       second_only : (a b : Bool) → a ≡ true → (a && b) ≡ false → b ≡ false
       second_only true b p q = q
       second_only false b p q = absurd (true≢false (sym p))
 
-      go : (b : Bool) → passes k w c ≡ b → cond (not b) (c ∷ doubted) doubted ≡ x ∷ [] → (doubted ≡ x ∷ [] → satisfies cs (k, gs) ≡ false → holds (k, gs) x ≡ false) → holds (k, gs) x ≡ false
-      go true q f rest = rest f (second_only (holds (k, gs) c) (list_all (holds (k, gs)) cs) (passes_is k w before gs c h q) s)
-      go false q f rest =
-          let p : c ≡ x = cc in
-          let none : doubted ≡ [] = cc in
-          ap (holds (k, gs)) (sym p) ∙ first_only (holds (k, gs) c) (list_all (holds (k, gs)) cs) (none_doubted k w before gs cs h none) s
+      both : (a : Bool) → holds (k, gs) c ≡ a → (a && list_all (holds (k, gs)) cs) ≡ false → (list_all (holds (k, gs)) cs ≡ false → list_all (holds (k, gs)) doubted ≡ false) → (a && list_all (holds (k, gs)) doubted) ≡ false
+      both true e q rest = rest q
+      both false e q rest = refl
+
+      go : (b : Bool) → passes k w c ≡ b → (satisfies cs (k, gs) ≡ false → satisfies doubted (k, gs) ≡ false) → satisfies (cond (not b) (c ∷ doubted) doubted) (k, gs) ≡ false
+      go true q rest = rest (second_only (holds (k, gs) c) (list_all (holds (k, gs)) cs) (passes_is k w before gs c h q) s)
+      go false q rest = both (holds (k, gs) c) refl s rest
 
   -- where there is no row, nothing of it is as it was
   nothing_asked : (k : Value A) (w : Way A) (before : Option (List (Value A))) (c : Condition A) → Holds k w before None → is_asked k w c ≡ true → ⊥
@@ -187,26 +178,64 @@ module _ {A : Type 0} where
       go zero q = true≢false (sym q)
       go (suc n) q = nothing_kept n w.after h.end (sym (ap is_kept (field_now-suc k w n)) ∙ q)
 
-  denied_met : (k : Value A) (w : Way A) (before now : Option (List (Value A))) (cs : List (Condition A)) → Holds k w before now → is_chosen k cs now ≡ false → list_all (is_met (row_before k before)) (denied k w (filter (λ c. not (passes k w c)) cs)) ≡ true
-  denied_met k w before now cs h s = go (filter (λ c. not (passes k w c)) cs) refl
+  -- a way in which a condition fails that does
+  failing_holds : (k : Value A) (w : Way A) (before now : Option (List (Value A))) (x : Condition A) → Holds k w before now → ((gs : List (Value A)) → now ≡ Some gs → holds (k, gs) x ≡ false) → Still k w before now (failing k w x)
+  failing_holds k w before now x h n = one (is_asked k w x) refl
     where
-      asked_so : (x : Condition A) → filter (λ c. not (passes k w c)) cs ≡ x ∷ [] → is_asked k w x ≡ true → (o : Option (List (Value A))) → Holds k w before o → is_chosen k cs o ≡ false → not (holds (row_before k before) x) ≡ true
-      asked_so x e a None g n = absurd (nothing_asked k w before x g a)
-      asked_so x e a (Some gs) g n = ap not (sym (asked_is k w before gs x g a) ∙ one_doubted k w before gs cs x g e n)
+      fails_so : is_asked k w x ≡ true → (o : Option (List (Value A))) → now ≡ o → Holds k w before o → not (holds (row_before k before) x) ≡ true
+      fails_so a None e g = absurd (nothing_asked k w before x g a)
+      fails_so a (Some gs) e g = ap not (sym (asked_is k w before gs x g a) ∙ n gs e)
 
-      go : (ds : List (Condition A)) → filter (λ c. not (passes k w c)) cs ≡ ds → list_all (is_met (row_before k before)) (denied k w ds) ≡ true
-      go [] e = refl
-      go (x ∷ []) e = one (is_asked k w x) refl
-        where
-          one : (b : Bool) → is_asked k w x ≡ b → list_all (is_met (row_before k before)) (cond b (fails_before x ∷ []) []) ≡ true
-          one true a = and_from _ _ (asked_so x e a now h s) refl
-          one false a = refl
-      go (x ∷ y ∷ ds) e = refl
+      one : (b : Bool) → is_asked k w x ≡ b → Still k w before now (cond b (asking w (fails_before x ∷ [])) w)
+      one true a = (asking_holds k w before now (fails_before x ∷ []) h (and_from _ _ (fails_so a now refl h) refl), (refl, refl))
+      one false a = (h, (refl, refl))
 
-  pub left_is : (k : Value A) (w : Way A) (before now : Option (List (Value A))) (cs : List (Condition A)) → Holds k w before now → is_chosen k cs now ≡ false → There (left_way k cs w) (Still k w before now)
-  left_is k w before now cs h s =
-      let more : List (Atom A) = denied k w (filter (λ c. not (passes k w c)) cs) in (
-        asking w more,
-        ap (λ b. cond b None (Some (asking w more))) (open_left k w before now cs h s),
-        (asking_holds k w before now more h (denied_met k w before now cs h s), (refl, refl)),
-      )
+  -- where one of several conditions fails, one of the ways holds in which each fails
+  parted_holds : (k : Value A) (w : Way A) (before : Option (List (Value A))) (gs : List (Value A)) (ds : List (Condition A)) → Holds k w before (Some gs) → satisfies ds (k, gs) ≡ false → Stands (map (failing k w) ds) (Still k w before (Some gs))
+  parted_holds k w before gs [] h s = absurd (true≢false s)
+  parted_holds k w before gs (x ∷ ds) h s = go (holds (k, gs) x) refl s (parted_holds k w before gs ds h)
+    where
+      same_row : (a b : List (Value A)) → Some a ≡ Some b → a ≡ b
+      same_row a b e = cc
+
+      go : (b : Bool) → holds (k, gs) x ≡ b → (b && list_all (holds (k, gs)) ds) ≡ false → (satisfies ds (k, gs) ≡ false → Stands (map (failing k w) ds) (Still k w before (Some gs))) → Stands (map (failing k w) (x ∷ ds)) (Still k w before (Some gs))
+      go true e q rest = let r = rest q in (r.0, inr r.1, r.2)
+      go false e q rest = (failing k w x, inl refl, failing_holds k w before (Some gs) x h (λ fs d. ap (λ (r : List (Value A)). holds (k, r) x) (sym (same_row gs fs d)) ∙ e))
+
+  pub denied_several : (few : Bool) (k : Value A) (w : Way A) (ds : List (Condition A)) → 2 ≤ length ds → denied few k w ds ≡ cond (are_apart few k w ds) (map (failing k w) ds) (w ∷ [])
+  denied_several few k w [] l = absurd (omega arith)
+  denied_several few k w (x ∷ []) l = absurd (omega arith)
+  denied_several few k w (x ∷ y ∷ ds) l = refl
+
+  denied_is : (few : Bool) (k : Value A) (w : Way A) (before now : Option (List (Value A))) (ds : List (Condition A)) → Holds k w before now → ((gs : List (Value A)) → now ≡ Some gs → satisfies ds (k, gs) ≡ false) → Stands (denied few k w ds) (Still k w before now)
+  denied_is few k w before now [] h n = (w, inl refl, (h, (refl, refl)))
+  denied_is few k w before now (x ∷ []) h n = (failing k w x, inl refl, failing_holds k w before now x h (λ gs e. first_only (holds (k, gs) x) (n gs e)))
+    where
+      first_only : (b : Bool) → (b && true) ≡ false → b ≡ false
+      first_only true q = q
+      first_only false q = refl
+  denied_is few k w before now (x ∷ y ∷ ds) h n = go (are_apart few k w all) refl
+    where
+      all : List (Condition A)
+      all = x ∷ y ∷ ds
+
+      asked : are_apart few k w all ≡ true → is_asked k w x ≡ true
+      asked e =
+          let several : Bool = list_all (is_asked k w) all in
+          let p = (and_parts few (nat_le (length all) most_parts && (several && not (list_any (is_denied w) all))) e).1 in
+          let q = (and_parts (nat_le (length all) most_parts) (several && not (list_any (is_denied w) all)) p).1 in
+          (and_parts (is_asked k w x) (list_all (is_asked k w) (y ∷ ds)) (and_parts several (not (list_any (is_denied w) all)) q).0).0
+
+      by_row : is_asked k w x ≡ true → (o : Option (List (Value A))) → now ≡ o → Holds k w before o → Stands (map (failing k w) all) (Still k w before o)
+      by_row a None e g = absurd (nothing_asked k w before x g a)
+      by_row a (Some gs) e g = parted_holds k w before gs all g (n gs e)
+
+      go : (b : Bool) → are_apart few k w all ≡ b → Stands (cond b (map (failing k w) all) (w ∷ [])) (Still k w before now)
+      go true e = by_row (asked e) now refl h
+      go false e = (w, inl refl, (h, (refl, refl)))
+
+  pub left_is : (few : Bool) (k : Value A) (w : Way A) (before now : Option (List (Value A))) (cs : List (Condition A)) → Holds k w before now → is_chosen k cs now ≡ false → Stands (left_ways few k cs w) (Still k w before now)
+  left_is few k w before now cs h s =
+      let ds : List (Condition A) = filter (λ c. not (passes k w c)) cs in
+      let r = denied_is few k w before now ds h (λ gs e. doubted_fails k w before gs cs (subst (Holds k w before) e h) (subst (λ o. is_chosen k cs o ≡ false) e s)) in
+      (r.0, subst (λ b. IsOneOf r.0 (cond b [] (denied few k w ds))) (sym (open_left k w before now cs h s)) r.1, r.2)

@@ -22,7 +22,7 @@ use Rattle.orders.specs.declared.ways.way.Field.TheVariants as becomes
 use Rattle.orders.specs.declared.ways.way.Way.{Way}
 use Rattle.orders.specs.Counts.{chooses, names_key, OneCounts}
 use Rattle.orders.specs.Ways.{FieldsAre, Holds, IsOneOf, OneHolds}
-use Rattle.orders.specs.Symbolic.{most_ways, looks_at, step, coarse, steps, steps_from, absent_way, present_way, first_ways, ways_of, is_looked_at}
+use Rattle.orders.specs.Symbolic.{most_ways, most_apart, looks_at, step, coarse, steps, steps_from, absent_way, present_way, first_ways, ways_of, is_looked_at}
 use Rattle.orders.proofs.CountLemmas.{Extends, extends_none, extends_more, counts_right}
 use Rattle.orders.proofs.LeftLemmas.{unlooked, unlooked_unchosen}
 use Rattle.orders.proofs.StepLemmas.{Next, stands_front, stands_back, step_holds, coarse_holds}
@@ -90,9 +90,12 @@ module _ {A : Type 0} where
       → IsOneOf w ws → Holds k w before (row_at X t k) → Next k j (chooses t k q X) (names_key k q) w (steps t k j q r ws) before (row_at (after c q X) t k)
   steps_hold c t k j q r ws w X before s f g i h = go (looks_at t k q) refl (nat_le (length ws) most_ways)
     where
-      go : (b : Bool) → looks_at t k q ≡ b → (few : Bool) → Next k j (chooses t k q X) (names_key k q) w (cond b (cond few (flat_map (step k j q r) ws) (map (coarse j q) ws)) ws) before (row_at (after c q X) t k)
-      go false e few = (w, i, subst (Holds k w before) (sym (unlooked c q X t k e)) h, inl ((refl, refl), λ m. absurd (true≢false (sym m ∙ unlooked_unchosen t k q X e))))
-      go true e true = let u = step_holds c t k j q r w X before s f e g h in (u.0, of_one (step k j q r) ws w u.0 i u.1, u.2, u.3)
+      few : Bool
+      few = nat_le (length ws) most_apart
+
+      go : (b : Bool) → looks_at t k q ≡ b → (less : Bool) → Next k j (chooses t k q X) (names_key k q) w (cond b (cond less (flat_map (step few k j q r) ws) (map (coarse j q) ws)) ws) before (row_at (after c q X) t k)
+      go false e less = (w, i, subst (Holds k w before) (sym (unlooked c q X t k e)) h, inl ((refl, refl), λ m. absurd (true≢false (sym m ∙ unlooked_unchosen t k q X e))))
+      go true e true = let u = step_holds few c t k j q r w X before s f e g h in (u.0, of_one (step few k j q r) ws w u.0 i u.1, u.2, u.3)
       go true e false = let u = coarse_holds c t k j q w X before h in (coarse j q w, each_one (coarse j q) ws w i, u.0, u.1)
 
   steps_from_hold : (c : Catalog) (t : ℕ) (k : Value A) (j : ℕ) (qs : List (Statement A × Reply A)) (ws : List (Way A)) (w : Way A) (X Y : Tables A) (before : Option (List (Value A))) → is_sound c X ≡ true → are_fit c qs ≡ true → alone c qs X ≡ Some Y
@@ -128,7 +131,7 @@ module _ {A : Type 0} where
   unlooked_from t k j [] ws e = refl
   unlooked_from t k j (q ∷ qs) ws e =
       let p = none_first (looks_at t k q.0) (is_looked_at t k qs) e in
-      ap (steps_from t k (suc j) qs) (ap (λ b. cond b (cond (nat_le (length ws) most_ways) (flat_map (step k j q.0 q.1) ws) (map (coarse j q.0) ws)) ws) p.0) ∙ unlooked_from t k (suc j) qs ws p.1
+      ap (steps_from t k (suc j) qs) (ap (λ b. cond b (cond (nat_le (length ws) most_ways) (flat_map (step (nat_le (length ws) most_apart) k j q.0 q.1) ws) (map (coarse j q.0) ws)) ws) p.0) ∙ unlooked_from t k (suc j) qs ws p.1
 
   pub unlooked_ways : (c : Catalog) (t : ℕ) (k : Value A) (qs : List (Statement A × Reply A)) → is_looked_at t k qs ≡ false → ways_of c t k qs ≡ first_ways (length (columns_of c t) - 1)
   unlooked_ways c t k qs e = unlooked_from t k 0 qs (first_ways (length (columns_of c t) - 1)) e

@@ -39,8 +39,8 @@ use Rattle.orders.specs.declared.ways.way.After.TheVariants as comes
 use Rattle.orders.specs.declared.ways.way.Way.{Way}
 use Rattle.orders.specs.Counts.{chooses, names_key, shows_key}
 use Rattle.orders.specs.Ways.{starts, row_before, FieldIs, FieldsAre, Ends, Holds, IsOneOf}
-use Rattle.orders.specs.Symbolic.{pins, is_of_key, seen, first_seen, some_seen, some_counted, shows_zero, way_chosen, way_left, field_now, is_row, chosen_way, tell, counting, given_field, set_given, assigned_fields, assigned_row, assigning, deleting, changed, inserting, may_choose, looks_at, by_sight, step, coarse, sight_of_rows, sight_of_count}
-use Rattle.orders.proofs.ChoiceLemmas.{There, Same, Still, is_chosen, chosen_is, left_is}
+use Rattle.orders.specs.Symbolic.{pins, is_of_key, seen, first_seen, some_seen, some_counted, shows_zero, way_chosen, ways_left, field_now, is_row, chosen_way, tell, counting, given_field, set_given, assigned_fields, assigned_row, assigning, deleting, changed, inserting, may_choose, looks_at, by_sight, step, coarse, sight_of_rows, sight_of_count}
+use Rattle.orders.proofs.ChoiceLemmas.{There, Stands, Same, Still, is_chosen, chosen_is, left_is}
 use Rattle.orders.proofs.FieldLemmas.{now_is, raised_is, suc_less}
 use Rattle.orders.proofs.LeftLemmas.{row_left, changes_of, changed_chosen, unchosen_kept}
 use Rattle.orders.proofs.SightLemmas.{FitsSight, count_fits, answer_fits}
@@ -102,10 +102,10 @@ module _ {A : Type 0} where
   changed_same k (Update t more cs) w = (refl, refl)
   changed_same k (Delete t cs) w = (refl, refl)
 
-  pub by_sight-holds : (k : Value A) (j : ℕ) (q : Statement A) (named : Bool) (p : Projection A) (cs : List (Condition A)) (s : Sight A) (w : Way A) (before now new : Option (List (Value A))) → Holds k w before now → FitsSight k p cs now s
+  pub by_sight-holds : (few : Bool) (k : Value A) (j : ℕ) (q : Statement A) (named : Bool) (p : Projection A) (cs : List (Condition A)) (s : Sight A) (w : Way A) (before now new : Option (List (Value A))) → Holds k w before now → FitsSight k p cs now s
       → SeenByName named s → ((gs : List (Value A)) → now ≡ Some gs → satisfies cs (k, gs) ≡ true → (u : Way A) → Holds k u before (Some gs) → Holds k (changed k q u) before new) → (is_chosen k cs now ≡ false → new ≡ now)
-      → Next k j (is_chosen k cs now) named w (by_sight k j (changed k q) p cs s w) before new
-  by_sight-holds k j q named p cs s w before now new h fit name changes kept = go s fit name
+      → Next k j (is_chosen k cs now) named w (by_sight few k j (changed k q) p cs s w) before new
+  by_sight-holds few k j q named p cs s w before now new h fit name changes kept = go s fit name
     where
       f : Way A → Way A
       f = changed k q
@@ -114,10 +114,10 @@ module _ {A : Type 0} where
       chose gs e sat = chosen_is k w before gs cs (subst (Holds k w before) e h) sat
 
       in_front : (s : Sight A) (gs : List (Value A)) → now ≡ Some gs → satisfies cs (k, gs) ≡ true → There (way_chosen k j p cs s w) (λ u. Holds k u before (Some gs) × Adds j (is_chosen k cs now) named w u)
-          → Next k j (is_chosen k cs now) named w (by_sight k j f p cs s w) before new
+          → Next k j (is_chosen k cs now) named w (by_sight few k j f p cs s w) before new
       in_front s gs e sat (u, at, (g, adds)) = (
         f u,
-        stands_front (f u) (option_to_list (option_map f (way_chosen k j p cs s w))) (option_to_list (way_left k cs s w)) (stands_option (f u) (option_map f (way_chosen k j p cs s w)) (ap (option_map f) at)),
+        stands_front (f u) (option_to_list (option_map f (way_chosen k j p cs s w))) (ways_left few k cs s w) (stands_option (f u) (option_map f (way_chosen k j p cs s w)) (ap (option_map f) at)),
         changes gs e sat u g,
         subst (λ ns. Adds_by ns (f u).may_count) (sym (changed_same k q u).0) (subst (λ ms. Adds_by u.counted ms) (sym (changed_same k q u).1) adds),
       )
@@ -128,27 +128,27 @@ module _ {A : Type 0} where
               ⊎ (((ns ≡ w.counted ++ j ∷ []) × (ms ≡ w.may_count) × (is_chosen k cs now ≡ true))
               ⊎ ((ns ≡ w.counted) × (ms ≡ w.may_count ++ j ∷ [])))
 
-      behind : (s : Sight A) → is_chosen k cs now ≡ false → There (way_left k cs s w) (Still k w before now) → Next k j (is_chosen k cs now) named w (by_sight k j f p cs s w) before new
+      behind : (s : Sight A) → is_chosen k cs now ≡ false → Stands (ways_left few k cs s w) (Still k w before now) → Next k j (is_chosen k cs now) named w (by_sight few k j f p cs s w) before new
       behind s n (u, at, (g, same)) = (
         u,
-        stands_back u (option_to_list (option_map f (way_chosen k j p cs s w))) (option_to_list (way_left k cs s w)) (stands_option u (way_left k cs s w) at),
+        stands_back u (option_to_list (option_map f (way_chosen k j p cs s w))) (ways_left few k cs s w) at,
         subst (Holds k u before) (sym (kept n)) g,
         inl (same, λ m. absurd (true≢false (sym m ∙ n))),
       )
 
-      either : (b : Bool) → is_chosen k cs now ≡ b → Next k j (is_chosen k cs now) named w (by_sight k j f p cs Either w) before new
-      either false n = behind Either n (left_is k w before now cs h n)
+      either : (b : Bool) → is_chosen k cs now ≡ b → Next k j (is_chosen k cs now) named w (by_sight few k j f p cs Either w) before new
+      either false n = behind Either n (left_is few k w before now cs h n)
       either true n = by_row now refl n
         where
-          by_row : (o : Option (List (Value A))) → now ≡ o → is_chosen k cs o ≡ true → Next k j (is_chosen k cs now) named w (by_sight k j f p cs Either w) before new
+          by_row : (o : Option (List (Value A))) → now ≡ o → is_chosen k cs o ≡ true → Next k j (is_chosen k cs now) named w (by_sight few k j f p cs Either w) before new
           by_row None e m = absurd (true≢false (sym m))
           by_row (Some gs) e m =
               let r = chose gs e m in
               let added : (counting j r.0).counted ≡ w.counted ++ j ∷ [] = ap (λ ns. ns ++ j ∷ []) r.2.1.0 in
               in_front Either gs e m (counting j r.0, ap (option_map (counting j)) r.1, (counted k j r.0 before (Some gs) r.2.0, inr (inl (added, r.2.1.1, n))))
 
-      go : (s : Sight A) → FitsSight k p cs now s → SeenByName named s → Next k j (is_chosen k cs now) named w (by_sight k j f p cs s w) before new
-      go Unseen n name = behind Unseen n (left_is k w before now cs h n)
+      go : (s : Sight A) → FitsSight k p cs now s → SeenByName named s → Next k j (is_chosen k cs now) named w (by_sight few k j f p cs s w) before new
+      go Unseen n name = behind Unseen n (left_is few k w before now cs h n)
       go (Seen vs) (gs, e, sat, told) name =
           let r = chose gs e sat in
           let t = tell_is k r.0 before gs p vs r.2.0 told in
@@ -312,19 +312,19 @@ module _ {A : Type 0} where
           by_some [] = tt
           by_some (w ∷ ws) = tt
 
-  select_holds : (c : Catalog) (t : ℕ) (k : Value A) (j : ℕ) (p : Projection A) (cs : List (Condition A)) (r : Reply A) (w : Way A) (X : Tables A) (before : Option (List (Value A))) → is_sound c X ≡ true → agrees (outcome c (Select t p cs) X).reply r ≡ true
-      → Holds k w before (row_at X t k) → Next k j (is_chosen k cs (row_at X t k)) (names_key k (Select t p cs)) w (step k j (Select t p cs) r w) before (row_at X t k)
-  select_holds c t k j p cs (Rows ws) w X before s g h =
-      by_sight-holds k j (Select t p cs) (names_key k (Select t p cs)) p cs (sight_of_rows k p cs ws) w before (row_at X t k) (row_at X t k) h (answer_fits c X t k cs p ws s g)
+  select_holds : (few : Bool) (c : Catalog) (t : ℕ) (k : Value A) (j : ℕ) (p : Projection A) (cs : List (Condition A)) (r : Reply A) (w : Way A) (X : Tables A) (before : Option (List (Value A))) → is_sound c X ≡ true → agrees (outcome c (Select t p cs) X).reply r ≡ true
+      → Holds k w before (row_at X t k) → Next k j (is_chosen k cs (row_at X t k)) (names_key k (Select t p cs)) w (step few k j (Select t p cs) r w) before (row_at X t k)
+  select_holds few c t k j p cs (Rows ws) w X before s g h =
+      by_sight-holds few k j (Select t p cs) (names_key k (Select t p cs)) p cs (sight_of_rows k p cs ws) w before (row_at X t k) (row_at X t k) h (answer_fits c X t k cs p ws s g)
       (rows_named k p cs ws) (λ gs e sat u x. subst (Holds k u before) (sym e) x) (λ n. refl)
-  select_holds c t k j p cs _ w X before s g h = absurd (true≢false (sym g))
+  select_holds few c t k j p cs _ w X before s g h = absurd (true≢false (sym g))
 
-  update_holds : (c : Catalog) (t : ℕ) (k : Value A) (j : ℕ) (more : List (Assignment A)) (cs : List (Condition A)) (r : Reply A) (w : Way A) (X : Tables A) (before : Option (List (Value A))) → is_sound c X ≡ true → t < length X
+  update_holds : (few : Bool) (c : Catalog) (t : ℕ) (k : Value A) (j : ℕ) (more : List (Assignment A)) (cs : List (Condition A)) (r : Reply A) (w : Way A) (X : Tables A) (before : Option (List (Value A))) → is_sound c X ≡ true → t < length X
       → agrees (updated c t more (chosen X t cs) X).reply r ≡ true → Holds k w before (row_at X t k)
-      → Next k j (is_chosen k cs (row_at X t k)) (pins k cs) w (step k j (Update t more cs) r w) before (row_at (put_all (updated c t more (chosen X t cs) X).changes X) t k)
-  update_holds c t k j more cs r w X before s l g h =
+      → Next k j (is_chosen k cs (row_at X t k)) (pins k cs) w (step few k j (Update t more cs) r w) before (row_at (put_all (updated c t more (chosen X t cs) X).changes X) t k)
+  update_holds few c t k j more cs r w X before s l g h =
       let e = update_done c X t more (chosen X t cs) r g in
-      subst (λ (o : Outcome A). Next k j (is_chosen k cs (row_at X t k)) (pins k cs) w (step k j (Update t more cs) r w) before (row_at (put_all o.changes X) t k)) (sym e) (go r (reply_of _ _ r e g))
+      subst (λ (o : Outcome A). Next k j (is_chosen k cs (row_at X t k)) (pins k cs) w (step few k j (Update t more cs) r w) before (row_at (put_all o.changes X) t k)) (sym e) (go r (reply_of _ _ r e g))
     where
       new : Row A → Option (List (Value A))
       new row = Some (assigned row more row.1)
@@ -332,19 +332,19 @@ module _ {A : Type 0} where
       done : Option (List (Value A))
       done = row_at (put_all (changes_of t new (chosen X t cs)) X) t k
 
-      go : (r : Reply A) → agrees (Updated (length (chosen X t cs))) r ≡ true → Next k j (is_chosen k cs (row_at X t k)) (pins k cs) w (step k j (Update t more cs) r w) before done
+      go : (r : Reply A) → agrees (Updated (length (chosen X t cs))) r ≡ true → Next k j (is_chosen k cs (row_at X t k)) (pins k cs) w (step few k j (Update t more cs) r w) before done
       go (Updated n) f =
-          by_sight-holds k j (Update t more cs) (pins k cs) shown.Count cs (sight_of_count k cs n) w before (row_at X t k) done h (count_fits c X t k cs n s f)
+          by_sight-holds few k j (Update t more cs) (pins k cs) shown.Count cs (sight_of_count k cs n) w before (row_at X t k) done h (count_fits c X t k cs n s f)
           (count_named k cs (eqb n 0)) (λ gs e sat u x. subst (Holds k (assigning k more u) before) (sym (changed_chosen c X t k cs new gs s l e sat)) (assigning-holds k u before gs more x))
           (λ n. unchosen_kept c X t k cs new s n)
       go _ f = absurd (true≢false (sym f))
 
-  delete_holds : (c : Catalog) (t : ℕ) (k : Value A) (j : ℕ) (cs : List (Condition A)) (r : Reply A) (w : Way A) (X : Tables A) (before : Option (List (Value A))) → is_sound c X ≡ true → t < length X
+  delete_holds : (few : Bool) (c : Catalog) (t : ℕ) (k : Value A) (j : ℕ) (cs : List (Condition A)) (r : Reply A) (w : Way A) (X : Tables A) (before : Option (List (Value A))) → is_sound c X ≡ true → t < length X
       → agrees (deleted c t (chosen X t cs) X).reply r ≡ true → Holds k w before (row_at X t k)
-      → Next k j (is_chosen k cs (row_at X t k)) (pins k cs) w (step k j (Delete t cs) r w) before (row_at (put_all (deleted c t (chosen X t cs) X).changes X) t k)
-  delete_holds c t k j cs r w X before s l g h =
+      → Next k j (is_chosen k cs (row_at X t k)) (pins k cs) w (step few k j (Delete t cs) r w) before (row_at (put_all (deleted c t (chosen X t cs) X).changes X) t k)
+  delete_holds few c t k j cs r w X before s l g h =
       let e = delete_done c X t (chosen X t cs) r g in
-      subst (λ (o : Outcome A). Next k j (is_chosen k cs (row_at X t k)) (pins k cs) w (step k j (Delete t cs) r w) before (row_at (put_all o.changes X) t k)) (sym e) (go r (reply_of _ _ r e g))
+      subst (λ (o : Outcome A). Next k j (is_chosen k cs (row_at X t k)) (pins k cs) w (step few k j (Delete t cs) r w) before (row_at (put_all o.changes X) t k)) (sym e) (go r (reply_of _ _ r e g))
     where
       new : Row A → Option (List (Value A))
       new row = None
@@ -352,56 +352,56 @@ module _ {A : Type 0} where
       done : Option (List (Value A))
       done = row_at (put_all (changes_of t new (chosen X t cs)) X) t k
 
-      go : (r : Reply A) → agrees (Deleted (length (chosen X t cs))) r ≡ true → Next k j (is_chosen k cs (row_at X t k)) (pins k cs) w (step k j (Delete t cs) r w) before done
+      go : (r : Reply A) → agrees (Deleted (length (chosen X t cs))) r ≡ true → Next k j (is_chosen k cs (row_at X t k)) (pins k cs) w (step few k j (Delete t cs) r w) before done
       go (Deleted n) f =
-          by_sight-holds k j (Delete t cs) (pins k cs) shown.Count cs (sight_of_count k cs n) w before (row_at X t k) done h (count_fits c X t k cs n s f)
+          by_sight-holds few k j (Delete t cs) (pins k cs) shown.Count cs (sight_of_count k cs n) w before (row_at X t k) done h (count_fits c X t k cs n s f)
           (count_named k cs (eqb n 0)) (λ gs e sat u x. subst (Holds k (deleting u) before) (sym (changed_chosen c X t k cs new gs s l e sat)) (deleting-holds k u before (Some gs) x))
           (λ n. unchosen_kept c X t k cs new s n)
       go _ f = absurd (true≢false (sym f))
 
-  insert_holds : (c : Catalog) (t : ℕ) (j : ℕ) (v : Value A) (fields : List (Value A)) (r : Reply A) (w : Way A) (X : Tables A) (before : Option (List (Value A))) → t < length X
-      → agrees (inserted c t (v ∷ fields) X).reply r ≡ true → Holds v w before (row_at X t v) → Next v j false true w (step v j (Insert t (v ∷ fields)) r w) before (row_at (put_all (inserted c t (v ∷ fields) X).changes X) t v)
-  insert_holds c t j v fields r w X before l g h =
+  insert_holds : (few : Bool) (c : Catalog) (t : ℕ) (j : ℕ) (v : Value A) (fields : List (Value A)) (r : Reply A) (w : Way A) (X : Tables A) (before : Option (List (Value A))) → t < length X
+      → agrees (inserted c t (v ∷ fields) X).reply r ≡ true → Holds v w before (row_at X t v) → Next v j false true w (step few v j (Insert t (v ∷ fields)) r w) before (row_at (put_all (inserted c t (v ∷ fields) X).changes X) t v)
+  insert_holds few c t j v fields r w X before l g h =
       let e = insert_done c X t v fields r g in
-      subst (λ (o : Outcome A). Next v j false true w (step v j (Insert t (v ∷ fields)) r w) before (row_at (put_all o.changes X) t v)) (sym e.1)
-      (subst (Next v j false true w (step v j (Insert t (v ∷ fields)) r w) before) (sym put) (go r (reply_of _ _ r e.1 g) (subst (Holds v w before) e.0 h)))
+      subst (λ (o : Outcome A). Next v j false true w (step few v j (Insert t (v ∷ fields)) r w) before (row_at (put_all o.changes X) t v)) (sym e.1)
+      (subst (Next v j false true w (step few v j (Insert t (v ∷ fields)) r w) before) (sym put) (go r (reply_of _ _ r e.1 g) (subst (Holds v w before) e.0 h)))
     where
       put : row_at (put_all (puts t (v, fields) ∷ []) X) t v ≡ Some fields
       put = row_left (puts t (v, fields) ∷ []) X t v (Some fields) l (ap (λ b. cond b (Some (Some fields)) None) (and_from _ _ (eqb-self t) (same_itself v)))
 
-      go : (r : Reply A) → agrees Inserted r ≡ true → Holds v w before None → Next v j false true w (step v j (Insert t (v ∷ fields)) r w) before (Some fields)
+      go : (r : Reply A) → agrees Inserted r ≡ true → Holds v w before None → Next v j false true w (step few v j (Insert t (v ∷ fields)) r w) before (Some fields)
       go Inserted f x = inserting-holds v j w before fields x
       go _ f x = absurd (true≢false (sym f))
 
   -- What a statement that looks at the key makes of a way that holds.
-  pub step_holds : (c : Catalog) (t : ℕ) (k : Value A) (j : ℕ) (q : Statement A) (r : Reply A) (w : Way A) (X : Tables A) (before : Option (List (Value A))) → is_sound c X ≡ true → fits c q ≡ true → looks_at t k q ≡ true
-      → agrees (outcome c q X).reply r ≡ true → Holds k w before (row_at X t k) → Next k j (chooses t k q X) (names_key k q) w (step k j q r w) before (row_at (after c q X) t k)
-  step_holds c t k j (Select u p cs) r w X before s f l g h =
+  pub step_holds : (few : Bool) (c : Catalog) (t : ℕ) (k : Value A) (j : ℕ) (q : Statement A) (r : Reply A) (w : Way A) (X : Tables A) (before : Option (List (Value A))) → is_sound c X ≡ true → fits c q ≡ true → looks_at t k q ≡ true
+      → agrees (outcome c q X).reply r ≡ true → Holds k w before (row_at X t k) → Next k j (chooses t k q X) (names_key k q) w (step few k j q r w) before (row_at (after c q X) t k)
+  step_holds few c t k j (Select u p cs) r w X before s f l g h =
       let e : u ≡ t = eqb-true u t (and_parts (eqb u t) (may_choose k cs) l).0 in
-      subst (λ n. Holds k w before (row_at X n k) → Next k j (chooses n k (Select u p cs) X) (names_key k (Select u p cs)) w (step k j (Select u p cs) r w) before (row_at X n k)) e
-      (λ x. subst (λ b. Next k j b (names_key k (Select u p cs)) w (step k j (Select u p cs) r w) before (row_at X u k)) (sym (own_table u (is_chosen k cs (row_at X u k)))) (select_holds c u k j p cs r w X before s g x)) h
-  step_holds c t k j (Update u more cs) r w X before s f l g h =
+      subst (λ n. Holds k w before (row_at X n k) → Next k j (chooses n k (Select u p cs) X) (names_key k (Select u p cs)) w (step few k j (Select u p cs) r w) before (row_at X n k)) e
+      (λ x. subst (λ b. Next k j b (names_key k (Select u p cs)) w (step few k j (Select u p cs) r w) before (row_at X u k)) (sym (own_table u (is_chosen k cs (row_at X u k)))) (select_holds few c u k j p cs r w X before s g x)) h
+  step_holds few c t k j (Update u more cs) r w X before s f l g h =
       let e : u ≡ t = eqb-true u t (and_parts (eqb u t) (may_choose k cs) l).0 in
       let q : Statement A = Update u more cs in
-      subst (λ n. Holds k w before (row_at X n k) → Next k j (chooses n k q X) (pins k cs) w (step k j q r w) before (row_at (after c q X) n k)) e
-      (λ x. subst (λ b. Next k j b (pins k cs) w (step k j q r w) before (row_at (after c q X) u k)) (sym (own_table u (is_chosen k cs (row_at X u k))))
-      (update_holds c u k j more cs r w X before s (in_place c X u s (first_of_four (has_table c u) _ _ _ f)) g x)) h
-  step_holds c t k j (Delete u cs) r w X before s f l g h =
+      subst (λ n. Holds k w before (row_at X n k) → Next k j (chooses n k q X) (pins k cs) w (step few k j q r w) before (row_at (after c q X) n k)) e
+      (λ x. subst (λ b. Next k j b (pins k cs) w (step few k j q r w) before (row_at (after c q X) u k)) (sym (own_table u (is_chosen k cs (row_at X u k))))
+      (update_holds few c u k j more cs r w X before s (in_place c X u s (first_of_four (has_table c u) _ _ _ f)) g x)) h
+  step_holds few c t k j (Delete u cs) r w X before s f l g h =
       let e : u ≡ t = eqb-true u t (and_parts (eqb u t) (may_choose k cs) l).0 in
       let q : Statement A = Delete u cs in
-      subst (λ n. Holds k w before (row_at X n k) → Next k j (chooses n k q X) (pins k cs) w (step k j q r w) before (row_at (after c q X) n k)) e
-      (λ x. subst (λ b. Next k j b (pins k cs) w (step k j q r w) before (row_at (after c q X) u k)) (sym (own_table u (is_chosen k cs (row_at X u k))))
-      (delete_holds c u k j cs r w X before s (in_place c X u s (and_parts (has_table c u) _ f).0) g x)) h
-  step_holds c t k j (Insert u []) r w X before s f l g h = absurd (true≢false (sym (and_parts (eqb u t) false l).1))
-  step_holds c t k j (Insert u (v ∷ fields)) r w X before s f l g h =
+      subst (λ n. Holds k w before (row_at X n k) → Next k j (chooses n k q X) (pins k cs) w (step few k j q r w) before (row_at (after c q X) n k)) e
+      (λ x. subst (λ b. Next k j b (pins k cs) w (step few k j q r w) before (row_at (after c q X) u k)) (sym (own_table u (is_chosen k cs (row_at X u k))))
+      (delete_holds few c u k j cs r w X before s (in_place c X u s (and_parts (has_table c u) _ f).0) g x)) h
+  step_holds few c t k j (Insert u []) r w X before s f l g h = absurd (true≢false (sym (and_parts (eqb u t) false l).1))
+  step_holds few c t k j (Insert u (v ∷ fields)) r w X before s f l g h =
       let p = and_parts (eqb u t) (same k v) l in
       let e : u ≡ t = eqb-true u t p.0 in
       let d : v ≡ k = sym (same_value k v p.1) in
       let q : Statement A = Insert u (v ∷ fields) in
       let there : u < length X = in_place c X u s (and_parts (has_table c u) _ f).0 in
-      subst (λ n. Holds k w before (row_at X n k) → Next k j false true w (step k j q r w) before (row_at (after c q X) n k)) e
-      (subst (λ (x : Value A). Holds x w before (row_at X u x) → Next x j false true w (step x j q r w) before (row_at (after c q X) u x)) d
-      (insert_holds c u j v fields r w X before there g)) h
+      subst (λ n. Holds k w before (row_at X n k) → Next k j false true w (step few k j q r w) before (row_at (after c q X) n k)) e
+      (subst (λ (x : Value A). Holds x w before (row_at X u x) → Next x j false true w (step few x j q r w) before (row_at (after c q X) u x)) d
+      (insert_holds few c u j v fields r w X before there g)) h
 
   -- ---- statements that aren't read
 

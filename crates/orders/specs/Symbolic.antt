@@ -7,9 +7,10 @@ use Rattle.value.specs.declared.value.Value.{Value}
 use Rattle.value.specs.declared.value.Value.TheVariants.{Null, Int}
 use Rattle.schema.specs.Definition.{Catalog, columns_of}
 use Rattle.schema.specs.Plain.{same, is_null, in_range}
+use Rattle.statement.specs.declared.condition.Comparison.{Comparison}
 use Rattle.statement.specs.declared.condition.Comparison.TheVariants as is
 use Rattle.statement.specs.declared.condition.Condition.{Condition}
-use Rattle.statement.specs.declared.condition.Condition.TheVariants.{Compare, Between, IsNull}
+use Rattle.statement.specs.declared.condition.Condition.TheVariants.{Compare, Between, IsNull, IsNotNull}
 use Rattle.statement.specs.declared.statement.Projection.{Projection}
 use Rattle.statement.specs.declared.statement.Projection.TheVariants as shown
 use Rattle.statement.specs.declared.statement.Source.{Source}
@@ -35,6 +36,13 @@ use Rattle.orders.specs.Ways.{value_meets}
 abbrev pub most_ways : ℕ
 most_ways = 64
 
+-- Above so many ways, or conditions that a row may fail, it isn't told which of these it failed.
+abbrev pub most_apart : ℕ
+most_apart = 12
+
+abbrev pub most_parts : ℕ
+most_parts = 4
+
 -- Columns are numbered by 32 bits; a row that has more tells nothing of those.
 abbrev pub last_column : ℕ
 last_column = 2 ^ 32 - 1
@@ -42,6 +50,16 @@ last_column = 2 ^ 32 - 1
 -- a number less another, where 64 bits hold it
 abbrev pub taken_away : ℤ → ℤ → Option ℤ
 taken_away x d = if in_range (x -ℤ d) then Some (x -ℤ d) else None
+
+-- two comparisons are the same
+abbrev pub same_comparison : Comparison → Comparison → Bool
+same_comparison is.Equal is.Equal = true
+same_comparison is.NotEqual is.NotEqual = true
+same_comparison is.Less is.Less = true
+same_comparison is.LessOrEqual is.LessOrEqual = true
+same_comparison is.Greater is.Greater = true
+same_comparison is.GreaterOrEqual is.GreaterOrEqual = true
+same_comparison _ _ = false
 
 module _ {A : Type 0} where
   -- ---- what the row has now
@@ -134,14 +152,38 @@ module _ {A : Type 0} where
   abbrev pub chosen_way : Value A → List (Condition A) → Way A → Option (Way A)
   chosen_way k cs w = if is_gone w.after || list_any (fails k w) cs then None else Some (asking w (map holds_before (filter (is_asked k w) cs)))
 
-  -- one condition fails: which one is told only where all others hold
-  abbrev pub denied : Value A → Way A → List (Condition A) → List (Atom A)
-  denied k w (c ∷ []) = if is_asked k w c then fails_before c ∷ [] else []
-  denied k w _ = []
+  -- two conditions are the same
+  abbrev pub same_condition : Condition A → Condition A → Bool
+  same_condition (Compare n how v) (Compare m other u) = n == m && (same_comparison how other && same v u)
+  same_condition (Between n low high) (Between m least most) = n == m && (same low least && same high most)
+  same_condition (IsNull n) (IsNull m) = n == m
+  same_condition (IsNotNull n) (IsNotNull m) = n == m
+  same_condition _ _ = false
 
-  -- There is no row, or it doesn't satisfy the conditions.
-  abbrev pub left_way : Value A → List (Condition A) → Way A → Option (Way A)
-  left_way k cs w = if is_row w.after && list_all (passes k w) cs then None else Some (asking w (denied k w (filter (doubts k w) cs)))
+  -- what was asked of the row before says that the condition fails
+  abbrev pub denies : Condition A → Atom A → Bool
+  denies c a = not a.truth && same_condition a.condition c
+
+  abbrev pub is_denied : Way A → Condition A → Bool
+  is_denied w c = list_any (denies c) w.atoms
+
+  -- the way in which the condition fails
+  abbrev pub failing : Value A → Way A → Condition A → Way A
+  failing k w c = if is_asked k w c then asking w (fails_before c ∷ []) else w
+
+  -- Of conditions that may fail it is told which one does: they are few, each is asked of the row before, and none is known to fail.
+  abbrev pub are_apart : Bool → Value A → Way A → List (Condition A) → Bool
+  are_apart few k w cs = few && (nat_le (length cs) most_parts && (list_all (is_asked k w) cs && not (list_any (is_denied w) cs)))
+
+  -- one of these conditions fails, or there is no row
+  abbrev pub denied : Bool → Value A → Way A → List (Condition A) → List (Way A)
+  denied few k w [] = w ∷ []
+  denied few k w (c ∷ []) = failing k w c ∷ []
+  denied few k w cs = if are_apart few k w cs then map (failing k w) cs else w ∷ []
+
+  -- There is no row, or it doesn't satisfy the conditions: none where that can't be.
+  abbrev pub left_ways : Bool → Value A → List (Condition A) → Way A → List (Way A)
+  left_ways few k cs w = if is_row w.after && list_all (passes k w) cs then [] else denied few k w (filter (doubts k w) cs)
 
   -- ---- what answers tell
 
@@ -303,19 +345,19 @@ module _ {A : Type 0} where
   way_chosen k j p cs (Seen row) w = option_and_then (tell k p row) (chosen_way k cs w)
   way_chosen k j p cs Either w = option_map (counting j) (chosen_way k cs w)
 
-  -- the way in which it wasn't
-  abbrev pub way_left : Value A → List (Condition A) → Sight A → Way A → Option (Way A)
-  way_left k cs (Seen row) w = None
-  way_left k cs _ w = left_way k cs w
+  -- the ways in which it wasn't
+  abbrev pub ways_left : Bool → Value A → List (Condition A) → Sight A → Way A → List (Way A)
+  ways_left few k cs (Seen row) w = []
+  ways_left few k cs _ w = left_ways few k cs w
 
   -- what comes of a way where a chosen row is changed by f
-  abbrev pub by_sight : Value A → ℕ → (Way A → Way A) → Projection A → List (Condition A) → Sight A → Way A → List (Way A)
-  by_sight k j f p cs s w = option_to_list (option_map f (way_chosen k j p cs s w)) ++ option_to_list (way_left k cs s w)
+  abbrev pub by_sight : Bool → Value A → ℕ → (Way A → Way A) → Projection A → List (Condition A) → Sight A → Way A → List (Way A)
+  by_sight few k j f p cs s w = option_to_list (option_map f (way_chosen k j p cs s w)) ++ ways_left few k cs s w
 
   -- by a SELECT
-  abbrev pub selected : Value A → ℕ → Statement A → Projection A → List (Condition A) → Reply A → Way A → List (Way A)
-  selected k j q p cs (Rows rows) w = by_sight k j (changed k q) p cs (sight_of_rows k p cs rows) w
-  selected k j q p cs _ w = w ∷ []
+  abbrev pub selected : Bool → Value A → ℕ → Statement A → Projection A → List (Condition A) → Reply A → Way A → List (Way A)
+  selected few k j q p cs (Rows rows) w = by_sight few k j (changed k q) p cs (sight_of_rows k p cs rows) w
+  selected few k j q p cs _ w = w ∷ []
 
   -- by an INSERT of the key
   abbrev pub put_in : List (Value A) → Reply A → Way A → List (Way A)
@@ -323,23 +365,23 @@ module _ {A : Type 0} where
   put_in _ _ w = w ∷ []
 
   -- by an UPDATE or a DELETE that is answered by a number
-  abbrev pub counted_by : Value A → ℕ → Statement A → List (Condition A) → ℕ → Way A → List (Way A)
-  counted_by k j q cs n w = by_sight k j (changed k q) shown.Count cs (sight_of_count k cs n) w
+  abbrev pub counted_by : Bool → Value A → ℕ → Statement A → List (Condition A) → ℕ → Way A → List (Way A)
+  counted_by few k j q cs n w = by_sight few k j (changed k q) shown.Count cs (sight_of_count k cs n) w
 
-  abbrev pub updated_by : Value A → ℕ → Statement A → List (Condition A) → Reply A → Way A → List (Way A)
-  updated_by k j q cs (Updated n) w = counted_by k j q cs n w
-  updated_by k j q cs _ w = w ∷ []
+  abbrev pub updated_by : Bool → Value A → ℕ → Statement A → List (Condition A) → Reply A → Way A → List (Way A)
+  updated_by few k j q cs (Updated n) w = counted_by few k j q cs n w
+  updated_by few k j q cs _ w = w ∷ []
 
-  abbrev pub deleted_by : Value A → ℕ → Statement A → List (Condition A) → Reply A → Way A → List (Way A)
-  deleted_by k j q cs (Deleted n) w = counted_by k j q cs n w
-  deleted_by k j q cs _ w = w ∷ []
+  abbrev pub deleted_by : Bool → Value A → ℕ → Statement A → List (Condition A) → Reply A → Way A → List (Way A)
+  deleted_by few k j q cs (Deleted n) w = counted_by few k j q cs n w
+  deleted_by few k j q cs _ w = w ∷ []
 
-  -- What comes of a way by statement j, which looks at the row, and its answer. An answer that isn't of the statement's kind tells nothing.
-  abbrev pub step : Value A → ℕ → Statement A → Reply A → Way A → List (Way A)
-  step k j (Select t p cs) r w = selected k j (Select t p cs) p cs r w
-  step k j (Insert t values) r w = put_in values r w
-  step k j (Update t more cs) r w = updated_by k j (Update t more cs) cs r w
-  step k j (Delete t cs) r w = deleted_by k j (Delete t cs) cs r w
+  -- What comes of one of few ways, or of more, by statement j, which looks at the row, and its answer. An answer that isn't of the statement's kind tells nothing.
+  abbrev pub step : Bool → Value A → ℕ → Statement A → Reply A → Way A → List (Way A)
+  step few k j (Select t p cs) r w = selected few k j (Select t p cs) p cs r w
+  step few k j (Insert t values) r w = put_in values r w
+  step few k j (Update t more cs) r w = updated_by few k j (Update t more cs) cs r w
+  step few k j (Delete t cs) r w = deleted_by few k j (Delete t cs) cs r w
 
   -- a statement may have chosen the row or not, and done anything to it if it writes
   abbrev pub after_unread : ℕ → Bool → Way A → Way A
@@ -351,7 +393,7 @@ module _ {A : Type 0} where
 
   -- what comes of ways by statement j, which looks at the row
   abbrev pub looked_at : Value A → ℕ → Statement A → Reply A → List (Way A) → List (Way A)
-  looked_at k j q r ws = if nat_le (length ws) most_ways then flat_map (step k j q r) ws else map (coarse j q) ws
+  looked_at k j q r ws = if nat_le (length ws) most_ways then flat_map (step (nat_le (length ws) most_apart) k j q r) ws else map (coarse j q) ws
 
   -- What comes of ways by statement j and its answer.
   abbrev pub steps : ℕ → Value A → ℕ → Statement A → Reply A → List (Way A) → List (Way A)

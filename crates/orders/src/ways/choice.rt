@@ -1,6 +1,6 @@
 //! The ways in which a row satisfies conditions, and in which it doesn't.
 
-ghost use Rattle.std.specs.Prelude.{◌≡◌, ◌++◌, ◌∷◌, [], not, ◌&&◌, map, option_map, OnOk, IfOk, IfErr};
+ghost use Rattle.std.specs.Prelude.{◌≡◌, ◌++◌, ◌∷◌, [], not, ◌&&◌, if◌then◌else◌, map, nat_le, option_map, OnOk, IfOk, IfErr};
 ghost use Rattle.std.specs.List.{filter, list_all, list_any};
 ghost use Rattle.value.specs.Refusals.{out_of_memory};
 ghost use Rattle.schema.specs.Plain.{is_null};
@@ -15,6 +15,9 @@ use std::alloc::Allocator;
 use std::cmp::Ordering;
 use value::refusal::Refusal;
 use value::value::Value;
+
+/// Above so many conditions that a row may fail it isn't told which of them it failed.
+const MOST_PARTS: usize = 4;
 
 fn accepts(comparison: Comparison, order: Ordering) -> bool
     ensures { result ≡ compares comparison order }
@@ -259,40 +262,202 @@ fn push_all_doubted<A: Allocator + Copy>(
     }
 }
 
-// What is asked of the row before where one condition alone may fail, and does.
-fn denied_one<A: Allocator + Copy>(
+// Whether two comparisons are the same.
+fn is_same_comparison(comparison: Comparison, other: Comparison) -> bool
+    ensures { result ≡ spec.same_comparison comparison other }
+{
+    match (comparison, other) {
+        (Comparison::Equal, Comparison::Equal)
+        | (Comparison::NotEqual, Comparison::NotEqual)
+        | (Comparison::Less, Comparison::Less)
+        | (Comparison::LessOrEqual, Comparison::LessOrEqual)
+        | (Comparison::Greater, Comparison::Greater)
+        | (Comparison::GreaterOrEqual, Comparison::GreaterOrEqual) => true,
+        _ => false,
+    }
+}
+
+// Whether two conditions are the same.
+fn is_same<A: Allocator>(condition: &Condition<A>, other: &Condition<A>) -> bool
+    ensures { result ≡ spec.same_condition condition.now other.now }
+{
+    match (condition, other) {
+        (Condition::Compare(column, how, literal), Condition::Compare(on, also, value)) => {
+            *column == *on && (is_same_comparison(*how, *also) && literal == value)
+        }
+        (Condition::Between(column, low, high), Condition::Between(on, least, most)) => {
+            *column == *on && (low == least && high == most)
+        }
+        (Condition::IsNull(column), Condition::IsNull(on))
+        | (Condition::IsNotNull(column), Condition::IsNotNull(on)) => *column == *on,
+        _ => false,
+    }
+}
+
+// Whether what was asked says that a condition fails.
+fn denies<A: Allocator>(condition: &Condition<A>, atom: &Atom<A>) -> bool
+    ensures { result ≡ spec.denies condition.now atom.now }
+{
+    !atom.truth && is_same(&atom.condition, condition)
+}
+
+// Whether a way says that a condition fails.
+fn is_denied<A: Allocator>(way: &Way<A>, condition: &Condition<A>) -> bool
+    ensures { result ≡ spec.is_denied way.now condition.now }
+{
+    way.atoms
+        .as_slice()
+        .iter()
+        .any(|atom| denies(condition, atom))
+}
+
+// Whether it says so of one of these.
+fn any_denied<A: Allocator>(way: &Way<A>, conditions: &[Condition<A>]) -> bool
+    ensures { result ≡ list_any (spec.is_denied way.now) conditions.now }
+{
+    conditions.iter().any(|condition| is_denied(way, condition))
+}
+
+// Whether all of these conditions are asked of the row before.
+fn all_asked<A: Allocator + Copy>(
+    alloc: A,
+    key: &Value<A>,
+    way: &Way<A>,
+    conditions: &[Condition<A>],
+) -> Result<bool, Refusal>
+    ensures ok { IfOk result (λ b. b ≡ list_all (spec.is_asked key.now way.now) conditions.now) }
+    ensures err { IfErr result (λ e. e ≡ out_of_memory) }
+{
+    match conditions {
+        [] => Ok(true),
+        [condition, rest @ ..] => {
+            if !is_asked(alloc, key, way, condition)? {
+                return Ok(false);
+            }
+            all_asked(alloc, key, way, rest)
+        }
+    }
+}
+
+// Whether there are so few conditions that it is told which of them fails.
+fn are_few_parts(count: usize) -> bool
+    ensures { result ≡ nat_le count spec.most_parts }
+{
+    count <= MOST_PARTS
+}
+
+// Whether it is told which of these conditions fails.
+fn are_apart<A: Allocator + Copy>(
+    alloc: A,
+    key: &Value<A>,
+    way: &Way<A>,
+    few: bool,
+    conditions: &[Condition<A>],
+) -> Result<bool, Refusal>
+    ensures ok { IfOk result (λ b. b ≡ spec.are_apart few key.now way.now conditions.now) }
+    ensures err { IfErr result (λ e. e ≡ out_of_memory) }
+{
+    if !few || !are_few_parts(conditions.len()) {
+        return Ok(false);
+    }
+    if !all_asked(alloc, key, way, conditions)? {
+        return Ok(false);
+    }
+    Ok(!any_denied(way, conditions))
+}
+
+// The way in which a condition fails.
+fn failing<A: Allocator + Copy>(
     alloc: A,
     key: &Value<A>,
     way: &Way<A>,
     condition: &Condition<A>,
-) -> Result<Vec<Atom<A>, A>, Refusal>
-    ensures ok { IfOk result (λ atoms. atoms.items ≡ spec.denied key.now way.now (condition.now ∷ [])) }
+) -> Result<Way<A>, Refusal>
+    ensures ok { IfOk result (λ w. w ≡ spec.failing key.now way.now condition.now) }
     ensures err { IfErr result (λ e. e ≡ out_of_memory) }
 {
-    let mut atoms = Vec::new(alloc);
-    if is_asked(alloc, key, way, condition)? {
-        let condition = condition.copy(alloc)?;
-        atoms.push(Atom {
-            condition,
-            truth: false,
-        })?;
+    if !is_asked(alloc, key, way, condition)? {
+        return way.copy(alloc);
     }
-    Ok(atoms)
+    let mut atoms = Vec::new(alloc);
+    let condition = condition.copy(alloc)?;
+    atoms.push(Atom {
+        condition,
+        truth: false,
+    })?;
+    way.asking(alloc, atoms.as_slice())
 }
 
-// What is asked of the row before where it fails one of these.
-fn denied<A: Allocator + Copy>(
+// Puts in the way in which each of these fails.
+fn push_all_failing<A: Allocator + Copy>(
     alloc: A,
     key: &Value<A>,
     way: &Way<A>,
+    conditions: &[Condition<A>],
+    ways: &mut Vec<Way<A>, A>,
+) -> Result<(), Refusal>
+    ensures ok { OnOk result (ways.new.items ≡ ways.old.items ++ map (spec.failing key.now way.now) conditions.now) }
+    ensures err { IfErr result (λ e. e ≡ out_of_memory) }
+{
+    match conditions {
+        [] => Ok(()),
+        [condition, rest @ ..] => {
+            ways.push(failing(alloc, key, way, condition)?)?;
+            push_all_failing(alloc, key, way, rest, ways)
+        }
+    }
+}
+
+/// Puts in a way as it is.
+pub(crate) fn push_same<A: Allocator + Copy>(
+    alloc: A,
+    way: &Way<A>,
+    ways: &mut Vec<Way<A>, A>,
+) -> Result<(), Refusal>
+    ensures ok { OnOk result (ways.new.items ≡ ways.old.items ++ way.now ∷ []) }
+    ensures err { IfErr result (λ e. e ≡ out_of_memory) }
+{
+    ways.push(way.copy(alloc)?)?;
+    Ok(())
+}
+
+// Puts in the ways in which one of several conditions fails.
+fn push_parted<A: Allocator + Copy>(
+    alloc: A,
+    key: &Value<A>,
+    way: &Way<A>,
+    few: bool,
     doubted: &[Condition<A>],
-) -> Result<Vec<Atom<A>, A>, Refusal>
-    ensures ok { IfOk result (λ atoms. atoms.items ≡ spec.denied key.now way.now doubted.now) }
+    ways: &mut Vec<Way<A>, A>,
+) -> Result<(), Refusal>
+    ensures ok { OnOk result (ways.new.items ≡ ways.old.items ++
+        (if spec.are_apart few key.now way.now doubted.now then map (spec.failing key.now way.now) doubted.now
+        else way.now ∷ [])) }
+    ensures err { IfErr result (λ e. e ≡ out_of_memory) }
+{
+    if are_apart(alloc, key, way, few, doubted)? {
+        push_all_failing(alloc, key, way, doubted, ways)
+    } else {
+        push_same(alloc, way, ways)
+    }
+}
+
+// Puts in the ways in which one of these conditions fails, or there is no row.
+fn push_denied<A: Allocator + Copy>(
+    alloc: A,
+    key: &Value<A>,
+    way: &Way<A>,
+    few: bool,
+    doubted: &[Condition<A>],
+    ways: &mut Vec<Way<A>, A>,
+) -> Result<(), Refusal>
+    ensures ok { OnOk result (ways.new.items ≡ ways.old.items ++ spec.denied few key.now way.now doubted.now) }
     ensures err { IfErr result (λ e. e ≡ out_of_memory) }
 {
     match doubted {
-        [condition] => denied_one(alloc, key, way, condition),
-        _ => Ok(Vec::new(alloc)),
+        [] => push_same(alloc, way, ways),
+        [_] => push_all_failing(alloc, key, way, doubted, ways),
+        _ => push_parted(alloc, key, way, few, doubted, ways),
     }
 }
 
@@ -309,23 +474,6 @@ fn asking_all<A: Allocator + Copy>(
 {
     let mut atoms = Vec::new(alloc);
     push_all_asked(alloc, key, way, conditions, &mut atoms)?;
-    way.asking(alloc, atoms.as_slice())
-}
-
-// The way with what is asked where the row doesn't satisfy them.
-fn denying<A: Allocator + Copy>(
-    alloc: A,
-    key: &Value<A>,
-    way: &Way<A>,
-    conditions: &[Condition<A>],
-) -> Result<Way<A>, Refusal>
-    ensures ok { IfOk result (λ w. w ≡ spec.asking way.now
-        (spec.denied key.now way.now (filter (spec.doubts key.now way.now) conditions.now))) }
-    ensures err { IfErr result (λ e. e ≡ out_of_memory) }
-{
-    let mut doubted = Vec::new(alloc);
-    push_all_doubted(alloc, key, way, conditions, &mut doubted)?;
-    let atoms = denied(alloc, key, way, doubted.as_slice())?;
     way.asking(alloc, atoms.as_slice())
 }
 
@@ -348,20 +496,25 @@ pub(crate) fn chosen_way<A: Allocator + Copy>(
     Ok(Some(asking_all(alloc, key, way, conditions)?))
 }
 
-/// The way in which there is no row or it doesn't satisfy the conditions, unless that can't be.
-pub(crate) fn left_way<A: Allocator + Copy>(
+/// Puts in the ways in which there is no row or it doesn't satisfy the conditions, unless that can't be. Of few ways it is
+/// told which condition fails.
+pub(crate) fn push_left<A: Allocator + Copy>(
     alloc: A,
     key: &Value<A>,
     way: &Way<A>,
+    few: bool,
     conditions: &[Condition<A>],
-) -> Result<Option<Way<A>>, Refusal>
-    ensures ok { IfOk result (λ w. w ≡ spec.left_way key.now conditions.now way.now) }
+    ways: &mut Vec<Way<A>, A>,
+) -> Result<(), Refusal>
+    ensures ok { OnOk result (ways.new.items ≡ ways.old.items ++ spec.left_ways few key.now conditions.now way.now) }
     ensures err { IfErr result (λ e. e ≡ out_of_memory) }
 {
     if way.after.is_row() {
         if all_pass(alloc, key, way, conditions)? {
-            return Ok(None);
+            return Ok(());
         }
     }
-    Ok(Some(denying(alloc, key, way, conditions)?))
+    let mut doubted = Vec::new(alloc);
+    push_all_doubted(alloc, key, way, conditions, &mut doubted)?;
+    push_denied(alloc, key, way, few, doubted.as_slice(), ways)
 }

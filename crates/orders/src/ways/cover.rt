@@ -18,6 +18,8 @@ use value::value::Value;
 
 /// Above so many ways no statement makes two of one.
 const MOST_WAYS: usize = 64;
+/// Above so many it isn't told which of several conditions a row failed.
+const MOST_APART: usize = 12;
 
 // Whether one of the statements looks at the row of a key in a table.
 fn any_looks_at<A: Allocator>(table: TableNo, key: &Value<A>, statements: &[Answered<A>]) -> bool
@@ -47,9 +49,17 @@ fn are_few(count: usize) -> bool
     count <= MOST_WAYS
 }
 
+// Whether there are so few that it is told which of several conditions a row failed.
+fn are_apart(count: usize) -> bool
+    ensures { result ≡ nat_le count spec.most_apart }
+{
+    count <= MOST_APART
+}
+
 // What comes of each way by a statement that is read.
 fn push_all_steps<A: Allocator + Copy>(
     alloc: A,
+    few: bool,
     key: &Value<A>,
     number: usize,
     statement: &Statement<A>,
@@ -58,14 +68,14 @@ fn push_all_steps<A: Allocator + Copy>(
     next: &mut Vec<Way<A>, A>,
 ) -> Result<(), Refusal>
     ensures ok { OnOk result (next.new.items ≡ next.old.items ++
-        flat_map (spec.step key.now number statement.now reply.now) ways.now) }
+        flat_map (spec.step few key.now number statement.now reply.now) ways.now) }
     ensures err { IfErr result (λ e. e ≡ out_of_memory) }
 {
     match ways {
         [] => Ok(()),
         [way, rest @ ..] => {
-            push_step(alloc, key, number, statement, reply, way, next)?;
-            push_all_steps(alloc, key, number, statement, reply, rest, next)
+            push_step(alloc, few, key, number, statement, reply, way, next)?;
+            push_all_steps(alloc, few, key, number, statement, reply, rest, next)
         }
     }
 }
@@ -122,6 +132,7 @@ fn next_ways<A: Allocator + Copy>(
     }
     push_all_steps(
         alloc,
+        are_apart(ways.len()),
         key,
         number,
         &answered.statement,

@@ -5,7 +5,7 @@ ghost use Rattle.std.specs.List.{flat_map, list_any};
 ghost use Rattle.value.specs.Refusals.{out_of_memory};
 ghost use Rattle.orders.specs.Symbolic as spec;
 
-use crate::ways::choice::{chosen_way, column_of, left_way, value_meets};
+use crate::ways::choice::{chosen_way, column_of, push_left, push_same, value_meets};
 use crate::ways::column::{field_now, raised};
 use crate::ways::sight::{Sight, sight_of_count, sight_of_rows};
 use crate::ways::tell::tell;
@@ -274,20 +274,23 @@ fn counted_way<A: Allocator + Copy>(
     }
 }
 
-// The way in which it wasn't.
-fn way_left<A: Allocator + Copy>(
+// Puts in the ways in which it wasn't.
+fn push_ways_left<A: Allocator + Copy>(
     alloc: A,
     key: &Value<A>,
+    few: bool,
     conditions: &[Condition<A>],
     sight: &Sight<A>,
     way: &Way<A>,
-) -> Result<Option<Way<A>>, Refusal>
-    ensures ok { IfOk result (λ w. w ≡ spec.way_left key.now conditions.now sight.now way.now) }
+    ways: &mut Vec<Way<A>, A>,
+) -> Result<(), Refusal>
+    ensures ok { OnOk result (ways.new.items ≡ ways.old.items ++
+        spec.ways_left few key.now conditions.now sight.now way.now) }
     ensures err { IfErr result (λ e. e ≡ out_of_memory) }
 {
     match sight {
-        Sight::Seen(_) => Ok(None),
-        Sight::Unseen | Sight::Either => left_way(alloc, key, way, conditions),
+        Sight::Seen(_) => Ok(()),
+        Sight::Unseen | Sight::Either => push_left(alloc, key, way, few, conditions, ways),
     }
 }
 
@@ -342,6 +345,7 @@ fn changed_way<A: Allocator + Copy>(
 // Puts in what comes of a way where the statement tells this of the row.
 fn push_by_sight<A: Allocator + Copy>(
     alloc: A,
+    few: bool,
     key: &Value<A>,
     number: usize,
     statement: &Statement<A>,
@@ -352,33 +356,20 @@ fn push_by_sight<A: Allocator + Copy>(
     ways: &mut Vec<Way<A>, A>,
 ) -> Result<(), Refusal>
     ensures ok { OnOk result (ways.new.items ≡ ways.old.items ++
-        spec.by_sight key.now number (spec.changed key.now statement.now) projection.now conditions.now sight.now
+        spec.by_sight few key.now number (spec.changed key.now statement.now) projection.now conditions.now sight.now
         way.now) }
     ensures err { IfErr result (λ e. e ≡ out_of_memory) }
 {
     let chosen = way_chosen(alloc, key, number, projection, conditions, sight, way)?;
     let chosen = changed_way(alloc, key, statement, chosen)?;
     push_way(chosen, ways)?;
-    let left = way_left(alloc, key, conditions, sight, way)?;
-    push_way(left, ways)
-}
-
-// What comes of a way by a statement of which the answer isn't one of its kind: nothing changes.
-fn push_same<A: Allocator + Copy>(
-    alloc: A,
-    way: &Way<A>,
-    ways: &mut Vec<Way<A>, A>,
-) -> Result<(), Refusal>
-    ensures ok { OnOk result (ways.new.items ≡ ways.old.items ++ way.now ∷ []) }
-    ensures err { IfErr result (λ e. e ≡ out_of_memory) }
-{
-    ways.push(way.copy(alloc)?)?;
-    Ok(())
+    push_ways_left(alloc, key, few, conditions, sight, way, ways)
 }
 
 // What comes of a way by a SELECT.
 fn push_selected<A: Allocator + Copy>(
     alloc: A,
+    few: bool,
     key: &Value<A>,
     number: usize,
     statement: &Statement<A>,
@@ -389,14 +380,14 @@ fn push_selected<A: Allocator + Copy>(
     ways: &mut Vec<Way<A>, A>,
 ) -> Result<(), Refusal>
     ensures ok { OnOk result (ways.new.items ≡ ways.old.items ++
-        spec.selected key.now number statement.now projection.now conditions.now reply.now way.now) }
+        spec.selected few key.now number statement.now projection.now conditions.now reply.now way.now) }
     ensures err { IfErr result (λ e. e ≡ out_of_memory) }
 {
     match reply {
         Reply::Rows(rows) => {
             let sight = sight_of_rows(alloc, key, projection, conditions, rows.as_slice())?;
             push_by_sight(
-                alloc, key, number, statement, projection, conditions, &sight, way, ways,
+                alloc, few, key, number, statement, projection, conditions, &sight, way, ways,
             )
         }
         _ => push_same(alloc, way, ways),
@@ -426,6 +417,7 @@ fn push_inserted<A: Allocator + Copy>(
 // What comes of a way by an UPDATE or a DELETE that is answered by a number.
 fn push_counted<A: Allocator + Copy>(
     alloc: A,
+    few: bool,
     key: &Value<A>,
     number: usize,
     statement: &Statement<A>,
@@ -435,12 +427,13 @@ fn push_counted<A: Allocator + Copy>(
     ways: &mut Vec<Way<A>, A>,
 ) -> Result<(), Refusal>
     ensures ok { OnOk result (ways.new.items ≡ ways.old.items ++
-        spec.counted_by key.now number statement.now conditions.now count way.now) }
+        spec.counted_by few key.now number statement.now conditions.now count way.now) }
     ensures err { IfErr result (λ e. e ≡ out_of_memory) }
 {
     let sight = sight_of_count(alloc, key, conditions, count);
     push_by_sight(
         alloc,
+        few,
         key,
         number,
         statement,
@@ -455,6 +448,7 @@ fn push_counted<A: Allocator + Copy>(
 // What comes of a way by an UPDATE.
 fn push_updated<A: Allocator + Copy>(
     alloc: A,
+    few: bool,
     key: &Value<A>,
     number: usize,
     statement: &Statement<A>,
@@ -464,12 +458,14 @@ fn push_updated<A: Allocator + Copy>(
     ways: &mut Vec<Way<A>, A>,
 ) -> Result<(), Refusal>
     ensures ok { OnOk result (ways.new.items ≡ ways.old.items ++
-        spec.updated_by key.now number statement.now conditions.now reply.now way.now) }
+        spec.updated_by few key.now number statement.now conditions.now reply.now way.now) }
     ensures err { IfErr result (λ e. e ≡ out_of_memory) }
 {
     match reply {
         Reply::Updated(count) => {
-            push_counted(alloc, key, number, statement, conditions, *count, way, ways)
+            push_counted(
+                alloc, few, key, number, statement, conditions, *count, way, ways,
+            )
         }
         _ => push_same(alloc, way, ways),
     }
@@ -478,6 +474,7 @@ fn push_updated<A: Allocator + Copy>(
 // What comes of a way by a DELETE.
 fn push_deleted<A: Allocator + Copy>(
     alloc: A,
+    few: bool,
     key: &Value<A>,
     number: usize,
     statement: &Statement<A>,
@@ -487,12 +484,14 @@ fn push_deleted<A: Allocator + Copy>(
     ways: &mut Vec<Way<A>, A>,
 ) -> Result<(), Refusal>
     ensures ok { OnOk result (ways.new.items ≡ ways.old.items ++
-        spec.deleted_by key.now number statement.now conditions.now reply.now way.now) }
+        spec.deleted_by few key.now number statement.now conditions.now reply.now way.now) }
     ensures err { IfErr result (λ e. e ≡ out_of_memory) }
 {
     match reply {
         Reply::Deleted(count) => {
-            push_counted(alloc, key, number, statement, conditions, *count, way, ways)
+            push_counted(
+                alloc, few, key, number, statement, conditions, *count, way, ways,
+            )
         }
         _ => push_same(alloc, way, ways),
     }
@@ -501,6 +500,7 @@ fn push_deleted<A: Allocator + Copy>(
 /// What comes of a way by a statement that looks at the row, and its answer.
 pub(crate) fn push_step<A: Allocator + Copy>(
     alloc: A,
+    few: bool,
     key: &Value<A>,
     number: usize,
     statement: &Statement<A>,
@@ -509,12 +509,13 @@ pub(crate) fn push_step<A: Allocator + Copy>(
     ways: &mut Vec<Way<A>, A>,
 ) -> Result<(), Refusal>
     ensures ok { OnOk result (ways.new.items ≡ ways.old.items ++
-        spec.step key.now number statement.now reply.now way.now) }
+        spec.step few key.now number statement.now reply.now way.now) }
     ensures err { IfErr result (λ e. e ≡ out_of_memory) }
 {
     match statement {
         Statement::Select(_, projection, conditions) => push_selected(
             alloc,
+            few,
             key,
             number,
             statement,
@@ -527,6 +528,7 @@ pub(crate) fn push_step<A: Allocator + Copy>(
         Statement::Insert(_, values) => push_inserted(alloc, values.as_slice(), reply, way, ways),
         Statement::Update(_, _, conditions) => push_updated(
             alloc,
+            few,
             key,
             number,
             statement,
@@ -537,6 +539,7 @@ pub(crate) fn push_step<A: Allocator + Copy>(
         ),
         Statement::Delete(_, conditions) => push_deleted(
             alloc,
+            few,
             key,
             number,
             statement,
