@@ -156,8 +156,11 @@ class OnPostgres(Beside):
         self.assertTrue(raw.closed)
         self.terminate(number)
         self.rest(recorder, name, driver)
-        if not autocommit and driver.__name__ == "psycopg":  # what was open is rolled back
-            self.assertIsNone(recorder.ended)
+        if driver.__name__ == "psycopg":
+            if autocommit:  # then libpq may send what is under way twice: the rows show that now and then
+                self.assertIn("may have sent a statement twice", recorder.ended)
+            else:  # what was open is rolled back
+                self.assertIsNone(recorder.ended)
         self.right(recorder)
 
     @unittest.skipUnless(module("psycopg"), "psycopg isn't there (Debian: python3-psycopg)")
@@ -253,7 +256,9 @@ class OnPostgres(Beside):
     # at any moment
 
     def test_at_any_moment(self) -> None:
-        for driver, autocommit, at in itertools.product(drivers(), (False, True), range(12)):
+        # psycopg closes while another thread is in libpq, which then uses memory that is given back: no test can bear that.
+        safe = [driver for driver in drivers() if driver.__name__ == "psycopg2"]
+        for driver, autocommit, at in itertools.product(safe, (False, True), range(12)):
             with self.subTest(driver.__name__, autocommit=autocommit, at=at):
                 name, seen = self.table(), []  # type: Tuple[str, List[Any]]
                 recorder = self.recorder([name], verify_end=at % 2 == 1)

@@ -61,9 +61,14 @@ class Connection(Proxy):
 
     def close(self) -> Any:
         """Closes the connection, and gives its session's number back."""
-        self._session.leaves()
+        session = self._session
+        session.leaves()
+        ended, may_repeat = session.calls - session.is_busy, session.driver.may_repeat()
         value = self.wrapped.close()
-        self._session.close()
+        if may_repeat and session.calls != ended:
+            why = "the connection was closed while another thread used it, and may have sent a statement twice"
+            session.recorder.spoil(why, "close()", session.number)
+        session.close()
         return value
 
     def __enter__(self) -> Any:

@@ -208,6 +208,10 @@ class Driver:
         """Whether a percent sign is doubled in a text with parameters."""
         return is_given and self.style in ("format", "pyformat")
 
+    def may_repeat(self) -> bool:
+        """Whether a statement by itself may be sent twice where the connection is closed while another thread sends it."""
+        return False
+
     def is_plain(self, cursor: Any) -> bool:
         """Whether the cursor's rows are tuples, so that the last fields of them can be hidden."""
         return False
@@ -361,6 +365,10 @@ class Postgres(Driver):
 
     def is_autocommit(self) -> bool:
         return bool(self._raw.autocommit) and not self.entered
+
+    def may_repeat(self) -> bool:
+        # psycopg closes at once: libpq, which isn't made for two threads, then sends what its buffer has left once more.
+        return self.own_transactions and self.is_autocommit()
 
     def code(self, error: BaseException) -> str:
         code = getattr(error, "sqlstate", None) or getattr(error, "pgcode", None)

@@ -44,6 +44,7 @@ class Session:
         self.lock = threading.RLock()
         self.is_closed = self.is_leaving = False
         self.is_busy = False  # whether a call is under way
+        self.calls = 0  # how many have begun
         self.is_open = False  # whether its transaction's BEGIN is written, and its end isn't
         self.is_explicit = False  # whether a BEGIN of the application's own has begun it
         self.is_alone = False  # whether a statement has begun it that is a transaction by itself
@@ -237,6 +238,7 @@ class Session:
                 self.recorder.stop("two tasks use one connection at once")
                 return call()
             self.is_busy = True  # from here on: what a step is planned by may ask the database, and let another task go on
+            self.calls += 1
             self._place = _UNKNOWN
             try:
                 step = None if self.is_closed else self.guarded(planned)
