@@ -367,6 +367,7 @@ with warnings.catch_warnings(record=True) as told:
         connection.execute("UPDATE t SET v = v + 1 WHERE id = 1")
         connection.commit()
     connection.execute("UPDATE t SET v = v * 2 WHERE id = 2")
+    recorder.flush()  # what is written a moment late otherwise
 print(len(told), connection.execute("SELECT * FROM t").fetchall())
 recorder.close()
 """
