@@ -246,8 +246,8 @@ def look_at_names(top: str = TOP) -> Faults:
 
 
 def look_at_documents() -> Faults:
-    """What tools/words and tools/mutant-list find."""
-    for words in (["words"], ["mutant-list", "--check"]):
+    """What tools/words, tools/mutant-list and tools/definitions find."""
+    for words in (["words"], ["mutant-list", "--check"], ["definitions", "--check"]):
         done = subprocess.run([os.path.join(TOOLS, words[0]), *words[1:]], stdout=subprocess.PIPE, stderr=subprocess.STDOUT, text=True)
         told = [line for line in done.stdout.splitlines() if line.startswith(f"{words[0]}: ")]
         yield from told if told or not done.returncode else [done.stdout]

@@ -1,8 +1,11 @@
 """What the preflight sees in a small repository: each fault that the gate refuses before it proves anything."""
 
 import contextlib
+import importlib.machinery
+import importlib.util
 import io
 import os
+import pathlib
 import subprocess
 import sys
 import tempfile
@@ -11,7 +14,7 @@ from typing import Any, Callable, Iterator, List
 from unittest import mock
 
 from tests import preflight
-from tests.program import TOP
+from tests.program import TOOLS, TOP
 
 TREE = {
     "crates.txt": "low:  # a library\napp: low io\n",
@@ -168,3 +171,77 @@ class Whole(unittest.TestCase):
         for look in looks:
             with self.subTest(look.__name__):
                 self.assertEqual(list(look(TOP)), [])
+
+
+# A promise whose contract names two definitions, one by a file's short name; one of them names a third, and a record and a comment stand beside.
+WORDS = """-- Words.
+use Rattle.std.specs.Prelude.{Bool, true}
+use Rattle.low.specs.Sums as sums
+
+-- a comment of more than
+-- one line
+pub record Pair : Type 0 where
+  pub first : Bool  -- its first
+  pub second : Bool
+
+module _ {A : Type 0} where
+  abbrev pub is_one : Pair -> Bool
+  is_one p = p.first
+
+  unfoldable pub unread : Bool
+  unread = true
+"""
+SUMS = "abbrev pub sum : Bool\nsum = part\n\nabbrev pub part : Bool\npart = true\n\nabbrev pub other : Bool\nother = true\n"
+SOURCE = """ghost use Rattle.low.specs.Words.{is_one};
+ghost use Rattle.low.specs.Sums as sums;
+
+/// One.
+pub fn one() -> u32
+    ensures first { is_one result }
+    ensures second { sums.sum }
+{
+    1
+}
+"""
+
+
+class Definitions(Room):
+    """What tools/definitions finds of the definitions that a promise reaches."""
+
+    def setUp(self) -> None:
+        super().setUp()
+        for path, text in {"docs/PROMISES.md": "| One | [`one`](../crates/low/src/one.rt) |\n", "crates/low/src/one.rt": SOURCE,
+                           "crates/low/specs/Words.antt": WORDS, "crates/low/specs/Sums.antt": SUMS}.items():
+            self.write(path, text)
+        loader = importlib.machinery.SourceFileLoader("definitions", os.path.join(TOOLS, "definitions"))
+        spec = importlib.util.spec_from_loader("definitions", loader)
+        assert spec is not None
+        self.definitions = importlib.util.module_from_spec(spec)
+        with mock.patch.object(sys, "dont_write_bytecode", True):
+            loader.exec_module(self.definitions)
+        top = pathlib.Path(self.top)
+        for name, value in {"TOP": top, "PROMISES": top / "docs/PROMISES.md", "PAGE": top / "docs/READING.md"}.items():
+            setattr(self.definitions, name, value)
+
+    def run_with(self, *words: str) -> Any:
+        out = io.StringIO()
+        with mock.patch.object(sys, "argv", ["definitions", *words]), contextlib.redirect_stdout(out):
+            return self.definitions.main(), out.getvalue()
+
+    def test_the_page_has_what_a_contract_names_and_what_that_names(self) -> None:
+        self.assertEqual(self.run_with(), (0, ""))
+        page = preflight.read(os.path.join(self.top, "docs/READING.md"))
+        self.assertIn("| [`one`](../crates/low/src/one.rt) | 4 | 9 |\n", page)
+        self.assertIn("| [low/Words](../crates/low/specs/Words.antt) | 5 | 2 | `unread` |\n", page)
+        self.assertIn("| [low/Sums](../crates/low/specs/Sums.antt) | 4 | 2 | `other` |\n", page)
+        self.assertEqual(self.run_with("--check"), (0, ""))
+
+    def test_a_page_that_says_otherwise_is_a_fault(self) -> None:
+        self.run_with()
+        self.write("crates/low/specs/Sums.antt", SUMS.replace("part = true", "part = other"))
+        self.assertEqual(self.run_with("--check"), (1, "definitions: docs/READING.md isn't what tools/definitions writes: run it\n"))
+
+    def test_a_promise_of_a_function_that_is_gone_is_a_fault(self) -> None:
+        self.run_with()
+        self.write("crates/low/src/one.rt", SOURCE.replace("fn one", "fn two"))
+        self.assertEqual(self.run_with("--check")[1].splitlines()[0], "definitions: docs/PROMISES.md: no contract of `one` in crates/low/src/one.rt")
