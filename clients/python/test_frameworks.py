@@ -1,5 +1,7 @@
-"""Tests of what README.md begins with: the lines that it says for each framework are cut out of it, and run on three
-applications (a lost update, a write skew, neither) at three levels. Verdicts and named lines are those of the definitions.
+"""Tests of what README.md begins with: the lines that it says for each framework are cut out of it, and run in a fresh virtual
+environment, on three applications (a lost update, a write skew, neither) at three levels. Verdicts and named lines are those of
+the definitions. Into the environment pip installs the package; frameworks and drivers are those that Debian has, since nothing
+is fetched. Of these there was neither SQLAlchemy 2 nor Django 4.
 
     PGSERIAL=path/to/pgserial PGSERIAL_DSN=".." python3 clients/python/test_frameworks.py
 
@@ -9,8 +11,10 @@ $PGSERIAL_DSN names a database of PostgreSQL, in which the table `accounts` is m
 import json
 import os
 import re
+import shutil
 import subprocess
 import sys
+import tempfile
 import textwrap
 import unittest
 from typing import Any, Dict, List, Tuple
@@ -23,13 +27,40 @@ LETS = {"withdraw": LEVELS[:1], "close": LEVELS[:2], "deposit": ()}
 NAMES = {"withdraw": "lost update", "close": "write skew"}
 
 
-def blocks(heading: str) -> List[str]:
-    """The blocks of code that README.md has below a heading."""
+def below(heading: str) -> str:
+    """What README.md has below a heading."""
     with open(os.path.join(HERE, "README.md"), encoding="utf-8") as file:
         text = file.read()
     found = re.search(rf"^## {re.escape(heading)}\n(.*?)(?=^#)", re.sub(r"^# ", "## ", text, flags=re.MULTILINE) + "\n## ", re.MULTILINE | re.DOTALL)
     assert found, f"README.md has no heading {heading}"
-    return [textwrap.dedent(block) for block in re.findall(r"```\w*\n(.*?)```", found[1], re.DOTALL)]
+    return found[1]
+
+
+def blocks(heading: str) -> List[str]:
+    """The blocks of code there."""
+    return [textwrap.dedent(block) for block in re.findall(r"```\w*\n(.*?)```", below(heading), re.DOTALL)]
+
+
+def inline(heading: str, beginning: str) -> str:
+    """The code there, amid its sentences, that begins so."""
+    return next(code for code in re.findall(r"(?<!`)`([^`\n]+)`", below(heading)) if code.startswith(beginning))
+
+
+def fresh_python(folder: str) -> str:
+    """The Python of a virtual environment that is made in a folder, into which pip installs the package."""
+    room, sources = os.path.join(folder, "room"), os.path.join(folder, "sources")
+    if subprocess.run([sys.executable, "-m", "venv", "--system-site-packages", room], capture_output=True, check=False).returncode:
+        raise unittest.SkipTest("Python's venv with pip isn't there (Debian: python3-venv)")
+    shutil.copytree(os.path.join(HERE, "pgserial"), os.path.join(sources, "pgserial"), ignore=shutil.ignore_patterns("__pycache__"))
+    for name in ("pyproject.toml", "README.md"):
+        shutil.copy(os.path.join(HERE, name), sources)
+    python = os.path.join(room, "bin/python")
+    words = ["--disable-pip-version-check", "--no-cache-dir", "-q", "install", "--no-index", "--no-deps", "--no-build-isolation", sources]
+    done = subprocess.run([python, "-m", "pip", *words], capture_output=True, text=True, check=False)
+    if "No module named 'wheel'" in done.stderr or "invalid command 'bdist_wheel'" in done.stderr:
+        raise unittest.SkipTest("Python's wheel isn't there (Debian: python3-wheel)")
+    assert done.returncode == 0, done.stderr
+    return python
 
 
 # ---- the applications: two at once, each of which waits for the other between its read and its write
@@ -123,6 +154,33 @@ for name, level in ALL:
     exec(FIRST, names)
     recorder = names["recorder"]
     both(getattr(Shop(lambda: recorder.wrap(connected())), name), REFUSED)
+    told[f"{name} {level}"] = [recorder.verdict().answer, str(recorder.verdict())]
+print(json.dumps(told))
+"""
+RUN_POOL = """
+import contextlib, json, os, psycopg2.extensions, psycopg2.pool
+from made import made
+from shop import REFUSED, Shop
+from common import both
+from pgserial.recording import Recorder
+
+@contextlib.contextmanager
+def lent(pool):
+    connection = pool.getconn()
+    try:
+        with connection:
+            yield connection
+    finally:
+        pool.putconn(connection)
+
+told = {}
+for name, level in ALL:
+    made()
+    recorder = Recorder("pool.transcript", tables=["accounts"])
+    options = "-c default_transaction_isolation=" + level.replace(" ", "\\\\ ")
+    pool = eval(f"psycopg2.pool.ThreadedConnectionPool(2, 4, os.environ['DSN'], options=options, {FIRST})")
+    both(getattr(Shop(lambda: lent(pool)), name), REFUSED)
+    pool.closeall()
     told[f"{name} {level}"] = [recorder.verdict().answer, str(recorder.verdict())]
 print(json.dumps(told))
 """
@@ -406,6 +464,13 @@ class Tests(TestCase):
 class Readme(Room):
     """Each framework's lines, on the applications at the levels."""
 
+    @classmethod
+    def setUpClass(cls) -> None:
+        folder = tempfile.TemporaryDirectory()
+        cls.addClassCleanup(folder.cleanup)
+        cls.home = folder.name
+        cls.python = fresh_python(folder.name)
+
     def write(self, **files: str) -> None:
         for name, text in files.items():
             path = os.path.join(self.folder, name.replace("__", "/") + ".py")
@@ -415,10 +480,11 @@ class Readme(Room):
 
     def run_python(self, *words: str, **environment: str) -> Any:
         changed = {
-            **os.environ, "PYTHONPATH": HERE, "DSN": DSN, "TMPDIR": self.folder, "PYTHONWARNINGS": "ignore", "COLUMNS": "300",
+            **os.environ, "DSN": DSN, "TMPDIR": self.folder, "PYTHONWARNINGS": "ignore", "COLUMNS": "300",
             "PYTEST_DISABLE_PLUGIN_AUTOLOAD": "1", **environment,
         }  # fmt: skip
-        command = [sys.executable, "-B", *words]
+        changed.pop("PYTHONPATH", None)
+        command = [self.python, "-B", *words]
         return subprocess.run(command, cwd=self.folder, env=changed, capture_output=True, text=True, timeout=60, check=False)
 
     def judged(self, file: str, level: str, name: str, answer: str, words: str) -> None:
@@ -449,10 +515,19 @@ class Readme(Room):
         words = dict(word.split("=", 1) for word in DSN.split())
         return f"postgresql+{driver}://{words['user']}@/{words['dbname']}?host={words['host']}"
 
+    def test_the_package_is_that_of_the_environment(self) -> None:
+        for name in ("pgserial", "pgserial.django.postgresql", "pgserial.pytest_plugin"):
+            done = self.run_python("-c", f"import importlib.util; print(importlib.util.find_spec({name!r}).origin)")
+            self.assertTrue(done.stdout.startswith(os.path.join(self.home, "room") + "/lib"), done.stdout + done.stderr)
+
     def test_bare_drivers(self) -> None:
         first = blocks("Bare drivers")[0].split("connection =")[0]
         self.write(common=COMMON, shop=BARE)
         self.each_level(RUN_BARE, first)
+
+    def test_pools_of_psycopg2(self) -> None:
+        self.write(common=COMMON, shop=BARE)
+        self.each_level(RUN_POOL, inline("asyncio", "connection_factory="))
 
     @unittest.skipUnless(module("sqlalchemy"), "sqlalchemy isn't there (Debian: python3-sqlalchemy)")
     def test_sqlalchemy(self) -> None:
@@ -472,11 +547,8 @@ class Readme(Room):
         self.write(async_common=ASYNC_COMMON, shop=ASYNCIO)
         self.each_level(RUN_ASYNCIO, blocks("asyncio")[0])
 
-    @unittest.skipUnless(module("pytest"), "pytest isn't there (Debian: python3-pytest)")
-    def test_pytest(self) -> None:
-        self.write(common=COMMON, made=MADE, shop=BARE, test_shop=TESTS)
-        command = next(line for line in blocks("pytest")[0].split("\n") if "=accounts" in line).split("#")[0].split()
-        self.assertEqual(command[0], "pytest")
+    def judged_tests(self, *command: str) -> None:
+        """Runs pytest at each level, and looks at what it tells of each application."""
         for level in LEVELS:
             done = self.run_python("-m", *command, "-p", "no:cacheprovider", LEVEL=level)
             sections = re.split(r"^_+ test\[(\w+)\] _+$", done.stdout, flags=re.MULTILINE)
@@ -486,19 +558,49 @@ class Readme(Room):
             counts = {"yes": sum(level not in lets for lets in LETS.values()), "no": sum(level in lets for lets in LETS.values())}
             self.assertIn(", ".join(f"{count} {answer}" for answer, count in counts.items() if count) + "\n", done.stdout)
 
+    @unittest.skipUnless(module("pytest"), "pytest isn't there (Debian: python3-pytest)")
+    def test_pytest(self) -> None:
+        commands = [line.split("#")[0].split() for line in blocks("pytest")[0].strip().split("\n")]
+        self.assertEqual([command[0] for command in commands], ["pytest", "pytest"])
+        self.write(common=COMMON, made=MADE, shop=BARE, test_shop=TESTS)
+        for command in commands:
+            self.judged_tests(*command)
+
+    @unittest.skipUnless(module("pytest"), "pytest isn't there (Debian: python3-pytest)")
+    def test_a_mark_of_pytest(self) -> None:
+        marked = TESTS.replace("@pytest.mark.parametrize", inline("pytest", "@pytest.mark.") + "\n@pytest.mark.parametrize")
+        self.write(common=COMMON, made=MADE, shop=BARE, test_shop=marked)
+        self.judged_tests(*blocks("pytest")[0].split("--serializable")[0].split())
+
+    def write_django(self, settings: str) -> None:
+        """Writes a project of Django, with the tests that README.md says."""
+        tests = blocks("Django")[1]
+        manage = "import os, sys\nfrom django.core.management import execute_from_command_line\nos.environ['DJANGO_SETTINGS_MODULE'] = 'settings'\nexecute_from_command_line(sys.argv)\n"
+        self.write(common=COMMON, manage=manage, settings=settings, shop____init____="", shop__models=MODELS, shop__views=VIEWS, shop__tests=tests + DJANGO_TESTS)
+        os.rename(os.path.join(self.folder, "shop//init//.py"), os.path.join(self.folder, "shop/__init__.py"))
+
+    def judged_cases(self, level: str, lets: Dict[str, Tuple[str, ...]]) -> None:
+        """Runs the tests of a project, and looks at what is told of each application."""
+        done = self.run_python("manage.py", "test", "--noinput", "shop", LEVEL=level)
+        self.assertIn("Ran 3 tests", done.stderr, done.stderr)
+        sections = re.split(r"^(?:FAIL|ERROR): test_(\w+) ", done.stderr, flags=re.MULTILINE)
+        failed = dict(zip(sections[1::2], sections[2::2]))
+        for name in lets:
+            self.judged("shop/views.py", level, name, "no" if name in failed else "yes", failed.get(name, done.stderr))
+
     @unittest.skipUnless(module("django"), "django isn't there (Debian: python3-django)")
     def test_django(self) -> None:
-        settings, tests = blocks("Django")[:2]
-        manage = "import os, sys\nfrom django.core.management import execute_from_command_line\nos.environ['DJANGO_SETTINGS_MODULE'] = 'settings'\nexecute_from_command_line(sys.argv)\n"
-        self.write(common=COMMON, manage=manage, settings=SETTINGS + settings, shop____init____="", shop__models=MODELS, shop__views=VIEWS, shop__tests=tests + DJANGO_TESTS)
-        os.rename(os.path.join(self.folder, "shop//init//.py"), os.path.join(self.folder, "shop/__init__.py"))
+        self.write_django(SETTINGS + blocks("Django")[0])
         for level in LEVELS:
-            done = self.run_python("manage.py", "test", "--noinput", "shop", LEVEL=level)
-            self.assertIn("Ran 3 tests", done.stderr, done.stderr)
-            sections = re.split(r"^(?:FAIL|ERROR): test_(\w+) ", done.stderr, flags=re.MULTILINE)
-            failed = dict(zip(sections[1::2], sections[2::2]))
-            for name in LETS:
-                self.judged("shop/views.py", level, name, "no" if name in failed else "yes", failed.get(name, done.stderr))
+            self.judged_cases(level, LETS)
+
+    @unittest.skipUnless(module("django"), "django isn't there (Debian: python3-django)")
+    def test_django_on_sqlite(self) -> None:
+        """SQLite has one level, at which nothing comes through."""
+        engine = blocks("Django")[0].replace("pgserial.django.postgresql", inline("Django", "pgserial.django.sqlite3"))
+        database = 'DATABASES = {"default": {"NAME": BASE_DIR / "db", "TEST": {"NAME": BASE_DIR / "tested"}, "OPTIONS": {"timeout": 10}}}\n'
+        self.write_django(SETTINGS[: SETTINGS.index("server =")] + database + engine)
+        self.judged_cases("SERIALIZABLE", LETS)
 
 
 class Shop(Room):
