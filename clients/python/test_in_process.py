@@ -7,10 +7,10 @@ test_pgserial.py tries the library itself, where $PGSERIAL_LIBRARY names one.
 
 import ctypes
 import unittest
-from typing import Any
+from typing import Any, Callable, Dict
 
 from pgserial import library
-from pgserial.library import DONE, NEEDS_ROOM, REFUSED, Conversation, Library, LibraryError
+from pgserial.library import DONE, NEEDS_ROOM, REFUSED, Conversation, Library, LibraryError, Prepared
 
 LENGTHS = (0, 1, library.FIRST_ROOM - 1, library.FIRST_ROOM, library.FIRST_ROOM + 1, 2 * library.FIRST_ROOM, 70000)
 
@@ -27,6 +27,8 @@ class Made:
     def pgserial_open(self, *_: Any) -> int:
         return DONE
 
+    pgserial_open_dump = pgserial_execute = pgserial_open
+
     def pgserial_call(self, *_: Any) -> int:
         return self.status
 
@@ -36,6 +38,9 @@ class Made:
         return self._put(out, room, report, DONE)
 
     def run(self, given: bytes, size: int, most: int, out: Any, room: int, report: Any) -> int:
+        return self._put(out, room, report, self.status)
+
+    def explore(self, given: bytes, size: int, events: int, most: int, out: Any, room: int, report: Any) -> int:
         return self._put(out, room, report, self.status)
 
     def _put(self, out: Any, room: int, report: Any, status: int) -> int:
@@ -50,7 +55,7 @@ class Whole(unittest.TestCase):
     def setUp(self) -> None:
         self.made = Made()
         of: Any = Library.__new__(Library)
-        of._loaded, of._run = self.made, self.made.run
+        of._loaded, of._run, of._audit, of._explore = self.made, self.made.run, self.made.run, self.made.explore
         self.library, self.talk = of, Conversation(of, 100)
 
     def test_an_answer_to_a_line(self) -> None:
@@ -70,6 +75,23 @@ class Whole(unittest.TestCase):
         for length in LENGTHS:
             self.made.answers(length)
             self.assertEqual(self.library.run("1 BEGIN;"), self.made.text.decode())
+
+    def test_numbers_that_a_call_would_cut(self) -> None:
+        """As ctypes takes them, the first of these is session 1, the next line 1, and so on."""
+        calls: Dict[str, Callable[[int], Any]] = {
+            "dump": self.talk.dump, "execute": lambda number: self.talk.execute(Prepared(number, 0)), "open": self.library.open,
+            "open a dump": lambda number: self.library.open(number, ""), "run": lambda number: self.library.run("", number),
+            "audit": lambda number: self.library.audit("", number), "explore": lambda number: self.library.explore("", number),
+            "schedules": lambda number: self.library.explore("", 1, number),
+        }
+        for name, call in calls.items():
+            bits = 64 if name in ("execute", "schedules") else 32
+            for number in (-1, -5, (1 << bits), (1 << bits) + 1):
+                with self.subTest(f"{name} {number}"):
+                    self.assertRaises(OverflowError, call, number)
+            for number in (0, 1, (1 << bits) - 1):
+                with self.subTest(f"{name} {number}"):
+                    call(number)
 
 
 if __name__ == "__main__":

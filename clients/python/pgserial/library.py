@@ -34,6 +34,8 @@ WORDS = {
     TOO_MANY: "there are more schedules than may be run",
 }
 FIRST_ROOM = 1 << 12  # bytes
+# How many bits the numbers have that a call takes, as pgserial.h declares them.
+EVENTS_BITS, SESSION_BITS, SCHEDULES_BITS, SIZE_BITS = 32, 32, 64, 8 * ctypes.sizeof(ctypes.c_size_t)
 Text = Union[str, bytes, bytearray, memoryview]
 Value = Union[None, int, str, bytes, bytearray, memoryview]  # of a literal's place
 
@@ -81,9 +83,9 @@ class Conversation:
         self._words = ctypes.byref(self._handle), ctypes.byref(self._report)
         self._out = ctypes.create_string_buffer(FIRST_ROOM)
         if dump is None:
-            self._check(self._loaded.pgserial_open(self._words[0], most_events))
+            self._check(self._loaded.pgserial_open(self._words[0], _fitting("the number of events", most_events, EVENTS_BITS)))
             return
-        given, out = _bytes(dump), self._out
+        given, out, most_events = _bytes(dump), self._out, _fitting("the number of events", most_events, EVENTS_BITS)
         status = self._loaded.pgserial_open_dump(self._words[0], given, len(given), most_events, out, len(out), self._words[1])
         self._check(status, ctypes.string_at(out, self._report.length).decode())
 
@@ -146,11 +148,12 @@ class Conversation:
     def execute(self, line: Prepared, *values: Value) -> int:
         """How many rows a Prepared of this conversation shows or has changed, with these values (None, an int, a str or bytes) for
         its first places; the others have those that they had last. `answer` has its reply."""
+        number = _fitting("the number of a line", line.number, SIZE_BITS)
         for place, value in enumerate(values, 1):
-            status = self._bind(line.number, place, value)
+            status = self._bind(number, place, value)
             if status != DONE:
                 raise LibraryError(status, 0, "")
-        status = self._loaded.pgserial_execute(self._words[0], line.number, self._words[1])
+        status = self._loaded.pgserial_execute(self._words[0], number, self._words[1])
         if status == DONE:
             rows: int = self._report.line
             return rows
@@ -169,6 +172,7 @@ class Conversation:
     def dump(self, session: int) -> str:
         """A dump of the safe snapshot of a session's transaction."""
         handle, report = self._words
+        session = _fitting("the number of a session", session, SESSION_BITS)
         return self._answer(self._loaded.pgserial_dump(handle, session, report)).decode("utf-8")
 
     def serial_order(self) -> str:
@@ -183,6 +187,13 @@ class Conversation:
         """Gives back the server's memory; nothing where that was done."""
         if self._handle.is_open:
             self._check(self._loaded.pgserial_close(self._words[0]))
+
+
+def _fitting(what: str, number: int, bits: int) -> int:
+    """A number of so many bits, which ctypes would cut; an OverflowError where it has more."""
+    if not 0 <= number < 1 << bits:
+        raise OverflowError(f"{what} is {number}, which isn't from 0 to {(1 << bits) - 1}")
+    return number
 
 
 def _bytes(text: Text) -> bytes:
@@ -244,11 +255,11 @@ class Library:
 
     def run(self, script: Text, most_events: int = MOST_EVENTS) -> str:
         """The replies to the lines of a script, as `pgserial run` prints them."""
-        return self._answer(self._run, script, most_events)[1]
+        return self._answer(self._run, script, _fitting("the number of events", most_events, EVENTS_BITS))[1]
 
     def audit(self, script: Text, most_events: int = MOST_EVENTS) -> str:
         """The committed transactions of a script in the serial order, as `pgserial audit` prints them."""
-        return self._answer(self._audit, script, most_events)[1]
+        return self._answer(self._audit, script, _fitting("the number of events", most_events, EVENTS_BITS))[1]
 
     def check(self, transcript: Text, has_time: bool = True) -> Checked:
         """A Checked: whether some serial order explains the replies of a transcript, as `pgserial check` prints it. With time, who
@@ -258,6 +269,8 @@ class Library:
 
     def explore(self, script: Text, most_events: int = MOST_EVENTS, most_schedules: int = MOST_SCHEDULES) -> str:
         """The outcomes of every interleaving of a script's lines after its setup, as `pgserial explore` prints them."""
+        most_events = _fitting("the number of events", most_events, EVENTS_BITS)
+        most_schedules = _fitting("the number of schedules", most_schedules, SCHEDULES_BITS)
         return self._answer(self._explore, script, most_events, most_schedules)[1]
 
     def open(self, most_events: int = MOST_EVENTS, dump: Optional[Text] = None) -> Conversation:
