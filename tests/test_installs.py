@@ -90,6 +90,14 @@ class Installs(unittest.TestCase):
             self.assertEqual((done.returncode, done.stdout, done.stderr.splitlines()[-1]), (2, "", f"pgserial {way}: error: --prefix DIR: DIR is empty"))
             self.assertEqual(os.listdir(self.folder), [])
 
+    def test_a_prefix_that_is_no_folder_is_named(self):
+        with open(self.prefix, "w", encoding="utf-8"):
+            pass
+        with mock.patch.object(install, "find_program", lambda unproved: (program(), True)), mock.patch("sys.argv", ["", "install", "--prefix", self.prefix]):
+            with self.assertRaises(SystemExit) as ended:
+                install.main()
+        self.assertEqual(ended.exception.code, f"pgserial: {self.prefix}/share: Not a directory")
+
     def test_what_others_have_put_there_stays(self):
         os.makedirs(os.path.join(self.prefix, "bin"))
         with open(os.path.join(self.prefix, "bin/pgserial"), "w", encoding="utf-8") as file:

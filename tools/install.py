@@ -293,7 +293,7 @@ def main():
     try:
         install(prefix, asked.unproved) if asked.way == "install" else uninstall(prefix)
     except OSError as error:
-        sys.exit(f"pgserial: {error}")
+        sys.exit(f"pgserial: {error.filename}: {error.strerror}" if error.filename else f"pgserial: {error}")
 
 
 if __name__ == "__main__":
