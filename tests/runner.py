@@ -167,7 +167,7 @@ class Run:
             self.counted[check.name] = (result.cases(), result.seconds)
         self.passed, self.failed, self.skipped = self.passed + result.passed, self.failed + len(failures), self.skipped + result.skips()
         mark = "FAILED" if failures else "again " if late else "ok    "
-        self.shown.line(f"{mark} {check.name:28}{result.cases():6} cases {result.seconds:7.1f} s" + (f", {result.skips()} skipped" if result.skipped else ""))
+        self.shown.line(f"{mark} {check.name:28}{result.cases():6} cases {result.seconds:7.1f} s, {result.processor:.1f} s of processors" + (f", {result.skips()} skipped" if result.skipped else ""))
         self.explain(failures)
         for reason, count in result.skipped.items():
             self.shown.line(f"  skipped: {count} of {check.name}: {reason}")

@@ -44,6 +44,7 @@ class Result:
 
     passed: int = 0
     seconds: float = 0.0
+    processor: float = 0.0  # the seconds of processors that it and what it has waited for took
     failures: List[Failure] = dataclasses.field(default_factory=list)
     skipped: Dict[str, int] = dataclasses.field(default_factory=dict)
 
@@ -106,7 +107,7 @@ class Running:
     def finish(self) -> None:
         """Waits for the process, which has told all."""
         os.close(self.pipe)
-        status = self.child.wait()
+        status = self.wait()
         self.result.seconds = time.monotonic() - self.begun
         if status not in (0, 1) or self.test or not self.result.cases():
             self.log.seek(0)
@@ -115,6 +116,15 @@ class Running:
             why = self.late or f"it ended with {status}"
             self.result.failures.append(Failure(name, {"case": "", "said": f"{why}:\n{said}", "size": 0, "where": ""}, False))
         self.log.close()
+
+
+    def wait(self) -> int:
+        """Waits for the process, and takes notice of what it took: its status."""
+        if self.child.returncode is None:
+            _, status, used = os.wait4(self.child.pid, 0)
+            self.child.returncode = -os.WTERMSIG(status) if os.WIFSIGNALED(status) else os.WEXITSTATUS(status)
+            self.result.processor = used.ru_utime + used.ru_stime
+        return self.child.returncode
 
 
 # ---- ending what was started

@@ -79,6 +79,19 @@ class Dies(unittest.TestCase):
         os.write(2, b"what it says last")
         os._exit(7)
 """
+# Has a process that takes the processor for half a second, and then waits for half a second.
+BUSY = """
+import subprocess
+import sys
+import time
+import unittest
+
+
+class Busy(unittest.TestCase):
+    def test_busy(self):
+        subprocess.run([sys.executable, "-c", "import time\\nwhile time.process_time() < 0.5: pass"], check=True)
+        time.sleep(0.5)
+"""
 # Starts a process of a session of its own, as a compilation is, and waits.
 WAITS = """
 import subprocess
@@ -280,6 +293,15 @@ class Runner(unittest.TestCase):
         self.assertEqual((done.returncode, done.stdout), (1, "test: no proved program of these sources is there: ./pgserial build, or rt ci, makes one\n"))
         done = subprocess.run([*words, "--proved", "--unproved"], stdout=subprocess.PIPE, stderr=subprocess.STDOUT, text=True, timeout=PATIENCE)
         self.assertEqual(done.returncode, 2)
+
+    def test_a_line_has_the_seconds_of_processors(self) -> None:
+        """Those of what a check has started too; and not those for which it waits."""
+        self.check("busy", BUSY)
+        found = re.search(r"^ok +busy +1 cases +([\d.]+) s, ([\d.]+) s of processors$", self.run_it()[1], re.M)
+        assert found
+        passed, taken = map(float, found.groups())
+        self.assertGreaterEqual(taken, 0.5)
+        self.assertGreaterEqual(passed, taken + 0.4)
 
     def test_the_list_has_cases_and_seconds(self) -> None:
         self.check("good", GOOD)
