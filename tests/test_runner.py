@@ -79,6 +79,25 @@ class Dies(unittest.TestCase):
         os.write(2, b"what it says last")
         os._exit(7)
 """
+# The cases of a generator's, of which the second fails; and a loop that ends in one though nothing has failed.
+GIVEN = """
+import unittest
+
+
+class Given(unittest.TestCase):
+    def each(self):
+        for name in ("first", "second", "third"):
+            with self.subTest(name):
+                yield name
+
+    def test_given(self):
+        for name in self.each():
+            self.assertEqual(name, "first")
+
+    def test_left(self):
+        for name in self.each():
+            break
+"""
 # Has a process that takes the processor for half a second, and then waits for half a second.
 BUSY = """
 import subprocess
@@ -293,6 +312,16 @@ class Runner(unittest.TestCase):
         self.assertEqual((done.returncode, done.stdout), (1, "test: no proved program of these sources is there: ./pgserial build, or rt ci, makes one\n"))
         done = subprocess.run([*words, "--proved", "--unproved"], stdout=subprocess.PIPE, stderr=subprocess.STDOUT, text=True, timeout=PATIENCE)
         self.assertEqual(done.returncode, 2)
+
+    def test_what_ends_a_loop_over_cases_is_told_of_its_case(self) -> None:
+        self.check("given", GIVEN)
+        status, printed, _ = self.run_it("given.Given.test_given")
+        self.assertEqual(status, 1)
+        self.assertRegex(printed, r"given\.Given\.test_given: \[second\] \(tests/test_given\.py:\d+\)\n    'second' != 'first'\n")
+        self.assertNotIn("GeneratorExit", printed)
+        status, printed, _ = self.run_it("given.Given.test_left")
+        self.assertEqual(status, 1)
+        self.assertIn("GeneratorExit", printed)
 
     def test_a_line_has_the_seconds_of_processors(self) -> None:
         """Those of what a check has started too; and not those for which it waits."""

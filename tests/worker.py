@@ -38,21 +38,32 @@ class Teller(unittest.TestResult):
         self.begun, self.cases = 0.0, 0
         self.failures_told: List[Dict[str, Any]] = []
         self.skip: Optional[str] = None
+        self.left: Optional[Dict[str, Any]] = None  # of a case of a generator's that a loop over it left
 
     def tell(self, **what: Any) -> None:
         print(json.dumps(what), file=self.pipe, flush=True)
 
     def startTest(self, test: unittest.TestCase) -> None:
         super().startTest(test)
-        self.begun, self.cases, self.failures_told, self.skip = time.monotonic(), 0, [], None
+        self.begun, self.cases, self.failures_told, self.skip, self.left = time.monotonic(), 0, [], None, None
         self.tell(began=test.id())
 
     def stopTest(self, test: unittest.TestCase) -> None:
         super().stopTest(test)
+        self.name_left()
         method = getattr(test, getattr(test, "_testMethodName", ""), None)
         self.tell(
             ended=test.id(), cases=max(1, self.cases), failed=self.failures_told, skipped=self.skip,
             seconds=time.monotonic() - self.begun, timed=bool(getattr(method, "is_timed", False)))
+
+    def name_left(self) -> None:
+        """Where a loop over a generator's cases ended within one, that is the case of what ended it. (The generator goes on to the
+        next one meanwhile, since a case keeps to itself what ends it.)"""
+        if self.left is None:
+            return
+        for told in self.failures_told:
+            told["case"] = told["case"] or self.left["case"]
+        self.failures_told = self.failures_told or [self.left]
 
     def fail(self, test: Any, error: Any) -> None:
         """Notes a failure; that of a class or a module, which has no test of its own, is told at once."""
@@ -64,7 +75,9 @@ class Teller(unittest.TestResult):
     def addSubTest(self, test: Any, subtest: Any, err: Any) -> None:
         super().addSubTest(test, subtest, err)
         self.cases += 1
-        if err is not None:
+        if err is not None and issubclass(err[0], GeneratorExit):
+            self.left = self.left or told_of(subtest, err)
+        elif err is not None:
             self.fail(subtest, err)
 
     def addFailure(self, test: Any, err: Any) -> None:
