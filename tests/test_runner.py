@@ -1,5 +1,7 @@
 """How `./pgserial test` runs checks: in a small repository, whose checks are as each case needs them."""
 
+import ast
+import glob
 import os
 import pty
 import re
@@ -336,6 +338,30 @@ class Runner(unittest.TestCase):
         self.check("good", GOOD)
         self.write("tests/cases.txt", "good 6 2.5\n")
         self.assertRegex(self.run_it("--list")[1], r"\Agood +6 cases +2\.5 s\n\Z")
+
+
+def reasons(path: str) -> List[str]:
+    """The reasons for which a file's tests are skipped, as far as they are written there."""
+    with open(path, encoding="utf-8") as file:
+        tree = ast.parse(file.read())
+    named = {target.id: node.value for node in tree.body if isinstance(node, ast.Assign) for target in node.targets if isinstance(target, ast.Name)}
+    found = []
+    for call in [node for node in ast.walk(tree) if isinstance(node, ast.Call) and node.args]:
+        if getattr(call.func, "attr", getattr(call.func, "id", "")) in ("skipUnless", "skipIf", "skipTest", "SkipTest"):
+            said = call.args[-1]
+            said = named.get(said.id, said) if isinstance(said, ast.Name) else said
+            found += [ast.unparse(said)] if isinstance(said, (ast.Constant, ast.JoinedStr)) else []
+    return found
+
+
+class Reasons(unittest.TestCase):
+    def test_what_the_machine_lacks_is_told_with_its_package(self) -> None:
+        """But where no package has it: an older SQLite, the toolchain, a folder, what the kernel gives."""
+        known = re.compile(r"\(Debian: |SQLite is older than|folder of temporary files|/dev/full|there are no locks|rt isn't on the PATH|toolchain is where")
+        files = [path for folder in ("tests", "clients/python") for path in glob.glob(os.path.join(TOP, folder, "test_*.py"))]
+        told = {path: [reason for reason in reasons(path) if not known.search(reason)] for path in files}
+        self.assertEqual({os.path.relpath(path, TOP): found for path, found in told.items() if found}, {})
+        self.assertGreater(sum(len(reasons(path)) for path in files), 50)
 
 
 def sleepers() -> List[str]:

@@ -114,7 +114,7 @@ class OnSqlite(Turned, test_recording.OnSqlite):
         self.assertIn("  1 | 20\tb", self.lines())
 
 
-@unittest.skipUnless(drivers(), "no PostgreSQL")
+@unittest.skipUnless(drivers(), "PostgreSQL or psycopg2 isn't there (Debian: postgresql, python3-psycopg2)")
 class OnPostgres(Turned, test_recording.Postgres):
     def each(self, driver: Any, register: Callable[[Any], None], kinds: int, undo: Callable[[], None] = lambda: None) -> Iterator[Any]:  # type: ignore[override]
         """A connection, where something is registered before it is wrapped, and after."""
@@ -133,7 +133,7 @@ class OnPostgres(Turned, test_recording.Postgres):
                 undo()
                 self.judged(recorder, kinds, self.raw(driver, True))
 
-    @unittest.skipUnless(module("psycopg2"), "python3-psycopg2 isn't installed")
+    @unittest.skipUnless(module("psycopg2"), "psycopg2 isn't there (Debian: python3-psycopg2)")
     def test_adapters_of_psycopg2(self) -> None:
         psycopg2 = module("psycopg2")
         extensions = psycopg2.extensions
@@ -149,7 +149,7 @@ class OnPostgres(Turned, test_recording.Postgres):
                 for connection in self.each(psycopg2, register, 1, undo):
                     self.sends(connection.cursor(), "%s", value, 20)
 
-    @unittest.skipUnless(module("psycopg2"), "python3-psycopg2 isn't installed")
+    @unittest.skipUnless(module("psycopg2"), "psycopg2 isn't there (Debian: python3-psycopg2)")
     def test_what_is_sent_as_it_is(self) -> None:
         psycopg2 = module("psycopg2")
         self.make("CREATE TABLE t (id int PRIMARY KEY, v bytea)", "INSERT INTO t VALUES (1, 'x')")
@@ -160,7 +160,7 @@ class OnPostgres(Turned, test_recording.Postgres):
         cursor.execute("SELECT id FROM t WHERE v = %s", (psycopg2.Binary(b"x"),))
         self.assertIn("> 1 SELECT id FROM t WHERE v = '\\x78';", self.lines())
 
-    @unittest.skipUnless(module("psycopg2"), "python3-psycopg2 isn't installed")
+    @unittest.skipUnless(module("psycopg2"), "psycopg2 isn't there (Debian: python3-psycopg2)")
     def test_typecasters_of_psycopg2(self) -> None:
         psycopg2 = module("psycopg2")
         extensions = psycopg2.extensions
@@ -188,7 +188,7 @@ class OnPostgres(Turned, test_recording.Postgres):
                         cursor.execute(f"SELECT {column} FROM t WHERE id = 2")
                         self.assertEqual(cursor.fetchall(), [(shown,)])
 
-    @unittest.skipUnless(module("psycopg"), "python3-psycopg isn't installed")
+    @unittest.skipUnless(module("psycopg"), "psycopg isn't there (Debian: python3-psycopg)")
     def test_dumpers_of_psycopg(self) -> None:
         psycopg = module("psycopg")
 
@@ -215,7 +215,7 @@ class OnPostgres(Turned, test_recording.Postgres):
                                 cursor.adapters.register_dumper(kind, dumper)
                             self.sends(cursor, "%s", value, 20)
 
-    @unittest.skipUnless(module("psycopg"), "python3-psycopg isn't installed")
+    @unittest.skipUnless(module("psycopg"), "psycopg isn't there (Debian: python3-psycopg)")
     def test_loaders_of_psycopg(self) -> None:
         psycopg = module("psycopg")
 

@@ -637,7 +637,7 @@ class Shop(Room):
             for level, answer in (("READ COMMITTED", "no"), ("SERIALIZABLE", "yes")):
                 with self.subTest(name, level=level):
                     if module(package) is None or module("psycopg2") is None:
-                        self.skipTest(f"python3-{package} isn't installed, or python3-psycopg2")
+                        self.skipTest(f"{package} or psycopg2 isn't there (Debian: python3-{package}, python3-psycopg2)")
                     path = os.path.join(os.path.dirname(os.path.dirname(HERE)), "examples/drivers", f"with_{name}.py")
                     changed = {**os.environ, "PYTHONPATH": HERE}
                     done = subprocess.run([sys.executable, "-B", path, DSN, level], cwd=self.folder, env=changed, capture_output=True, text=True, timeout=60, check=False)

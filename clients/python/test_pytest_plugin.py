@@ -169,7 +169,7 @@ class Plugin(Room):
         self.assertRegex(done.stdout, "4 yes\n")
         self.assertEqual(done.returncode, 0, done.stdout)
 
-    @unittest.skipUnless(DSN and module("psycopg"), "no PostgreSQL, or python3-psycopg isn't installed")
+    @unittest.skipUnless(DSN and module("psycopg"), "PostgreSQL or psycopg isn't there (Debian: postgresql, python3-psycopg)")
     def test_connections_of_psycopg_are_followed(self) -> None:
         text = f"""
             import asyncio, psycopg

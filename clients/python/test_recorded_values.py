@@ -74,7 +74,7 @@ def stands(kind: Any, value: object) -> Any:
         return None
 
 
-@unittest.skipUnless(drivers(), "no PostgreSQL")
+@unittest.skipUnless(drivers(), "PostgreSQL or psycopg2 isn't there (Debian: postgresql, python3-psycopg2)")
 class Values(OnPostgres):
     def kept(self, driver: Any, type_name: str) -> Tuple[Table, Any, List[str]]:
         """A table that has each text's value once, and the texts that the database reads."""

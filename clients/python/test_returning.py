@@ -115,7 +115,7 @@ class OfSqlite(OnSqlite):
         self.assertEqual(said, [f"> 1 SELECT {shown} FROM t WHERE id = {key};" for key, shown in ((1, "v, id"), (2, "v, id"), (2, "*"))])
 
 
-@unittest.skipUnless(drivers(), "no PostgreSQL")
+@unittest.skipUnless(drivers(), "PostgreSQL or psycopg2 isn't there (Debian: postgresql, python3-psycopg2)")
 class OfPostgres(OnPostgres):
     def test_the_application_sees_nothing_of_it(self) -> None:
         for driver in self.each():
@@ -186,7 +186,7 @@ class OfPostgres(OnPostgres):
     def test_several_statements_are_one_transaction_in_autocommit(self) -> None:
         psycopg2 = next((driver for driver in drivers() if driver.__name__ == "psycopg2"), None)
         if psycopg2 is None:
-            self.skipTest("no psycopg2 (Debian: python3-psycopg2)")
+            self.skipTest("psycopg2 isn't there (Debian: python3-psycopg2)")
         self.make("CREATE TABLE t (id bigint PRIMARY KEY, v bigint)", "INSERT INTO t VALUES (1, 10), (2, 20)")
         recorder = self.recorder()
         connection = recorder.wrap(self.raw(psycopg2, True))

@@ -408,8 +408,8 @@ class AdaptedPsycopg:
 AdaptedPsycopg.__module__ = "sqlalchemy.dialects.postgresql.psycopg"
 
 
-@unittest.skipUnless(DSN, "no PostgreSQL")
-@unittest.skipUnless(module("psycopg"), "python3-psycopg isn't installed")
+@unittest.skipUnless(DSN, "PostgreSQL isn't there (Debian: postgresql)")
+@unittest.skipUnless(module("psycopg"), "psycopg isn't there (Debian: python3-psycopg)")
 class Psycopg(OnSqlalchemy):
     def test_an_asynchronous_connection_that_is_adapted(self) -> None:
         import psycopg
