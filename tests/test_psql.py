@@ -7,7 +7,9 @@ from typing import Dict, List, Optional
 
 from tests import postgres, program
 
-# Texts with each byte that COPY escapes, what begins like null and like the end of the data, bytes, numbers at their limits.
+# Texts with each byte that COPY escapes and a statement may have, what begins like null and like the end of the data, bytes, numbers
+# at their limits.
+ESCAPED = "\b \t \v \f \r \\"
 SCRIPT = r"""CREATE TABLE kinds (id bigint PRIMARY KEY, word text, raw bytea, number bigint NOT NULL);
 CREATE TABLE names (name text PRIMARY KEY, kind bigint NOT NULL REFERENCES kinds);
 CREATE TABLE marks (raw bytea PRIMARY KEY, name text REFERENCES names);
@@ -19,6 +21,7 @@ CREATE TABLE nothing (id bigint PRIMARY KEY);
 1 INSERT INTO kinds VALUES (3, '\.', '\x5c2e', 3);
 1 INSERT INTO kinds VALUES (4, 'it''s a\b \t of ä and 漢', '\x09', 4);
 1 INSERT INTO kinds VALUES (9223372036854775807, 'tab	here', '\x0d', 5);
+1 INSERT INTO kinds VALUES (5, 'ESCAPED', NULL, 6);
 1 INSERT INTO names VALUES ('', 1);
 1 INSERT INTO names VALUES ('\N', 2);
 1 INSERT INTO names VALUES ('Zoë', 2);
@@ -29,7 +32,7 @@ CREATE TABLE nothing (id bigint PRIMARY KEY);
 2 POLL;
 2 DUMP 2 1 dump;
 2 COMMIT;
-"""
+""".replace("ESCAPED", ESCAPED)
 
 
 def tables_of(dump: str) -> Dict[str, List[str]]:
@@ -61,7 +64,7 @@ class Loaded(program.Case):
         path = os.path.join(self.folder, "dump")
         with open(path, encoding="utf-8", newline="") as file:
             tables = tables_of(file.read())
-        self.same("rows of the dump", {"kinds": 6, "names": 3, "marks": 2, "nothing": 0}, {name: len(rows) for name, rows in tables.items()})
+        self.same("rows of the dump", {"kinds": 7, "names": 3, "marks": 2, "nothing": 0}, {name: len(rows) for name, rows in tables.items()})
         dsn = str(postgres.reached())
         psql(dsn, "-f", path)
         for name, rows in tables.items():
