@@ -3,6 +3,9 @@
 from tests.room import FULL, Room
 
 TABLE = "CREATE TABLE t (id bigint PRIMARY KEY"
+RETURNED = "the line ends in a carriage return (CRLF): lines end in a newline alone"
+ONE_LINE = "a CREATE TABLE of a script stands on one line, up to its `;`"
+COMMENT = "a comment stands on a line of its own, which begins with `--`, and not in a CREATE TABLE"
 LINE_BEGINS = "a line begins with a session's number and a space, as `1 BEGIN;`, or with CREATE TABLE, OPEN or `--`"
 # What is told of a script behind the first line, and the words behind `run`.
 EXPLAINED = (
@@ -17,7 +20,10 @@ EXPLAINED = (
     ("a column is of another kind than the key that it references", f"{TABLE});\nCREATE TABLE u (id text PRIMARY KEY REFERENCES t);\n", ()),
     ("the line's last byte must be `;`", "1 BEGIN\n", ()),
     ("the line's last byte must be `;`", f"{TABLE})\n", ()),
-    ("a carriage return: a line ends in a newline alone", "1 BEGIN;\r\n", ()),
+    *((RETURNED, line + "\r\n", ()) for line in ("1 BEGIN;", "1 COMMIT ;", "CHECKPOINT;", "OPEN dump;", "")),
+    *((ONE_LINE, lines, ()) for lines in (f"{TABLE},\n", "CREATE TABLE t (\n    id bigint PRIMARY KEY\n);\n", "create table t\n(id bigint primary key);\n")),
+    *((COMMENT, f"{begun} -- the key\n", ()) for begun in ("CREATE TABLE t (", "CREATE TABLE t (id bigint", TABLE, f"{TABLE},", f"{TABLE}) ;", " ")),
+    ("`-`: a column is name kind [NOT NULL] [REFERENCES table]", f"{TABLE}, v bigint - -1);\n", ()),
     ("the last line isn't ended by a newline", "1 BEGIN;", ()),
     ("a byte order mark: UTF-8 is written without one here", b"\xef\xbb\xbf1 BEGIN;\n", ()),
     ("the line isn't UTF-8 from byte 26 on, counted from 0", b"1 INSERT INTO t VALUES ('x\xff');\n", ()),

@@ -127,6 +127,16 @@ fn after(next: Next, token: Token) -> Result<Next, Reason> {
     }
 }
 
+// What is wrong at a token, where the token shows it: the line ends within a table, or a comment begins.
+fn shown_at(line: &[u8], token: Token, reason: Reason) -> Reason {
+    match (token.kind, reason) {
+        (TokenKind::End, Reason::NoSession | Reason::NoSemicolon) => reason,
+        (TokenKind::End, _) => Reason::OneLine,
+        (TokenKind::Minus, _) if line.get(token.end) == Some(&b'-') => Reason::Comment,
+        _ => reason,
+    }
+}
+
 /// The first token of a line that no CREATE TABLE has there, and what is wrong with it.
 pub(crate) fn wrong_token<A: Allocator>(
     alloc: A,
@@ -141,7 +151,7 @@ where
     for token in tokens.as_slice() {
         match after(next, *token) {
             Ok(behind) => next = behind,
-            Err(reason) => return Ok(Some((*token, reason))),
+            Err(reason) => return Ok(Some((*token, shown_at(line, *token, reason)))),
         }
     }
     Ok(None)

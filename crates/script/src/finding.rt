@@ -121,6 +121,7 @@ fn found_at_token<'l>(
         Some((token, Reason::NoSession)) => {
             Some(Found::at(bytes_of(token, line), Reason::NoSession))
         }
+        Some((_, Reason::Comment)) => Some(Found::of(Reason::Comment)),
         _ if !takes_tables => Some(Found::of(Reason::LateTable)),
         Some((token, reason)) => Some(Found::at(bytes_of(token, line), reason)),
         None => None,
@@ -151,7 +152,7 @@ fn found_at_start<'l, A: Allocator>(
 ) -> Option<Found<'l>> {
     if line.starts_with(b"\xef\xbb\xbf") {
         Some(Found::of(Reason::ByteOrderMark))
-    } else if line == b"\r".as_slice() {
+    } else if line == b"\r".as_slice() || line == b"CHECKPOINT;\r".as_slice() {
         Some(Found::of(Reason::CarriageReturn))
     } else if begins_with_digit(line) {
         Some(found_in_session(schedule, line))

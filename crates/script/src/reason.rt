@@ -22,6 +22,8 @@ pub(crate) enum Reason {
     Path,
     LateTable,
     NoTable,
+    OneLine,
+    Comment,
     NoName,
     Reserved,
     LongName,
@@ -45,7 +47,8 @@ impl Reason {
             Reason::NoNewline => "the last line isn't ended by a newline",
             Reason::ByteOrderMark => "a byte order mark: UTF-8 is written without one here",
             Reason::NotText => "the line isn't UTF-8",
-            Reason::CarriageReturn => "a carriage return: a line ends in a newline alone",
+            Reason::CarriageReturn =>
+                "the line ends in a carriage return (CRLF): lines end in a newline alone",
             Reason::NoSemicolon => "the line's last byte must be `;`",
             Reason::NoSession => {
                 "a line begins with a session's number and a space, as `1 BEGIN;`, or with CREATE TABLE, OPEN or `--`"
@@ -66,6 +69,10 @@ impl Reason {
                 "tables are created before the first session's line, and not beside OPEN"
             }
             Reason::NoTable => "write CREATE TABLE name (name kind PRIMARY KEY, name kind, ..);",
+            Reason::OneLine => "a CREATE TABLE of a script stands on one line, up to its `;`",
+            Reason::Comment => {
+                "a comment stands on a line of its own, which begins with `--`, and not in a CREATE TABLE"
+            }
             Reason::NoName => "a name is letters, digits and `_`, and begins with no digit",
             Reason::Reserved => "a reserved word, which names nothing",
             Reason::LongName => "a name has at most 63 bytes",
