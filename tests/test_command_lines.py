@@ -122,6 +122,18 @@ class Explained(Room):
             lines = done.stderr.decode().split("\n")
             self.same(f"{script!r}", (said, True), ("\n".join(lines[1:-1]), all(" " <= sign <= "~" for line in lines for sign in line)))
 
+    def test_transcripts_whose_lines_end_in_carriage_returns(self) -> None:
+        """Each such line is refused, but a CREATE TABLE, which may have one before its end, and what is passed over."""
+        passed = [f"> {TABLE});", "-- a comment", "= txn 1"]
+        refused = ["", "> 1 BEGIN;", "  1 BEGIN", "> 1 SELECT * FROM t;", "  1 SELECT 1", "  1 | 1", "> CHECKPOINT;", "  CHECKPOINT"]
+        lines = [*passed, *refused]
+        for number in range(1, len(lines) + 1):
+            self.write("recorded", "".join(f"{line}\r\n" if at == number else f"{line}\n" for at, line in enumerate(lines, 1)))
+            wanted = f"transcript line {number}\n{RETURNED}\n" if number > len(passed) else ""
+            self.same(f"line {number}", wanted, self.run_it("check", "recorded").stderr.decode())
+        self.write("recorded", "".join(f"{line}\r\n" for line in lines))
+        self.same("each line", f"transcript line 4\n{RETURNED}\n", self.run_it("check", "recorded").stderr.decode())
+
     def test_transcripts_that_are_not_there(self) -> None:
         for path, shown, said in UNOPENED:
             self.write("opens_recorded", f"> OPEN {path};\n")

@@ -18,6 +18,7 @@ use Rattle.library.specs.declared.ending.End.TheVariants.{Memory, Refused}
 by_reason : (r : Reason) (line : ℕ) → (end_of_fault r line ≡ Memory) ⊎ (end_of_fault r line ≡ Refused line)
 by_reason reason.Memory line = inl refl
 by_reason reason.NoNewline line = inr refl
+by_reason reason.CarriageReturn line = inr refl
 by_reason reason.NoMark line = inr refl
 by_reason reason.NoCommand line = inr refl
 by_reason reason.NoTable line = inr refl

@@ -50,6 +50,6 @@ module _ {Y : Type 0} (all here : Result Y ℕ) (n line : ℕ) (same : here ≡ 
   names_it e = rw is (sym same ∙ e)
 
   -- a line is refused as the definition says, or memory ran out
-  pub names_or_lacks : (error : LineError) (why : Reason) → why ≡ reason_of error → (reason_of error ≡ reason.Memory) ⊎ (here ≡ Err n) → (why ≡ reason.Memory) ⊎ (all ≡ Err line)
-  names_or_lacks error why given (inl m) = inl (given ∙ m)
+  pub names_or_lacks : (error : LineError) (why : Reason) → (reason_of error ≡ reason.Memory → why ≡ reason.Memory) → (reason_of error ≡ reason.Memory) ⊎ (here ≡ Err n) → (why ≡ reason.Memory) ⊎ (all ≡ Err line)
+  names_or_lacks error why given (inl m) = inl (given m)
   names_or_lacks error why given (inr e) = inr (names_it e)

@@ -2,9 +2,10 @@
 
 ghost use Rattle.std.specs.Prelude.{◌≡◌};
 ghost use Rattle.transcript.specs.Outcomes.{error_of, reason_of};
-ghost use Rattle.transcript.specs.Reasons.{reason_text};
+ghost use Rattle.transcript.specs.Reasons.{reason_in, reason_text};
 ghost use Rattle.transcript.specs.declared.fault.LineError.TheVariants as error;
 
+use crate::words::ends_in_return;
 use std::alloc::{AllocError, AllocFailed};
 use value::refusal::{Code, Refusal};
 
@@ -13,6 +14,7 @@ use value::refusal::{Code, Refusal};
 pub enum Reason {
     Memory,
     NoNewline,
+    CarriageReturn,
     NoMark,
     NoCommand,
     NoTable,
@@ -36,6 +38,9 @@ impl Reason {
         match self {
             Reason::Memory => "out of memory",
             Reason::NoNewline => "the last line isn't ended by a newline",
+            Reason::CarriageReturn => {
+                "the line ends in a carriage return (CRLF): lines end in a newline alone"
+            }
             Reason::NoMark => {
                 "a line of text begins with `> `, two spaces, `= ` or `--`, or is empty"
             }
@@ -54,6 +59,19 @@ impl Reason {
             Reason::NoStatement => "only an ERROR answers what is no statement of these tables",
             Reason::NoRow => "no row of what was selected, or one of another session",
             Reason::RowsMissing => "the rows of a SELECT follow it, as many as it says",
+        }
+    }
+}
+
+impl Reason {
+    /// The reason that is given of a line: a carriage return at its end, whatever else is wrong with it.
+    pub(crate) fn of_line(self, line: &[u8]) -> Reason
+        ensures { result ≡ reason_in line.now self }
+    {
+        match self {
+            Reason::Memory => Reason::Memory,
+            _ if ends_in_return(line) => Reason::CarriageReturn,
+            other => other,
         }
     }
 }

@@ -189,7 +189,7 @@ pub fn read_opening<A: Allocator + Copy>(
         if let Err(error) = opening.read_line(alloc, line) {
             return Err(TranscriptFault {
                 line: number,
-                reason: error.reason(),
+                reason: error.reason().of_line(line),
             });
         }
         rest = more;

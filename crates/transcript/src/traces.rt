@@ -224,7 +224,7 @@ fn read_lines<A: Allocator + Copy>(
     let mut number = 1;
     while let Some((line, more)) = cut(b'\n', rest) {
         if let Err(error) = reader.read_line(alloc, catalog, number, line) {
-            return Err(at(number, error.reason()));
+            return Err(at(number, error.reason().of_line(line)));
         }
         rest = more;
         number += 1;

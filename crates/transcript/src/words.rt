@@ -4,6 +4,7 @@ ghost use Rattle.std.specs.Prelude.{◌≡◌, slice_index};
 ghost use Rattle.std.specs.Char.{is_ascii_digit};
 ghost use Rattle.std.specs.Option.{option_map};
 ghost use Rattle.script.specs.Commands as spec;
+ghost use Rattle.transcript.specs.Reasons.{ends_in_return};
 ghost use Rattle.transcript.specs.Saying.{has_leading_zero, printed_number};
 ghost use Rattle.transcript.specs.Sessions.{session_in};
 
@@ -40,6 +41,13 @@ pub(crate) fn begins_with_digit(line: &[u8]) -> bool
     ensures { result ≡ is_ascii_digit (slice_index line.now 0) }
 {
     !line.is_empty() && line[0].is_ascii_digit()
+}
+
+/// Whether a line ends in a carriage return.
+pub(crate) fn ends_in_return(line: &[u8]) -> bool
+    ensures { result ≡ ends_in_return line.now }
+{
+    !line.is_empty() && line[line.len() - 1] == b'\r'
 }
 
 /// The number of a session: 1 to 4294967295, without a leading zero.

@@ -3,6 +3,7 @@ use mathlib.Core.Logic.{⊎_elim}
 use Rattle.script.proofs.LineLemmas.{some_part}
 use Rattle.script.proofs.CutLemmas.{counted}
 use Rattle.transcript.specs.Opening.{with_line, without_end}
+use Rattle.transcript.specs.Reasons.{reason_in}
 use Rattle.transcript.proofs.ReadingLemmas.{ended, goes_on, is_faulty, unended}
 use Rattle.transcript.proofs.opening.read_opening.Goals as goal
 
@@ -16,7 +17,7 @@ returns-in-Err-clause-line g c =
 pub returns-in-Err-clause-reads : goal.returns-in-Err-clause-reads
 returns-in-Err-clause-reads g c =
     let faulty = is_faulty (λ o n line. with_line o line) c.loop-line.opening c.loop-line.number c.loop-line.rest.now c.in-Some.line.now c.in-Some.more.now c.in-Err.error (rw c.in-Some.is at c.cut.ensures.value) (rw c.in-Err.is at c.read_line.ensures.err) in
-    ⊎_elim (λ m. inl (c.reason.ensures ∙ m)) (λ e. inr (ap without_end (sym c.loop-line.invariant.3 ∙ e))) faulty
+    ⊎_elim (λ m. inl (c.of_line.ensures ∙ ap (reason_in c.in-Some.line.now) (c.reason.ensures ∙ m))) (λ e. inr (ap without_end (sym c.loop-line.invariant.3 ∙ e))) faulty
 
 pub loop-line-preserved : goal.loop-line-preserved
 loop-line-preserved g c =

@@ -1,7 +1,8 @@
-use Rattle.std.proofs.Common.{◌∙◌, sym, inr, arith}
+use Rattle.std.proofs.Common.{◌∙◌, ap, sym, inr, arith}
 use Rattle.script.proofs.LineLemmas.{some_part}
 use Rattle.script.proofs.CutLemmas.{counted}
 use Rattle.transcript.specs.Reading.{with_line}
+use Rattle.transcript.specs.Reasons.{reason_in}
 use Rattle.transcript.proofs.ReadingLemmas.{ended, goes_on, is_faulty, names_it, names_or_lacks, unended}
 use Rattle.transcript.proofs.traces.read_lines.Goals as goal
 
@@ -16,7 +17,7 @@ returns-in-Err-clause-line g c =
 pub returns-in-Err-clause-reads : goal.returns-in-Err-clause-reads
 returns-in-Err-clause-reads g c =
     let faulty = is_faulty (with_line c.args.catalog.now) c.loop-line.reader c.loop-line.number c.loop-line.rest.now c.in-Some.line.now c.in-Some.more.now c.in-Err.error (rw c.in-Some.is at c.cut.ensures.value) (rw c.in-Err.is at c.read_line.ensures.err) in
-    names_or_lacks _ _ c.loop-line.number c.at.result.line c.loop-line.invariant.3 c.at.ensures.line c.in-Err.error c.at.result.reason (c.at.ensures.reason ∙ c.reason.ensures) faulty
+    names_or_lacks _ _ c.loop-line.number c.at.result.line c.loop-line.invariant.3 c.at.ensures.line c.in-Err.error c.at.result.reason (λ m. c.at.ensures.reason ∙ c.of_line.ensures ∙ ap (reason_in c.in-Some.line.now) (c.reason.ensures ∙ m)) faulty
 
 pub loop-line-preserved : goal.loop-line-preserved
 loop-line-preserved g c =

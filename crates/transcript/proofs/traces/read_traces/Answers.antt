@@ -18,5 +18,5 @@ pub returns-in-Err-clause-reads : goal.returns-in-Err-clause-reads
 returns-in-Err-clause-reads g c =
     let error = c.in-Err.error in
     let fault = c.at.result in
-    names_or_lacks _ _ c.in_ok-last.last fault.line refl c.at.ensures.line error fault.reason (c.at.ensures.reason ∙ c.reason.ensures)
+    names_or_lacks _ _ c.in_ok-last.last fault.line refl c.at.ensures.line error fault.reason (λ m. c.at.ensures.reason ∙ c.reason.ensures ∙ m)
     (not_given c.args.catalog.now c.args.has_time c.args.text.now c.new-reader.result c.new-reader.ensures error c.read_lines.new.reader c.in_ok-last.last c.in_ok-last.ensures.reads c.in-Err.ensures.gives)
