@@ -80,6 +80,8 @@ class Turned(Room):
             (WHOLE, 2, "22P04", "CREATE TABLE p (id bigint PRIMARY KEY, select text NOT NULL);"),
             (WHOLE, 2, "22P04", f"CREATE TABLE {'n' * 64} (id bigint PRIMARY KEY);"), (WHOLE, 5, "22P04", "\\"), (WHOLE, 5, "22P04", "\t" * 1_000_000),
             (WHOLE, 8, "22P04", "COPY p (id, name) FROM stdin;"), (WHOLE, 9, "22P04", "COPY c (id, p, raw) FROM stdin;\r"), (WHOLE, 11, "23503", "7\t3\t\\N"),
+            (WHOLE, 6, "23502", "2\t\\N"), (WHOLE, 5, "23502", "\\N\ta"), (FIRST, 6, "23502", "2\t\\N"), (WHOLE, 6, "23505", "1\tb"),
+            (WHOLE, 10, "22P02", "-5\t2\t\\\\x00f"), (WHOLE, 11, "22P02", "7a\t\\N\t\\N"), (WHOLE, 8, "22P04", "-- rows 3"), (WHOLE, 13, "22P04", "-- rows 1"),
             (FIRST, 1, "22P04", "-- dump 3"), (FIRST, 8, "22P04", "COPY p (id, name) FROM stdin;"), (FIRST, 9, "22P04", "-5\t2\t\\\\x00ff\r"),
         ):
             self.refused(number, code, turned(dump, number, line))
