@@ -19,9 +19,12 @@ from tools import library
 from tools.library import STRICT, C, RUST, run
 
 NO_COMPILER = "a C compiler isn't there (Debian: gcc)"
-NO_WATCH = "neither an address sanitizer nor valgrind is there (Debian: valgrind)"
+NO_SANITIZER = "an address sanitizer isn't there (Debian: libasan8, libubsan1)"
 NO_VALGRIND = "valgrind isn't there (Debian: valgrind)"
-NO_RUST = "rustc isn't there (Debian: rustc)"
+NO_RUST = "cargo isn't there (Debian: cargo)"
+# The tests in C, with what they are linked with, and what they print; and what watches one.
+TESTS = {"test_misuse": ([], rb"\A\Z"), "test_memory": (["-Wl,--wrap=malloc,--wrap=calloc,--wrap=realloc"], rb"\A[1-9]\d\d+ requests for memory were refused, .*\n\Z")}
+VALGRIND = ["valgrind", "-q", "--leak-check=full", "--error-exitcode=9"]
 # Where transcripts are, and how many schedules of a script of tests/ are run at most.
 TRANSCRIPTS = ("examples/transcripts", "tests/check", "tests")
 FEW = 1000
@@ -179,6 +182,7 @@ def scripts_to_explore():
             yield name, text, 1_000_000, known
             if known:
                 yield name, text, 1, ("", "too many")
+                yield name, text, (1 << 32) + 1, known
     for path in transcripts.files():
         for script in transcripts.scripts_of(path):
             yield f"{script.file}: {script.name}", script.text("> "), FEW, None
@@ -252,18 +256,22 @@ class Made(unittest.TestCase):
 class FromC(Made):
     """The tests and the example in C."""
 
-    def watched(self, name, *words):
-        """A test in C that is silent, while the memory is watched."""
-        made, watch, flags = os.path.join(self.folder, name), [], []
-        if has_sanitizer(self.folder):
-            flags = ["-fsanitize=address,undefined", "-fno-sanitize-recover=all"]
-        elif shutil.which("valgrind"):
-            watch = ["valgrind", "-q", "--leak-check=full", "--error-exitcode=9"]
+    def compiled(self, name, *flags):
+        """A test in C, compiled with these words: its path."""
+        made = os.path.join(self.folder, name)
         run(["cc", *STRICT, "-g", *flags, f"-I{self.folder}", "-o", made, f"{C}/{name}.c", f"{C}/pgserial.c",
-             f"{self.folder}/libpgserial.a", "-lpthread", *words])
-        run([*watch, made])
-        if not flags and not watch:
-            self.skipTest(NO_WATCH)
+             f"{self.folder}/libpgserial.a", "-lpthread", *TESTS[name][0]])
+        return made
+
+    def sanitized(self, name):
+        """A test in C that tells of no fault, as an address sanitizer watches it and that of undefined behaviour."""
+        if not has_sanitizer(self.folder):
+            self.skipTest(NO_SANITIZER)
+        self.assertRegex(run([self.compiled(name, "-fsanitize=address,undefined", "-fno-sanitize-recover=all")]), TESTS[name][1])
+
+    def watched(self, name):
+        """A test in C that tells of no fault, as valgrind watches it."""
+        self.assertRegex(run([*VALGRIND, self.compiled(name)]), TESTS[name][1])
 
     def example(self, name, *words):
         """The example, compiled with these words: its path."""
@@ -275,10 +283,18 @@ class FromC(Made):
         return self.example("shared", f"-L{self.folder}", "-lpgserial", f"-Wl,-rpath,{self.folder}")
 
     def test_wrong_arguments(self):
-        self.watched("test_misuse")
+        self.sanitized("test_misuse")
 
     def test_refused_memory(self):
-        self.watched("test_memory", "-Wl,--wrap=malloc,--wrap=calloc,--wrap=realloc")
+        self.sanitized("test_memory")
+
+    @unittest.skipUnless(shutil.which("valgrind"), NO_VALGRIND)
+    def test_wrong_arguments_under_valgrind(self):
+        self.watched("test_misuse")
+
+    @unittest.skipUnless(shutil.which("valgrind"), NO_VALGRIND)
+    def test_refused_memory_under_valgrind(self):
+        self.watched("test_memory")
 
     def test_the_example(self):
         script, want = expected()
@@ -291,19 +307,39 @@ class FromC(Made):
     @unittest.skipUnless(shutil.which("valgrind"), NO_VALGRIND)
     def test_the_example_under_valgrind(self):
         script, want = expected()
-        self.assertEqual(printed(["valgrind", "-q", "--leak-check=full", "--error-exitcode=9", self.shared()], script), want + KEPT)
+        self.assertEqual(printed([*VALGRIND, self.shared()], script), want + KEPT)
 
 
 class FromRust(Made):
-    """The example in Rust."""
+    """The package for Rust, and its examples, by the folder's static library."""
+
+    def cargo(self, *words, **how):
+        """What cargo prints, without a network."""
+        if not shutil.which("cargo") or subprocess.run(["cargo", "--version"], capture_output=True).returncode:
+            self.skipTest(NO_RUST)
+        environment = {**os.environ, "CARGO_TARGET_DIR": os.path.join(self.folder, "target"), "PGSERIAL_LIB_DIR": self.folder, "RUSTFLAGS": "-D warnings"}
+        return run(["cargo", *words, "--offline", "--locked", "--quiet"], cwd=RUST, env=environment, **how)
 
     def test_the_example(self):
-        if not shutil.which("rustc") or subprocess.run(["rustc", "--version"], capture_output=True).returncode:
-            self.skipTest(NO_RUST)
         script, want = expected()
-        made = os.path.join(self.folder, "rust_example")
-        run(["rustc", "--edition", "2021", "-D", "warnings", "-L", self.folder, "-l", "static=pgserial", "-o", made, f"{RUST}/example.rs"])
-        self.assertEqual(printed([made], script), want)
+        with open(script, "rb") as file:
+            self.assertEqual(self.cargo("run", "--example", "script", stdin=file), want)
+
+    def test_its_own_tests(self):
+        """Those of its modules, its examples, and of the example in its first page."""
+        told = self.cargo("test").decode()
+        passed = [int(count) for count in re.findall(r"test result: ok. (\d+) passed; 0 failed; 0 ignored", told)]
+        self.assertEqual((len(passed), told.count("test result:")), (4, 4), told)
+        self.assertGreaterEqual(sum(passed), 9, told)
+
+    def test_a_folder_that_has_none(self):
+        """Where the library isn't found, what is said names the variable."""
+        asked = {**os.environ, "CARGO_TARGET_DIR": os.path.join(self.folder, "none"), "PKG_CONFIG": "/nonexistent"}
+        asked.pop("PGSERIAL_LIB_DIR", None)
+        self.cargo("--version")
+        done = subprocess.run(["cargo", "check", "--offline", "--locked"], cwd=RUST, env=asked, capture_output=True, text=True)
+        self.assertNotEqual(done.returncode, 0)
+        self.assertIn("name the folder that has it by PGSERIAL_LIB_DIR", done.stderr)
 
 
 class FromPython(Made):
@@ -395,6 +431,19 @@ class FromPython(Made):
                 with self.subTest(line):
                     same(written_out(line, values), want, got)
             self.assertEqual(talk.serial_order(), other.serial_order())
+
+    def test_numbers_that_a_call_would_cut(self):
+        """Cut to their kind's bits, they would be session 1, the line 1, and room for many events."""
+        with self.library.open() as talk:
+            for line in ("CREATE TABLE t (id bigint PRIMARY KEY);", "1 BEGIN READ ONLY DEFERRABLE;", "1 POLL;"):
+                talk.ask(line)
+            line = talk.prepare("2 BEGIN;")
+            for call, number in ((talk.dump, 2**32 + 1), (lambda it: talk.execute(line._replace(number=it)), 2**64 + line.number), (self.library.open, -5)):
+                with self.subTest(number):
+                    self.assertRaises(OverflowError, call, number)
+            self.assertIn("CREATE TABLE t", talk.dump(1))
+            talk.execute(line)
+            self.assertEqual(talk.answer(), "2 BEGIN\n")
 
     def test_the_client_in_process(self):
         words = [sys.executable, "-B", "-W", "error::ResourceWarning", os.path.join(TOP, "clients/python/test_pgserial.py")]

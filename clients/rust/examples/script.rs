@@ -1,9 +1,7 @@
 //! Runs the script on standard input, and prints its replies; then the serial order of what it committed. It holds a
 //! conversation too, checks a transcript that no serial order explains, and counts interleavings.
 //!
-//!     rustc --edition 2021 -L FOLDER -l static=pgserial example.rs && ./example < ../../examples/write_skew.script
-
-mod pgserial;
+//!     cargo run --example script < ../../examples/write_skew.script
 
 use std::error::Error;
 use std::io::{self, Read};
@@ -34,8 +32,18 @@ fn main() -> Result<(), Box<dyn Error>> {
     assert!(pgserial::is_fitting());
     let mut script = String::new();
     io::stdin().read_to_string(&mut script)?;
-    print!("{}", pgserial::run(&script, pgserial::MOST_EVENTS)?);
-    print!("{}", pgserial::audit(&script, pgserial::MOST_EVENTS)?);
+    print!("{}", told(&script)?);
+    talk()?;
+    look()
+}
+
+/// What is printed of a script.
+fn told(script: &str) -> Result<String, pgserial::Error> {
+    Ok(pgserial::run(script, pgserial::MOST_EVENTS)? + &pgserial::audit(script, pgserial::MOST_EVENTS)?)
+}
+
+/// Holds a conversation.
+fn talk() -> Result<(), Box<dyn Error>> {
     let mut conversation = pgserial::Conversation::open(pgserial::MOST_EVENTS)?;
     assert_eq!(conversation.ask("CREATE TABLE t (id bigint PRIMARY KEY);")?, "CREATE TABLE\n");
     assert_eq!(conversation.ask("CREATE TABLE u (id bigint PRIMARY KEY, v text, b bytea);")?, "CREATE TABLE\n");
@@ -62,10 +70,36 @@ fn main() -> Result<(), Box<dyn Error>> {
     assert_eq!(conversation.execute(insert).unwrap_err().text, "1 ERROR 23505 column 1\n");
     conversation.forget()?;
     assert!(conversation.execute(insert).is_err());
+    Ok(())
+}
+
+/// Checks a transcript, and counts interleavings.
+fn look() -> Result<(), Box<dyn Error>> {
     let (answer, _reasons) = pgserial::check(SKEWED, true)?;
     assert_eq!(answer, pgserial::Answer::No);
     let script = "1 BEGIN;\n1 COMMIT;\n2 BEGIN;\n2 COMMIT;\n";
     let outcomes = pgserial::explore(script, pgserial::MOST_EVENTS, pgserial::MOST_SCHEDULES)?;
     assert!(outcomes.starts_with("schedules 6\n"));
     Ok(())
+}
+
+#[cfg(test)]
+mod tests {
+    use super::*;
+
+    #[test]
+    fn a_script_is_told() {
+        let script = "CREATE TABLE t (id bigint PRIMARY KEY);\n1 BEGIN;\n1 INSERT INTO t VALUES (1);\n1 COMMIT;\n";
+        assert_eq!(told(script).unwrap(), "1 BEGIN\n1 INSERT 0 1\n1 COMMIT\ntxn 1 key 1 1 1\ncheck yes\n");
+    }
+
+    #[test]
+    fn a_conversation_is_held() {
+        talk().unwrap();
+    }
+
+    #[test]
+    fn a_transcript_is_checked() {
+        look().unwrap();
+    }
 }
