@@ -1,8 +1,9 @@
 """What `./pgserial package` makes of the program of these sources, installed where there is no toolchain: with an empty PATH, HOME
-and PYTHONPATH. The wheel is installed into a fresh virtual environment, the archive below a folder, the Debian package is
-unpacked; and a second run makes the same bytes."""
+and PYTHONPATH; and, over an older one, in a root that has neither the toolchain nor the repository, where examples in C, Rust and
+Python run, and an uninstall leaves nothing. A second run makes the same bytes."""
 
 import contextlib
+import dataclasses
 import io
 import os
 import re
@@ -13,8 +14,10 @@ import tarfile
 import tempfile
 import unittest
 import zipfile
+from typing import Iterator, List, Tuple
 from unittest import mock
 
+from tests import roots
 from tests.program import TOP, program
 from tools import install, library, package
 
@@ -47,23 +50,129 @@ print(pgserial.__version__)
 """
 
 
+OLD_FILE, OLD_MODULE = "share/doc/pgserial/old.txt", "old.py"
+# What is printed of Python's modules: the version, and whether the older one's module is there.
+VERSION = "import importlib.util, pgserial; print(pgserial.__version__, importlib.util.find_spec('pgserial.old') is not None)"
+# What a root is told, for each package. `run` does the README's example and `examples` those in C and Rust, below a prefix.
+HEAD = f"""
+cd {roots.GIVEN}
+export PIP_DISABLE_PIP_VERSION_CHECK=1 PIP_ROOT_USER_ACTION=ignore
+run() {{ pgserial run $1/share/doc/pgserial/examples/write_skew.script --why; }}
+examples() {{
+  shown=$1/share/doc/pgserial/examples
+  cc -o /tmp/example $shown/example.c $(pkg-config --cflags --libs pgserial)
+  /tmp/example < $shown/write_skew.script
+  ! command -v cargo > /dev/null || cargo run --offline --locked --quiet --manifest-path $1/share/pgserial/rust/Cargo.toml --example script < $shown/write_skew.script
+}}
+no() {{ if "$@" > /dev/null 2>&1; then echo "against what is wanted: $*" >&2; exit 1; fi; }}
+no command -v rt
+no ls {TOP}/README.md
+"""
+WHEEL = """
+python3 -m venv /tmp/room
+PATH=/tmp/room/bin:$PATH
+pip install --quiet older/*.whl
+python -c "$VERSION"
+{install}
+python -c "$VERSION"
+{run}
+python application.py /tmp/application.db
+pip uninstall --quiet --yes pgserial
+find /tmp/room -ipath '*pgserial*'
+"""
+DEBIAN = f"""
+dpkg --install older/*.deb > /dev/null
+ls /usr/{OLD_FILE}
+dpkg --install *.deb > /dev/null
+dpkg-query --show pgserial
+no ls /usr/{OLD_FILE}
+run /usr
+examples /usr
+! command -v man > /dev/null || man --where pgserial libpgserial
+dpkg --purge pgserial > /dev/null
+no ls /usr/bin/pgserial
+"""
+ARCHIVE = f"""
+tar -xzf older/*.tar.gz -C /usr/local --strip-components=1
+ls /usr/local/{OLD_FILE}
+tar -tzf older/*.tar.gz | sed 's,^[^/]*/,/usr/local/,' | xargs rm
+tar -xzf *.tar.gz -C /usr/local --strip-components=1
+no ls /usr/local/{OLD_FILE}
+ldconfig
+run /usr/local
+examples /usr/local
+tar -tzf *.tar.gz | sed 's,^[^/]*/,/usr/local/,' | xargs rm
+"""
+# What the system notes of packages, libraries and man pages.
+NOTED = ("/var/lib/dpkg/", "/var/cache/", "/var/log/", "/etc/ld.so.cache", "/run/")
+
+
 def nothing(folder: str) -> "dict[str, str]":
     """The environment of a machine that has nothing: its PATH has the system's tools for what is started by name."""
     return {"PATH": "/nonexistent", "HOME": folder, "LC_ALL": "C.UTF-8"}
 
 
+def read_text(path: str) -> str:
+    with open(os.path.join(TOP, path), encoding="utf-8") as file:
+        return file.read()
+
+
+def block_behind(text: str, words: str) -> "List[str]":
+    """The lines of the first block of code behind some words of a page."""
+    return text[text.index(words):].split("```")[1].split("\n")[1:-1]
+
+
+@contextlib.contextmanager
+def older() -> "Iterator[None]":
+    """Packages are made with a file that later ones don't have."""
+    program_files, client_files = package.program_files, package.client_files
+
+    def with_one_more(build: package.Build, prefix: str) -> package.Files:
+        return {**program_files(build, prefix), OLD_FILE: package.File(b"old\n")}
+
+    def with_a_module() -> "Iterator[Tuple[str, bytes]]":
+        yield from client_files()
+        yield OLD_MODULE, b""
+
+    with mock.patch.object(package, "program_files", with_one_more), mock.patch.object(package, "client_files", with_a_module):
+        yield
+
+
+@contextlib.contextmanager
+def elsewhere(folder: str) -> "Iterator[None]":
+    """Packages are made of files that are in another folder."""
+    shutil.copytree(os.path.join(TOP, "clients"), folder, ignore=shutil.ignore_patterns("__pycache__", "target", "test_*.py"))
+    with mock.patch.multiple(package, PYTHON=f"{folder}/python/pgserial", RUST=f"{folder}/rust"), mock.patch.object(library, "C", f"{folder}/c"):
+        yield
+
+
 @unittest.skipUnless(shutil.which("cc") and shutil.which("readelf"), NO_COMPILER)
-class Packages(unittest.TestCase):
-    """The packages of the program that is tested, which counts as unproved here."""
+class Made(unittest.TestCase):
+    """The packages of the program that is tested, which counts as unproved here, and older ones."""
+
+    folder, outs, names = "", ["", ""], [""]
 
     @classmethod
     def setUpClass(cls) -> None:
+        if Made.folder:
+            return
         folder = tempfile.TemporaryDirectory()
-        cls.addClassCleanup(folder.cleanup)
-        cls.folder = folder.name
-        cls.outs = [os.path.join(cls.folder, name) for name in ("first", "second")]
+        unittest.addModuleCleanup(folder.cleanup)
+        outs = [os.path.join(folder.name, name) for name in ("first", "second")]
         with mock.patch.object(install, "find_program", lambda unproved: (program(), False)), contextlib.redirect_stderr(io.StringIO()):
-            cls.names = [package.package(out, True) for out in cls.outs][0]
+            Made.names = package.package(outs[0], True)
+            with elsewhere(os.path.join(folder.name, "elsewhere")):
+                package.package(outs[1], True)
+            old, made = os.path.join(outs[0], "older"), os.path.join(folder.name, "library")
+            os.mkdir(old)
+            os.mkdir(made)
+            build = dataclasses.replace(package.built(made, True), version="0.0.9")
+        with older():
+            package.wheel(build, old)
+            package.archive(build, old)
+            if shutil.which("dpkg-deb"):
+                package.debian(build, old)
+        Made.folder, Made.outs = folder.name, outs
 
     def path(self, ending: str) -> str:
         """The package whose name ends so."""
@@ -74,7 +183,12 @@ class Packages(unittest.TestCase):
         os.makedirs(path, exist_ok=True)
         return path
 
+
+class Packages(Made):
+    """Where the PATH, HOME and PYTHONPATH are empty."""
+
     def test_two_runs_make_the_same_bytes(self) -> None:
+        """Of files in two folders, into two folders."""
         sums = [package.read(os.path.join(out, "SHA256SUMS")) for out in self.outs]
         self.assertEqual(*sums)
         self.assertEqual(len(sums[0].splitlines()), len(self.names))
@@ -152,7 +266,9 @@ class Packages(unittest.TestCase):
         libdir = "usr/lib/x86_64-linux-gnu"
         wanted = {"usr/bin/pgserial", "usr/share/man/man1/pgserial.1.gz", "usr/include/pgserial.h", f"{libdir}/libpgserial.so",
                   f"{libdir}/libpgserial.so.{library.abi()}", f"{libdir}/libpgserial.a", f"{libdir}/pkgconfig/pgserial.pc",
-                  "usr/share/bash-completion/completions/pgserial"}
+                  "usr/share/bash-completion/completions/pgserial", "usr/share/zsh/vendor-completions/_pgserial",
+                  "usr/share/man/man3/libpgserial.3.gz", "usr/share/pgserial/rust/Cargo.toml", "usr/share/pgserial/rust/src/calls.rs",
+                  "usr/share/doc/pgserial/examples/example.c"}
         self.assertEqual(wanted - names, set())
         control = subprocess.run(["dpkg-deb", "--field", self.path(".deb")], stdout=subprocess.PIPE, text=True, check=True).stdout
         self.assertIn("Version: 0.1.0~unproved\n", control)
@@ -162,3 +278,73 @@ class Packages(unittest.TestCase):
         done = subprocess.run([program(), "--version"], stdout=subprocess.PIPE, text=True, check=True)
         with open(os.path.join(TOP, "clients/python/pgserial/version.py"), encoding="utf-8") as file:
             self.assertIn(f'VERSION = "{done.stdout.split()[1]}"', file.read())
+
+
+class InARoot(Made):
+    """Each package over an older one, where neither the toolchain nor the repository is there."""
+
+    @classmethod
+    def setUpClass(cls) -> None:
+        super().setUpClass()
+        with open(os.path.join(Made.outs[0], "application.py"), "w", encoding="utf-8") as file:
+            file.write(APPLICATION)
+        shutil.copy(os.path.join(TOP, "examples/write_skew.script"), Made.outs[0])
+
+    def in_root(self, command: str) -> roots.Ran:
+        """What a command comes to there, which must end well."""
+        cargo, more = shutil.which("cargo"), {"VERSION": VERSION}
+        if cargo:
+            home = os.path.expanduser("~")
+            more.update(RUSTUP_HOME=os.environ.get("RUSTUP_HOME", f"{home}/.rustup"), CARGO_HOME="/tmp/cargo", CARGO_TARGET_DIR="/tmp/target")
+        done = roots.run(HEAD + command, self.outs[0], [os.path.dirname(cargo)] if cargo else [], more)
+        if done is None:
+            self.skipTest(roots.LACKING)
+        self.assertEqual(done.status, 0, done.told + done.printed)
+        return done
+
+    def leaves_nothing(self, done: roots.Ran) -> None:
+        """Of what was installed nothing stays."""
+        self.assertEqual([name for name in done.left if not name.startswith(NOTED)], [])
+
+    def the_readmes_example(self, done: roots.Ran) -> None:
+        """What the README shows of `--why` was printed, and all that is kept as its output."""
+        self.assertIn("\n".join(block_behind(read_text("README.md"), "says why:")), done.printed)
+        self.assertIn(read_text("examples/write_skew.out").splitlines()[-1], done.printed)
+
+    def the_examples(self, done: roots.Ran) -> None:
+        """The examples in C and Rust have printed the script's replies and its order."""
+        wanted = read_text("examples/write_skew.out") + "txn 1 key 1 1 1\ntxn 2 key 2 1 2\ncheck yes\n"
+        self.assertEqual(done.printed.count(wanted), 2 if shutil.which("cargo") else 1, done.printed)
+
+    def test_the_wheel(self) -> None:
+        tried = roots.run("python3 -m venv /tmp/room && /tmp/room/bin/pip --version", self.outs[0])
+        if tried is None or tried.status:
+            self.skipTest(NO_PIP if tried else roots.LACKING)
+        asked, ran = block_behind(read_text("README.md"), "## Install")
+        done = self.in_root(WHEEL.format(install=asked + " --quiet", run=ran.replace("SCRIPT", "write_skew.script --why")))
+        self.the_readmes_example(done)
+        lines = done.printed.splitlines()
+        self.assertEqual(lines[:2], ["0.0.9+unproved True", "0.1.0+unproved False"])
+        self.assertEqual(lines[-4:], ["[1]", "[1]", "yes", "0.1.0+unproved"])
+        self.leaves_nothing(done)
+
+    @unittest.skipUnless(shutil.which("dpkg-deb"), NO_DPKG)
+    def test_the_debian_package(self) -> None:
+        done = self.in_root(DEBIAN)
+        self.assertIn("pgserial\t0.1.0~unproved\n", done.printed)
+        self.the_readmes_example(done)
+        self.the_examples(done)
+        if shutil.which("man"):
+            self.assertIn("/usr/share/man/man1/pgserial.1.gz\n/usr/share/man/man3/libpgserial.3.gz\n", done.printed)
+        self.leaves_nothing(done)
+
+    def test_the_archive(self) -> None:
+        done = self.in_root(ARCHIVE)
+        self.the_readmes_example(done)
+        self.the_examples(done)
+        self.leaves_nothing(done)
+
+    def test_what_stays_is_seen(self) -> None:
+        """A file that is left makes these tests fail."""
+        done = self.in_root("touch /usr/local/lib/left")
+        self.assertEqual([name for name in done.left if not name.startswith(NOTED)], ["/usr/local/lib/left"])

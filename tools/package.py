@@ -26,9 +26,11 @@ HERE = os.path.dirname(os.path.abspath(__file__))
 TOP = os.path.dirname(HERE)
 sys.path.insert(0, TOP)
 
-from tools import install, library  # noqa: E402
+from tools import install, library, manual  # noqa: E402
 
 PYTHON = os.path.join(TOP, "clients/python/pgserial")
+RUST = os.path.join(TOP, "clients/rust")
+EXAMPLES = ("clients/c/example.c", "examples/write_skew.script", "examples/write_skew.out")
 # The files of a wheel are of no later day than a zip file can say.
 WHEN = (1980, 1, 1, 0, 0, 0)
 EXECUTABLE, PLAIN = 0o755, 0o644
@@ -165,6 +167,15 @@ def client_files() -> Iterator[Tuple[str, bytes]]:
             yield os.path.relpath(path, PYTHON), read(path)
 
 
+def rust_files() -> Iterator[Tuple[str, bytes]]:
+    """The files of the package for Rust, by their names in it."""
+    for folder, folders, names in os.walk(RUST):
+        folders[:] = sorted(it for it in folders if it != "target")
+        for name in sorted(it for it in names if it.endswith((".rs", ".toml", ".lock"))):
+            path = os.path.join(folder, name)
+            yield os.path.relpath(path, RUST), read(path)
+
+
 def program_files(build: Build, prefix: str) -> Files:
     """The program below a prefix, with its man page and completions. One that isn't proved says so as it starts."""
     whole, commands = build.helps
@@ -181,15 +192,21 @@ def program_files(build: Build, prefix: str) -> Files:
 
 
 def library_files(build: Build, prefix: str, libdir: str) -> Files:
-    """The library below a prefix, as C programs find it."""
+    """The library below a prefix, as C programs find it, with the package for Rust and examples."""
     shared = f"libpgserial.so.{build.abi}"
+    header = read(os.path.join(build.library, "pgserial.h"))
+    page = manual.page(header.decode(), f"pgserial {build.named(' ')}")
     config = PKG_CONFIG.format(prefix=prefix, libdir=libdir, summary=SUMMARY, version=build.version)
+    examples = {f"share/doc/pgserial/examples/{os.path.basename(name)}": File(read(os.path.join(TOP, name))) for name in EXAMPLES}
     return {
+        **examples,
+        **{f"share/pgserial/rust/{name}": File(data) for name, data in rust_files()},
         f"{libdir}/{shared}": File(read(os.path.join(build.library, shared)), PLAIN),
         f"{libdir}/libpgserial.so": File(link=shared),
         f"{libdir}/libpgserial.a": File(read(os.path.join(build.library, "libpgserial.a"))),
         f"{libdir}/pkgconfig/pgserial.pc": File(config.encode()),
-        "include/pgserial.h": File(read(os.path.join(build.library, "pgserial.h"))),
+        "include/pgserial.h": File(header),
+        "share/man/man3/libpgserial.3.gz": File(gzip.compress(page.encode(), mtime=0)),
     }
 
 
@@ -263,6 +280,7 @@ def debian(build: Build, out: str) -> str:
     """Makes the Debian package: its name."""
     version, libdir = build.named("~"), "lib/x86_64-linux-gnu"
     files = {**program_files(build, "/usr"), **library_files(build, "/usr", libdir)}
+    files["share/zsh/vendor-completions/_pgserial"] = files.pop("share/zsh/site-functions/_pgserial")
     shared = files[f"{libdir}/libpgserial.so.{build.abi}"].data
     name = f"pgserial_{version}_amd64.deb"
     with tempfile.TemporaryDirectory() as root:
