@@ -76,6 +76,27 @@ class Statements(unittest.TestCase):
             with self.subTest(text):
                 self.assertEqual(self.said(f"SELECT v FROM t WHERE {text}", None, Result(0)), [f"> SELECT v FROM t WHERE {said}", "SELECT 0"])
 
+    def test_many_rows_stand_as_each_alone(self) -> None:
+        """Rows are said together from four on: each as if it had come alone, whatever the others have."""
+        texts = ("ada", "it's", "tab\tin", "line\nin", "back\\slash", "", "100%", "%s", "na\u00efve", None)
+        every = [(at, text, None if at % 3 else at - 5, b"\x00" if at % 2 else None, "now") for at, text in enumerate(texts)]
+        plain = [(at, "ada", 2**63 - 1 - at, b"", "now") for at in range(5)]
+        nulls = [(at, None, None, None, "now") for at in range(5)]
+        for shown, places in (("id, \"Owner\", balance, raw", (0, 1, 2, 3)), ('"Owner", id', (1, 0)), ('balance, 7, "Owner"', (2, 0, 1)), ("raw, id, raw", (3, 0, 3)), ("id", (0,))):
+            for rows in (every, plain, nulls, every[:4], every[4:9]):
+                with self.subTest(shown, rows=rows):
+                    came = [tuple(row[place] for place in places) for row in rows]
+                    text = f"SELECT {shown} FROM accounts"
+                    alone = ["".join(self.said(text, None, Result(1, [row]))[2:]) for row in came]
+                    self.assertEqual("\n".join(self.said(text, None, Result(len(came), came))[2:]).split("\n"), alone)
+        for wrong in (2**63, 1.5, True, "x"):
+            rows = [(wrong if at == 2 else at,) for at in range(5)]
+            with self.subTest(wrong):
+                if wrong is True:
+                    self.assertEqual(self.said("SELECT id FROM t", None, Result(5, rows))[2:], ["| 0\n| 1\n| 1\n| 3\n| 4"])
+                else:
+                    self.assertRaises(Unsaid, self.said, "SELECT id FROM t", None, Result(5, rows))
+
     def test_what_is_shown(self) -> None:
         self.assertEqual(self.said("SELECT count(*) AS n FROM t", None, Result(1, [(7,)])), ["> SELECT count(*) FROM t", "SELECT 1", "| 7"])
         self.assertEqual(self.said("SELECT count(1) FROM t", None, Result(1, [(7,)]))[0], "> SELECT count(*) FROM t")

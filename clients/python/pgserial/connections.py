@@ -105,7 +105,7 @@ class Connection(Proxy):
         def call(sent: Any) -> Any:
             cursor.wrapped = self.wrapped.execute(sent, *words, **named)
 
-        cursor._executed(operation, parameters_of(words, named), call)
+        cursor._executed(operation, text_of(operation, self.wrapped), parameters_of(words, named), call)
         return cursor
 
     def _executemany(self, operation: Any, several: Any) -> "Cursor":
@@ -280,16 +280,16 @@ class Cursor(Proxy):
 
     def execute(self, operation: Any, *words: Any, **named: Any) -> Any:
         """Executes a statement."""
-        parameters = parameters_of(words, named)
+        parameters = words[0] if words else parameters_of(words, named)
         session = self._connection._session
-        if session.driver.sends_several and not session.recorder.is_over and getattr(self.wrapped, "name", None) is None:
-            text = text_of(operation, self._connection.wrapped)
-            if text is not None and ";" in text.rstrip("; \t\n"):
+        text = None if session.recorder.is_over else text_of(operation, self._connection.wrapped)
+        if text is not None and ";" in text and session.driver.sends_several and getattr(self.wrapped, "name", None) is None:
+            if ";" in text.rstrip("; \t\n"):
                 whole = bound(self.wrapped, operation, parameters)
                 parts = session.guarded(statements_of, whole) if whole is not None else None
                 if parts:
                     return self._several(parts, whole or "")
-        return self._executed(operation, parameters, lambda sent: self.wrapped.execute(sent, *words, **named))
+        return self._executed(operation, text, parameters, lambda sent: self.wrapped.execute(sent, *words, **named))
 
     def _several(self, parts: List[str], whole: str) -> Any:
         """Executes the statements of a text one by one. In autocommit they are one transaction, as the server takes them."""
@@ -298,7 +298,7 @@ class Cursor(Proxy):
                 value = None
                 for part in parts:
                     sent = part.encode("utf-8", "surrogateescape")
-                    value = self._executed(sent, None, self.wrapped.execute)
+                    value = self._executed(sent, text_of(sent, None), None, self.wrapped.execute)
                 return value
         finally:
             self._kept.sent = Whole(whole)
@@ -322,17 +322,17 @@ class Cursor(Proxy):
         finally:
             around.close()
 
-    def _executed(self, operation: Any, parameters: Any, call: Callable[[Any], Any]) -> Any:
-        """Does a call that executes a statement. What it gives is this cursor, where the driver gives its own."""
+    def _executed(self, operation: Any, text: Optional[str], parameters: Any, call: Callable[[Any], Any]) -> Any:
+        """Does a call that executes a statement of this text. What it gives is this cursor, where the driver gives its own."""
         self._forget()
         sent = [operation]
 
         def planned() -> Step:
-            step = self._step(operation, parameters)
-            self._kept.serving = step.serving
+            step = self._step(operation, text, parameters)
+            if step.serving is not None:
+                self._kept.serving = step.serving
             if step.addition is not None:
-                text = text_of(operation, self._connection.wrapped) or ""
-                sent[0], self._kept.addition, self._kept.sent = step.addition.to(operation, text), step.addition, step.addition
+                sent[0], self._kept.addition, self._kept.sent = step.addition.to(operation, text or ""), step.addition, step.addition
             return step
 
         try:
@@ -344,7 +344,7 @@ class Cursor(Proxy):
 
     def _forget(self) -> None:
         """Nothing is kept of what was executed before."""
-        self._kept = _Kept()
+        object.__setattr__(self, "_kept", _Kept())
 
     def _rewind(self) -> None:
         """What comes is asked of the driver's cursor, which is to stand before its first row."""
@@ -362,9 +362,9 @@ class Cursor(Proxy):
             self._rewind()
         super().__setattr__(name, value)
 
-    def _step(self, operation: Any, parameters: Any) -> Step:
+    def _step(self, operation: Any, text: Optional[str], parameters: Any) -> Step:
         session = self._connection._session
-        text = text_of(operation, self._connection.wrapped)
+        text = text_of(operation, self._connection.wrapped) if text is None else text
         if text is None:
             return NoText(session, operation)
         is_served = getattr(self.wrapped, "name", None) is not None

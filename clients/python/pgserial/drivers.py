@@ -585,7 +585,10 @@ class Sqlite(Driver):
     many_gives_cursor = True
 
     def is_open(self) -> Optional[bool]:
-        return not self.is_dead() and bool(self._raw.in_transaction)
+        try:
+            return bool(self._raw.in_transaction)
+        except self._module.ProgrammingError:  # it is closed
+            return False
 
     def is_dead(self) -> bool:
         try:
@@ -641,6 +644,16 @@ class Sqlite(Driver):
         if error is not None:
             return Came(Result(-1), rows, maker, error)
         return Came(Result(len(rows), self._known(rows), cursor.lastrowid), rows, maker)
+
+    def _taken(self, cursor: Any) -> Tuple[Rows, Optional[BaseException]]:
+        if type(cursor) is not self._module.Cursor:
+            return super()._taken(cursor)
+        rows: Rows = []
+        try:
+            rows.extend(cursor)  # which keeps those before an error
+        except Exception as error:  # the application's own, when it comes so far
+            return rows, error
+        return rows, None
 
     def _known(self, rows: Rows) -> Rows:
         """The rows, where what the application may have made of others stands as unknown values."""

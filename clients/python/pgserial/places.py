@@ -72,11 +72,12 @@ class Places:
         finally:
             self._name.set(before)
 
-    def place(self) -> Optional[Place]:
-        """The innermost line of the project that has led here; else the innermost of no installed package."""
+    def place(self, own: int = 1) -> Optional[Place]:
+        """The innermost line of the project that has led here; else the innermost of no installed package. `own` are the
+        frames that are surely of this package, this one included."""
         other: Optional[Place] = None
         files = self._files
-        frame: Any = sys._getframe(1)
+        frame: Any = sys._getframe(own)
         while frame is not None:
             name = frame.f_code.co_filename
             near = (files.get(name) or self._file(name))[0]

@@ -43,6 +43,9 @@ class Psycopg2:
         self._extensions: Any = sys.modules.get("psycopg2.extensions")
         self._own: Any = sys.modules.get("psycopg2._psycopg")
         self._casters = {id(each) for each in vars(self._own).values()}  # those that it brings
+        self._known: Dict[int, Any] = {}  # by types, those of these that make their values
+        protocol = self._extensions.ISQLQuote
+        self._senders = {int: ((int, protocol), self._own.Int), str: ((str, protocol), self._own.QuotedString)}
         self._probed: Dict[Tuple[int, int], Tuple[Any, Optional[bool]]] = {}  # casters, and whether each shows texts
 
     def plain_cursor(self) -> Any:
@@ -75,8 +78,12 @@ class Psycopg2:
 
     def sends_own(self, kinds: Iterable[type], _: Any) -> bool:
         """Whether numbers and texts, of just these classes, are sent as they are."""
-        adapters, protocol, own = self._extensions.adapters, self._extensions.ISQLQuote, self._own
-        return all(adapters.get((kind, protocol)) is (own.Int if kind is int else own.QuotedString) for kind in kinds)
+        adapters = self._extensions.adapters
+        for kind in kinds:
+            key, sender = self._senders[kind]
+            if adapters.get(key) is not sender:
+                return False
+        return True
 
     def _adapter(self, kind: type) -> Tuple[type, Any]:
         """What adapts values of a class, and the class for which that is registered."""
@@ -141,9 +148,9 @@ class Psycopg2:
     def turned(self, cursor: Any, oids: Sequence[int]) -> List[int]:
         """The places at which the values that are shown may be others, as the application has registered it."""
         own, shared, casters = cursor.string_types, self._raw.string_types, self._extensions.string_types
+        known = self._known
         if not own and not shared:
-            found = [(place, oid, casters.get(oid)) for place, oid in enumerate(oids)]
-            return [place for place, oid, caster in found if not self._is_own_caster(caster, oid) and self._turns(cursor, oid)]
+            return [place for place, oid in enumerate(oids) if casters.get(oid) is not known.get(oid, self) and self._turns(cursor, oid)]
         return [place for place, oid in enumerate(oids) if self._turns(cursor, oid)]
 
     def _is_own_caster(self, caster: Any, oid: int) -> bool:
@@ -152,6 +159,8 @@ class Psycopg2:
     def _turns(self, cursor: Any, oid: int) -> bool:
         caster = None if oid in _JSON_OIDS else self._caster(cursor, oid)
         if self._is_own_caster(caster, oid):
+            if oid not in _JSON_OIDS and not cursor.string_types and not self._raw.string_types:
+                self._known[oid] = caster
             return False
         text, value = _PROBES.get(oid, ("", None))
         return not text or self._probe(caster, oid, cursor, text, value) is None
@@ -260,7 +269,9 @@ def _is_own(kind: Any) -> bool:
 def surely_known(adapting: Any, cursor: Any, description: Any, rows: Sequence[Sequence[object]]) -> Sequence[Sequence[object]]:
     """The rows that came. Values of JSON stand so that each is surely known, and those that the application has made of others
     as unknown ones."""
-    oids = [column.type_code for column in description] if rows else []
+    if not rows:
+        return rows
+    oids = [column.type_code for column in description]
     told: List[Tuple[int, Callable[[int, object], object]]] = [
         (place, adapting.json_of(cursor, place)) for place, oid in enumerate(oids) if oid in _JSON_OIDS
     ]

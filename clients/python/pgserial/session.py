@@ -12,6 +12,7 @@ from .verdict import HAS_NOT, MAY_COMMIT
 
 _NOWHERE = -1  # the place of what isn't held back
 _UNKNOWN = object()
+_OWN_FRAMES = 4  # of `Places.place`, `_at`, `asked`, and who calls that
 _ENDS = ("COMMIT", "ROLLBACK", "EXPORT", "IMPORT")  # commands that have no place of their own
 
 
@@ -84,13 +85,14 @@ class Session:
 
     def _at(self, command: str) -> str:
         """The comment that tells the place of a statement, or of a transaction where it begins one."""
-        word = command.partition(" ")[0]
-        if word in _ENDS:
+        if command.startswith(_ENDS):
             return ""
         places = self.recorder.places
-        found: Optional[Place] = places.place() if self._place is _UNKNOWN else self._place
-        self._place = found if self.is_busy else _UNKNOWN
-        place: Optional[Place] = places.called(found) if word == "BEGIN" else found
+        found: Optional[Place] = self._place
+        if found is _UNKNOWN:
+            found = places.place(_OWN_FRAMES)
+            self._place = found if self.is_busy else _UNKNOWN
+        place: Optional[Place] = places.called(found) if command.startswith("BEGIN") else found
         return "" if place is None else place.comment()
 
     def answered(self, lines: List[str]) -> str:
@@ -98,8 +100,8 @@ class Session:
         if len(lines) == 1:
             return f"  {self.number} {lines[0]}\n"
         start = f"  {self.number} "
-        between = "\n" + start
-        return f"{start}{between.join(lines)}\n" if lines else ""
+        text = "\n".join(lines).replace("\n", "\n" + start)  # what stands for several lines has newlines between these
+        return f"{start}{text}\n" if lines else ""
 
     def exchange(self, command: str, *reply: str) -> str:
         """A command with its reply."""

@@ -29,9 +29,10 @@ class Step:
     addition: Optional[Addition] = None  # what is added to the text that is sent
     serving: Optional[Serving] = None  # what says rows that come later
 
+    is_asked = False  # whether the command of it is written
+
     def __init__(self, session: Session) -> None:
         self.session = session
-        self.is_asked = False
 
     def before(self) -> None:
         """What is written before the call."""
@@ -265,7 +266,7 @@ class Statement(Step):
     def __init__(
         self, session: Session, told: Told, text: str, cursor: Executed, addition: Optional[Addition] = None
     ) -> None:
-        super().__init__(session)
+        self.session = session
         self._told, self._text, self._cursor, self.addition = told, text, cursor, addition
         self.by_rows: Optional[Callable[[str], Told]] = None  # how a query is said that can't be said as it stands
         self._is_ahead = False
@@ -329,6 +330,9 @@ class Statement(Step):
 
     def _write(self, exchanges: List[Tuple[str, List[str]]]) -> None:
         session = self.session
+        if self.is_asked and len(exchanges) == 1:
+            session.write(session.answered(exchanges[0][1]))
+            return
         lines = [session.asked(command) + session.answered(reply) for command, reply in exchanges]
         if self.is_asked and exchanges:
             lines[0] = session.answered(exchanges[0][1])

@@ -14,6 +14,9 @@ _NUMBERS = (7046029254386350000, 3915724681029460000)  # in whose digits numbers
 _TEXTS = ("q7z", "x7w")  # and texts
 _MOST_SHAPES, _MOST_HOLES = 16, 256  # of classes of parameters, for one statement; of parameters
 _MOST_TEXT = MOST_BYTES // 8  # characters of a parameter
+_LEAST, _MOST = -(2**63), 2**63 - 1  # numbers of 64 bits
+_GIVEN = frozenset((tuple, list, dict))  # classes of parameters that are given
+_NEW: Any = object()  # classes of parameters that a statement hasn't been given yet
 Key = Any  # of a parameter: its place, or its name
 
 
@@ -109,20 +112,21 @@ class Template:
 
     def __init__(self, model: Told, holes: Sequence[Hole], is_positive: bool) -> None:
         self._model, self._is_positive = model, is_positive
+        self.kinds = frozenset(int if hole.is_number else str for hole in holes)
         self._made: Type[Any] = _Selected if isinstance(model, _SelectTold) else _Written
         pieces: List[Any] = [model.first]
         for hole in holes:
             pieces = list(itertools.chain.from_iterable(_cut(piece, hole) for piece in pieces))
         self._pieces: List[str] = ["" if isinstance(piece, Hole) else piece for piece in pieces]
-        self._holes = [(at, piece) for at, piece in enumerate(pieces) if isinstance(piece, Hole)]
+        self._holes = [(at, piece, piece.key, piece.is_number) for at, piece in enumerate(pieces) if isinstance(piece, Hole)]
 
     def told(self, parameters: Any) -> Optional[Told]:
         """One execution of it; None where a value must be looked at more closely."""
         pieces = self._pieces[:]
-        for at, hole in self._holes:
-            value = parameters[hole.key]
-            literal = hole.literal(value)
-            if literal is None or (self._is_positive and hole.is_number and value < 0):
+        for at, hole, key, is_number in self._holes:
+            value = parameters[key]
+            literal = repr(value) if is_number and _LEAST <= value <= _MOST else hole.literal(value)
+            if literal is None or (self._is_positive and is_number and value < 0):
                 return None
             pieces[at] = literal
         text = "".join(pieces)
@@ -153,16 +157,16 @@ class Templates:
         """One execution, where it is said as others were. `are_sent` tells whether the driver sends values of some classes as
         they are."""
         kind = type(parameters)
-        if self._is_none or kind not in (tuple, list, dict) or not parameters:
+        if self._is_none or kind not in _GIVEN or not parameters:
             return None
         kinds = tuple(map(type, parameters.values() if kind is dict else parameters))
         key = (tuple(parameters), kinds) if kind is dict else kinds
-        if key not in self._known:
+        template = self._known.get(key, _NEW)
+        if template is _NEW:
             if len(self._known) >= _MOST_SHAPES:
                 return None
-            self._known[key] = self._template(list(zip(parameters if kind is dict else itertools.count(), kinds)))
-        template = self._known[key]
-        return template.told(parameters) if template is not None and are_sent(set(kinds)) else None
+            template = self._known[key] = self._template(list(zip(parameters if kind is dict else itertools.count(), kinds)))
+        return template.told(parameters) if template is not None and are_sent(template.kinds) else None
 
     def _template(self, kinds: List[Tuple[Key, type]]) -> Optional[Template]:
         """A template, where what is said with other parameters is what it makes of these."""

@@ -1,5 +1,7 @@
 """A statement as the application sends it, said in the words of a transcript."""
 
+import itertools
+import operator
 from typing import Any, Callable, Dict, Iterable, List, Mapping, NamedTuple, Optional, Sequence, Tuple
 
 from . import BIGINT, TEXT, sql
@@ -355,13 +357,17 @@ class _Saying:
         return self.select_text(shown, where), [f"SELECT {len(rows)}", *self.reply_rows(shown, rows)]
 
     def reply_rows(self, shown: Sequence[Tuple[int, int]], rows: Sequence[Sequence[object]]) -> List[str]:
-        """Rows that came, as a reply has them."""
+        """Rows that came, as a reply has them: lines, or several in a text with newlines between them."""
         if len(rows) < _SEVERAL:
             return ["| " + self.fields(shown, row) for row in rows]
-        columns = self.table.columns
-        came = list(zip(*rows))
-        texts = [self.spelling.copy_texts(columns[place].kind, came[at]) for at, place in shown]
-        return ["| " + text for text in (texts[0] if len(texts) == 1 else map("\t".join, zip(*texts)))]
+        columns, width = self.table.columns, len(rows[0])
+        came: Tuple[object, ...] = tuple(itertools.chain.from_iterable(rows))
+        taken = [came[at::width] for at, _ in shown]
+        texts = [self.spelling.copy_texts(columns[place].kind, values) for (_, place), values in zip(shown, taken)]
+        if [at for at, _ in shown] != list(range(width)) or any(map(operator.is_not, texts, taken)):
+            came = tuple(itertools.chain.from_iterable(zip(*texts)))
+        line = "\n| " + "\t".join(["%s"] * len(texts))
+        return [((line * len(rows)) % came)[1:]]
 
     def select_text(self, shown: Sequence[Tuple[int, int]], where: str) -> str:
         """The text of that SELECT."""

@@ -123,19 +123,22 @@ class Spelling:
             return "'\\x" + said.hex() + "'"
         return "NULL" if said is None else str(int(said))
 
-    def copy_texts(self, kind: Kind, values: Sequence[object]) -> Sequence[str]:
-        """Several values of a column as fields of rows."""
+    def copy_texts(self, kind: Kind, values: Sequence[object]) -> Sequence[object]:
+        """Several values of a column as fields of rows: texts, or numbers whose digits are meant."""
         kinds = set(map(type, values))
-        if kind is BIGINT and kinds == {int}:
-            numbers: Any = values
-            if -(2**63) <= min(numbers) and max(numbers) < 2**63:
-                return list(map(int.__repr__, numbers))
-        if kind is TEXT and kinds == {str}:
-            texts: Any = values
-            joined = "".join(texts)
-            if joined.isprintable() and "\\" not in joined:  # half characters aren't printable
-                return list(texts)
+        own: Optional[type] = int if kind is BIGINT else str if kind is TEXT else None
+        if own in kinds and kinds <= {own, type(None)}:
+            given = values if len(kinds) == 1 else [value for value in values if value is not None]
+            if self._are_plain(given):
+                return values if given is values else ["\\N" if value is None else value for value in values]
         return [self.copy_text(kind, value) for value in values]
+
+    def _are_plain(self, values: Any) -> bool:
+        """Whether numbers have 64 bits, or texts stand as they are; half characters aren't printable."""
+        if type(values[0]) is int:
+            return bool(-(2**63) <= min(values) and max(values) < 2**63)
+        joined = "".join(values)
+        return joined.isprintable() and "\\" not in joined
 
     def copy_text(self, kind: Kind, value: object) -> str:
         """A value as a field of a row."""
