@@ -2,6 +2,8 @@
 gaps for values, and calls of drivers that no text says."""
 
 import contextlib
+import datetime
+import decimal
 import random
 import re
 from dataclasses import dataclass
@@ -13,8 +15,8 @@ TEXTS = ("x", "it's", "100%", "a\nb", "back\\slash", "", "naïve", "tab\tand\rre
 
 @dataclass(frozen=True)
 class Form:
-    """A form: its texts, of which one is taken; on which engines; and what kind it is: `read`, `write`, `error`, `beside`,
-    `left out` or `spoils`."""
+    """A form: its texts, of which one is taken; on which engines; and what kind it is: `read`, `write`, `by rows` (what is said
+    by its rows, of which something stays unknown), `error`, `beside`, `left out` or `spoils`."""
 
     kind: str
     texts: Tuple[str, ...]
@@ -109,16 +111,42 @@ FORMS: Dict[str, Form] = {
     "another table is made": _both("beside", "CREATE TABLE IF NOT EXISTS made (id int)"),
     "EXPLAIN": _both("left out", "EXPLAIN SELECT * FROM t", "EXPLAIN DELETE FROM t"),
     "a known function": _postgres("left out", "SELECT f_read(1)", "SELECT id FROM t WHERE v = f_read(2)", "SELECT now(), id FROM t"),
+    # what is said by its rows
+    "a product": _both("by rows", "UPDATE t SET v = v * 2 WHERE id = {k}", "UPDATE t SET v = CASE WHEN v > 2 THEN 1 ELSE 2 END", "UPDATE t SET v = v % 3"),
+    "ON CONFLICT": _both("by rows", "INSERT INTO t (id, v) VALUES ({k}, {v}) ON CONFLICT DO NOTHING", "INSERT INTO t (id, v) VALUES ({k}, 1) ON CONFLICT (id) DO UPDATE SET v = 3",
+        "INSERT INTO t (id, v) VALUES ({f}, {v}) ON CONFLICT (id) DO UPDATE SET v = t.v + excluded.v", "INSERT INTO t (id, v) VALUES ({k}, {v}) ON CONFLICT (id) DO UPDATE SET v = excluded.v WHERE t.v < 3",
+        "INSERT INTO t (id, v, w) VALUES ({k}, {v}, 1), ({f}, {v}, 2) ON CONFLICT (id) DO UPDATE SET w = excluded.w RETURNING id, v"),
+    "INSERT SELECT": _both("by rows", "INSERT INTO t (id, v) SELECT id + 20, v FROM u", "UPDATE t SET v = (SELECT max(v) FROM u) WHERE id = {k}"),
+    "the key changes": _both("by rows", "UPDATE t SET id = {f} WHERE id = {k}"),
+    "OR changes": _both("by rows", "UPDATE t SET v = {v} WHERE id = {k} OR v = {v}", "DELETE FROM t WHERE NOT v = {v}", "DELETE FROM t WHERE id IN (SELECT id FROM u)"),
+    "UPDATE FROM": _both("by rows", "UPDATE t SET v = u.v FROM u WHERE u.id = t.id", "UPDATE t SET w = t.w + 1 FROM u WHERE u.id = t.id AND u.v = {v}"),
+    "a serial key": _both("by rows", "INSERT INTO u (v) VALUES ({v})", "INSERT INTO u (v) VALUES ({v}), ({v})", "INSERT INTO u DEFAULT VALUES"),
+    "a bulk update": _both("by rows", "UPDATE t SET v = CASE id WHEN 1 THEN {v} WHEN 2 THEN {v} END WHERE id IN (1, 2)", "UPDATE t SET v = CASE WHEN id = {k} THEN {v} ELSE v END WHERE id IN ({ks})"),
+    "changes of a list": _both("by rows", "UPDATE t SET v = {v} WHERE v IN ({vs})", "DELETE FROM t WHERE w IN ({vs})", "UPDATE t SET w = 3 WHERE w IN ({vs}) RETURNING id, w"),
+    "coalesce": _both("by rows", "UPDATE t SET v = coalesce(v, 0) + {n} WHERE id = {k}", "UPDATE t SET name = coalesce(name, {s}) WHERE id > {k}", "UPDATE t SET v = v + w WHERE id = {k}"),
+    "WITH writes": _postgres("by rows", "WITH d AS (DELETE FROM t WHERE w = {n} RETURNING id, v) SELECT * FROM d", "WITH d AS (UPDATE t SET v = v * 2 WHERE id = {k} RETURNING id, v) SELECT * FROM d",
+        "WITH c AS (SELECT id FROM u WHERE v = {v}) DELETE FROM t WHERE id IN (SELECT id FROM c)"),
+    "the first": _both("by rows", "SELECT id, v FROM t WHERE w = {n} ORDER BY id LIMIT 1", "SELECT v FROM t ORDER BY v, id LIMIT 1", "SELECT * FROM t ORDER BY id DESC LIMIT {n}"),
+    "exists": _both("by rows", "SELECT 1 AS a FROM t WHERE v = {v} LIMIT 1", "SELECT (1) AS a FROM t WHERE w > {n} LIMIT 1", "SELECT (1) FROM u WHERE v IS NULL LIMIT 1"),
+    "a join with keys": _both("by rows", "SELECT t.id, t.v, u.id, u.v FROM t JOIN u ON u.id = t.id", "SELECT t.id, t.w, u.id FROM t LEFT JOIN u ON u.id = t.v",
+        "SELECT a.id, a.v, b.id, b.v FROM t a JOIN t b ON a.w = b.w AND a.id < b.id", "SELECT t.v, u.v FROM t, u WHERE t.id = u.id AND u.v = {v}"),
+    "a subquery with keys": _both("by rows", "SELECT id, v FROM t WHERE id IN (SELECT id FROM u)", "SELECT id, v, (SELECT max(v) FROM u) FROM t", "WITH c AS (SELECT id FROM u) SELECT id, v FROM t WHERE id IN (SELECT id FROM c)"),
+    "conditions of all kinds": _both("by rows", "SELECT id, v FROM t WHERE v = {v} OR w = {n}", "SELECT id, name FROM t WHERE name LIKE '%x%'", "SELECT id, v + 1, w FROM t WHERE v > w", "SELECT DISTINCT id, w FROM t"),
+    # tables of other kinds, with a key of two columns, and one whose rows go with theirs
+    "kinds are read": _both("read", "SELECT a, b, done, price FROM k WHERE a = {h} AND b = {b}", "SELECT * FROM k", "SELECT a, b, day FROM k WHERE done = {B}", "SELECT a, b, data FROM k WHERE a = {h}",
+        "SELECT tag, at FROM k WHERE b = {b}", "SELECT a, b FROM k WHERE price = {p}", "SELECT a, b, price FROM k WHERE price > {p}", "SELECT count(*) FROM k WHERE day >= {d}"),
+    "kinds are written": _both("write", "UPDATE k SET done = {B}, price = {p} WHERE a = {h} AND b = {b}", "UPDATE k SET day = {d}, at = {T} WHERE b = {b}", "UPDATE k SET data = {j} WHERE a = {h}",
+        "UPDATE k SET tag = {g} WHERE done = {B}", "UPDATE k SET price = price + {p} WHERE a = {h}", "UPDATE k SET price = NULL, data = NULL WHERE a = {h} AND b = {b}",
+        "INSERT INTO k (a, b, done, price, day) VALUES ({h}, {b}, {B}, {p}, {d})", "INSERT INTO k (b, a, tag, data, at) VALUES ({b}, {h}, {g}, {j}, {T})"),
+    "kinds by rows": _both("by rows", "UPDATE k SET price = price * 2 WHERE done = {B}", "UPDATE k SET done = NOT done WHERE a = {h}", "INSERT INTO k (a, b, price) VALUES ({h}, {b}, {p}) ON CONFLICT (a, b) DO UPDATE SET price = {p}",
+        "SELECT a, b, price FROM k WHERE done = {B} OR price IS NULL ORDER BY price LIMIT 2", "SELECT k.a, k.b, k.done, c.id, c.n FROM k JOIN c ON c.a = k.a AND c.b = k.b"),
+    "a cascade": _both("write", "DELETE FROM k WHERE a = {h} AND b = {b}", "DELETE FROM k WHERE a = {h}", "DELETE FROM k WHERE done = {B}"),
+    "rows that refer": _both("write", "INSERT INTO c (a, b, n) VALUES ({h}, {b}, {n})", "UPDATE c SET n = n + 1 WHERE a = {h}", "DELETE FROM c WHERE n = {n}", "SELECT * FROM c", "SELECT id, n FROM c WHERE b = {b}"),
     # what makes a transcript of no use, where it is done
-    "a product": _both("spoils", "UPDATE t SET v = v * 2 WHERE id = {k}", "UPDATE t SET v = CASE WHEN v > 2 THEN 1 ELSE 2 END", "UPDATE t SET v = v % 3"),
-    "ON CONFLICT": _both("spoils", "INSERT INTO t (id, v) VALUES ({k}, {v}) ON CONFLICT DO NOTHING", "INSERT INTO t (id, v) VALUES ({k}, 1) ON CONFLICT (id) DO UPDATE SET v = 3"),
-    "INSERT SELECT": _both("spoils", "INSERT INTO t (id, v) SELECT id + 20, v FROM u", "UPDATE t SET v = (SELECT max(v) FROM u) WHERE id = {k}"),
-    "the key changes": _both("spoils", "UPDATE t SET id = {f} WHERE id = {k}"),
-    "OR changes": _both("spoils", "UPDATE t SET v = {v} WHERE id = {k} OR v = {v}", "DELETE FROM t WHERE NOT v = {v}", "DELETE FROM t WHERE id IN (SELECT id FROM u)"),
     "an unrecorded write": _both("spoils", "INSERT INTO plain (v) VALUES ({v})", "UPDATE plain SET v = 2"),
-    "REPLACE": _sqlite("spoils", "REPLACE INTO t (id, v) VALUES ({k}, {v})", "INSERT OR IGNORE INTO t (id, v) VALUES ({k}, 1)", "UPDATE OR IGNORE t SET v = 3 WHERE id = {k}"),
+    "REPLACE": _sqlite("by rows", "REPLACE INTO t (id, v) VALUES ({k}, {v})", "INSERT OR IGNORE INTO t (id, v) VALUES ({k}, 1)", "UPDATE OR IGNORE t SET v = 3 WHERE id = {k}"),
     "o.t": _postgres("spoils", "UPDATE o.t SET v = {v} WHERE id = {k}", "DELETE FROM o.t WHERE id = {k}", "INSERT INTO o.t (id, v, w) VALUES ({f}, {v}, {n})", "UPDATE o.t SET v = v + 1"),
-    "TRUNCATE": _postgres("spoils", "TRUNCATE t", "WITH a AS (DELETE FROM t RETURNING id) SELECT * FROM a", "SELECT 1; UPDATE t SET v = 2 WHERE id = 1", "DO 'BEGIN DELETE FROM t; END'"),
+    "TRUNCATE": _postgres("spoils", "TRUNCATE t", "DO 'BEGIN DELETE FROM t; END'"),
     "a function writes": _postgres("spoils", "SELECT f_write({k})", 'SELECT "f_write"({k})', "SELECT id FROM t WHERE f_write(id) = 1", "INSERT INTO t (id, v) VALUES ({f}, f_write({k}))",
         "UPDATE t SET v = f_write({k}) WHERE id = {k}", "CALL p_write({k})"),
     # what is ignored writes recorded tables
@@ -150,14 +178,29 @@ def value_of(gap: str, chance: random.Random) -> Any:
         return chance.randint(-5, 5)
     if gap == "n":
         return chance.randint(0, 3)
-    return chance.choice(TEXTS)
+    if gap in _KINDS:
+        return None if chance.random() < 0.04 else chance.choice(_KINDS[gap])
+    return chance.choice(("x", "y 'z") if gap == "b" else (1, 2, 3) if gap == "h" else TEXTS)
+
+
+_ZONE = datetime.timezone(datetime.timedelta(hours=2))
+# Values of other kinds than numbers and texts; of each some that are equal, and stand otherwise.
+_KINDS: Dict[str, Sequence[Any]] = {
+    "B": (True, False), "p": tuple(map(decimal.Decimal, ("0", "1.5", "1.50", "2", "-0.25", "7.99"))),
+    "d": (datetime.date(2024, 2, 29), datetime.date(1969, 12, 31), datetime.date(2024, 3, 1)),
+    "T": (datetime.datetime(2024, 3, 1, 10, 0, 0, 5, datetime.timezone.utc), datetime.datetime(2024, 3, 1, 12, 0, 0, 5, _ZONE), datetime.datetime(1999, 1, 1, tzinfo=_ZONE)),
+    "j": ('{"a": 1, "b": [true, null]}', '{"b":[true,null],"a":1.0}', '"x"', "[1, 2.50]", "{}"),
+    "g": ("12345678-9abc-def0-1234-56789abcdef0", "12345678-9ABC-DEF0-1234-56789ABCDEF0", "00000000-0000-0000-0000-000000000001"),
+}  # fmt: skip
 
 
 def literal(value: Any) -> str:
     """A value in a text."""
     if value is None:
         return "NULL"
-    return str(value) if isinstance(value, int) else "'" + value.replace("'", "''") + "'"
+    if isinstance(value, (int, float, decimal.Decimal)):
+        return str(value)  # a truth is true or false
+    return "'" + str(value).replace("'", "''") + "'"
 
 
 class Text:
@@ -189,6 +232,8 @@ class Text:
         return self._one(value_of(gap, self._chance))
 
     def _one(self, value: Any) -> str:
+        if isinstance(value, decimal.Decimal) and self.engine == "sqlite3":
+            value = float(value)  # of which these are exact
         if self._all_literal or self._chance.random() < 0.2:
             return literal(value)
         return self._slot(value)

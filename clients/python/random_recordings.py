@@ -59,13 +59,17 @@ class Plan:
     ignoring: Tuple[str, ...] = ("log",)
     verifies_end: bool = False
     without: Tuple[str, ...] = ()  # forms, steps and circumstances that are left out
+    often: bool = False  # whether what isn't said word by word is made most
 
 
 # ---- plans
 
 _BEGINS, _ENDS = ("begin",), ("commit", "commit", "commit", "commit", "rollback")
-_RARE = ("close", "autocommit", "with", "many", "adapter", "turning", "reset", "script", "server cursor", "copy", "procedure", "broken parameters", "block", "another database")
-_WEIGHTS = {"read": 5, "write": 7, "left out": 1, "error": 0.7, "beside": 0.7}
+# Calls that no text says, and several statements that belong together.
+_CALLS = ("copy in", "execute batch", "execute values", "prepared", "a temporary table", "several in one text", "server cursor", "many by rows")
+_RARE = (*_CALLS, "close", "autocommit", "with", "many", "adapter", "turning", "reset", "script", "copy", "procedure", "broken parameters", "block", "another database")
+_OFTEN = ("kinds are read", "kinds are written", "a cascade", "rows that refer", "REPLACE")  # and all that is said by its rows
+_WEIGHTS = {"read": 5, "write": 7, "by rows": 6, "left out": 1, "error": 0.7, "beside": 0.7}
 
 
 def _statement(chance: random.Random, plan: Plan, engine: str, spoils: bool) -> str:
@@ -73,7 +77,13 @@ def _statement(chance: random.Random, plan: Plan, engine: str, spoils: bool) -> 
     if spoils and chance.random() < 0.15:
         return chance.choice([name for name in names if FORMS[name].kind == "spoils"] or names)
     kinds = [name for name in names if FORMS[name].kind != "spoils"]
-    return chance.choices(kinds, [_WEIGHTS[FORMS[name].kind] for name in kinds])[0]
+    return chance.choices(kinds, [_weight(name, plan.often) for name in kinds])[0]
+
+
+def _weight(name: str, often: bool) -> float:
+    """How often a form is made, beside others."""
+    kind = FORMS[name].kind
+    return 60 if often and (kind == "by rows" or name in _OFTEN) else _WEIGHTS[kind]
 
 
 def _transaction(chance: random.Random, plan: Plan, engine: str, spoils: bool) -> List[str]:
@@ -85,6 +95,8 @@ def _transaction(chance: random.Random, plan: Plan, engine: str, spoils: bool) -
         return ["begin", *reads, _statement(chance, plan, engine, spoils), chance.choice(("set", "add", "set by value", "INSERT", "DELETE")), chance.choice(_ENDS)]
     body = [_statement(chance, plan, engine, spoils) for _ in range(chance.choice((1, 1, 2, 2, 3, 4)))]
     if not plan.is_core:
+        if chance.random() < (0.7 if plan.often else 0.2):
+            body.insert(chance.randint(0, len(body)), chance.choice(_CALLS))
         if chance.random() < 0.15:
             at = chance.randint(0, len(body))
             body[at:at] = ["savepoint"]
@@ -94,13 +106,13 @@ def _transaction(chance: random.Random, plan: Plan, engine: str, spoils: bool) -
     return ["begin", *body, chance.choice(_ENDS)]
 
 
-def planned(seed: int, engine: str, without: Sequence[str] = ()) -> Plan:
+def planned(seed: int, engine: str, without: Sequence[str] = (), often: bool = False) -> Plan:
     """The plan of a seed."""
     chance = random.Random(f"{seed} {engine}")
-    turn = chance.random()
+    turn = chance.random() * (0.7 if often else 1)
     level = SERIALIZABLE if engine == "sqlite3" or turn < 0.7 else chance.choice(LEVELS)
     plan = Plan(
-        seed, level, chance.choice((1, 2, 2, 3, 3, 4) if level == SERIALIZABLE else (3, 4)), (), is_core=level != SERIALIZABLE or chance.random() < 0.2,
+        seed, level, chance.choice((1, 2, 2, 3, 3, 4) if level == SERIALIZABLE else (3, 4)), (), is_core=level != SERIALIZABLE or chance.random() < (0 if often else 0.2), often=often,
         is_threaded=chance.random() < 0.15, room=chance.randint(0, 3000) if chance.random() < 0.1 else None,
         ignoring=("log", "noisy") if chance.random() < 0.1 else ("log",), without=tuple(without), verifies_end=chance.random() < 0.5,
     )  # fmt: skip
@@ -176,7 +188,8 @@ class Actor:
             if step.name in FORMS:
                 self.executes(text_of(FORMS[step.name], chance, self.engine), chance)
             else:
-                getattr(self, "_" + step.name.replace(" ", "_"))(chance)
+                if getattr(self, "_" + step.name.replace(" ", "_"))(chance) is False:
+                    return
             made[step.name] += 1
         except (*self.errors, ValueError) as error:  # of named tuples with a name twice
             if isinstance(error, ValueError) and "duplicate field name" not in str(error):
@@ -364,12 +377,77 @@ class Actor:
             self.play.tell(f"session {self.number}: executescript")
             self.connection.executescript(chance.choice(("PRAGMA foreign_keys = ON;", "SELECT count(*) FROM t; SELECT 1;", "")))
 
-    def _server_cursor(self, chance: random.Random) -> None:
-        if self.engine != "sqlite3" and not self.is_autocommit():
-            cursor = self.connection.cursor("named")
-            cursor.execute(chance.choice(("SELECT * FROM t", "SELECT sum(v) FROM t")))
+    def _server_cursor(self, chance: random.Random) -> bool:
+        if self.engine == "sqlite3" or self.is_autocommit():
+            return False
+        cursor = self.connection.cursor("named")
+        cursor.execute(chance.choice(("SELECT * FROM t", "SELECT sum(v) FROM t", "SELECT id, v FROM t WHERE w = 2", "SELECT a, b, price FROM k")))
+        cursor.fetchone()
+        cursor.fetchmany(2)
+        if chance.random() < 0.7:
             cursor.fetchall()
-            cursor.close()
+        cursor.close()
+        return True
+
+    def _copy_in(self, chance: random.Random) -> bool:
+        """COPY of some rows into a table, by psycopg2."""
+        if self.engine != "psycopg2":
+            return False
+        rows = [(chance.randint(6, 14), chance.choice((1, 5, None)), chance.choice(("x", "it's", "a\\tb", "\\\\", ""))) for _ in range(chance.randint(1, 3))]
+        text = "".join("\t".join("\\N" if value is None else str(value) for value in row) + "\n" for row in rows)
+        self.play.tell(f"session {self.number}: COPY {text!r}")
+        if chance.random() < 0.5:
+            self.connection.cursor().copy_from(io.StringIO(text), "t", columns=("id", "v", "name"))
+        else:
+            self.connection.cursor().copy_expert("COPY t (id, v, name) FROM STDIN", io.StringIO(text))
+        return True
+
+    def _batch(self, name: str, text: str, rows: List[Any], **named: Any) -> bool:
+        if self.engine != "psycopg2":
+            return False
+        import psycopg2.extras
+
+        self.play.tell(f"session {self.number}: {name} {text} {rows}")
+        getattr(psycopg2.extras, name)(self.connection.cursor(), text, rows, page_size=2, **named)
+        return True
+
+    def _execute_batch(self, chance: random.Random) -> bool:
+        rows = [(chance.randint(0, 9), chance.randint(1, 6)) for _ in range(3)]
+        return self._batch("execute_batch", chance.choice(("UPDATE t SET v = %s WHERE id = %s", "UPDATE t SET v = v * %s WHERE id = %s", "UPDATE t SET v = v + %s WHERE id = %s")), rows)
+
+    def _execute_values(self, chance: random.Random) -> bool:
+        rows = [(at, chance.randint(0, 9)) for at in chance.sample(range(4, 14), 3)]
+        texts = ("INSERT INTO t (id, v) VALUES %s ON CONFLICT (id) DO UPDATE SET v = excluded.v", "INSERT INTO t (id, v) VALUES %s", "UPDATE t SET v = d.v FROM (VALUES %s) AS d (id, v) WHERE d.id = t.id")
+        return self._batch("execute_values", chance.choice(texts), rows)
+
+    def _prepared(self, chance: random.Random) -> bool:
+        if self.engine == "sqlite3":
+            return False
+        what, given = chance.choice((("UPDATE t SET v = $1 WHERE id = $2", (chance.randint(0, 9), chance.randint(1, 6))), ("SELECT id, v FROM t WHERE id = $1", (chance.randint(1, 6),)), ("DELETE FROM t WHERE id = $1", (5,))))
+        self._execute(f"PREPARE made AS {what}")
+        for _ in range(chance.randint(1, 2)):
+            self._execute(f"EXECUTE made ({', '.join(map(str, given))})")
+        self._execute("DEALLOCATE made")
+        return True
+
+    def _a_temporary_table(self, chance: random.Random) -> None:
+        self._execute("CREATE TEMP TABLE chosen (id bigint)")
+        self._execute(f"INSERT INTO chosen SELECT id FROM t WHERE w = {chance.randint(0, 3)}")
+        self._execute(chance.choice(("UPDATE t SET v = 5 WHERE id IN (SELECT id FROM chosen)", "DELETE FROM t WHERE id IN (SELECT id FROM chosen)", "SELECT t.id, t.v FROM t JOIN chosen ON chosen.id = t.id")))
+        self._execute("DROP TABLE chosen")
+
+    def _several_in_one_text(self, chance: random.Random) -> bool:
+        if self.engine != "psycopg2":
+            return False
+        key, value = chance.randint(1, 6), chance.randint(0, 9)
+        self._execute(chance.choice((f"UPDATE t SET v = {value} WHERE id = {key}; SELECT id, v FROM t WHERE id = {key}", f"UPDATE t SET v = v * 2 WHERE id = {key}; UPDATE t SET w = {value} WHERE id = {key};", f"SELECT 1; UPDATE t SET v = {value} WHERE id = {key}")))
+        return True
+
+    def _many_by_rows(self, chance: random.Random) -> None:
+        """`executemany` of what is said by its rows."""
+        text, several = chance.choice((("UPDATE t SET v = v * 2 WHERE id = ?", [(1,), (2,)]), ("INSERT INTO t (id, v) VALUES (?, ?) ON CONFLICT (id) DO UPDATE SET v = 7", [(3, 1), (9, 2)]), ("INSERT INTO u (v) VALUES (?)", [(1,), (2,)])))
+        self.play.tell(f"session {self.number}: executemany {text} {several}")
+        self.connection.cursor().executemany(text.replace("?", self.play.world.mark), several)
 
     def _copy(self, chance: random.Random) -> None:
         out = io.StringIO()
@@ -569,7 +647,8 @@ class Play:
         left = brute_force.left_by(transcript, numbers)
         if left is None:
             raise Wrong(f"the order {numbers} doesn't explain the replies")
-        if brute_force.copied(left) == there:
+        copied = {name: rows for name, rows in brute_force.copied(left).items() if name in there}
+        if copied == there:
             return
         self.counts["another order was asked for"] += 1
         text = self.text()
@@ -579,7 +658,7 @@ class Play:
         with open(self.path, "w", encoding="utf-8") as file:
             file.write(text)
         if told.answer == "no":
-            raise Wrong(f"the database has other rows than the recording leaves: {there}, and not {brute_force.copied(left)}")
+            raise Wrong(f"the database has other rows than the recording leaves: {there}, and not {copied}")
 
     def _beginnings(self) -> None:
         """A process that is killed leaves a beginning, which isn't `no`."""
@@ -696,8 +775,8 @@ def _comparable(row: Any) -> str:
 class Machine:
     """Makes recordings, and counts what was in them."""
 
-    def __init__(self, folder: str, dsn: Optional[str], engine: Optional[str] = None, without: Sequence[str] = ()) -> None:
-        self.folder, self.without = folder, without
+    def __init__(self, folder: str, dsn: Optional[str], engine: Optional[str] = None, without: Sequence[str] = (), often: bool = False) -> None:
+        self.folder, self.without, self.often = folder, without, often
         self.worlds = [world for world in worlds(folder, dsn) if engine is None or world.engine in engine.split(",")]
         self.counts: Counter[str] = collections.Counter()
 
@@ -742,7 +821,7 @@ class Machine:
         wrong: List[str] = []
         for seed in seeds:
             world = self.worlds[seed % len(self.worlds)]
-            plan = planned(seed, world.engine, self.without)
+            plan = planned(seed, world.engine, self.without, self.often)
             self.counts[f"recordings on {world.engine}"] += 1
             found = self.fault(world, plan, self.counts)
             if found is not None:
@@ -774,12 +853,13 @@ def main() -> int:
     words.add_argument("--seed", type=int, default=1)
     words.add_argument("--engine", help="one, or some with commas")
     words.add_argument("--without", default="", help="names of forms and steps that are left out, with commas")
+    words.add_argument("--often", action="store_true", help="make what is said by its rows most, and calls of which no text tells; at SERIALIZABLE alone")
     words.add_argument("--most", type=int, default=5, help="faults after which it ends")
     given = words.parse_args()
     begun = time.process_time()
     signal.signal(signal.SIGTERM, signal.default_int_handler)
     with tempfile.TemporaryDirectory(dir="/dev/shm" if os.path.isdir("/dev/shm") else None) as folder, server() as dsn:
-        machine = Machine(folder, dsn, given.engine, given.without.split(","))
+        machine = Machine(folder, dsn, given.engine, given.without.split(","), given.often)
         wrong = 0
         with contextlib.suppress(KeyboardInterrupt):  # what was made until then is told
             for seed in range(given.seed, given.seed + given.count):

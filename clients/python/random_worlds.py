@@ -10,14 +10,20 @@ from typing import Any, Dict, List, Optional, Sequence, Tuple
 
 from random_forms import register
 
-RECORDED: Dict[str, Any] = {"t": ["id", "v", "w", "name"], "u": None}
+RECORDED: Dict[str, Any] = {"t": ["id", "v", "w", "name"], "u": None, "k": None, "c": None}
 COLUMNS = {"t": ("id", "v", "w", "name"), "u": ("id", "v", "user")}  # the key first, as a transcript has them
 _ROWS = "INSERT INTO t (id, v, w, name) VALUES (1, 1, 2, 'x'), (2, 2, 3, 'y'), (3, NULL, 2, NULL), (4, 5, 5, 'x')"
-_MORE = "INSERT INTO u (v) VALUES (7), (2), (NULL)"
+_MORE = (
+    "INSERT INTO u (v) VALUES (7), (2), (NULL); INSERT INTO k (a, b, done, price, day) VALUES (1, 'x', true, 1.50, '2024-02-29'), (2, 'x', false, NULL, NULL); "
+    "INSERT INTO k (a, b, at, data, tag) VALUES (2, 'y ''z', '2024-03-01 10:00:00.000005+00', '{\"a\": 1}', '12345678-9abc-def0-1234-56789abcdef0'); "
+    "INSERT INTO c (a, b, n) VALUES (1, 'x', 1), (2, 'y ''z', 0), (1, 'x', 2)"
+)
 
 _SQLITE = f"""
 CREATE TABLE t (id INTEGER PRIMARY KEY, v BIGINT CHECK (v < 1000), w INT NOT NULL DEFAULT -5, name TEXT DEFAULT 'x', extra NUMERIC);
 CREATE TABLE u (id INTEGER PRIMARY KEY, v BIGINT, "user" VARCHAR(9) DEFAULT 'me');
+CREATE TABLE k (a INT NOT NULL, b TEXT NOT NULL, done BOOLEAN, price NUMERIC, day DATE, at DATETIME, data TEXT, tag TEXT, PRIMARY KEY (a, b));
+CREATE TABLE c (id INTEGER PRIMARY KEY, a INT, b TEXT, n BIGINT, FOREIGN KEY (a, b) REFERENCES k ON DELETE CASCADE);
 CREATE TABLE plain (id INTEGER PRIMARY KEY, v BIGINT);
 CREATE TABLE log (id INTEGER PRIMARY KEY, note TEXT);
 CREATE TABLE noisy (id INTEGER PRIMARY KEY, note TEXT);
@@ -29,6 +35,8 @@ _POSTGRES = (
     "DROP SCHEMA IF EXISTS o CASCADE", "DROP SCHEMA public CASCADE", "CREATE SCHEMA public", "CREATE SCHEMA o",
     "CREATE TABLE t (id int PRIMARY KEY, v bigint CHECK (v < 1000), w bigint NOT NULL DEFAULT -5, name text DEFAULT 'x', extra numeric)",
     'CREATE TABLE u (id bigserial PRIMARY KEY, v bigint, "user" varchar(9) DEFAULT \'me\')',
+    "CREATE TABLE k (a int, b text, done boolean, price numeric(9, 2), day date, at timestamptz, data jsonb, tag uuid, PRIMARY KEY (a, b))",
+    "CREATE TABLE c (id bigserial PRIMARY KEY, a int, b text, n bigint, FOREIGN KEY (a, b) REFERENCES k ON DELETE CASCADE)",
     "CREATE TABLE o.t (LIKE t INCLUDING ALL)", "CREATE TABLE plain (id serial PRIMARY KEY, v bigint)",
     "CREATE TABLE log (id serial PRIMARY KEY, note text)", "CREATE TABLE noisy (id serial PRIMARY KEY, note text)",
     "CREATE FUNCTION noise() RETURNS trigger LANGUAGE plpgsql AS 'BEGIN UPDATE t SET v = 77 WHERE id = 2; RETURN NEW; END'",
@@ -45,7 +53,7 @@ _POSTGRES = (
     "DO 'BEGIN CREATE ROLE other_role; EXCEPTION WHEN OTHERS THEN NULL; END'",
 )  # fmt: skip
 _RESET = (
-    "DROP TABLE IF EXISTS made, o.made; TRUNCATE t, u, o.t, plain, log, noisy RESTART IDENTITY;"
+    "DROP TABLE IF EXISTS made, o.made; TRUNCATE t, u, k, c, o.t, plain, log, noisy RESTART IDENTITY;"
     f"{_ROWS}; {_MORE}; INSERT INTO o.t SELECT id, v + 50, w, name FROM t"
 )
 # What another database has, so that a read or write of it shows.

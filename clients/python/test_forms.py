@@ -9,13 +9,26 @@ import os
 import unittest
 from typing import List
 
+import orm_forms
 from statement_forms import FORMS
-from try_forms import ENDS, REFUSED, WORDS, Place, Postgres, Sqlite, Tried, counts, postgres_places
+from try_forms import ENDS, REFUSED, WORDS, Place, Postgres, Sqlite, Tried, by_group, counts, postgres_places
 from test_recording import DSN, module
 
 
 GROUPS = ("UPDATE", "ON CONFLICT")  # of forms that other drivers are tried with
 WRITTEN_OF = {"psycopg2": -2, "sqlite3": -1}  # the columns of FORMS.md
+
+
+MADE = "python3 clients/python/try_forms.py --table > clients/python/FORMS.md"
+
+
+SUMMED = "python3 clients/python/try_forms.py --summary: the table at the end of clients/python/README.md"
+
+
+def page(name: str = "FORMS.md") -> List[str]:
+    """The lines of a page."""
+    with open(os.path.join(os.path.dirname(os.path.abspath(__file__)), name), encoding="utf-8") as file:
+        return file.read().split("\n")
 
 
 class Forms(unittest.TestCase):
@@ -31,7 +44,16 @@ class Forms(unittest.TestCase):
         self.assertLessEqual(found.get(REFUSED, 0), refused, [result.form.name for result in results if result.said == REFUSED])
         if place.name in WRITTEN_OF:
             self.assert_written(results)
+            self.assert_summed(results)
         return results
+
+    def assert_summed(self, results: List[Tried]) -> None:
+        """So do the counts at the README's end."""
+        lines = page("README.md")
+        rows = [line.strip("| ").split(" | ") for line in lines[lines.index("| Forms | PostgreSQL | sqlite3 |") :] if line.startswith("| ")]
+        written = {row[0]: row[WRITTEN_OF[results[0].place]] for row in rows if len(row) == 3}
+        for group, words in by_group(results).items():
+            self.assertEqual(written.get(group), words, SUMMED)
 
     def assert_right(self, results: List[Tried]) -> None:
         """No verdict is wrong, and no form behaves otherwise than without a recorder."""
@@ -41,13 +63,12 @@ class Forms(unittest.TestCase):
 
     def assert_written(self, results: List[Tried]) -> None:
         """FORMS.md says the same."""
-        with open(os.path.join(os.path.dirname(os.path.abspath(__file__)), "FORMS.md"), encoding="utf-8") as file:
-            rows = [line.split(" | ") for line in file.read().split("\n") if line.startswith("| `")]
+        rows = [line.split(" | ") for line in page() if line.startswith("| `")]
         at = WRITTEN_OF[results[0].place]
         written = {" | ".join(row[:-2]): row[at].strip(" |") for row in rows}
         for result in results:
             shown = "| `" + result.form.name.replace("|", "\\|") + "`"
-            self.assertEqual(written.get(shown), WORDS[result.said], "python3 clients/python/try_forms.py --table > clients/python/FORMS.md")
+            self.assertEqual(written.get(shown), WORDS[result.said], MADE)
 
     @unittest.skipUnless(DSN and module("psycopg2"), "PostgreSQL or psycopg2 isn't there (Debian: postgresql, python3-psycopg2)")
     def test_on_postgres(self) -> None:
@@ -75,6 +96,25 @@ class Forms(unittest.TestCase):
     def test_forms_have_names_of_their_own(self) -> None:
         names = [form.name for form in FORMS]
         self.assertEqual(len(names), len(set(names)))
+
+
+class Mappers(unittest.TestCase):
+    """The operations of object mappers, each done alone; see orm_forms.py."""
+
+    @unittest.skipUnless(module("sqlalchemy"), "sqlalchemy isn't there (Debian: python3-sqlalchemy)")
+    @unittest.skipUnless(module("django"), "django isn't there (Debian: python3-django)")
+    def test_which_share_is_said(self) -> None:
+        """Of the writes 95 %, of the reads 80 %."""
+        operations = orm_forms.done()
+        shares = orm_forms.shares(operations)
+        self.assertEqual(len(shares), 8 if DSN and module("psycopg2") else 4)
+        for (mapper, place, writes), (count, said, _) in shares.items():
+            with self.subTest(mapper, place=place, writes=writes):
+                self.assertGreaterEqual(count, 25)
+                self.assertGreaterEqual(100 * said, (95 if writes else 80) * count)
+        for line in orm_forms.table(operations):
+            with self.subTest(line):
+                self.assertIn(line, page(), MADE)
 
 
 if __name__ == "__main__":

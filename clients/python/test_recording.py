@@ -259,7 +259,7 @@ class Sqlite(OnSqlite):
         connection.execute("SELECT v FROM t WHERE v = 1")
         told = recorder.verdict()
         self.assertEqual(told.answer, "yes")
-        self.assertRegex(told.words, r"4 of 5 reads aren't known \(test_what_only_reads_is_left_out_and_counted \(test_recording.py:\d+\): the grammar has no function sum; ")
+        self.assertRegex(told.words, r"4 of 5 reads aren't known \(test_what_only_reads_is_left_out_and_counted \(test_recording.py:\d+\): the grammar has no function sum, of t, which nothing recorded has written; ")
         self.assertRegex(self.comments(), r"not said, the grammar has no function sum: SELECT sum\(v\) FROM t \(.*test_recording.py:\d+\)")
         self.assertIn("left out: 4 reads", self.told.getvalue())
 

@@ -201,5 +201,51 @@ class OfPostgres(OnPostgres):
         self.assertEqual(recorder.verdict().answer, "yes")
 
 
+@unittest.skipUnless(drivers(), "PostgreSQL or psycopg2 isn't there (Debian: postgresql, python3-psycopg2)")
+class Snapshots(OnPostgres):
+    def test_what_the_recorder_asks_comes_behind_the_begin(self) -> None:
+        """A transaction's first query takes its snapshot, be it the recorder's own: who commits behind it doesn't come before."""
+        for driver in self.each():
+            for text in ("SELECT v FROM t ORDER BY v LIMIT 1", "UPDATE t SET v = v * 2 WHERE id = 2 OR v = 77"):
+                with self.subTest(text):
+                    recorder = self.recorder(["t"])
+                    one, two = (recorder.wrap(self.snapshots(driver)) for _ in range(2))
+                    own = one._session.driver
+                    asked = own.facts
+
+                    def facts(table: Any) -> Any:
+                        found = asked(table)  # noqa: B023
+                        two.cursor().execute("UPDATE t SET v = v + 1 WHERE id = 1")  # noqa: B023
+                        two.commit()  # noqa: B023
+                        return found
+
+                    own.facts = facts
+                    cursor = one.cursor()
+                    cursor.execute(text)
+                    cursor.execute("SELECT v FROM t WHERE id = 1")
+                    before = cursor.fetchall()
+                    one.commit()
+                    cursor.execute("SELECT v FROM t WHERE id = 1")
+                    self.assertEqual([before[0][0] + 1], [row[0] for row in cursor.fetchall()])
+                    one.commit()
+                    self.assertEqual(recorder.verdict().answer, "yes", recorder.verdict().text)
+                    self.assertEqual(self.text().count("> 1 BEGIN;"), 3)
+
+    def snapshots(self, driver: Any) -> Any:
+        """A connection whose transactions see one moment."""
+        connection = driver.connect(DSN, options="-c default_transaction_isolation=repeatable\\ read")
+        self.opened.append(connection)
+        self.addCleanup(connection.close)
+        return connection
+
+    def test_in_autocommit_it_begins_nothing(self) -> None:
+        for driver in self.each():
+            recorder = self.recorder(["t"])
+            connection = recorder.wrap(self.raw(driver, True))
+            connection.cursor().execute("UPDATE t SET v = v * 2 WHERE id = 2 OR v = 77")
+            self.assertEqual(self.text().count("> 1 BEGIN;"), 2)
+            self.assertEqual(recorder.verdict().answer, "yes")
+
+
 if __name__ == "__main__":
     unittest.main()

@@ -76,6 +76,26 @@ class Statements(unittest.TestCase):
             with self.subTest(text):
                 self.assertEqual(self.said(f"SELECT v FROM t WHERE {text}", None, Result(0)), [f"> SELECT v FROM t WHERE {said}", "SELECT 0"])
 
+    def test_hints_name_what_stands_in_the_way(self) -> None:
+        """A reason names the word at which the grammar has no way on, and no name that it has; a parameter of another style is
+        told as one, whatever else the statement lacks."""
+        wrong = "stands there, which begins no parameter in this driver's paramstyle"
+        for text, style, why, writes in (
+            ('SELECT "t"."v" FROM "t" WHERE ("t"."v" = 1 OR "t"."id" = 2)', "pyformat", "the grammar has no OR there", False),
+            ('SELECT count(*) FROM t WHERE t.v IN (1) OR NOT ("t"."id" = 2)', "pyformat", "the grammar has no OR there", False),
+            ("INSERT INTO accounts (balance) VALUES (?)", "format", f"? {wrong}", True), ("INSERT INTO accounts (id, balance) VALUES (:a, :b)", "pyformat", f": {wrong}", True),
+            ("UPDATE accounts SET balance = %s WHERE id = %s", "qmark", f"% {wrong}", True), ("SELECT balance FROM accounts WHERE id = ?", "pyformat", f"? {wrong}", False),
+        ):  # fmt: skip
+            with self.subTest(text, style=style):
+                plan = self.plan(text, (1, 2), style)
+                self.assertEqual((plan.why, plan.writes is not None), (why, writes))
+        for text in ("SHOW standard_conforming_strings", "show search_path", "SHOW TRANSACTION ISOLATION LEVEL"):
+            with self.subTest(text):
+                plan = self.plan(text, None)
+                self.assertEqual((plan.why, plan.writes, plan.saying), (None, None, None))
+        self.assertIsNotNone(self.plan("SET search_path = o", None).writes)
+        self.assertEqual(self.said('SELECT "t"."v" FROM t WHERE id', None, Result(0)), ["> SELECT v FROM t WHERE id <> 0", "SELECT 0"])
+
     def test_many_rows_stand_as_each_alone(self) -> None:
         """Rows are said together from four on: each as if it had come alone, whatever the others have."""
         texts = ("ada", "it's", "tab\tin", "line\nin", "back\\slash", "", "100%", "%s", "na\u00efve", None)

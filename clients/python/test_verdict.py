@@ -178,6 +178,37 @@ class Verdicts(OnSqlite):
         self.assertEqual((strict.answer, strict.status, self.cli("--strict").returncode, self.cli().returncode), ("unknown", 4, 4, 0))
         self.assertIn("unknown: 4 of 5 reads aren't known", strict.words)
 
+    def test_what_reads_that_arent_known_may_hide(self) -> None:
+        """The tables that they name, and who writes these."""
+        setup = self.raw()
+        setup.executescript('CREATE TABLE "Order lines" (id INTEGER PRIMARY KEY, n BIGINT); CREATE TABLE item (id INTEGER PRIMARY KEY, n BIGINT)')
+        recorder = self.recorder(["t", "Order lines", "item"], project=HERE)
+        connection = recorder.wrap(self.raw())
+
+        def report() -> None:
+            connection.execute("SELECT sum(v) FROM t")
+            connection.execute('SELECT max(n), (SELECT max(n) FROM item) FROM "order lines"')
+
+        def pay() -> None:
+            connection.execute("UPDATE t SET v = v + 1 WHERE id = 1")
+            connection.execute("DELETE FROM t WHERE id = 2")
+            connection.execute("INSERT INTO t VALUES (5, 6)")
+            connection.execute('INSERT INTO "Order lines" VALUES (1, 2)')
+
+        report()
+        pay()
+        told = recorder.verdict()
+        first = report.__code__.co_firstlineno + 1
+        writes = [f"pay (test_verdict.py:{pay.__code__.co_firstlineno + at})" for at in (1, 2, 3, 4)]
+        places = [f"report (test_verdict.py:{first + at})" for at in range(2)]
+        hidden = {(each.place, each.table, each.writers) for each in (hidden for kind in told.left_out for hidden in kind.hides)}
+        self.assertEqual(hidden, {(places[0], "t", tuple(writes[:3])), (places[1], "Order lines", (writes[3],)), (places[1], "item", ())})
+        for words in (
+            f"{places[0]}: the grammar has no function sum, of t, written by {writes[0]}, {writes[1]} and 1 other place; ",
+            f"of Order lines, written by {writes[3]}, and of item, which nothing recorded has written)",
+        ):
+            self.assertIn(words, told.words)
+
     def test_nothing_was_recorded(self) -> None:
         connection = self.recorder().wrap(self.raw())
         connection.execute("BEGIN")

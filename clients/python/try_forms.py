@@ -3,7 +3,7 @@ runs through it.
 
     PGSERIAL=path/to/pgserial PGSERIAL_DSN=.. python3 clients/python/try_forms.py [--table] [--only TEXT] [PLACE ..]
 
-PLACE is psycopg2, psycopg, pg8000, asyncpg (as SQLAlchemy adapts it) or sqlite3; all that are there without one. `--table` prints the README's table of what is said.
+PLACE is psycopg2, psycopg, pg8000, asyncpg (as SQLAlchemy adapts it) or sqlite3; all that are there without one. `--table` prints FORMS.md, `--summary` the table at the README's end.
 Each form is done alone, and what it has left is read: the verdict must not be `no`. Then an anomaly is planted that needs
 what the form has written, and one that needs what it has read: the verdict must not be a yes that leaves nothing out.
 """
@@ -521,6 +521,27 @@ def line_of(name: str, found: Dict[str, str]) -> str:
     return f"| `{shown}` | {found.get('psycopg2', '')} | {found.get('sqlite3', '')} |"
 
 
+SHORT = {SAID: "said", IN_PART: "by their rows", LEFT_OUT: "left out", BESIDE: "no rows", ENDS: "end the verdict", REFUSED: "refused"}
+
+
+def by_group(results: Sequence[Tried]) -> Dict[str, str]:
+    """How many forms of each group are said, and how, in words; of all at the end."""
+    found: Dict[str, Dict[str, int]] = {}
+    for result in results:
+        for group in (result.form.group, "all"):
+            number = found.setdefault(group, dict.fromkeys(SHORT, 0))
+            number[result.said] += 1
+    found["all"] = found.pop("all", {})
+    return {group: ", ".join(f"{count} {SHORT[said]}" for said, count in number.items() if count) for group, number in found.items()}
+
+
+def summary(results: Sequence[Tried]) -> List[str]:
+    """The table at the end of the README: a line for each group of forms."""
+    of_place = [by_group([result for result in results if result.place == place]) for place in ("psycopg2", "sqlite3")]
+    lines = ["| Forms | PostgreSQL | sqlite3 |", "|---|---|---|"]
+    return lines + [f"| {group} | {words} | {of_place[1].get(group, '')} |" for group, words in of_place[0].items()]
+
+
 def mappers() -> List[str]:
     """What share of the operations of object mappers is said."""
     return ["", "## Object mappers", "", *orm_forms.table(orm_forms.done())]
@@ -541,6 +562,7 @@ def main() -> int:
     words.add_argument("places", nargs="*", metavar="PLACE")
     words.add_argument("--only", default="", help="forms whose name has this")
     words.add_argument("--table", action="store_true")
+    words.add_argument("--summary", action="store_true")
     words.add_argument("--all", action="store_true", help="each form, and not only what isn't said")
     given = words.parse_args()
     results: List[Tried] = []
@@ -551,8 +573,10 @@ def main() -> int:
         print(f"{place.name}: {len(some)} forms; " + ", ".join(f"{WORDS[said]}: {count}" for said, count in sorted(counts(some).items())), file=sys.stderr)
     if given.table:
         print("\n".join([table(results), *mappers()]))
+    if given.summary:
+        print("\n".join(summary(results)))
     for result in results:
-        if not given.table and (given.all or result.said in (ENDS, REFUSED) or result.faults):
+        if not given.table and not given.summary and (given.all or result.said in (ENDS, REFUSED) or result.faults):
             print(f"{result.place}: {result.form.name[:110]}: {WORDS[result.said]}: {result.why[:260] if result.said in (ENDS, REFUSED) or given.all else ''}")
             for fault in result.faults:
                 print(f"    WRONG: {fault[:600]}")

@@ -204,6 +204,10 @@ class Driver:
         """What the connection may do about a table."""
         return NOTHING
 
+    def begins_by_asking(self) -> bool:
+        """Whether a query of the recorder's own would begin the application's transaction."""
+        return False
+
     def doubles(self, is_given: bool) -> bool:
         """Whether a percent sign is doubled in a text with parameters."""
         return is_given and self.style in ("format", "pyformat")
@@ -417,6 +421,9 @@ class Postgres(Driver):
     def rewind(self, cursor: Any) -> None:
         if cursor.rowcount > 0:
             cursor.scroll(0, mode="absolute")
+
+    def begins_by_asking(self) -> bool:
+        return not self.is_autocommit() and not self.is_open() and not self.is_dead()
 
     def facts(self, table: Table) -> Facts:
         if self.is_failed() or self.is_dead():

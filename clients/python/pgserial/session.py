@@ -69,6 +69,8 @@ class Session:
         found = None if self.changes_role else self._facts.get(table.name)
         if found is not None:
             return found
+        if self.driver.begins_by_asking():
+            self.write(self.begun())  # what is asked takes the snapshot of the transaction that it begins
         try:
             found = self.driver.facts(table)
         except Exception:

@@ -14,6 +14,7 @@ from typing import Any, Dict, List, NamedTuple, Optional, Sequence, Set, Tuple
 
 from . import InterfaceError, _program
 from .ending import other_row, why_unread, without_ends
+from .hidden import Hidden, Writers
 from .output import write_all_kept
 from .places import with_places
 
@@ -40,11 +41,13 @@ _MOST_PLACES = 3
 
 
 class LeftOut(NamedTuple):
-    """Reads that aren't known: why, how many, and of which places; each place is a function and its file and line."""
+    """Reads that aren't known: why, how many, and of which places; each place is a function and its file and line. `hides`
+    are the recorded tables that the first text of each place names, with the places that write them."""
 
     kind: str
     count: int  # type: ignore[assignment]  # in place of the tuple's method
     places: Tuple[Tuple[str, int], ...] = ()
+    hides: Tuple[Hidden, ...] = ()
 
 
 class Verdict(NamedTuple):
@@ -312,12 +315,16 @@ def left_out_of(text: str) -> Tuple[LeftOut, ...]:
         start = "-- " + NOT_SAID
         found = [(1, line[len(start) :]) for line in lines if line.startswith(start)]
     kinds: Dict[str, Dict[str, int]] = {}
+    hides: Dict[str, Dict[Hidden, None]] = {}
+    writers = Writers(text, BEGINS) if found else None
     for count, said in found:
         what, place = _place_of(said)
-        places = kinds.setdefault(what.partition(": ")[0], {})
+        kind, _, statement = what.partition(": ")
+        places = kinds.setdefault(kind, {})
         places[place] = places.get(place, 0) + count
+        hides.setdefault(kind, {}).update(dict.fromkeys(writers.hidden(statement, place) if writers is not None else ()))
     return tuple(
-        LeftOut(kind, sum(places.values()), tuple((place, count) for place, count in places.items() if place))
+        LeftOut(kind, sum(places.values()), tuple((place, count) for place, count in places.items() if place), tuple(hides[kind]))
         for kind, places in kinds.items()
     )
 
@@ -338,7 +345,8 @@ def _reads_words(left_out: Sequence[LeftOut], reads: int, is_closed: bool) -> st
     told: Dict[str, str] = {}
     for each in left_out:
         for place, _ in each.places:
-            told.setdefault(place, each.kind)
+            named = [str(hidden) for hidden in each.hides if hidden.place == place]
+            told.setdefault(place, each.kind + (f", of {', and of '.join(named)}" if named else ""))
     shown = [f"{place}: {kind}" for place, kind in list(told.items())[:_MOST_PLACES]]
     if len(told) > _MOST_PLACES:
         shown.append(f"and {_number(len(told) - _MOST_PLACES, 'other place')}")
