@@ -16,7 +16,7 @@ import time
 from math import comb
 from typing import Any, Callable, Dict, List, Optional, Tuple
 
-from tests.program import TOP, Case, Differs, program, side_by_side
+from tests.program import TOP, Case, Differs, difference, program, side_by_side
 
 # What is run: words, files by their names (that of no name is standard input), the exit status, and what must be printed,
 # told and written to `out`.
@@ -401,10 +401,13 @@ def scripts_to_explore() -> List[str]:
 def exploring(program: str, script: str) -> List[str]:
     """How what `explore` prints isn't what comes of each schedule, run by itself; by one worker or many, of all schedules
     and of some that are drawn."""
-    counts = explorer()
-    return [f"explore {words} --jobs {jobs} of {script[-60:]!r}: it prints otherwise than it should"
-            for words, wanted in counts.expected(program, script, [(1, 0), (300, 9223372036854775807)])
-            for jobs in counts.JOBS if counts.explored(program, script, f"{words} --jobs {jobs}") != wanted]
+    counts, told = explorer(), []
+    for words, wanted in counts.expected(program, script, [(1, 0), (300, 9223372036854775807)]):
+        for jobs in counts.JOBS:
+            found = difference(wanted.split("\n"), counts.explored(program, script, f"{words} --jobs {jobs}").split("\n"))
+            if found:
+                told.append("explore {} --jobs {} of {!r}: line {}: {} was wanted, {} came".format(words, jobs, script[-60:], *found))
+    return told
 
 
 def many_sessions(number):
