@@ -67,7 +67,22 @@ fn talk() -> Result<(), Box<dyn Error>> {
         conversation.bind(insert, if key == 2 { insert.places } else { 2 }, value)?;
         assert_eq!(conversation.execute(insert)?, 1);
     }
+    let select = conversation.prepare("1 SELECT * FROM u WHERE id = 0;")?;
+    for key in 0..3 {
+        conversation.bind(select, 1, pgserial::Value::Int(key))?;
+        assert_eq!(conversation.execute(select)?, 1);
+        let row = conversation.reply()?.rows.remove(0);
+        assert_eq!(row.get::<i64>(0)?, key);
+        assert_eq!(row.get::<Option<String>>(1)?.as_deref(), Some("it's").filter(|_| key > 0));
+        assert_eq!(row.get::<Option<Vec<u8>>>(2)?, Some(vec![0xff]).filter(|_| key == 2));
+    }
     assert_eq!(conversation.execute(insert).unwrap_err().text, "1 ERROR 23505 column 1\n");
+    assert_eq!(conversation.send(65, "BEGIN").unwrap_err().sqlstate(), Some("42601"));
+    assert_eq!(conversation.send(1, "SELECT *\nFROM u").unwrap_err().reason, pgserial::Reason::Misuse);
+    assert_eq!(conversation.bind(select, 2, pgserial::Value::Null).unwrap_err().reason, pgserial::Reason::Misuse);
+    conversation.send(1, "ROLLBACK")?;
+    conversation.send(1, "BEGIN")?;
+    assert_eq!(conversation.send(1, "SELECT * FROM nothing").unwrap_err().sqlstate(), Some("42P01"));
     conversation.forget()?;
     assert!(conversation.execute(insert).is_err());
     Ok(())
