@@ -29,6 +29,7 @@ WORKERS = 4
 MOST_WORK = 1.7  # times the processor seconds of those beside workers that these may take: they do the same
 PAUSE = 0.003  # seconds between two looks at workers
 LEAST = 0.005  # seconds: less can't be told apart
+PATIENCE = 120  # seconds for a run, which takes a few where nothing is wrong
 
 
 def in_turn(transactions):
@@ -220,7 +221,7 @@ def seconds(program, script, command, more):
     """Processor seconds of a command on a script."""
     before = spent()
     words = [program, command, "-", "--events", "4000000", *more]
-    subprocess.run(words, input=script.encode(), stdout=subprocess.DEVNULL, check=True, timeout=120)
+    subprocess.run(words, input=script.encode(), stdout=subprocess.DEVNULL, check=True, timeout=PATIENCE)
     return spent() - before
 
 
@@ -339,7 +340,10 @@ class Passes(Case):
 def look_at(kind: Kind) -> None:
     """A kind of work must be within its limits in one of a few trials."""
     for _ in range(TRIALS):
-        took, exponent = measured(program(), kind)
+        try:
+            took, exponent = measured(program(), kind)
+        except subprocess.TimeoutExpired:
+            raise Differs(kind.name, "to grow no faster than it may", f"a run of at most {kind.sizes[2]} didn't end in {PATIENCE} s") from None
         ratio = took[2] / least_of(kind.beside[0]) if kind.beside else None
         line, fits = told(kind, took, exponent, ratio)
         if fits:

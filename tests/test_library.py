@@ -25,6 +25,20 @@ NO_RUST = "cargo isn't there (Debian: cargo)"
 # The tests in C, with what they are linked with, and what they print; and what watches one.
 TESTS = {"test_misuse": ([], rb"\A\Z"), "test_memory": (["-Wl,--wrap=malloc,--wrap=calloc,--wrap=realloc"], rb"\A[1-9]\d\d+ requests for memory were refused, .*\n\Z")}
 VALGRIND = ["valgrind", "-q", "--leak-check=full", "--error-exitcode=9"]
+# Asks for the calls, whose compilation takes half a second, and says whether it was this process that compiled them.
+ASKING = """
+import sys, time
+sys.path.insert(0, sys.argv[1])
+from tools import library
+
+def compiles(archive):
+    print("compiled")
+    time.sleep(0.5)
+    open(archive, "w").close()
+
+library.KEPT, library.compile_calls = f"echo {sys.argv[2]}; echo sum", compiles
+print(library.compiled_calls())
+"""
 # Where transcripts are, and how many schedules of a script of tests/ are run at most.
 TRANSCRIPTS = ("examples/transcripts", "tests/check", "tests")
 FEW = 1000
@@ -235,6 +249,17 @@ def read_once(lib, module, script):
             except module.LibraryError as error:
                 got = error.text or other.ask(line)
             same(f"{script.file}: {script.name}: `{line}`, read once", want, got)
+
+
+class Kept(unittest.TestCase):
+    """The calls that are compiled and kept."""
+
+    def test_those_who_need_them_at_once_wait_for_one_compilation(self):
+        with tempfile.TemporaryDirectory() as folder:
+            asking = [subprocess.Popen([sys.executable, "-B", "-c", ASKING, TOP, folder], stdout=subprocess.PIPE, text=True) for _ in range(3)]
+            told = [each.communicate(timeout=60)[0] for each in asking]
+            self.assertEqual("".join(told).count("compiled\n"), 1)
+            self.assertEqual([it.splitlines()[-1] for it in told], [os.path.join(folder, "library/sum.a")] * 3)
 
 
 @unittest.skipUnless(shutil.which("cc"), NO_COMPILER)
