@@ -10,7 +10,7 @@ import unittest
 from unittest import mock
 
 from tests.program import program
-from tools import install
+from tools import install, package
 
 COMMANDS = ["run", "audit", "restore", "shell", "explore", "check", "draw"]
 
@@ -97,6 +97,13 @@ class Installs(unittest.TestCase):
             with self.assertRaises(SystemExit) as ended:
                 install.main()
         self.assertEqual(ended.exception.code, f"pgserial: {self.prefix}/share: Not a directory")
+
+    def test_a_folder_for_packages_that_cannot_be_made_is_named(self):
+        path = os.path.join(os.path.realpath(__file__), "dist")
+        with mock.patch("sys.argv", ["", "--out", path]), mock.patch.object(package.shutil, "which", lambda tool: tool):
+            with self.assertRaises(SystemExit) as ended:
+                package.main()
+        self.assertEqual(ended.exception.code, f"pgserial: {path}: Not a directory")
 
     def test_what_others_have_put_there_stays(self):
         os.makedirs(os.path.join(self.prefix, "bin"))

@@ -278,6 +278,11 @@ def uninstall(prefix):
     print(f"uninstalled what was below {prefix}")
 
 
+def reason(error):
+    """Why a file or a folder can't be had, in words alone."""
+    return f"{error.filename}: {error.strerror}" if error.filename else str(error)
+
+
 def main():
     parser = argparse.ArgumentParser(prog="pgserial", description=__doc__, formatter_class=argparse.RawDescriptionHelpFormatter)
     ways = parser.add_subparsers(dest="way", required=True)
@@ -293,7 +298,7 @@ def main():
     try:
         install(prefix, asked.unproved) if asked.way == "install" else uninstall(prefix)
     except OSError as error:
-        sys.exit(f"pgserial: {error.filename}: {error.strerror}" if error.filename else f"pgserial: {error}")
+        sys.exit(f"pgserial: {reason(error)}")
 
 
 if __name__ == "__main__":

@@ -340,7 +340,7 @@ def main() -> int:
     try:
         names = package(asked.out, asked.unproved)
     except OSError as error:
-        sys.exit(f"pgserial: {error}")
+        sys.exit(f"pgserial: {install.reason(error)}")
     for name in names:
         print(os.path.join(asked.out, name))
     return 0
