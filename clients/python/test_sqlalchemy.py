@@ -9,6 +9,7 @@ import asyncio
 import contextlib
 import os
 import unittest
+import warnings
 from typing import Any, Callable, Dict, List
 
 from test_recording import DSN, OnSqlite, Room, module
@@ -292,6 +293,17 @@ class AsyncEngines(OnSqlalchemy):
                 + [(told.format(7, 1), "COMMIT;"), (told.format(8, 2), "COMMIT;")],
             )
             self.assertEqual(self.recorded.verdict().answer, "yes")
+
+    def test_what_nothing_is_added_to_begins_once(self) -> None:
+        async def doubles(engine: Any) -> Any:
+            async with engine.begin() as connection:
+                await connection.execute(sqlalchemy.text("UPDATE accounts SET balance = balance * 2 WHERE id = 1"))
+
+        with warnings.catch_warnings():
+            warnings.simplefilter("ignore")
+            for _ in self.each(doubles):
+                ends = [line.split(" ")[2] for line in self.body() if line.startswith("> 1 ") and line.split(" ")[2] in ("BEGIN;", "COMMIT;", "ROLLBACK;")]
+                self.assertEqual(ends, ["BEGIN;", "COMMIT;"], self.body())
 
     def test_keys_that_the_database_makes(self) -> None:
         from sqlalchemy.ext.asyncio import AsyncSession

@@ -104,6 +104,9 @@ class PsycopgAsync(_Adapted, Postgres):
         self.name = _named("psycopg")
         self._adapting = Psycopg(raw._connection)
 
+    def begins_by_asking(self) -> bool:
+        return False
+
     def _status(self) -> int:
         return int(self._connection.info.transaction_status)
 

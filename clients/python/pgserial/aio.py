@@ -34,6 +34,9 @@ class Awaited(Postgres):
         with self._beside() as driver:
             return driver.ask(query)
 
+    def begins_by_asking(self) -> bool:
+        return False
+
     def facts(self, table: Table) -> Facts:
         return NOTHING
 
