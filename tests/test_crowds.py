@@ -6,6 +6,7 @@ import importlib.util
 import os
 import random
 import re
+import resource
 import subprocess
 import unittest
 from tempfile import TemporaryDirectory
@@ -33,6 +34,10 @@ CROWDS = [("shelves", 500, 8, 40_000), ("queue", 341, 8, 20_000), ("queue", 200,
           ("jobs", 400, 8, 30_000), ("bookings", 400, 8, 30_000), ("bookings", 300, 12, 30_000)]
 
 
+# Processor seconds in which a hundred thousand steps have long been taken, whatever is looked at in them.
+SECONDS = 10
+
+
 class Crowd(NamedTuple):
     """A recorded load: the tables that it begins with, its lines, and its transactions in the order of their BEGINs."""
 
@@ -47,6 +52,12 @@ def recorded(name: str, count: int, sessions: int, seed: int) -> Crowd:
     load = crowded.LOADS[name](chance)
     lines, done = crowded.recorded(load, crowded.planned(chance, count, sessions))
     return Crowd(crowded.empty(load), lines, done)
+
+
+def spent() -> float:
+    """The processor seconds that programs which have ended took."""
+    usage = resource.getrusage(resource.RUSAGE_CHILDREN)
+    return usage.ru_utime + usage.ru_stime
 
 
 def checked(lines: List[str], steps: int) -> List[str]:
@@ -99,3 +110,14 @@ class Crowds(unittest.TestCase):
                 place = max(at for at, line in enumerate(lines) if re.fullmatch(r"  \d+ (DELETE|UPDATE) \d+", line))
                 wrong = [*lines[:place], re.sub(r"\d+$", "123456", lines[place]), *lines[place + 1:]]
                 self.assertIn(checked(wrong, steps)[-1], ("check no", "check unknown"))
+
+    def test_a_lost_addition_is_refused_where_all_orders_are_few(self) -> None:
+        for sessions in (3, 8):
+            with self.subTest(sessions=sessions):
+                self.assertEqual(checked(crowded.crowd(sessions, True), 20_000)[-1], "check no")
+                self.assertEqual(checked(crowded.crowd(sessions, False), 20_000)[-1], "check yes")
+
+    def test_steps_bound_the_time(self) -> None:
+        before = spent()
+        self.assertIn(checked(crowded.crowd(64, True), 100_000)[-1], ("check no", "check unknown"))
+        self.assertLess(spent() - before, SECONDS)

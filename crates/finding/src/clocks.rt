@@ -238,6 +238,7 @@ impl<A: Allocator + Copy> Clocks<A> {
     fn raise(&mut self, place: usize, past: &[usize]) -> Result<(), Refusal>
         ensures { IfErr result (λ e. e ≡ out_of_memory) }
     {
+        self.rows.count(past.len());
         for (chain, count) in past.iter().enumerate() {
             let entry = self.rows.entry(place, chain);
             if self.rows.number(Side::Before, entry) < *count {
@@ -251,6 +252,7 @@ impl<A: Allocator + Copy> Clocks<A> {
     fn lower(&mut self, place: usize, future: &[usize]) -> Result<(), Refusal>
         ensures { IfErr result (λ e. e ≡ out_of_memory) }
     {
+        self.rows.count(future.len());
         for (chain, index) in future.iter().enumerate() {
             let entry = self.rows.entry(place, chain);
             if self.rows.number(Side::After, entry) > *index {
@@ -262,9 +264,15 @@ impl<A: Allocator + Copy> Clocks<A> {
 
     /// Of each chain the last that is known to come before all of these, or is the only one of them, where it isn't
     /// known to come before another.
-    pub(crate) fn common(&self, places: &[usize], reader: usize) -> Result<Vec<usize, A>, Refusal>
+    pub(crate) fn common(
+        &mut self,
+        places: &[usize],
+        reader: usize,
+    ) -> Result<Vec<usize, A>, Refusal>
         ensures { IfErr result (λ e. e ≡ out_of_memory) }
     {
+        let width = self.chains.count();
+        self.rows.count(places.len().saturating_mul(width));
         let mut common = Vec::new(self.rows.alloc);
         for chain in 0..self.chains.count() {
             let count = self.least_before(places, chain);

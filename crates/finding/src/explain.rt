@@ -11,8 +11,12 @@ use crate::solver::Solver;
 use certificate::certificate::Line;
 use certificate::known::Cell;
 use std::alloc::Allocator;
+use std::collections::BTreeSet;
 use std::mem;
 use value::refusal::Refusal;
+
+/// So many facts are passed over in the time of one look.
+const FACTS: usize = 16;
 
 /// The facts on which a contradiction rests: of those from a number on, which, and of those before, a list.
 #[derive(Drop)]
@@ -20,9 +24,16 @@ pub(crate) struct Marked<A: Allocator> {
     first: usize,
     flags: Vec<bool, A>,
     pub(crate) outer: Vec<Reason, A>,
+    /// How much was looked at.
+    pub(crate) work: usize,
 }
 
 impl<A: Allocator + Copy> Marked<A> {
+    // So much more was looked at.
+    fn count(&mut self, work: usize) {
+        self.work = self.work.saturating_add(work);
+    }
+
     // Marks a fact.
     fn mark(&mut self, fact: usize) -> Result<(), Refusal>
         ensures { IfErr result (λ e. e ≡ out_of_memory) }
@@ -33,7 +44,11 @@ impl<A: Allocator + Copy> Marked<A> {
                 fact.saturating_sub(self.first),
                 true,
             );
-        } else if !self.has_outer(fact) {
+            return Ok(());
+        }
+        let outer = self.outer.len();
+        self.count(outer);
+        if !self.has_outer(fact) {
             self.outer.push(Reason::Fact(fact))?;
         }
         Ok(())
@@ -66,7 +81,7 @@ impl<A: Allocator + Copy> Marked<A> {
 #[derive(Drop)]
 struct Telling<A: Allocator> {
     lines: Vec<Line<A>, A>,
-    joined: Vec<(usize, usize), A>,
+    joined: BTreeSet<(usize, usize), A>,
 }
 
 impl<A: Allocator + Copy> Telling<A> {
@@ -76,27 +91,27 @@ impl<A: Allocator + Copy> Telling<A> {
     {
         let mut middle = first;
         for step in path {
-            if middle != first && !self.has_joined(first, step.place) {
-                self.joined.push((first, step.place))?;
-                self.lines.push(Line::Joined {
-                    first,
-                    middle,
-                    last: step.place,
-                })?;
+            if middle != first {
+                self.join_one(first, middle, step.place)?;
             }
             middle = step.place;
         }
         Ok(())
     }
 
-    // Whether a pair was joined.
-    fn has_joined(&self, first: usize, last: usize) -> bool {
-        for pair in &self.joined {
-            if pair.0 == first && pair.1 == last {
-                return true;
-            }
+    // Joins a pair by who stands between, unless it was joined.
+    fn join_one(&mut self, first: usize, middle: usize, last: usize) -> Result<(), Refusal>
+        ensures { IfErr result (λ e. e ≡ out_of_memory) }
+    {
+        let is_new = self.joined.insert((first, last))?;
+        if is_new {
+            self.lines.push(Line::Joined {
+                first,
+                middle,
+                last,
+            })?;
         }
-        false
+        Ok(())
     }
 }
 
@@ -110,6 +125,7 @@ impl<'h, A: Allocator + Copy> Solver<'h, A> {
             first,
             flags: repeated(self.alloc, below.saturating_sub(first), false)?,
             outer: Vec::new(self.alloc),
+            work: below.saturating_sub(first) / FACTS,
         };
         marked.mark(last)?;
         for fact in (first..below).rev() {
@@ -132,7 +148,8 @@ impl<'h, A: Allocator + Copy> Solver<'h, A> {
                 Some(Reason::Fact(other)) => marked.mark(other)?,
                 Some(Reason::Pair(first, second)) => {
                     let path = self.path((first, second), number)?;
-                    self.mark_path(path.as_slice(), second, marked)?;
+                    marked.count(path.work);
+                    self.mark_path(path.steps.as_slice(), second, marked)?;
                 }
                 None => {}
             }
@@ -168,7 +185,7 @@ impl<'h, A: Allocator + Copy> Solver<'h, A> {
     {
         let mut telling = Telling {
             lines,
-            joined: Vec::new(self.alloc),
+            joined: BTreeSet::new(self.alloc),
         };
         for fact in marked.first..last.saturating_add(1) {
             if marked.has(fact) {
@@ -189,7 +206,8 @@ impl<'h, A: Allocator + Copy> Solver<'h, A> {
         for reason in fact.first..fact.below {
             if let Some(Reason::Pair(first, second)) = self.reason(reason) {
                 let path = self.path((first, second), number)?;
-                telling.join(first, path.as_slice())?;
+                self.spend(path.work);
+                telling.join(first, path.steps.as_slice())?;
             }
         }
         if let Rule::Refuted(_, refutation) = fact.rule {

@@ -42,7 +42,8 @@ fn search<A: Allocator + Copy>(
 
 /// Looks for a certificate that no order of the transactions explains what was recorded of them, from tables on. Nothing
 /// says that none is there where none is found: the steps may be too few (a step is a look at one column that a
-/// transaction found, or at one number of rows that it was told), or the recording too large, for which there is no order
+/// transaction found, or at one number of rows that it was told, and 512 writers, reasons or edges that are looked at for
+/// that are one more), or the recording too large, for which there is no order
 /// either. Nor does anything say that the order explains anything. Refused only for want of memory (53200).
 pub fn find<A: Allocator + Copy>(
     alloc: A,

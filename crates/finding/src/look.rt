@@ -30,6 +30,8 @@ pub(crate) struct Look<A: Allocator> {
     pub(crate) writers: Vec<usize, A>,
     /// Why there are no more sources.
     pub(crate) reasons: Reasons<A>,
+    /// How much was looked at: ways of the reader for each writer, and writers for each other.
+    pub(crate) work: usize,
 }
 
 /// A value and a number more; none where that is out of range.
@@ -291,6 +293,7 @@ impl<'h, A: Allocator + Copy> Solver<'h, A> {
             from_opening: false,
             writers: self.sure_writers(need)?,
             reasons: self.reader_reasons(ask)?,
+            work: self.looks(need),
         };
         let before = self.before(look.writers.as_slice(), reader)?;
         for number in need.first..need.below {
@@ -301,6 +304,17 @@ impl<'h, A: Allocator + Copy> Solver<'h, A> {
             self.judge_opening(ask, before.as_slice(), &mut look)?;
         }
         Ok(look)
+    }
+
+    // How many ways of the reader are looked at, one for each writer that time leaves.
+    fn looks(&self, need: Need) -> usize {
+        let history = self.history;
+        let writers = need.below.saturating_sub(need.first).saturating_add(1);
+        let ways = match history.visit(need.visit) {
+            Some(visit) => visit.ways.len(),
+            None => 0,
+        };
+        writers.saturating_mul(ways.saturating_add(1))
     }
 
     // Those of the candidates who surely write the column.
@@ -374,6 +388,7 @@ impl<'h, A: Allocator + Copy> Solver<'h, A> {
         if self.order.has(reader, place) {
             return look.reasons.push_pair(history, reader, place);
         }
+        look.work = look.work.saturating_add(before.len());
         match self.overwriter(place, reader, before) {
             Some(other) => {
                 look.reasons

@@ -55,6 +55,14 @@ impl<A: Allocator + Copy> Order<A> {
         }
     }
 
+    /// How many numbers were looked at since this was last asked.
+    pub(crate) fn take_work(&mut self) -> usize {
+        match self {
+            Order::Clocks(clocks) => clocks.rows.take_work(),
+            Order::Sets(sets) => sets.rows.take_work(),
+        }
+    }
+
     /// From now on all changes can be taken back.
     pub(crate) fn keep_trail(&mut self) {
         match self {
@@ -81,7 +89,11 @@ impl<A: Allocator + Copy> Order<A> {
 
     /// The last that are known to come before all of these, or are the only one of them, where they aren't known to come
     /// before another.
-    pub(crate) fn common(&self, places: &[usize], reader: usize) -> Result<Vec<usize, A>, Refusal>
+    pub(crate) fn common(
+        &mut self,
+        places: &[usize],
+        reader: usize,
+    ) -> Result<Vec<usize, A>, Refusal>
         ensures { IfErr result (λ e. e ≡ out_of_memory) }
     {
         match self {

@@ -17,6 +17,13 @@ pub(crate) struct Step {
     pub(crate) fact: Option<usize>,
 }
 
+/// A path, and how many edges and transactions were looked at for it.
+#[derive(Drop)]
+pub(crate) struct Path<A: Allocator> {
+    pub(crate) steps: Vec<Step, A>,
+    pub(crate) work: usize,
+}
+
 /// A search by breadth for the last of a path, by facts with lower numbers than one.
 #[derive(Drop)]
 struct Walk<A: Allocator> {
@@ -27,6 +34,8 @@ struct Walk<A: Allocator> {
     queue: VecDeque<usize, A>,
     /// Those who began from this rank on were all reached.
     reached: usize,
+    /// How many edges and transactions were looked at.
+    work: usize,
 }
 
 impl<A: Allocator + Copy> Walk<A> {
@@ -42,6 +51,11 @@ impl<A: Allocator + Copy> Walk<A> {
         self.came.insert(place, Step { place: from, fact })?;
         self.queue.push_back(place)?;
         Ok(())
+    }
+
+    // One more is looked at.
+    fn count(&mut self) {
+        self.work = self.work.saturating_add(1);
     }
 
     // Whether the last is reached.
@@ -76,7 +90,7 @@ impl<A: Allocator + Copy> Walk<A> {
 impl<'h, A: Allocator + Copy> Solver<'h, A> {
     /// The shortest path from one transaction to another that is known to come after it, by time and by facts with lower
     /// numbers than one.
-    pub(crate) fn path(&self, pair: (usize, usize), fact: usize) -> Result<Vec<Step, A>, Refusal>
+    pub(crate) fn path(&self, pair: (usize, usize), fact: usize) -> Result<Path<A>, Refusal>
         ensures { IfErr result (λ e. e ≡ out_of_memory) }
     {
         let history = self.history;
@@ -87,6 +101,7 @@ impl<'h, A: Allocator + Copy> Solver<'h, A> {
             came: BTreeMap::new(self.alloc),
             queue: VecDeque::new(self.alloc),
             reached: history.by_begin.len(),
+            work: 1,
         };
         walk.reach(first, first, None)?;
         for _ in 0..history.times.count() {
@@ -98,7 +113,10 @@ impl<'h, A: Allocator + Copy> Solver<'h, A> {
                 break;
             }
         }
-        walk.path(self.alloc, first)
+        Ok(Path {
+            steps: walk.path(self.alloc, first)?,
+            work: walk.work,
+        })
     }
 
     // Reaches all that come right after a transaction.
@@ -130,6 +148,7 @@ impl<'h, A: Allocator + Copy> Solver<'h, A> {
             let Some(edge) = self.edge(number) else {
                 return Ok(());
             };
+            walk.count();
             if edge.fact < walk.fact && self.leads(walk, edge.to) {
                 walk.reach(place, edge.to, Some(edge.fact))?;
             }
@@ -151,6 +170,7 @@ impl<'h, A: Allocator + Copy> Solver<'h, A> {
             if begin > history.times.end(walk.last) {
                 break;
             }
+            walk.count();
             if self.last_edge(other).is_some() && self.leads(walk, other) {
                 walk.reach(place, other, None)?;
             }

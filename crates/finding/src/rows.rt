@@ -34,6 +34,7 @@ pub(crate) struct Rows<A: Allocator> {
     after: Vec<usize, A>,
     trail: Vec<Change, A>,
     is_kept: bool,
+    work: usize,
 }
 
 impl<A: Allocator + Copy> Rows<A> {
@@ -49,7 +50,20 @@ impl<A: Allocator + Copy> Rows<A> {
             after: repeated(alloc, room, after)?,
             trail: Vec::new(alloc),
             is_kept: false,
+            work: 0,
         })
+    }
+
+    /// So many numbers are looked at.
+    pub(crate) fn count(&mut self, numbers: usize) {
+        self.work = self.work.saturating_add(numbers);
+    }
+
+    /// How many were looked at since this was last asked.
+    pub(crate) fn take_work(&mut self) -> usize {
+        let work = self.work;
+        self.work = 0;
+        work
     }
 
     /// Where a number of a transaction's row stands.

@@ -72,6 +72,9 @@ impl<'h, A: Allocator + Copy> Solver<'h, A> {
         ensures { IfErr result (λ e. e ≡ out_of_memory) }
     {
         for _ in 0..self.steps {
+            if self.steps == 0 {
+                return Ok(None);
+            }
             let Some(need) = self.next_need()? else {
                 return Ok(None);
             };
@@ -105,6 +108,7 @@ impl<'h, A: Allocator + Copy> Solver<'h, A> {
             return Ok(None);
         }
         let look = self.look(need, None)?;
+        self.spend(look.work);
         let is_sourceless = look.sources.is_empty() && !look.from_opening;
         if is_sourceless && self.is_present(reading.reader) {
             let fact = self.tell(Rule::Sourceless(reading.sight), look.reasons.as_slice())?;
@@ -161,6 +165,7 @@ impl<'h, A: Allocator + Copy> Solver<'h, A> {
             return Ok(false);
         };
         let look = self.look(need, Some(way))?;
+        self.spend(look.work);
         if look.from_opening || !look.sources.is_empty() {
             return Ok(false);
         }
@@ -334,6 +339,7 @@ impl<'h, A: Allocator + Copy> Solver<'h, A> {
             places.push(history.place_of(*source))?;
         }
         let common = self.order.common(places.as_slice(), seen.reading.reader)?;
+        self.spend_order();
         for first in &common {
             let found = self.tell_common_one(seen, *first, places.as_slice())?;
             if found.is_some() {

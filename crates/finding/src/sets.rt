@@ -169,9 +169,11 @@ impl<A: Allocator + Copy> Sets<A> {
     }
 
     // A transaction's set on a side, with itself.
-    fn with_itself(&self, side: Side, place: usize) -> Result<Vec<usize, A>, Refusal>
+    fn with_itself(&mut self, side: Side, place: usize) -> Result<Vec<usize, A>, Refusal>
         ensures { IfErr result (λ e. e ≡ out_of_memory) }
     {
+        let width = self.rows.width;
+        self.rows.count(width);
         let mut set = self.rows.row(side, place)?;
         add(set.as_mut_slice(), place);
         Ok(set)
@@ -217,6 +219,7 @@ impl<A: Allocator + Copy> Sets<A> {
         ensures { IfErr result (λ e. e ≡ out_of_memory) }
     {
         let first = self.rows.entry(place, 0);
+        self.rows.count(parts.len());
         for (number, more) in parts {
             let entry = first.saturating_add(*number);
             let old = self.rows.number(side, entry);
@@ -229,7 +232,11 @@ impl<A: Allocator + Copy> Sets<A> {
 
     /// The last of those that are known to come before all of these, or are the only one of them, where they aren't known
     /// to come before another.
-    pub(crate) fn common(&self, places: &[usize], reader: usize) -> Result<Vec<usize, A>, Refusal>
+    pub(crate) fn common(
+        &mut self,
+        places: &[usize],
+        reader: usize,
+    ) -> Result<Vec<usize, A>, Refusal>
         ensures { IfErr result (λ e. e ≡ out_of_memory) }
     {
         let mut common = repeated(self.rows.alloc, self.rows.width, usize::MAX)?;
@@ -243,10 +250,12 @@ impl<A: Allocator + Copy> Sets<A> {
     }
 
     // Those of a set after which none of it comes.
-    fn last_of(&self, set: &[usize]) -> Result<Vec<usize, A>, Refusal>
+    fn last_of(&mut self, set: &[usize]) -> Result<Vec<usize, A>, Refusal>
         ensures { IfErr result (λ e. e ≡ out_of_memory) }
     {
         let places = members(self.rows.alloc, set)?;
+        let width = self.rows.width;
+        self.rows.count(places.len().saturating_mul(width));
         let mut last = Vec::new(self.rows.alloc);
         for place in &places {
             let after = self.rows.row(Side::After, *place)?;

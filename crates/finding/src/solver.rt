@@ -13,6 +13,11 @@ use std::collections::VecDeque;
 use value::refusal::Refusal;
 use value::value::Value;
 
+/// How many looks are a step: at a way of a reader for a writer, at an edge, or the like.
+const LOOKS: usize = 512;
+/// So many numbers of an order are looked at in the time of one look.
+const NUMBERS: usize = 8;
+
 /// That a transaction comes before another, by a fact, and the edge from the same transaction that was told before it.
 #[derive(Clone, Copy)]
 pub(crate) struct Edge {
@@ -57,6 +62,8 @@ pub(crate) struct Solver<'h, A: Allocator> {
     /// The first need of which something may still be supposed.
     pub(crate) cursor: usize,
     pub(crate) steps: u64,
+    // Looks that aren't a whole step yet.
+    looks: usize,
 }
 
 impl<'h, A: Allocator + Copy> Solver<'h, A> {
@@ -93,7 +100,21 @@ impl<'h, A: Allocator + Copy> Solver<'h, A> {
             levels: Vec::new(alloc),
             cursor: 0,
             steps,
+            looks: 0,
         })
+    }
+
+    /// What was looked at in the order is taken from the steps.
+    pub(crate) fn spend_order(&mut self) {
+        let numbers = self.order.take_work();
+        self.spend(numbers / NUMBERS);
+    }
+
+    /// So many looks are taken from the steps.
+    pub(crate) fn spend(&mut self, looks: usize) {
+        let all = self.looks.saturating_add(looks);
+        self.looks = all % LOOKS;
+        self.steps = self.steps.saturating_sub((all / LOOKS) as u64);
     }
 
     // ---- what is known
@@ -208,7 +229,9 @@ impl<'h, A: Allocator + Copy> Solver<'h, A> {
         ensures { IfErr result (λ e. e ≡ out_of_memory) }
     {
         let history = self.history;
-        for need in history.watchers(place) {
+        let watchers = history.watchers(place);
+        self.spend(watchers.len());
+        for need in watchers {
             self.wake(*need)?;
         }
         Ok(())
@@ -219,7 +242,9 @@ impl<'h, A: Allocator + Copy> Solver<'h, A> {
         ensures { IfErr result (λ e. e ≡ out_of_memory) }
     {
         let history = self.history;
-        for need in history.watchers(place) {
+        let watchers = history.watchers(place);
+        self.spend(watchers.len());
+        for need in watchers {
             put(self.is_settled.as_mut_slice(), *need, false);
             self.wake(*need)?;
         }
@@ -323,6 +348,7 @@ impl<'h, A: Allocator + Copy> Solver<'h, A> {
         for reason in reasons {
             self.reasons.push(*reason)?;
         }
+        self.spend(reasons.len());
         let number = self.facts.len();
         self.facts.push(Fact {
             rule,
@@ -356,6 +382,7 @@ impl<'h, A: Allocator + Copy> Solver<'h, A> {
             next,
         })?;
         let changed = self.order.insert(pair)?;
+        self.spend_order();
         for place in &changed {
             self.move_later(*place)?;
         }

@@ -31,6 +31,7 @@ impl<'h, A: Allocator + Copy> Solver<'h, A> {
         if self.absent_by(sum.place).is_some() {
             return Ok(None);
         }
+        self.spend(sum.visits.len());
         let bounds = self.bounds(sum);
         if bounds.least > sum.number && self.is_present(sum.place) {
             let rule = Rule::Overfull(counting(sum));

@@ -100,6 +100,7 @@ impl<'h, A: Allocator + Copy> Solver<'h, A> {
         let rests = match self.levels.as_slice().first() {
             Some(level) => {
                 let marked = self.mark_all(contradiction, level.fact)?;
+                self.spend(marked.work);
                 self.rests_on(&marked)
             }
             None => Rests {
@@ -115,6 +116,7 @@ impl<'h, A: Allocator + Copy> Solver<'h, A> {
             }
             None => {
                 let marked = self.mark_all(contradiction, 0)?;
+                self.spend(marked.work);
                 let lines = Vec::new(self.alloc);
                 let lines = self.tell_marked(&marked, contradiction, lines)?;
                 Ok(Resolved::Certificate(lines))
@@ -151,6 +153,7 @@ impl<'h, A: Allocator + Copy> Solver<'h, A> {
             return Ok(None);
         };
         let marked = self.mark_all(contradiction, first)?;
+        self.spend(marked.work);
         let mut lines = Vec::new(self.alloc);
         lines.push(Line::Suppose(assumption))?;
         let lines = self.tell_marked(&marked, contradiction, lines)?;
@@ -200,7 +203,7 @@ impl<'h, A: Allocator + Copy> Solver<'h, A> {
     }
 
     // What may be supposed of a need.
-    fn split_of(&self, need: Need) -> Result<Option<Assumption>, Refusal>
+    fn split_of(&mut self, need: Need) -> Result<Option<Assumption>, Refusal>
         ensures { IfErr result (λ e. e ≡ out_of_memory) }
     {
         let history = self.history;
@@ -209,6 +212,7 @@ impl<'h, A: Allocator + Copy> Solver<'h, A> {
             return Ok(None);
         }
         let look = self.look(need, None)?;
+        self.spend(look.work.saturating_add(pairs_of(&look)));
         if let Some(place) = self.open_source(&look) {
             return Ok(Some(Assumption::Absent(place)));
         }
@@ -281,6 +285,12 @@ impl<'h, A: Allocator + Copy> Solver<'h, A> {
         }
         None
     }
+}
+
+// How many pairs there are of a source, and another or a writer.
+fn pairs_of<A: Allocator>(look: &Look<A>) -> usize {
+    let others = look.sources.len().saturating_add(look.writers.len());
+    look.sources.len().saturating_mul(others)
 }
 
 // The contrary.
