@@ -2,6 +2,8 @@
 
 #![tactic(auto)]
 
+pub mod checkpoint;
+
 ghost use Rattle.asking.specs.Asking.{Replies};
 
 use history::event::Event;

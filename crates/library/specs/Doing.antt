@@ -1,7 +1,6 @@
 -- What a script's lines do, one after the other, and their output. There are no files.
 use Rattle.std.specs.Prelude.{◌≡◌, ◌⊎◌, ℕ, true, List, [], ◌∷◌, ◌++◌, Option, Some, None, Ok, Err, codes, slice_get, take}
 use Rattle.value.specs.declared.refusal.Refusal.{Refusal}
-use Rattle.value.specs.Codes.{sqlstate}
 use Rattle.value.specs.Refusals.{AnswersOrNoMemory}
 use Rattle.schema.specs.Definition.{Catalog}
 use Rattle.schema.specs.Inserting.{empty_tables}
@@ -9,7 +8,6 @@ use Rattle.statement.specs.declared.reply.Reply.TheVariants.{Refused}
 use Rattle.history.specs.Answer.{view_answer}
 use Rattle.history.specs.Events.{world}
 use Rattle.history.specs.Opening.{Recorded, zero_base}
-use Rattle.session.specs.Core.{IsCheckpoint}
 use Rattle.audit.specs.Orders.{check_line, order_lines}
 use Rattle.request.specs.declared.request.Request.TheVariants as ask
 use Rattle.script.specs.declared.command.Command.{Command}
@@ -19,6 +17,7 @@ use Rattle.script.specs.declared.script.Step.TheVariants.{Session, Checkpoint}
 use Rattle.script.specs.declared.script.Line.{Line}
 use Rattle.script.specs.Printing.{reply_text}
 use Rattle.asking.specs.Asking.{Tells}
+use Rattle.asking.specs.Checkpoints.{Checkpoints, checkpoint_reply}
 use Rattle.library.specs.declared.ending.End.{End}
 use Rattle.library.specs.declared.ending.End.TheVariants as end
 use Rattle.library.specs.declared.manner.Manner.{Manner}
@@ -29,15 +28,6 @@ use Rattle.library.specs.declared.manner.Shown.TheVariants.{Replies, Order}
 abbrev pub shown_text : Shown → List ℕ → List ℕ
 shown_text Replies text = text
 shown_text Order text = []
-
--- the line of a checkpoint that is refused
-abbrev pub refused_text : Refusal → List ℕ
-refused_text e = codes "ERROR " ++ sqlstate e.code ++ codes "\n"
-
--- the reply to a checkpoint: that it is done, or its refusal
-abbrev pub checkpoint_reply : Option Refusal → List ℕ
-checkpoint_reply None = codes "CHECKPOINT\n"
-checkpoint_reply (Some e) = refused_text e
 
 -- The output of a checkpoint, where this is the serial order before it: its reply; or, where the output is orders, that order, once the checkpoint is done.
 abbrev pub checkpoint_text : Shown → List ℕ → Option Refusal → List ℕ
@@ -60,11 +50,6 @@ module _ {A : Type 0} where
   abbrev pub order_text : Shown → Recorded A → List ℕ
   order_text Replies h = []
   order_text Order h = order_lines (world h) ++ check_line true
-
-  -- The history h goes on, as k, from the tables that it leaves; or that is refused, and k is h.
-  abbrev pub Checkpoints : ℕ → Recorded A → Recorded A → Option Refusal → Type 0
-  Checkpoints most h k None = IsCheckpoint h most (Ok k)
-  Checkpoints most h k (Some e) = IsCheckpoint h most (Err (k, e))
 
   -- The text is the refusal of a dump of session s, which may view no tables.
   abbrev pub IsUnviewed : Recorded A → ℕ → List ℕ → Type 0

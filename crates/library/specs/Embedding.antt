@@ -1,31 +1,14 @@
--- What a kept server answers and tells; its answers to lines are those of `shell`.
+-- What a kept server tells of itself; its answers to lines are those of `shell`.
 use Rattle.std.specs.Prelude.{◌≡◌, ℕ, true, Option, Some, None, Err, List, [], ◌++◌}
 use Rattle.value.specs.declared.refusal.Refusal.{Refusal}
 use Rattle.value.specs.declared.refusal.Code.TheVariants.{ObjectNotInPrerequisiteState}
-use Rattle.value.specs.Refusals.{of_code, out_of_memory}
+use Rattle.value.specs.Refusals.{of_code}
 use Rattle.history.specs.Events.{world}
 use Rattle.history.specs.Opening.{Recorded}
 use Rattle.audit.specs.Orders.{check_line, order_lines}
 use Rattle.backup.specs.Backed.{IsWhole, viewed}
-use Rattle.script.specs.Printing.{reply_text}
-use Rattle.library.specs.declared.answer.Answer.{Answer}
-use Rattle.library.specs.declared.answer.Answer.TheVariants.{Text, Reply}
-
--- Memory was refused, and what was h is as it was.
-abbrev pub IsUnchanged : {H : Type 0} → Refusal → H → H → Type 0
-IsUnchanged e h k = (e ≡ out_of_memory) × (k ≡ h)
 
 module _ {A : Type 0} where
-  -- the text of an answer, whether or not it was made
-  abbrev pub answer_text : Answer A → List ℕ
-  answer_text (Text text) = text.items
-  answer_text (Reply s r) = reply_text s r
-
-  -- the text of an answer where it was made
-  abbrev pub made_text : Answer A → Option (List ℕ)
-  made_text (Text text) = Some text.items
-  made_text (Reply s r) = None
-
   -- The session may view no tables.
   abbrev pub IsUnviewed : Recorded A → ℕ → Refusal → Type 0
   IsUnviewed h s e = viewed h s ≡ Err e

@@ -39,7 +39,7 @@ module _ {A : Type 0} where
   abbrev pub AreListed : Explored A → List ℕ → Type 0
   AreListed x text = IsListed (Every (length (schedules x))) false (schedules x) (outcomes (map (outcome x) (schedules x))) text
 
-  -- How an exploration ends that may run so many schedules: all were run; or they are more, and none was.
+  -- How an exploration ends that may run `most` schedules: all were run; or they are more, and none was.
   abbrev pub ExploresPlan : ℕ → Explored A → End → List ℕ → Type 0
   ExploresPlan most x e text = (e ≡ Done) × (length (schedules x) ≤ most) × AreListed x text ⊎ (e ≡ TooMany) × (most < length (schedules x)) × (text ≡ [])
 

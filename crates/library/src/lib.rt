@@ -2,8 +2,6 @@
 
 #![tactic(auto)]
 
-pub mod answer;
-mod answering;
 mod backing;
 pub mod checking;
 pub mod embedded;
@@ -17,4 +15,3 @@ mod preparing;
 mod printing;
 pub mod restored;
 mod tape;
-mod wording;

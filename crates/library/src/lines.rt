@@ -2,11 +2,12 @@
 
 ghost use Rattle.std.specs.Prelude.{◌≡◌, ◌⊎◌, ◌++◌, [], IfErr, IfOk, OnOk};
 ghost use Rattle.asking.specs.Asking.{Tells};
-ghost use Rattle.library.specs.Doing.{Checkpoints, HasStopped, HasRun, IsDone, IsPassed, IsReplied, IsUnviewed, Stops, StopsCommand};
+ghost use Rattle.library.specs.Doing.{HasStopped, HasRun, IsDone, IsPassed, IsReplied, IsUnviewed, Stops, StopsCommand};
 
 use crate::ending::End;
 use crate::manner::Manner;
 use crate::printing::{checkpoint_text, order_of, reply_lines, shown_text};
+use asking::checkpoint::checkpoint;
 use asking::reply_to;
 use history::session_id::SessionId;
 use request::request::Request;
@@ -15,7 +16,6 @@ use script::script::{Line, Step};
 use session::sessions::Core;
 use statement::reply::Reply;
 use std::alloc::Allocator;
-use value::refusal::Refusal;
 
 // Does what a session asks for, and returns its reply's lines.
 fn request_reply<A: Allocator + Copy>(
@@ -62,24 +62,6 @@ fn do_command<A: Allocator + Copy>(
         Command::Dump(_) => dump_reply(alloc, core, session, line),
         Command::Ask(request) => request_reply(alloc, core, session, request),
         Command::Wait => request_reply(alloc, core, session, &Request::Poll),
-    }
-}
-
-// Lets the history go on from its present tables, with room for `most_events` events more. Returns the refusal where
-// it can't.
-fn checkpoint<A: Allocator + Copy>(
-    alloc: A,
-    core: &mut Core<A>,
-    most_events: u32,
-) -> Option<Refusal>
-    ensures { Checkpoints most_events core.old core.new result }
-{
-    match core.next(alloc, most_events) {
-        Ok(next) => {
-            *core = next;
-            None
-        }
-        Err(refusal) => Some(refusal),
     }
 }
 

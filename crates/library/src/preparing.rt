@@ -11,7 +11,6 @@ ghost use Rattle.library.specs.Preparing.{IsUnperformed, IsUnperformedIn, Perfor
 
 use crate::embedded::Embedded;
 use crate::prepared::{Prepared, may_ask};
-use crate::wording::with_line;
 use history::event::Event;
 use history::session_id::SessionId;
 use request::request::Request;
@@ -20,6 +19,7 @@ use script::command::Command;
 use script::schedule::Schedule;
 use script::script::{Line, Script, Step, read_script};
 use session::sessions::Core;
+use shell::wording::with_line;
 use statement::reply::Reply;
 use std::alloc::Allocator;
 use value::refusal::{Code, Refusal};
@@ -138,7 +138,7 @@ impl<A: Allocator + Copy> Embedded<A> {
         ensures done { IfOk result (λ r. Performs self.old prepared.now self.new r) }
         ensures not { IfErr result (λ e. IsUnperformed self.old prepared.now self.new e) }
     {
-        match &mut self.core {
+        match &mut self.shell.core {
             Some(core) => perform_on(alloc, core, prepared),
             None => Err(Refusal::of_code(Code::DatatypeMismatch)),
         }

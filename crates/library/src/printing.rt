@@ -7,12 +7,13 @@ ghost use Rattle.library.specs.Doing as spec;
 
 use crate::ending::End;
 use crate::manner::Shown;
+use asking::checkpoint::checkpoint_reply;
 use audit::ordering::order_text;
 use history::session_id::SessionId;
 use script::printing::reply_text;
 use session::sessions::Core;
 use statement::reply::Reply;
-use std::alloc::{AllocError, Allocator};
+use std::alloc::Allocator;
 use value::refusal::Refusal;
 
 /// The lines of a reply.
@@ -55,30 +56,6 @@ pub(crate) fn order_of<A: Allocator + Copy>(
             Ok(text) => Ok(text),
             Err(_) => Err(End::Memory),
         },
-    }
-}
-
-// The line of a checkpoint that is refused.
-fn refused_text<A: Allocator>(alloc: A, refusal: Refusal) -> Result<Vec<u8, A>, AllocError>
-    ensures { IfOk result (λ text. text.items ≡ spec.refused_text refusal) }
-{
-    let mut text = Vec::new(alloc);
-    text.extend_from_slice(b"ERROR ")?;
-    text.extend_from_slice(refusal.code.sqlstate().as_bytes())?;
-    text.push(b'\n')?;
-    Ok(text)
-}
-
-// The reply to a checkpoint: that it is done, or its refusal.
-fn checkpoint_reply<A: Allocator>(
-    alloc: A,
-    refusal: Option<Refusal>,
-) -> Result<Vec<u8, A>, AllocError>
-    ensures { IfOk result (λ text. text.items ≡ spec.checkpoint_reply refusal) }
-{
-    match refusal {
-        None => Vec::from_slice(alloc, b"CHECKPOINT\n"),
-        Some(refusal) => refused_text(alloc, refusal),
     }
 }
 

@@ -3,7 +3,7 @@ use Rattle.std.specs.Prelude.{◌≡◌, ◌⊎◌, ℕ, List, [], Option, Some,
 use Rattle.restore.specs.Reading.{read_dump}
 use Rattle.restore.specs.declared.error.RestoreFault.{RestoreFault}
 use Rattle.shell.specs.Shells.{opening}
-use Rattle.library.specs.Embedding.{answer_text}
+use Rattle.shell.specs.Answering.{answer_text}
 use Rattle.library.specs.Restoring.{RestoresAs, fault_text}
 use Rattle.library.specs.declared.ending.End.TheVariants.{Refused}
 use Rattle.library_c.specs.Handing.{Hands}
@@ -14,7 +14,7 @@ use Rattle.library_c.specs.declared.kept.Kept.{Kept}
 abbrev pub Begins : (Kept → Type 0) → Option Kept → ℕ → Type 0
 Begins is w status = ((k : Kept) × (w ≡ Some k) × is k × (answer_text k.answer ≡ []) × (k.prepared.items ≡ []) × (status ≡ 0)) ⊎ ((w ≡ None) × (status ≡ 4))
 
--- A handle was opened with room for so many events: one that is open stays as it was; else it keeps a new server, or memory was refused.
+-- A handle was opened with room for `most` events: one that is open stays as it was; else it keeps a new server, or memory was refused.
 abbrev pub Opens : Option Kept → ℕ → Option Kept → ℕ → Type 0
 Opens (Some k) most w status = (w ≡ Some k) × (status ≡ 7)
 Opens None most w status = Begins (λ k. k.server ≡ opening [] most) w status
@@ -27,7 +27,7 @@ IsUntold room left before after = (left ≡ room) × (after ≡ before)
 abbrev pub HandsFault : RestoreFault → List ℕ → List ℕ → Report → Report → ℕ → Type 0
 HandsFault fault room left before after status = Hands (Refused fault.line) (fault_text fault) room left after status ⊎ (IsUntold room left before after × (status ≡ 4))
 
--- A dump's first faulty line was told, or memory was refused.
+-- A dump's first faulty line was reported, or memory was refused.
 abbrev pub TellsFault : (A : Type 0) → List ℕ → List ℕ → List ℕ → Report → Report → ℕ → Type 0
 TellsFault A dump room left before after status = ((fault : RestoreFault) × (read_dump {A = A} dump ≡ Err fault) × HandsFault fault room left before after status) ⊎ (IsUntold room left before after × (status ≡ 4))
 

@@ -10,17 +10,17 @@ use Rattle.std_heap.specs.contracts.Global as heap
 use Rattle.shell.specs.Shells.{Held}
 use Rattle.library.specs.Filling.{Asked, is_memory}
 use Rattle.library.specs.Preparing.{IsUnperformed, Performs, read_from}
-use Rattle.library.specs.declared.answer.Answer.{Answer}
-use Rattle.library.specs.declared.answer.Answer.TheVariants as answer
+use Rattle.shell.specs.declared.answer.Answer.{Answer}
+use Rattle.shell.specs.declared.answer.Answer.TheVariants as answer
 use Rattle.library_c.specs.Talking.{Keeps, OnOpen}
 use Rattle.library_c.specs.declared.Report.{Report}
 use Rattle.library_c.specs.declared.kept.Kept.{Kept}
 
--- a number or a place, counted from 1, is one of so many
+-- a number or a place, counted from 1, is at most `most`
 abbrev pub is_among : ℕ → ℕ → Bool
 is_among n most = not (n == 0) && nat_le n most
 
--- how a refusal to do a line is told
+-- the status of a refusal to do a line
 abbrev pub refusal_status : Refusal → ℕ
 refusal_status e = if is_memory e.code then 4 else 7
 
@@ -84,7 +84,7 @@ OnKept does (Some k) w status = Keeps (λ q. does k q status) w
 abbrev pub HasSame : Kept → Kept → Type 0
 HasSame k q = (q.server ≡ k.server) × (q.answer ≡ k.answer) × (q.prepared.items ≡ k.prepared.items)
 
--- A line was read once and is kept behind the others, and its number and how many places it has were reported; or it is no line that can be kept; or memory was refused.
+-- A line was read once and is kept after the others, and its number and how many places it has were reported; or it is no line that can be kept; or memory was refused.
 abbrev pub PreparesLine : Kept → List ℕ → Kept → Report → Report → ℕ → Type 0
 PreparesLine k line q before after status =
     ((p : Asked Memory) × (read_from k.server.core line ≡ Some p) × (q.server ≡ k.server) × (q.answer ≡ k.answer) × (q.prepared.items ≡ k.prepared.items ++ p ∷ [])

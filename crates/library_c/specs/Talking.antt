@@ -1,9 +1,9 @@
 -- What calls on a handle do.
 use Rattle.std.specs.Prelude.{◌≡◌, ◌⊎◌, ℕ, List, Option, Some, None, length}
 use Rattle.shell.specs.Shells.{Answers}
-use Rattle.library.specs.Embedding.{answer_text, made_text}
-use Rattle.library.specs.declared.answer.Answer.{Answer}
-use Rattle.library.specs.declared.answer.Answer.TheVariants.{Text, Reply}
+use Rattle.shell.specs.Answering.{answer_text, made_text}
+use Rattle.shell.specs.declared.answer.Answer.{Answer}
+use Rattle.shell.specs.declared.answer.Answer.TheVariants.{Text, Reply}
 use Rattle.library.specs.declared.ending.End.TheVariants.{Done}
 use Rattle.library_c.specs.Handing.{Hands}
 use Rattle.library_c.specs.declared.Report.{Report}

@@ -4,7 +4,8 @@ use Rattle.value.specs.declared.refusal.Refusal.{Refusal}
 use Rattle.statement.specs.declared.reply.Reply.TheVariants.{Refused}
 use Rattle.script.specs.Printing.{reply_text}
 use Rattle.shell.specs.Asked.{catalog_of, tables_text}
-use Rattle.library.specs.Embedding.{IsDump, IsUndumped, answer_text, order_in}
+use Rattle.shell.specs.Answering.{answer_text}
+use Rattle.library.specs.Embedding.{IsDump, IsUndumped, order_in}
 use Rattle.library_c.specs.Talking.{IsReported, OnOpen, Stays}
 use Rattle.library_c.specs.declared.Report.{Report}
 use Rattle.library_c.specs.declared.kept.Kept.{Kept}

@@ -1,8 +1,8 @@
 //! What a handle keeps.
 
-use library::answer::Answer;
 use library::embedded::Embedded;
 use library::prepared::Prepared;
+use shell::answer::Answer;
 use std::alloc::Global;
 
 /// A server that answers lines, its last answer, and the lines that were read once.

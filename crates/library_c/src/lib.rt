@@ -124,7 +124,7 @@ pub extern "C" fn pgserial_do_explore(
     hand_over(answer.text.as_slice(), answer.end, out, report)
 }
 
-/// Opens a handle that is shut: a server that answers lines, with room for so many events.
+/// Opens a handle that is shut: a server that answers lines, with room for `most_events` events.
 #[unsafe(no_mangle)]
 pub extern "C" fn pgserial_do_open(alloc: Global, handle: &mut Handle, most_events: u32) -> u32
     ensures full { most_events ≡ 0 → (handle.new.value ≡ handle.old.value) × (result ≡ 3) }
@@ -140,7 +140,7 @@ pub extern "C" fn pgserial_do_open(alloc: Global, handle: &mut Handle, most_even
     begin_in(alloc, handle, Embedded::new(alloc, most_events))
 }
 
-/// Opens a handle that is shut on the tables of a dump. Of a dump that is faulty, its first faulty line is told, in `out`
+/// Opens a handle that is shut on the tables of a dump. Of a dump that is faulty, it reports the first faulty line, in `out`
 /// where that has room there.
 #[unsafe(no_mangle)]
 pub extern "C" fn pgserial_do_open_dump(

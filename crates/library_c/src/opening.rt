@@ -1,7 +1,7 @@
 //! How a handle comes to keep a server.
 
 ghost use Rattle.std.specs.Prelude.{◌≡◌, [], None, IfSome};
-ghost use Rattle.library.specs.Embedding.{answer_text};
+ghost use Rattle.shell.specs.Answering.{answer_text};
 ghost use Rattle.library_c.specs.Opening.{Begins, HandsFault, Restores};
 
 use crate::Report;
@@ -10,11 +10,11 @@ use crate::handle::Handle;
 use crate::kept::Kept;
 use crate::status::{DONE, MEMORY};
 use crate::talking::put;
-use library::answer::Answer;
 use library::embedded::Embedded;
 use library::ending::End;
 use library::restored::fault_text;
 use restore::RestoreFault;
+use shell::answer::Answer;
 use std::alloc::Global;
 
 // A server, in a box of its own; none where memory is refused.

@@ -10,9 +10,9 @@ ghost use Rattle.library_c.specs.Preparing.{ExecutesKept, ExecutesLine, GivesAmo
 use crate::Report;
 use crate::kept::Kept;
 use crate::status::{DONE, MEMORY, MISUSE, REFUSED};
-use library::answer::Answer;
 use library::embedded::Embedded;
 use library::prepared::Prepared;
+use shell::answer::Answer;
 use statement::reply::Reply;
 use std::alloc::Global;
 use std::str;
@@ -143,7 +143,7 @@ fn report_reply(reply: &Reply<Global>, report: &mut Report) -> u32
     reply_status(reply)
 }
 
-// How a refusal to do a line is told.
+// The status of a refusal to do a line.
 fn refusal_status(refusal: Refusal) -> u32
     ensures { result ≡ refusal_status refusal }
 {

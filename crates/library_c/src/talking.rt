@@ -2,7 +2,7 @@
 
 ghost use Rattle.std.specs.Prelude.{◌≡◌, None, Some};
 ghost use Rattle.std.specs.Option.{option_map};
-ghost use Rattle.library.specs.Embedding.{answer_text};
+ghost use Rattle.shell.specs.Answering.{answer_text};
 ghost use Rattle.library_c.specs.Talking.{AnswersLine, HandsPrinted, IsReported, IsSame, RepliesIn, line_status, made_length};
 
 use crate::Report;
@@ -11,8 +11,8 @@ use crate::handle::Handle;
 use crate::kept::Kept;
 use crate::loose::Loose;
 use crate::status::{DONE, MEMORY, UNPRINTED};
-use library::answer::Answer;
 use library::ending::End;
+use shell::answer::Answer;
 use std::alloc::Global;
 use std::mem::replace;
 

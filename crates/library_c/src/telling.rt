@@ -10,7 +10,7 @@ use crate::kept::Kept;
 use crate::status::{DONE, MEMORY, REFUSED};
 use crate::talking::report_answer;
 use history::session_id::SessionId;
-use library::answer::Answer;
+use shell::answer::Answer;
 use statement::reply::Reply;
 use std::alloc::Global;
 use value::refusal::{Code, Refusal};

@@ -22,7 +22,8 @@ use Rattle.retrace.specs.Past.{Bygone, after_all, followed, followed_by, followe
 use Rattle.retrace.specs.Explained.{why_told}
 use Rattle.retrace.specs.Runs.{Going, is_its}
 use Rattle.program.specs.Remarks.{IsFollowed, Noted, account_of, bygone, remarks_on, unnoted, with_line}
-use Rattle.program.specs.Runs.{Checkpoints, TellsWhy}
+use Rattle.asking.specs.Checkpoints.{Checkpoints}
+use Rattle.program.specs.Runs.{TellsWhy}
 
 module _ {A : Type 0} where
   -- ---- how many records were followed
@@ -93,7 +94,7 @@ module _ {A : Type 0} where
   known_on h k e (Some p) (inl is) so = subst (λ g. IsFollowed g p) (sym is) so
   known_on h k e (Some p) (inr is) so = subst (λ g. IsFollowed g p) (sym is) (followed_on h e p so)
 
-  -- behind the reply to what a session asked for
+  -- after the reply to what a session asked for
   pub known_after : (h k : Recorded A) (s : ℕ) (q : Request A) (r : Reply A) (o : Option (Bygone A)) → Replies h k s q r → IfSome o (λ p. IsFollowed h p) → IfSome o (λ p. IsFollowed k p)
   known_after h k s q r o (inl (inl t)) so = known_on h k (record { session = s; action = asked h.opening.catalog q; reply = r }) o (inr t.2) so
   known_after h k s q r o (inl (inr (inl t))) so = known_on h k (record { session = s; action = asked h.opening.catalog q; reply = r }) o (inl t.2) so

@@ -34,7 +34,7 @@ module _ {A : Type 0} where
   dump_ends writes h s path d f g dumped at (inl memory) = inl memory
   dump_ends writes h s path d f g dumped at (inr device) = inr (subst (IsFileFault path) (sym device.0) at, subst (λ z. IsDumpedAt writes h s path z) device.1 dumped)
 
-  -- where only the dump is told
+  -- where only the dump is reported
   pub dump_ends_it : (writes : Writing) (h : Recorded A) (s : ℕ) (path : List ℕ) (d : Result (Unit {0}) SafeDumpFault) (f g : Fault)
       → IsDumpedAt writes h s path d → IsFileFault path g → (f ≡ fault.ScriptOutOfMemory) ⊎ (f ≡ g) × (d ≡ Err (Dump Device)) → (f ≡ fault.ScriptOutOfMemory) ⊎ (IsFileFault path f × IsDumped h s (Err (Dump Device)))
   dump_ends_it writes h s path d f g dumped at why = elim (dump_ends writes h s path d f g dumped at why) [

@@ -34,7 +34,7 @@ module _ {A : Type 0} where
   abbrev pub bygone : Recorded A → Bygone A
   bygone h = after_all h.opening.catalog h.opening.base.commits h.records (unbegun h.opening)
 
-  -- so many of them, the first
+  -- what is known of the first records of a history
   abbrev pub IsFollowed : Recorded A → Bygone A → Type 0
   IsFollowed h p = (seen : List (Record A)) × (rest : List (Record A)) × (h.records ≡ seen ++ rest) × (p.place ≡ length seen) × (p ≡ bygone (record h { records = seen }))
 

@@ -1,8 +1,8 @@
 -- What the lines of a script do, one after the other, and what is printed of them.
 use Rattle.std.specs.Prelude.{◌≡◌, ◌⊎◌, ℕ, true, List, [], ◌++◌, length, Option, Some, None, Ok, Err, codes, slice_get, take}
 use Rattle.value.specs.declared.refusal.Refusal.{Refusal}
-use Rattle.value.specs.Codes.{sqlstate}
 use Rattle.asking.specs.Asking.{Replies as HasReplied, Tells}
+use Rattle.asking.specs.Checkpoints.{Checkpoints, checkpoint_reply}
 use Rattle.statement.specs.declared.reply.Reply.{Reply}
 use Rattle.request.specs.declared.request.Request.{Request}
 use Rattle.script.specs.Printing.{reply_text}
@@ -13,7 +13,6 @@ use Rattle.schema.specs.Definition.{Catalog}
 use Rattle.schema.specs.declared.tables.Tables.{Tables}
 use Rattle.dumpworker.specs.declared.fault.DumpFault.TheVariants.{Device}
 use Rattle.backup.specs.declared.fault.SafeDumpFault.TheVariants.{Dump}
-use Rattle.session.specs.Core.{IsCheckpoint}
 use Rattle.request.specs.declared.request.Request.TheVariants as ask
 use Rattle.script.specs.declared.command.Command.{Command}
 use Rattle.script.specs.declared.command.Command.TheVariants as command
@@ -56,15 +55,6 @@ line_text Order ls n reply = []
 line_text Why ls n reply = reply
 line_text Transcript ls n reply = asked (line_at ls n) ++ answered reply
 
--- the reply to a checkpoint that is refused
-abbrev pub refused_text : Refusal → List ℕ
-refused_text e = codes "ERROR " ++ sqlstate e.code ++ codes "\n"
-
--- the reply to a checkpoint: that it is done, or its refusal
-abbrev pub checkpoint_reply : Option Refusal → List ℕ
-checkpoint_reply None = codes "CHECKPOINT\n"
-checkpoint_reply (Some e) = refused_text e
-
 -- What is printed of a checkpoint where orders are: that before it, once it is done.
 abbrev pub order_passed : List ℕ → Option Refusal → List ℕ
 order_passed order None = order
@@ -88,11 +78,6 @@ module _ {A : Type 0} where
   order_text Order h = order_lines (world h) ++ check_line true
   order_text Why h = []
   order_text Transcript h = []
-
-  -- The history h goes on, as k, from the tables that it leaves; or that is refused, and k is h.
-  abbrev pub Checkpoints : ℕ → Recorded A → Recorded A → Option Refusal → Type 0
-  Checkpoints most h k None = IsCheckpoint h most (Ok k)
-  Checkpoints most h k (Some e) = IsCheckpoint h most (Err (k, e))
 
   -- What session s asked for took the history h to k, and the text is the reply. No line is noted.
   abbrev pub TellsReply : Noted A → Noted A → ℕ → Request A → List ℕ → Type 0

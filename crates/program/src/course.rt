@@ -5,7 +5,8 @@ ghost use Rattle.value.specs.Refusals.{out_of_memory};
 ghost use Rattle.asking.specs.Asking.{Replies};
 ghost use Rattle.program.specs.Remarks as spec;
 ghost use Rattle.program.specs.Remarks.{account_of, lines_after, unnoted, with_line};
-ghost use Rattle.program.specs.Runs.{Checkpoints, TellsReply, TellsRequest, TellsWhy};
+ghost use Rattle.asking.specs.Checkpoints.{Checkpoints};
+ghost use Rattle.program.specs.Runs.{TellsReply, TellsRequest, TellsWhy};
 ghost use Rattle.retrace.specs.Explained.{why_told};
 
 use crate::fault::Fault;
@@ -42,7 +43,7 @@ impl<A: Allocator> Model for Course<A> {
     ghost invariant = { λ c. IfSome c.past (λ p. IsFollowed c.core p) };
 }
 
-// Adds the line of the last of so many events, where it has none yet.
+// Adds the line of the last of `events` events, where it has none yet.
 fn add_line<A: Allocator>(lines: &mut Vec<u64, A>, events: usize, line: u64) -> Result<(), Refusal>
     ensures ok { OnOk result (lines.new.items ≡ with_line line events lines.old.items) }
     ensures memory { IfErr result (λ e. e ≡ out_of_memory) }

@@ -1,6 +1,7 @@
 //! The lines of a script: what each does to a core, and what is printed of it.
 
 ghost use Rattle.std.specs.Prelude.{◌≡◌, ◌++◌, IfOk, IfErr, map};
+ghost use Rattle.asking.specs.Checkpoints as told;
 ghost use Rattle.program.specs.Files.{writing_of};
 ghost use Rattle.program.specs.Runs as spec;
 ghost use Rattle.program.specs.Runs.{EndsBy, IsDone, Stops, TellsCommandAt};
@@ -12,6 +13,7 @@ use crate::files::Files;
 use crate::machine::Machine;
 use crate::manner::Manner;
 use crate::run::Way;
+use asking::checkpoint::checkpoint_reply;
 use audit::ordering::order_text;
 use history::session_id::SessionId;
 use request::request::Request;
@@ -82,30 +84,15 @@ fn line_text<'p, A: Allocator>(
     }
 }
 
-// The reply to a checkpoint that is refused.
-fn refused_text<A: Allocator>(alloc: A, refusal: Refusal) -> Result<Vec<u8, A>, AllocError>
-    ensures { IfOk result (λ text. text.items ≡ spec.refused_text refusal) }
-{
-    let mut text = Vec::new(alloc);
-    text.extend_from_slice(b"ERROR ")?;
-    text.extend_from_slice(refusal.code.sqlstate().as_bytes())?;
-    text.push(b'\n')?;
-    Ok(text)
-}
-
 // The reply to a checkpoint: that it is done, or its refusal.
-fn checkpoint_reply<'p, A: Allocator>(
+fn reply_to_checkpoint<'p, A: Allocator>(
     alloc: A,
     refusal: Option<Refusal>,
 ) -> Result<Vec<u8, A>, Fault<'p>>
-    ensures text { IfOk result (λ text. text.items ≡ spec.checkpoint_reply refusal) }
+    ensures text { IfOk result (λ text. text.items ≡ told.checkpoint_reply refusal) }
     ensures memory { IfErr result (λ f. f ≡ Fault.ScriptOutOfMemory) }
 {
-    let text = match refusal {
-        None => Vec::from_slice(alloc, b"CHECKPOINT\n"),
-        Some(refusal) => refused_text(alloc, refusal),
-    };
-    match text {
+    match checkpoint_reply(alloc, refusal) {
         Ok(text) => Ok(text),
         Err(_) => Err(Fault::ScriptOutOfMemory),
     }
@@ -141,7 +128,7 @@ where
     match way.manner {
         Manner::Order => Ok(order_passed(alloc, order, refusal)),
         Manner::Replies | Manner::Why | Manner::Transcript => {
-            let reply = checkpoint_reply(alloc, refusal)?;
+            let reply = reply_to_checkpoint(alloc, refusal)?;
             line_text(alloc, way.manner, texts, number, reply)
         }
     }

@@ -44,7 +44,8 @@ use Rattle.program.specs.Dumps.{dump_text}
 use Rattle.program.specs.Files.{IsAllOf, Writing, read_of}
 use Rattle.program.specs.Printed.{Adds, Printed, Prints}
 use Rattle.program.specs.Remarks.{Noted, unnoted}
-use Rattle.program.specs.Runs.{Checkpoints, HasBrokenOff, IsStepDone, LinesAreDone, ScriptHasStopped, TellsRequest, begun, checkpoint_reply, checkpoint_text, first_text, line_text, lines_printed, order_text}
+use Rattle.asking.specs.Checkpoints.{Checkpoints, checkpoint_reply}
+use Rattle.program.specs.Runs.{HasBrokenOff, IsStepDone, LinesAreDone, ScriptHasStopped, TellsRequest, begun, checkpoint_text, first_text, line_text, lines_printed, order_text}
 use Rattle.program.proofs.PrintLemmas.{added_is_printed, adds_twice, prints_none, prints_twice}
 use Rattle.recording.specs.Printed.{AreSmall, AsksForTranscript, OfTheDone, OfTheStopped, Transcribes, Way}
 use Rattle.recording.specs.Runs.{AreDone, IsDone, IsTranscript, Replies}

@@ -1,3 +1,4 @@
 pub mod EmptyLemmas
+pub mod HeldLemmas
 pub mod OpeningLemmas
 pub mod TurnLemmas

@@ -1,3 +1,4 @@
 pub mod Shells
 pub mod Asked
 pub mod Turns
+pub mod Answering

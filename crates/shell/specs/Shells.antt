@@ -2,12 +2,12 @@
 use Rattle.std.specs.Prelude.{◌≡◌, ◌⊎◌, ℕ, ◌==◌, Bool, true, false, not, ◌||◌, Option, Some, None, is_some, Result, Ok, Err, List, [], ◌∷◌, ◌++◌, length, codes, if◌then◌else◌}
 use Rattle.std.specs.List.{list_all}
 use Rattle.value.specs.declared.refusal.Refusal.{Refusal}
-use Rattle.value.specs.Codes.{sqlstate}
 use Rattle.schema.specs.Definition.{Catalog}
 use Rattle.schema.specs.Inserting.{empty_tables}
 use Rattle.history.specs.Opening.{Recorded, zero_base}
 use Rattle.session.specs.Core.{IsCheckpoint}
 use Rattle.asking.specs.Asking.{Tells}
+use Rattle.asking.specs.Checkpoints.{refused_text}
 use Rattle.script.specs.Telling.{is_printable}
 use Rattle.script.specs.Scripts.{Said, is_passed_over, said}
 use Rattle.script.specs.declared.command.Command.TheVariants.{Ask, Wait, Dump}
@@ -27,10 +27,6 @@ refusal_of_words words = codes "ERROR 42601 " ++ words ++ codes "\n"
 -- A line is refused: by one line, whose words a terminal shows.
 abbrev pub IsRefusal : List ℕ → Type 0
 IsRefusal text = (words : List ℕ) × (list_all is_printable words ≡ true) × (text ≡ refusal_of_words words)
-
--- the line of a checkpoint that is refused
-abbrev pub refused_checkpoint : Refusal → List ℕ
-refused_checkpoint e = codes "ERROR " ++ sqlstate e.code ++ codes "\n"
 
 -- what is answered to a line that a table was made by
 abbrev pub created_text : List ℕ
@@ -53,7 +49,7 @@ module _ {A : Type 0} where
 
   -- The history doesn't go on, for this refusal.
   abbrev pub Stays : ℕ → Recorded A → Recorded A → List ℕ → Type 0
-  Stays most h k text = (e : Refusal) × IsCheckpoint h most (Err (k, e)) × (text ≡ refused_checkpoint e)
+  Stays most h k text = (e : Refusal) × IsCheckpoint h most (Err (k, e)) × (text ≡ refused_text e)
 
   -- A step was done: the history h has become k, and the text is what is answered.
   abbrev pub Does : ℕ → Recorded A → Step A → Recorded A → List ℕ → Type 0

@@ -2,10 +2,11 @@
 
 #![tactic(auto)]
 
+pub mod answer;
 pub mod conversation;
 mod handling;
 mod running;
 pub mod shell;
 pub mod tables;
 pub mod told;
-mod wording;
+pub mod wording;

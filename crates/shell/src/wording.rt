@@ -4,7 +4,7 @@ ghost use Rattle.std.specs.Prelude.{◌≡◌, ◌++◌, true, codes, IfOk, IfEr
 ghost use Rattle.std.specs.List.{list_all};
 ghost use Rattle.value.specs.Refusals.{out_of_memory};
 ghost use Rattle.script.specs.Telling.{is_printable};
-ghost use Rattle.shell.specs.Shells.{IsRefusal, ended, refusal_of_words, refused_checkpoint};
+ghost use Rattle.shell.specs.Shells.{IsRefusal, ended};
 
 use script::schedule::Schedule;
 use script::telling::explain;
@@ -12,11 +12,7 @@ use std::alloc::Allocator;
 use value::refusal::Refusal;
 
 /// A line after those before it, with its newline.
-pub(crate) fn with_line<A: Allocator>(
-    alloc: A,
-    before: &[u8],
-    line: &[u8],
-) -> Result<Vec<u8, A>, Refusal>
+pub fn with_line<A: Allocator>(alloc: A, before: &[u8], line: &[u8]) -> Result<Vec<u8, A>, Refusal>
     ensures text { IfOk result (λ text. text.items ≡ before.now ++ ended line.now) }
     ensures memory { IfErr result (λ e. e ≡ out_of_memory) }
 {
@@ -51,19 +47,4 @@ pub(crate) fn refuse_line<A: Allocator + Copy>(
 {
     let words = explain(alloc, Schedule::InOrder, text, number)?;
     refuse(alloc, words.as_slice())
-}
-
-/// The line of a checkpoint that is refused.
-pub(crate) fn refuse_checkpoint<A: Allocator>(
-    alloc: A,
-    refusal: Refusal,
-) -> Result<Vec<u8, A>, Refusal>
-    ensures text { IfOk result (λ text. text.items ≡ refused_checkpoint refusal) }
-    ensures memory { IfErr result (λ e. e ≡ out_of_memory) }
-{
-    let mut text = Vec::new(alloc);
-    text.extend_from_slice(b"ERROR ")?;
-    text.extend_from_slice(refusal.code.sqlstate().as_bytes())?;
-    text.push(b'\n')?;
-    Ok(text)
 }

@@ -25,7 +25,7 @@ fn first_or_null<A: Allocator>(alloc: A, given: &[Value<A>]) -> Result<Value<A>,
     }
 }
 
-// The values behind the first.
+// The values after the first.
 fn rest<A: Allocator>(given: &[Value<A>]) -> &[Value<A>]
     ensures { result.now ≡ drop 1 given.now }
 {
@@ -35,7 +35,7 @@ fn rest<A: Allocator>(given: &[Value<A>]) -> &[Value<A>]
     }
 }
 
-// The values behind so many.
+// The values after the first `count`.
 fn behind<A: Allocator>(given: &[Value<A>], count: usize) -> &[Value<A>]
     ensures { result.now ≡ drop count given.now }
 {

@@ -1,6 +1,6 @@
 use Rattle.std.proofs.Common.{◌≡◌, true, subst, sym}
 use Rattle.schema.specs.Plain.{is_sound}
-use Rattle.library.proofs.EmptyLemmas.{empty_is_sound}
+use Rattle.shell.proofs.EmptyLemmas.{empty_is_sound}
 use Rattle.library.proofs.checking.open_tables.Goals as goal
 
 pub returns-in-Ok-clause-sound : goal.returns-in-Ok-clause-sound

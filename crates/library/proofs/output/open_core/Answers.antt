@@ -1,6 +1,6 @@
 use Rattle.std.proofs.Common.{◌≡◌, true, subst, sym}
 use Rattle.schema.specs.Plain.{is_sound}
-use Rattle.library.proofs.EmptyLemmas.{empty_is_sound}
+use Rattle.shell.proofs.EmptyLemmas.{empty_is_sound}
 use Rattle.library.proofs.output.open_core.Goals as goal
 
 pub open-requires : goal.open-requires

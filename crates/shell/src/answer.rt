@@ -1,14 +1,16 @@
 //! The answer to a line.
 
-ghost use Rattle.std.specs.Prelude.{◌≡◌};
+ghost use Rattle.std.specs.Prelude.{◌≡◌, IfOk, IfErr};
 ghost use Rattle.std.specs.Option.{option_map};
+ghost use Rattle.value.specs.Refusals.{out_of_memory};
 ghost use Rattle.script.specs.Printing as printed;
-ghost use Rattle.library.specs.Embedding.{answer_text, made_text};
+ghost use Rattle.shell.specs.Answering.{answer_text, made_text};
 
 use history::session_id::SessionId;
 use script::printing::reply_text;
 use statement::reply::Reply;
 use std::alloc::{Allocator, Global};
+use value::refusal::{Code, Refusal};
 
 /// The answer to a line: its text; or a reply, for whose text there was no memory.
 #[derive(Drop)]
@@ -45,6 +47,17 @@ impl<A: Allocator> Answer<A> {
         match self {
             Answer::Text(text) => Some(text.as_slice()),
             Answer::Reply(_, _) => None,
+        }
+    }
+
+    /// Its text, or out of memory where none was made.
+    pub fn into_text(self) -> Result<Vec<u8, A>, Refusal>
+        ensures text { IfOk result (λ text. text.items ≡ answer_text self) }
+        ensures memory { IfErr result (λ e. e ≡ out_of_memory) }
+    {
+        match self {
+            Answer::Text(text) => Ok(text),
+            Answer::Reply(_, _) => Err(Refusal::of_code(Code::OutOfMemory)),
         }
     }
 }

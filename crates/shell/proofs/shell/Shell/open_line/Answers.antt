@@ -1,9 +1,9 @@
 use Rattle.std.proofs.Common.{◌∙◌, ◌++◌, ap}
 use Rattle.value.proofs.Basics.{IfOk_then}
-use Rattle.library.specs.Embedding.{answer_text}
+use Rattle.shell.specs.Answering.{answer_text}
 use Rattle.shell.specs.Shells.{ended}
-use Rattle.library.proofs.EmbeddedLemmas.{opens_said}
-use Rattle.library.proofs.embedded.Embedded.open_line.Goals as goal
+use Rattle.shell.proofs.HeldLemmas.{opens_said}
+use Rattle.shell.proofs.shell.Shell.open_line.Goals as goal
 
 pub returns-in-Ok-clause-told : goal.returns-in-Ok-clause-told
 returns-in-Ok-clause-told g c =

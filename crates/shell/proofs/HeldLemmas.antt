@@ -1,4 +1,4 @@
--- What a kept server does with a line.
+-- What a shell does with a line.
 use Rattle.std.proofs.Common.{◌≡◌, ◌∙◌, ◌++◌, ℕ, List, Option, None, Result, Ok, inl, inr, ap, subst, sym}
 use Rattle.value.specs.declared.refusal.Refusal.{Refusal}
 use Rattle.value.specs.Refusals.{AnswersOrNoMemory}

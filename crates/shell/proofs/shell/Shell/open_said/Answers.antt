@@ -1,8 +1,8 @@
 use Rattle.std.proofs.Common.{◌∙◌, ap, sym, is_some}
 use Rattle.value.proofs.Basics.{IfOk_then}
 use Rattle.shell.proofs.OpeningLemmas.{opens-by}
-use Rattle.library.specs.Embedding.{answer_text}
-use Rattle.library.proofs.embedded.Embedded.open_said.Goals as goal
+use Rattle.shell.specs.Answering.{answer_text}
+use Rattle.shell.proofs.shell.Shell.open_said.Goals as goal
 
 pub returns-clause-told : goal.returns-clause-told
 returns-clause-told g c =

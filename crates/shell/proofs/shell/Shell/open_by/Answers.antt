@@ -1,5 +1,5 @@
 use Rattle.shell.proofs.OpeningLemmas.{both}
-use Rattle.library.proofs.embedded.Embedded.open_by.Goals as goal
+use Rattle.shell.proofs.shell.Shell.open_by.Goals as goal
 
 pub returns-else-is_table-clause-told : goal.returns-else-is_table-clause-told
 returns-else-is_table-clause-told g c = rw c.if-is_table.false (both _ _ c.start.result c.start.ensures.held c.start.ensures.told)
