@@ -4,48 +4,48 @@ from tests.room import FULL, Room
 
 TABLE = "CREATE TABLE t (id bigint PRIMARY KEY"
 RETURNED = "the line ends in a carriage return (CRLF): lines end in a newline alone"
-ONE_LINE = "a CREATE TABLE of a script stands on one line, up to its `;`"
-COMMENT = "a comment stands on a line of its own, which begins with `--`, and not in a CREATE TABLE"
-LINE_BEGINS = "a line begins with a session's number and a space, as `1 BEGIN;`, or with CREATE TABLE, OPEN or `--`"
+ONE_LINE = "CREATE TABLE must stand on one line in a script, up to its `;`"
+COMMENT = "a comment needs a line of its own that starts with `--`, outside CREATE TABLE"
+LINE_BEGINS = "expected a session's number and a space, as in `1 BEGIN;`, or CREATE TABLE, OPEN or `--`"
 # What is told of a script behind the first line, and the words behind `run`.
 EXPLAINED = (
-    ("`int`: no kind: bigint, text and bytea are", "CREATE TABLE t (id int PRIMARY KEY);\n", ()),
-    ("`select`: a reserved word, which names nothing", "CREATE TABLE select (id bigint PRIMARY KEY);\n", ()),
-    ("`)`: the first column is name kind PRIMARY KEY [REFERENCES table]", "CREATE TABLE t (id bigint);\n", ()),
-    ("`NOT`: a column is name kind [NOT NULL] [REFERENCES table]", f"{TABLE}, v text REFERENCES t NOT NULL);\n", ()),
-    ("two columns have one name", f"{TABLE}, id text);\n", ()),
-    ("a table has at most 32 columns", TABLE + "".join(f", c{number} text" for number in range(1, 33)) + ");\n", ()),
+    ("`int`: unknown type: use bigint, text or bytea", "CREATE TABLE t (id int PRIMARY KEY);\n", ()),
+    ("`select`: reserved word: choose another name", "CREATE TABLE select (id bigint PRIMARY KEY);\n", ()),
+    ("`)`: expected the first column as name type PRIMARY KEY [REFERENCES table]", "CREATE TABLE t (id bigint);\n", ()),
+    ("`NOT`: expected a column as name type [NOT NULL] [REFERENCES table]", f"{TABLE}, v text REFERENCES t NOT NULL);\n", ()),
+    ("duplicate column name", f"{TABLE}, id text);\n", ()),
+    ("too many columns: at most 32", TABLE + "".join(f", c{number} text" for number in range(1, 33)) + ");\n", ()),
     ("there is a table of this name already", f"{TABLE});\n{TABLE});\n", ()),
-    ("a table is referenced that isn't created before", f"{TABLE}, p bigint REFERENCES p);\n", ()),
-    ("a column is of another kind than the key that it references", f"{TABLE});\nCREATE TABLE u (id text PRIMARY KEY REFERENCES t);\n", ()),
-    ("the line's last byte must be `;`", "1 BEGIN\n", ()),
-    ("the line's last byte must be `;`", f"{TABLE})\n", ()),
+    ("the table that it references doesn't come before it", f"{TABLE}, p bigint REFERENCES p);\n", ()),
+    ("the column's type isn't that of the key that it references", f"{TABLE});\nCREATE TABLE u (id text PRIMARY KEY REFERENCES t);\n", ()),
+    ("the line must end in `;`", "1 BEGIN\n", ()),
+    ("the line must end in `;`", f"{TABLE})\n", ()),
     *((RETURNED, line + "\r\n", ()) for line in ("1 BEGIN;", "1 COMMIT ;", "CHECKPOINT;", "OPEN dump;", "")),
     *((ONE_LINE, lines, ()) for lines in (f"{TABLE},\n", "CREATE TABLE t (\n    id bigint PRIMARY KEY\n);\n", "create table t\n(id bigint primary key);\n")),
     *((COMMENT, f"{begun} -- the key\n", ()) for begun in ("CREATE TABLE t (", "CREATE TABLE t (id bigint", TABLE, f"{TABLE},", f"{TABLE}) ;", " ")),
-    ("`-`: a column is name kind [NOT NULL] [REFERENCES table]", f"{TABLE}, v bigint - -1);\n", ()),
-    ("the last line isn't ended by a newline", "1 BEGIN;", ()),
-    ("a byte order mark: UTF-8 is written without one here", b"\xef\xbb\xbf1 BEGIN;\n", ()),
-    ("the line isn't UTF-8 from byte 26 on, counted from 0", b"1 INSERT INTO t VALUES ('x\xff');\n", ()),
+    ("`-`: expected a column as name type [NOT NULL] [REFERENCES table]", f"{TABLE}, v bigint - -1);\n", ()),
+    ("no newline at the end of the last line", "1 BEGIN;", ()),
+    ("byte order mark: write UTF-8 without one", b"\xef\xbb\xbf1 BEGIN;\n", ()),
+    ("invalid UTF-8 from byte 26 on, counted from 0", b"1 INSERT INTO t VALUES ('x\xff');\n", ()),
     ("`65`: a session's number is 1 to 64, without leading zeros", "65 BEGIN;\n", ()),
     (f"`BEGIN`: {LINE_BEGINS}", "BEGIN;\n", ()),
-    ("`COMMIT`: `;` comes right behind this word", "1 COMMIT ;\n", ()),
-    ("`WAIT`: WAIT is for `run --free`, where other sessions go on: here POLL asks", "1 WAIT;\n", ()),
-    ("with `--free` there is no CHECKPOINT", "CHECKPOINT;\n", ("--free",)),
-    ("tables are created before the first session's line, and not beside OPEN", f"1 BEGIN;\n{TABLE});\n", ()),
+    ("`COMMIT`: expected `;` right after this word", "1 COMMIT ;\n", ()),
+    ("`WAIT`: WAIT works only with `run --free`: use POLL here", "1 WAIT;\n", ()),
+    ("CHECKPOINT isn't allowed with --free", "CHECKPOINT;\n", ("--free",)),
+    ("CREATE TABLE must come before the first session's line, and not with OPEN", f"1 BEGIN;\n{TABLE});\n", ()),
     (f"`1\\x1b[31mBEGIN;`: {LINE_BEGINS}", "1\x1b[31mBEGIN;\n", ()),
     (f"`{'x' * 200}`: {LINE_BEGINS}", "x" * 900 + ";\n", ()),
-    ("no such file or folder", "OPEN gone;\n", ()),
-    ("it is a folder", "OPEN .;\n", ()),
-    ("not a dump of pgserial: its first line is `-- dump 2` or `-- dump 1`", "OPEN begun;\n", ()),
-    ("the line isn't as a dump has it there, or the dump ends before it", "OPEN crossed;\n", ()),
-    ("no such file or folder", "OPEN a\x1b[31mb;\n", ()),
+    ("no such file or directory", "OPEN gone;\n", ()),
+    ("is a directory", "OPEN .;\n", ()),
+    ("not a pgserial dump: the first line must be `-- dump 2` or `-- dump 1`", "OPEN begun;\n", ()),
+    ("unexpected line, or the dump ends too early", "OPEN crossed;\n", ()),
+    ("no such file or directory", "OPEN a\x1b[31mb;\n", ()),
 )
 # What the system says of a transcript's path, how that is shown, and the path.
 UNOPENED = (
-    ("gone", "gone", "no such file or folder"), (".", ".", "it is a folder"),
-    ("dump/file", "dump/file", "what stands before a `/` in it is no folder"), ("a\x1b[31mb", "a\\x1b[31mb", "no such file or folder"),
-    ("x" * 250, "x" * 200 + "..", "no such file or folder"),
+    ("gone", "gone", "no such file or directory"), (".", ".", "is a directory"),
+    ("dump/file", "dump/file", "not a directory"), ("a\x1b[31mb", "a\\x1b[31mb", "no such file or directory"),
+    ("x" * 250, "x" * 200 + "..", "no such file or directory"),
 )
 MISTAKEN = """
 run
@@ -103,16 +103,16 @@ walk gone
 # What stands on one of the two streams behind some words.
 SAYS = (
     ("Usage: pgserial run <SCRIPT>", "run"), ("Usage: pgserial audit <SCRIPT>", "audit"), ("Usage: pgserial restore --out <FILE> <DUMP>", "restore"),
-    ("where standard error is a terminal", "--help"), ("where standard error is a terminal", "restore --help"),
-    *(("1 to 4294967295; 100000 where it", f"{command} --help") for command in ("run", "audit", "explore", "draw", "shell")),
-    *(("1 to 64; 1 where it", f"{command} --help") for command in ("restore", "explore")),
-    ("1 to 9223372036854775807; 1000000 where it", "explore --help"), ("0 to 9223372036854775807, ", "explore --help"),
-    ("1 to 4294967295; 1000000 where it", "check --help"),
+    ("progress goes to standard error", "--help"), ("progress goes to standard error", "restore --help"),
+    *(("1 to 4294967295 [default: 100000]", f"{command} --help") for command in ("run", "audit", "explore", "draw", "shell")),
+    *(("1 to 64 [default: 1]", f"{command} --help") for command in ("restore", "explore")),
+    ("1 to 9223372036854775807 [default: 1000000]", "explore --help"), ("0 to 9223372036854775807; ", "explore --help"),
+    ("1 to 4294967295 [default: 1000000]", "check --help"),
 )
 
 
 class Explained(Room):
-    """The words behind a fault's first line, in which no control byte stands."""
+    """The words after a fault's first line, in which no control byte stands."""
 
     def test_faulty_scripts(self) -> None:
         self.write("crossed", "".join(self.read("dump").decode().splitlines(keepends=True)[:4]))

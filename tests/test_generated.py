@@ -416,7 +416,7 @@ def many_sessions(number):
 
 def unexplored(program):
     """What isn't explored, and why; and scripts of one order."""
-    none = b"explore: no session has a line behind the setup\n"
+    none = b"explore: no session has a line after the setup\n"
     table = b"CREATE TABLE t (id bigint PRIMARY KEY);\n"
     two = table + b"1 BEGIN;\n2 BEGIN;\n"
     too_many = b"explore: %s schedules, more than %d; %s--sample N draws N of them\n"
@@ -451,7 +451,7 @@ def unexplored(program):
     case("explore script", {"script": opened, "dump": EXAMPLE}, 0, one)
     four = b"schedules 4\noutcome 1: 4 schedules\n1 BEGIN\n1 COMMIT\n1 PRUNE\n2 PRUNE\nrefused: 0 of 4 schedules; by a row 0, by a cause 0\n"
     three = b"schedules 3\noutcome 1: 3 schedules\n1 BEGIN\n1 COMMIT\n2 PRUNE\nrefused: 0 of 3 schedules; by a row 0, by a cause 0\n"
-    like_a_setup = b"explore: the first 2 lines of sessions are interleaved with the others too; a line `CHECKPOINT;` behind them has them done once, before\n"
+    like_a_setup = b"explore: the first 2 lines of sessions are interleaved with the others too; put `CHECKPOINT;` after them to run them once, before the others\n"
     case("explore script", {"script": table + b"1 BEGIN;\n1 COMMIT;\n2 PRUNE;\n1 PRUNE;\n"}, 0, four, like_a_setup)
     case("explore script", {"script": table + b"1 BEGIN;\n1 COMMIT;\n2 PRUNE;\n"}, 0, three)
     # What looks like a setup goes to the last COMMIT; behind a checkpoint nothing does.
@@ -513,7 +513,7 @@ def all_of(shown):
 
 def at_a_terminal(program):
     """Whether a terminal is shown the names of codes, and a person who gives no words what is read; or what is wrong."""
-    for words, wanted in (["run", "script"], b"1 ERROR 25P01 (no_active_sql_transaction: BEGIN comes first, alone on its line)\r\n1 BEGIN\r\n"), ([], b""):
+    for words, wanted in (["run", "script"], b"1 ERROR 25P01 (no_active_sql_transaction: no transaction is open; send BEGIN, on a line of its own)\r\n1 BEGIN\r\n"), ([], b""):
         shown, terminal = pty.openpty()
         with tempfile.TemporaryDirectory() as folder:
             with open(os.path.join(folder, "script"), "wb") as file:

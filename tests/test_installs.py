@@ -145,4 +145,4 @@ class Installs(unittest.TestCase):
         for name in COMMANDS:
             self.assertIn(f"    '{name}:", text)
             self.assertIn(f"    {name}) _arguments ", text)
-        self.assertIn("'(--out)--out[The file that the picture is written to]:FILE:_files'", text)
+        self.assertIn("'(--out)--out[Output file]:FILE:_files'", text)

@@ -40,9 +40,9 @@ SETUPS = [
 
 # Lines with WAIT: whether sessions run freely, the line, and what is said of it.
 WAITS = [
-    (False, "1 WAIT;", "`WAIT`: WAIT is for `run --free`"),
-    (True, "1 WAIT now;", "`WAIT`: `;` comes right behind this word"),
-    (True, "1 WAIT ;", "`WAIT`: `;` comes right behind this word"),
+    (False, "1 WAIT;", "`WAIT`: WAIT works only with `run --free`"),
+    (True, "1 WAIT now;", "`WAIT`: expected `;` right after this word"),
+    (True, "1 WAIT ;", "`WAIT`: expected `;` right after this word"),
 ]
 
 # Characters that control a terminal or turn a text's direction, beside some that don't; and how they are shown there.
@@ -120,7 +120,7 @@ class Refused(Case):
     def test_setups_of_explore(self) -> None:
         for script, line, code in SETUPS:
             done = run("explore", self.write("script", script))
-            self.same(script, (REFUSED, f"script line {line}\nthe setup's reply is ERROR {code}\n"), (done.returncode, done.stderr.decode()), len(script))
+            self.same(script, (REFUSED, f"script line {line}\nthe setup failed: ERROR {code}\n"), (done.returncode, done.stderr.decode()), len(script))
 
     def test_waits(self) -> None:
         for is_free, line, wanted in WAITS:

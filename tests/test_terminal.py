@@ -109,7 +109,7 @@ STUMBLES = [
     ("\\i ", "1=> ", r"\\i FILE: a file's name is due\n"),
     ("create table u (id bigint primary key)", "1=> ", CLOSED),
     ("\\autocommit", "1=> ", r"Autocommit is off\.\n"),
-    ("insert into t values (1, 1);", "1=> ", r"1 ERROR 25P01 \(no_active_sql_transaction: BEGIN comes first, alone on its line\)\n"),
+    ("insert into t values (1, 1);", "1=> ", r"1 ERROR 25P01 \(no_active_sql_transaction: no transaction is open; send BEGIN, on a line of its own\)\n"),
     ("\\autocommit perhaps", "1=> ", r"\\autocommit takes on, off, or nothing\n"),
     ("\\autocommit ON;", "1=> ", r"Autocommit is on\.\n"),
     ("begin", "1*=> ", r"1 BEGIN\n"),
@@ -277,7 +277,7 @@ LIKE_ERRORS = [
     ("insert into t values (2, 'ERROR 25P01 row');", "1*=> ", r"1 INSERT 0 1\n"),
     ("select word from t;", "1*=> ", r" word *\n-+\n ERROR 40001 *\n ERROR 25P01 row *\n\(2 rows\)\n"),
     ("select * from t;", "1*=> ", r" id \| word *\n-+\+-+\n 1  \| ERROR 40001 *\n 2  \| ERROR 25P01 row *\n\(2 rows\)\n"),
-    ("3 rollback", "1*=> ", r"3 ERROR 25P01 \(no_active_sql_transaction: BEGIN comes first, alone on its line\)\n"),
+    ("3 rollback", "1*=> ", r"3 ERROR 25P01 \(no_active_sql_transaction: no transaction is open; send BEGIN, on a line of its own\)\n"),
 ]
 
 # Why a transaction was refused that is asked for behind a checkpoint alone, and whose lines are counted from the one before.
@@ -304,7 +304,7 @@ BEHIND = [
 HOLDER = r"2 # transaction 1 \(session 1, line 1\) has written t id = 1 and hasn't ended\n2 # so the first to write the row goes on\. Run transaction 2 again\.\n"
 RECALLED = [
     ("create table t (id bigint primary key)", "1=> ", r"CREATE TABLE\n"),
-    ("\\why", "1=> ", r"no transaction was refused for the sake of others\n"),
+    ("\\why", "1=> ", r"no serialization failure yet\n"),
     ("begin", "1*=> ", r"1 BEGIN\n"),
     ("insert into t values (1);", "1*=> ", r"1 INSERT 0 1\n"),
     ("2 begin", "1*=> ", r"2 BEGIN\n"),

@@ -278,7 +278,7 @@ class Sqlite(OnSqlite):
         self.assertRegex(told.words, r"unknown: from statement 3 on: .*CREATE TABLE u AS SELECT v FROM t \(.*test_recording.py:\d+\)")
         done = subprocess.run([os.environ["PGSERIAL"], "check", self.path], capture_output=True, text=True)
         self.assertEqual((done.returncode, done.stdout), (1, ""))
-        said = re.fullmatch("transcript line ([0-9]+)\nonly an ERROR answers what is no statement of these tables\n", done.stderr)
+        said = re.fullmatch("transcript line ([0-9]+)\nnot a statement on these tables: only an ERROR can answer it\n", done.stderr)
         with open(self.path, encoding="utf-8") as file:
             self.assertIn("CREATE TABLE u AS SELECT v FROM t", file.read().split("\n")[int(said[1]) - 2 if said else 0])
 

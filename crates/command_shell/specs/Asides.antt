@@ -47,7 +47,7 @@ refused_by (Some h) before = refused_in h.records before
 
 -- remarks, or that there are none
 abbrev pub why_text : List ℕ → List ℕ
-why_text why = if length why == 0 then codes "no transaction was refused for the sake of others\n" else why
+why_text why = if length why == 0 then codes "no serialization failure yet\n" else why
 
 -- the numbers from 1 to n
 abbrev pub numbers_to : ℕ → List ℕ

@@ -28,7 +28,7 @@ fn dump<'w>(alloc: Global) -> Arg<'w>
 {
     Arg::new(alloc, "DUMP")
         .action(ArgAction::Set)
-        .help("The file of a dump that is opened first")
+        .help("Dump to open first")
 }
 
 // How many events there is room for.
@@ -41,9 +41,7 @@ fn events<'w>(alloc: Global) -> Arg<'w>
         .value_name("N")
         .action(ArgAction::Set)
         .value_parser(ValueParser::signed(1, 4_294_967_295))
-        .help(
-            "How many events the history has room for, 1 to 4294967295; 100000 where it isn't given",
-        )
+        .help("Most events the history can hold, 1 to 4294967295 [default: 100000]")
 }
 
 // The command.
@@ -51,9 +49,7 @@ fn command<'w>(alloc: Global) -> Result<Command<'w>, AllocError>
     ensures { IfOk result (λ c. app_of c ≡ spec.shell) }
 {
     let shell = Command::new(alloc, "shell")
-        .about(
-            "Answer lines at once: those that create tables, then those of sessions, each before the next is read",
-        )
+        .about("Run an interactive server: answer each line before the next is read")
         .bin_name("pgserial shell")?
         .no_binary_name(true)
         .arg(dump(alloc))?

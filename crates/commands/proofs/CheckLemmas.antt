@@ -55,7 +55,7 @@ pub printed : {A E : Type 0} (j : Judgement A) (r : Result (Unit {0}) E) (text s
 printed j (Ok done) text shown before after is tells appends = (text, tells, subst (λ t. Appends before after t) is appends)
 printed j (Err e) text shown before after is tells appends = tt
 
--- the judgement of what a transcript begins with was told
+-- the judgement of what a transcript begins with was printed
 pub was_judged : {A : Type 0} (held : List ℕ → Option (List ℕ)) (has_time : Bool) (text : List ℕ) (o : Opening A) (opens : Option (List ℕ)) (j : Judgement A) (n : ℕ) (before after : Option (List ℕ)) → opens ≡ o.opens → IsJudged held has_time text opens o.catalog j → IsFault n ⊎ IsTold j n before after → IsFault n ⊎ HasJudged held has_time text o n before after
 was_judged held has_time text o opens j n before after is judged (inl e) = inl e
 was_judged held has_time text o opens j n before after is judged (inr told) = inr (j, subst (λ path. IsJudged held has_time text path o.catalog j) is judged, told)

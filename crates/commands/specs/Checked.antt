@@ -38,11 +38,11 @@ module _ {A : Type 0} where
   abbrev pub IsTold : Judgement A → ℕ → Option (List ℕ) → Option (List ℕ) → Type 0
   IsTold j n before after = (n ≡ status_of j.answer) × IsPrinted j before after
 
-  -- A transcript of this text that begins with o was judged, and that was told.
+  -- A transcript of this text that begins with o was judged, and that was printed.
   abbrev pub HasJudged : (List ℕ → Option (List ℕ)) → Bool → List ℕ → Opening A → ℕ → Option (List ℕ) → Option (List ℕ) → Type 0
   HasJudged held has_time text o n before after = (j : Judgement A) × IsJudged held has_time text o.opens o.catalog j × IsTold j n before after
 
--- A transcript was judged, and that was told.
+-- A transcript was judged, and that was printed.
 abbrev pub HasChecked : (A : Type 0) → (List ℕ → Option (List ℕ)) → Bool → List ℕ → ℕ → Option (List ℕ) → Option (List ℕ) → Type 0
 HasChecked A held has_time text n before after = (o : Opening A) × (opening text ≡ Ok o) × HasJudged held has_time text o n before after
 

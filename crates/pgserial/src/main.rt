@@ -61,7 +61,7 @@ fn end_without_words(rt: &HostRuntime, error: &io::Error) -> ExitCode {
         let _ = eprintln!(rt; "script line 0");
         return ExitCode::from(1);
     }
-    let _ = eprintln!(rt; "error: a word of the command line is not UTF-8");
+    let _ = eprintln!(rt; "error: an argument isn't valid UTF-8");
     ExitCode::from(2)
 }
 

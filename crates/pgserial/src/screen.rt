@@ -42,7 +42,7 @@ impl<W: Write> Screen<W> {
         self.stream.write_all(text.as_slice())
     }
 
-    // Writes bytes behind those that are begun, but for a character that they begin.
+    // Writes bytes after those that are begun, but for a character that they begin.
     fn go_on(&mut self, bytes: &[u8]) -> io::Result<()> {
         let mut all = Vec::from_slice(self.alloc, self.begun.as_slice())?;
         all.extend_from_slice(bytes)?;

@@ -21,7 +21,7 @@ pub fn script<'w>(alloc: Global) -> Arg<'w>
     Arg::new(alloc, "SCRIPT")
         .required(true)
         .action(ArgAction::Set)
-        .help("The script's file; - is standard input")
+        .help("Script to run; - reads standard input")
 }
 
 /// How many events there is room for.
@@ -34,9 +34,7 @@ pub fn events<'w>(alloc: Global) -> Arg<'w>
         .value_name("N")
         .action(ArgAction::Set)
         .value_parser(ValueParser::signed(1, 4_294_967_295))
-        .help(
-            "How many events the history has room for, 1 to 4294967295; 100000 where it isn't given",
-        )
+        .help("Most events the history can hold, 1 to 4294967295 [default: 100000]")
 }
 
 /// A path that is given, or standard input's.

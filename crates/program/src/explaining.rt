@@ -45,7 +45,7 @@ pub fn holds_events<A: Allocator + Copy>(alloc: A, most_events: u32) -> bool {
 #[derive(Clone, Copy)]
 pub struct Room<A: Allocator> {
     pub alloc: A,
-    /// At most so many, since the opening or the last checkpoint.
+    /// The most events, since the opening or the last checkpoint.
     pub most_events: u32,
 }
 

@@ -26,15 +26,15 @@ fn number_of(kind: ErrorKind) -> u32 {
 // The words for a number.
 fn words_of(number: u32) -> Option<&'static str> {
     match number {
-        1 => Some("no such file or folder"),
+        1 => Some("no such file or directory"),
         2 => Some("permission denied"),
-        3 => Some("no space is left"),
-        4 => Some("the file would be larger than it may be"),
-        5 => Some("it is a folder"),
-        6 => Some("what stands before a `/` in it is no folder"),
-        7 => Some("the file system is read-only"),
-        8 => Some("no file can have this name"),
-        9 => Some("nobody reads it any more"),
+        3 => Some("no space left on device"),
+        4 => Some("file too large"),
+        5 => Some("is a directory"),
+        6 => Some("not a directory"),
+        7 => Some("read-only file system"),
+        8 => Some("invalid file name"),
+        9 => Some("broken pipe"),
         10 => Some("out of memory"),
         _ => None,
     }

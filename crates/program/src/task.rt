@@ -20,10 +20,10 @@ const VERSION: &str = "0.1.0";
 
 // What the help says of the commands in the crates above, which parse their own words.
 const OTHER_COMMANDS: &str = "Commands with a help of their own (pgserial COMMAND --help):
-  shell    Answer lines at once: of a person at a terminal, or of a program through pipes
-  explore  Do a script in every interleaving of its sessions, and count what comes of it
-  check    Tell whether some serial order explains a recorded transcript
-  draw     Draw a script's run as a picture";
+  shell    Run an interactive server, at a terminal or through pipes
+  explore  Run every interleaving of a script's sessions, and count the outcomes
+  check    Check whether a recorded transcript is serializable
+  draw     Run a script and draw it as a picture";
 
 /// What the command line asks for.
 #[derive(Drop)]
@@ -76,7 +76,7 @@ fn no_check<'w>(alloc: Global) -> Arg<'w>
     Arg::new(alloc, "no-check")
         .long("no-check")
         .action(ArgAction::SetTrue)
-        .help("With --free: leave out the check at the end, which does each transaction once more")
+        .help("With --free: skip the check at the end, which runs each transaction again")
 }
 
 // The flag by which refusals are explained.
@@ -87,7 +87,7 @@ fn why<'w>(alloc: Global) -> Arg<'w>
     Arg::new(alloc, "why")
         .long("why")
         .action(ArgAction::SetTrue)
-        .help("Tell after each serialization failure which rows met; not with --free")
+        .help("Explain each serialization failure by its rows; not with --free")
 }
 
 // The flag by which a transcript is printed.
@@ -98,7 +98,7 @@ fn transcript<'w>(alloc: Global) -> Arg<'w>
     Arg::new(alloc, "transcript")
         .long("transcript")
         .action(ArgAction::SetTrue)
-        .help("Print each line and its reply as check reads them; not with --free or --why")
+        .help("Print a transcript for `pgserial check`; not with --free or --why")
 }
 
 // The file of a dump.
@@ -109,7 +109,7 @@ fn dump<'w>(alloc: Global) -> Arg<'w>
     Arg::new(alloc, "DUMP")
         .required(true)
         .action(ArgAction::Set)
-        .help("The dump's file; - is standard input")
+        .help("Dump to load; - reads standard input")
 }
 
 // How many workers.
@@ -122,7 +122,7 @@ fn jobs<'w>(alloc: Global) -> Arg<'w>
         .value_name("N")
         .action(ArgAction::Set)
         .value_parser(ValueParser::signed(1, 64))
-        .help("How many workers read and write, 1 to 64; 1 where it isn't given")
+        .help("Number of worker threads, 1 to 64 [default: 1]")
 }
 
 // The file that is written.
@@ -135,7 +135,7 @@ fn out<'w>(alloc: Global) -> Arg<'w>
         .value_name("FILE")
         .required(true)
         .action(ArgAction::Set)
-        .help("The file that the dump is written to again")
+        .help("Output file")
 }
 
 // The command that does a script.
@@ -143,8 +143,7 @@ fn run<'w>(alloc: Global) -> Result<Command<'w>, AllocError>
     ensures { IfOk result (λ c. spec.IsCommand spec.run.top c) }
 {
     let run_command = Command::new(alloc, "run")
-        .about("Do the session lines of a script, and print each reply")
-        .after_help(OTHER_COMMANDS)
+        .about("Run a script and print each reply")
         .arg(script(alloc))?
         .arg(events(alloc))?
         .arg(free(alloc))?
@@ -160,7 +159,7 @@ fn audit<'w>(alloc: Global) -> Result<Command<'w>, AllocError>
 {
     let audit = Command::new(alloc, "audit")
         .about(
-            "Do a script, then print each committed transaction in the serial order, and whether it is one",
+            "Run a script, then print its committed transactions in serial order and check that order",
         )
         .arg(script(alloc))?
         .arg(events(alloc))?;
@@ -173,7 +172,7 @@ fn restore<'w>(alloc: Global) -> Result<Command<'w>, AllocError>
 {
     let restore = Command::new(alloc, "restore")
         .about(
-            "Load a dump, write its text to a file, and tell its tables and rows; show how far it is, where standard error is a terminal",
+            "Load a dump, write it to a file, and print its numbers of tables and rows; progress goes to standard error if that is a terminal",
         )
         .arg(dump(alloc))?
         .arg(jobs(alloc))?
@@ -368,15 +367,15 @@ fn error_of(alloc: Global, clash: Clash) -> Result<Error, AllocError>
     match clash {
         Clash::NoCheck => run.error(
             ErrorKind::MissingRequiredArgument,
-            "--no-check stands beside --free alone",
+            "--no-check needs --free",
         ),
         Clash::Free => run.error(
             ErrorKind::ArgumentConflict,
-            "--free stands beside neither --why nor --transcript",
+            "--free can't be combined with --why or --transcript",
         ),
         Clash::Why => run.error(
             ErrorKind::ArgumentConflict,
-            "--why doesn't stand beside --transcript",
+            "--why can't be combined with --transcript",
         ),
     }
 }

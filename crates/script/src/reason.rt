@@ -44,48 +44,47 @@ impl Reason {
     /// What is wrong, and what would be right.
     pub(crate) fn text(self) -> &'static str {
         match self {
-            Reason::NoNewline => "the last line isn't ended by a newline",
-            Reason::ByteOrderMark => "a byte order mark: UTF-8 is written without one here",
-            Reason::NotText => "the line isn't UTF-8",
+            Reason::NoNewline => "no newline at the end of the last line",
+            Reason::ByteOrderMark => "byte order mark: write UTF-8 without one",
+            Reason::NotText => "invalid UTF-8",
             Reason::CarriageReturn =>
                 "the line ends in a carriage return (CRLF): lines end in a newline alone",
-            Reason::NoSemicolon => "the line's last byte must be `;`",
+            Reason::NoSemicolon => "the line must end in `;`",
             Reason::NoSession => {
-                "a line begins with a session's number and a space, as `1 BEGIN;`, or with CREATE TABLE, OPEN or `--`"
+                "expected a session's number and a space, as in `1 BEGIN;`, or CREATE TABLE, OPEN or `--`"
             }
             Reason::Session => "a session's number is 1 to 64, without leading zeros",
-            Reason::Begin => "write BEGIN, BEGIN READ ONLY or BEGIN READ ONLY DEFERRABLE",
-            Reason::Alone => "`;` comes right behind this word",
-            Reason::Import => "write IMPORT n, with n at most 18446744073709551615",
+            Reason::Begin => "expected BEGIN, BEGIN READ ONLY or BEGIN READ ONLY DEFERRABLE",
+            Reason::Alone => "expected `;` right after this word",
+            Reason::Import => "expected IMPORT n, with n at most 18446744073709551615",
             Reason::Dump => {
-                "write DUMP jobs rows path, with 1 to 64 jobs, 1 to 1000000 rows a piece, and a path without a space"
+                "expected DUMP jobs rows path, with 1 to 64 jobs, 1 to 1000000 rows a piece, and a path without spaces"
             }
-            Reason::Wait => "WAIT is for `run --free`, where other sessions go on: here POLL asks",
-            Reason::Checkpoint => "with `--free` there is no CHECKPOINT",
-            Reason::LateOpen =>
-                "OPEN comes before all other lines, and tables are created or opened",
-            Reason::Path => "write OPEN path, with a path without a space",
+            Reason::Wait => "WAIT works only with `run --free`: use POLL here",
+            Reason::Checkpoint => "CHECKPOINT isn't allowed with --free",
+            Reason::LateOpen => "OPEN must be the first line, without CREATE TABLE",
+            Reason::Path => "expected OPEN path, with a path without spaces",
             Reason::LateTable => {
-                "tables are created before the first session's line, and not beside OPEN"
+                "CREATE TABLE must come before the first session's line, and not with OPEN"
             }
-            Reason::NoTable => "write CREATE TABLE name (name kind PRIMARY KEY, name kind, ..);",
-            Reason::OneLine => "a CREATE TABLE of a script stands on one line, up to its `;`",
+            Reason::NoTable => "expected CREATE TABLE name (name type PRIMARY KEY, name type, ..);",
+            Reason::OneLine => "CREATE TABLE must stand on one line in a script, up to its `;`",
             Reason::Comment => {
-                "a comment stands on a line of its own, which begins with `--`, and not in a CREATE TABLE"
+                "a comment needs a line of its own that starts with `--`, outside CREATE TABLE"
             }
-            Reason::NoName => "a name is letters, digits and `_`, and begins with no digit",
-            Reason::Reserved => "a reserved word, which names nothing",
-            Reason::LongName => "a name has at most 63 bytes",
-            Reason::NoKind => "no kind: bigint, text and bytea are",
-            Reason::NoKey => "the first column is name kind PRIMARY KEY [REFERENCES table]",
-            Reason::NoColumn => "a column is name kind [NOT NULL] [REFERENCES table]",
-            Reason::Behind => "one `;` ends the line, and nothing follows",
-            Reason::SameColumn => "two columns have one name",
-            Reason::ManyColumns => "a table has at most 32 columns",
-            Reason::ManyTables => "there are at most 256 tables",
+            Reason::NoName => "invalid name: use letters, digits and `_`, and no digit first",
+            Reason::Reserved => "reserved word: choose another name",
+            Reason::LongName => "name too long: at most 63 bytes",
+            Reason::NoKind => "unknown type: use bigint, text or bytea",
+            Reason::NoKey => "expected the first column as name type PRIMARY KEY [REFERENCES table]",
+            Reason::NoColumn => "expected a column as name type [NOT NULL] [REFERENCES table]",
+            Reason::Behind => "expected one `;` at the end, and nothing after it",
+            Reason::SameColumn => "duplicate column name",
+            Reason::ManyColumns => "too many columns: at most 32",
+            Reason::ManyTables => "too many tables: at most 256",
             Reason::SameTable => "there is a table of this name already",
-            Reason::NoReferenced => "a table is referenced that isn't created before",
-            Reason::OtherKind => "a column is of another kind than the key that it references",
+            Reason::NoReferenced => "the table that it references doesn't come before it",
+            Reason::OtherKind => "the column's type isn't that of the key that it references",
             Reason::Memory => "out of memory",
         }
     }

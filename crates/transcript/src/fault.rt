@@ -37,28 +37,28 @@ impl Reason {
     {
         match self {
             Reason::Memory => "out of memory",
-            Reason::NoNewline => "the last line isn't ended by a newline",
+            Reason::NoNewline => "no newline at the end of the last line",
             Reason::CarriageReturn => {
                 "the line ends in a carriage return (CRLF): lines end in a newline alone"
             }
             Reason::NoMark => {
-                "a line of text begins with `> `, two spaces, `= ` or `--`, or is empty"
+                "expected `> `, two spaces, `= `, `--` or an empty line"
             }
             Reason::NoCommand =>
-                "`> ` and a line of a script: a session's number, a command and `;`",
-            Reason::NoTable => "no CREATE TABLE that may stand here, and no OPEN",
+                "expected `> ` and a script line: a session's number, a command and `;`",
+            Reason::NoTable => "invalid CREATE TABLE or OPEN",
             Reason::LateTable => {
-                "tables are created or opened before the first session's line, and not both"
+                "CREATE TABLE or OPEN must come before the first session's line, and not both"
             }
-            Reason::Awaits => "its session still awaits a reply",
-            Reason::Unasked => "its session awaits no reply",
-            Reason::NoReply => "two spaces and a reply as `run` prints it",
-            Reason::OtherReply => "what was asked can't have this reply",
+            Reason::Awaits => "the session's last line has no reply yet",
+            Reason::Unasked => "the session has no line that awaits a reply",
+            Reason::NoReply => "expected expected two spaces and a reply as `run` prints it",
+            Reason::OtherReply => "this reply doesn't fit the line that it answers",
             Reason::IsOpen => "the session's transaction is still open",
-            Reason::Outside => "the session has no transaction open",
-            Reason::NoStatement => "only an ERROR answers what is no statement of these tables",
-            Reason::NoRow => "no row of what was selected, or one of another session",
-            Reason::RowsMissing => "the rows of a SELECT follow it, as many as it says",
+            Reason::Outside => "the session has no open transaction",
+            Reason::NoStatement => "not a statement on these tables: only an ERROR can answer it",
+            Reason::NoRow => "not a row of this session's SELECT",
+            Reason::RowsMissing => "expected as many rows as the SELECT's reply says",
         }
     }
 }

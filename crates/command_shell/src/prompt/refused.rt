@@ -47,10 +47,7 @@ fn worded<A: Allocator>(alloc: A, remarks: &[u8]) -> Result<Vec<u8, A>, Refusal>
     ensures memory { IfErr result (λ e. e ≡ out_of_memory) }
 {
     if remarks.is_empty() {
-        let text = Vec::from_slice(
-            alloc,
-            b"no transaction was refused for the sake of others\n",
-        )?;
+        let text = Vec::from_slice(alloc, b"no serialization failure yet\n")?;
         return Ok(text);
     }
     let text = Vec::from_slice(alloc, remarks)?;

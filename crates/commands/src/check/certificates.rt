@@ -23,8 +23,7 @@ use transcript::traces::{Name, Traces};
 use value::refusal::Refusal;
 
 // What is wrong with a line that isn't read.
-const MALFORMED: &str =
-    "it isn't in its form, or names a transaction, a table or a column that isn't there";
+const MALFORMED: &str = "malformed line, or an unknown transaction, table or column";
 
 // Out of memory for a file.
 const MEMORY: fault::Fault<'static> = fault::Fault::ScriptOutOfMemory;
@@ -63,9 +62,9 @@ fn lines_of<'p, A: Allocator + Copy>(
 fn refused<'p>(place: usize, count: usize) -> Fault<'p> {
     let line = (place as u64).saturating_add(2);
     let wrong = if place < count {
-        "it doesn't follow from the lines before it, or stands after the end"
+        "doesn't follow from the lines before it, or comes after the end"
     } else {
-        "it is missing: the certificate ends without a contradiction"
+        "missing line: the certificate ends without a contradiction"
     };
     Fault::Certificate(line, wrong)
 }

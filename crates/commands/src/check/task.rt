@@ -31,7 +31,7 @@ fn transcript<'w>(alloc: Global) -> Arg<'w>
     Arg::new(alloc, "TRANSCRIPT")
         .required(true)
         .action(ArgAction::Set)
-        .help("The transcript's file; - is standard input")
+        .help("Transcript to check; - reads standard input")
 }
 
 // The flag by which time doesn't count.
@@ -42,7 +42,7 @@ fn no_time<'w>(alloc: Global) -> Arg<'w>
     Arg::new(alloc, "no-time")
         .long("no-time")
         .action(ArgAction::SetTrue)
-        .help("Let a transaction come before others that had ended when it began")
+        .help("Ignore real-time order")
 }
 
 // How many steps a search takes.
@@ -55,9 +55,7 @@ fn steps<'w>(alloc: Global) -> Arg<'w>
         .value_name("N")
         .action(ArgAction::Set)
         .value_parser(ValueParser::signed(1, 4_294_967_295))
-        .help(
-            "How many steps each search takes at most, 1 to 4294967295; 1000000 where it isn't given. A step is a transaction that is run alone or taken back where orders are tried, and a look at what a transaction found in a column where reasons are sought",
-        )
+        .help("Most steps of each search, 1 to 4294967295 [default: 1000000]")
 }
 
 // The file of a certificate.
@@ -70,7 +68,7 @@ fn certificate<'w>(alloc: Global) -> Arg<'w>
         .value_name("FILE")
         .action(ArgAction::Set)
         .help(
-            "Where there is no such file, write the certificate of a no to it; where there is one, check the certificate that it has, and search nothing",
+            "Write the certificate of a `no` to FILE; if FILE exists, check the certificate in it instead of searching",
         )
 }
 
@@ -79,9 +77,7 @@ fn alone<'w>(alloc: Global) -> Result<Command<'w>, AllocError>
     ensures { IfOk result (λ c. app_of c ≡ spec.alone) }
 {
     let alone = Command::new(alloc, "check")
-        .about(
-            "Tell whether some order of a transcript's transactions explains what they were answered",
-        )
+        .about("Check whether a recorded transcript is serializable")
         .bin_name("pgserial check")?
         .no_binary_name(true);
     Ok(alone)

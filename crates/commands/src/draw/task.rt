@@ -21,7 +21,7 @@ fn out<'w>(alloc: Global) -> Arg<'w> {
         .value_name("FILE")
         .required(true)
         .action(ArgAction::Set)
-        .help("The file that the picture is written to")
+        .help("Output file")
 }
 
 // The flag by which the graph is written.
@@ -29,15 +29,13 @@ fn dot<'w>(alloc: Global) -> Arg<'w> {
     Arg::new(alloc, "dot")
         .long("dot")
         .action(ArgAction::SetTrue)
-        .help("Write the graph of transactions for graphviz in place of the picture")
+        .help("Write a Graphviz graph instead of an SVG picture")
 }
 
 // The command.
 fn draw<'w>(alloc: Global) -> Result<Command<'w>, AllocError> {
     let draw = Command::new(alloc, "draw")
-        .about(
-            "Do the session lines of a script, and draw its transactions and what they read of each other's writes",
-        )
+        .about("Run a script and draw its transactions and the conflicts between them")
         .bin_name("pgserial draw")?
         .no_binary_name(true)
         .arg(script(alloc))?

@@ -35,7 +35,7 @@ fn tell_setup<E: Write>(line: u64, code: Code, err: &mut E) {
     let name = code.condition_name();
     let _ = writeln!(
         err,
-        "script line {line}\nthe setup's reply is ERROR {code} ({name})"
+        "script line {line}\nthe setup failed: ERROR {code} ({name})"
     );
 }
 
@@ -43,7 +43,7 @@ fn tell_setup<E: Write>(line: u64, code: Code, err: &mut E) {
 fn tell_no_turn<E: Write>(line: u64, err: &mut E) {
     let _ = writeln!(
         err,
-        "script line {line}\nwhat is explored has no WAIT and no DUMP, and one CHECKPOINT, which ends the setup"
+        "script line {line}\nWAIT and DUMP can't be explored, and only one CHECKPOINT, which ends the setup"
     );
 }
 
@@ -79,7 +79,7 @@ pub(crate) fn tell<A: Allocator + Copy, E: Write>(
             Status::Refused
         }
         Fault::NoLines => {
-            let _ = writeln!(err, "explore: no session has a line behind the setup");
+            let _ = writeln!(err, "explore: no session has a line after the setup");
             Status::Refused
         }
         Fault::TooMany(all, most) => {
@@ -89,7 +89,7 @@ pub(crate) fn tell<A: Allocator + Copy, E: Write>(
         Fault::NoOrder => {
             let _ = writeln!(
                 err,
-                "error: --order has each session as often as it has lines behind the setup"
+                "error: --order must name each session once for each of its lines after the setup"
             );
             Status::Usage
         }

@@ -39,7 +39,7 @@ pub(crate) struct Task<'w> {
 // How many events there is room for.
 fn setup_events<'w>(alloc: Global) -> Arg<'w> {
     events(alloc).help(
-        "How many events the setup's history has room for, 1 to 4294967295; 100000 where it isn't given",
+        "Most events the setup's history can hold, 1 to 4294967295 [default: 100000]",
     )
 }
 
@@ -50,9 +50,7 @@ fn most<'w>(alloc: Global) -> Arg<'w> {
         .value_name("N")
         .action(ArgAction::Set)
         .value_parser(ValueParser::signed(1, 9_223_372_036_854_775_807))
-        .help(
-            "How many schedules are run at most, 1 to 9223372036854775807; 1000000 where it isn't given",
-        )
+        .help("Most schedules to run, 1 to 9223372036854775807 [default: 1000000]")
 }
 
 // How many threads.
@@ -62,7 +60,7 @@ fn jobs<'w>(alloc: Global) -> Arg<'w> {
         .value_name("N")
         .action(ArgAction::Set)
         .value_parser(ValueParser::signed(1, 64))
-        .help("How many workers run schedules, 1 to 64; 1 where it isn't given")
+        .help("Number of worker threads, 1 to 64 [default: 1]")
 }
 
 // How many schedules are drawn.
@@ -73,7 +71,7 @@ fn sample<'w>(alloc: Global) -> Result<Arg<'w>, AllocError> {
         .action(ArgAction::Set)
         .value_parser(ValueParser::signed(1, 9_223_372_036_854_775_807))
         .help(
-            "Run N schedules drawn at random, with replacement, in place of all, 1 to 9223372036854775807",
+            "Run N random schedules instead of all, 1 to 9223372036854775807; a schedule may be drawn twice",
         )
         .conflicts_with("most")
 }
@@ -86,7 +84,7 @@ fn seed<'w>(alloc: Global) -> Result<Arg<'w>, AllocError> {
         .action(ArgAction::Set)
         .value_parser(ValueParser::signed(0, 9_223_372_036_854_775_807))
         .help(
-            "The seed of what is drawn, 0 to 9223372036854775807, which gives the same everywhere; 0 where it isn't given",
+            "Seed of --sample, 0 to 9223372036854775807; it draws the same schedules everywhere [default: 0]",
         )
         .requires_arg("sample")
 }
@@ -96,7 +94,7 @@ fn orders<'w>(alloc: Global) -> Arg<'w> {
     Arg::new(alloc, "orders")
         .long("orders")
         .action(ArgAction::SetTrue)
-        .help("Show the sessions' order of each outcome's first schedule")
+        .help("Print the order of sessions in each outcome's first schedule")
 }
 
 // The order whose script is printed.
@@ -105,7 +103,7 @@ fn order<'w>(alloc: Global) -> Result<Arg<'w>, AllocError> {
         .long("order")
         .value_name("ORDER")
         .action(ArgAction::Set)
-        .help("Print the script of the one schedule in which the sessions go in this order")
+        .help("Print the script of the schedule with this order of sessions")
         .conflicts_with("most")?
         .conflicts_with("sample")?
         .conflicts_with("orders")?
@@ -116,7 +114,7 @@ fn order<'w>(alloc: Global) -> Result<Arg<'w>, AllocError> {
 fn on_script<'w>(alloc: Global) -> Result<Command<'w>, AllocError> {
     Command::new(alloc, "explore")
         .about(
-            "Run every interleaving of the sessions' lines behind a script's setup, or some drawn at random, and count what they come to",
+            "Run every interleaving of a script's sessions, or a random sample, and count the outcomes",
         )
         .bin_name("pgserial explore")?
         .no_binary_name(true)

@@ -85,7 +85,7 @@ fn warn<E: Write>(count: usize, err: &mut E) {
     if count > 0 {
         let _ = writeln!(
             err,
-            "explore: the first {count} lines of sessions are interleaved with the others too; a line `CHECKPOINT;` behind them has them done once, before"
+            "explore: the first {count} lines of sessions are interleaved with the others too; put `CHECKPOINT;` after them to run them once, before the others"
         );
     }
 }
