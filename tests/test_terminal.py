@@ -99,27 +99,27 @@ STUMBLES = [
     ("\\timing on", "1=> ", r"Timing is on\.\n"),
     ("\\timing ON", "1=> ", r"Timing is on\.\n"),
     ("2 begin", "1=> ", r"2 BEGIN\nTime: \d+\.\d{3} ms\n"),
-    ("\\timing perhaps", "1=> ", r"\\timing takes on, off, or nothing\n"),
+    ("\\timing perhaps", "1=> ", r"\\timing takes on or off\n"),
     ("\\timing off", "1=> ", r"Timing is off\.\n"),
     ("\\timing off;", "1=> ", r"Timing is off\.\n"),
     ("\\timing", "1=> ", r"Timing is on\.\n"),
     ("\\timing", "1=> ", r"Timing is off\.\n"),
-    ("\\draw", "1=> ", r"\\draw FILE: a file's name is due\n"),
-    ("\\dump;", "1=> ", r"\\dump FILE: a file's name is due\n"),
-    ("\\i ", "1=> ", r"\\i FILE: a file's name is due\n"),
+    ("\\draw", "1=> ", r"\\draw FILE: missing file name\n"),
+    ("\\dump;", "1=> ", r"\\dump FILE: missing file name\n"),
+    ("\\i ", "1=> ", r"\\i FILE: missing file name\n"),
     ("create table u (id bigint primary key)", "1=> ", CLOSED),
     ("\\autocommit", "1=> ", r"Autocommit is off\.\n"),
     ("insert into t values (1, 1);", "1=> ", r"1 ERROR 25P01 \(no_active_sql_transaction: no transaction is open; send BEGIN, on a line of its own\)\n"),
-    ("\\autocommit perhaps", "1=> ", r"\\autocommit takes on, off, or nothing\n"),
+    ("\\autocommit perhaps", "1=> ", r"\\autocommit takes on or off\n"),
     ("\\autocommit ON;", "1=> ", r"Autocommit is on\.\n"),
     ("begin", "1*=> ", r"1 BEGIN\n"),
     ("2 insert into t values (1, 1, 1);", "1*=> ",
-     r"2 ERROR 42601: this is no statement here, or has another number of values than the table has columns: byte 14\n"),
-    ("selec * from t", "1!=> ", r"1 ERROR 42601: this is no statement here: byte 0\n"),
+     r"2 ERROR 42601: not a valid statement, or it doesn't have a value for each column: byte 14\n"),
+    ("selec * from t", "1!=> ", r"1 ERROR 42601: not a valid statement: byte 0\n"),
     ("rollback", "1=> ", r"1 ROLLBACK\n"),
     ("begin", "1*=> ", r"1 BEGIN\n"),
     ("Update t set id = 2;", "1!=> ",
-     r"1 ERROR 42601: this is no statement here, or sets the key, or a column twice: byte 13\n"),
+     r"1 ERROR 42601: not a valid statement, or it sets the key, or a column twice: byte 13\n"),
 ]
 
 # A write skew, and why its second commit was refused.
@@ -148,11 +148,11 @@ REFUSED = [
 ]
 
 # What is typed by habit from psql and from sqlite3's shell: a page.
-OF_PSQL = r"there is no such word: [^\n]*\n"
+OF_PSQL = r"invalid command: [^\n]*\n"
 HABITS = [
     ("\\l", "1=> ", OF_PSQL),
     (".tables", "1=> ", r"TABLES 0\n"),
-    (".mode column", "1=> ", r"words begin with a backslash here: [^\n]*\n"),
+    (".mode column", "1=> ", r"commands begin with a backslash here: [^\n]*\n"),
     ("create table account (", "1-> ", r""),
     ("  id bigint primary key,  -- the number (of four digits);", "1-> ", r""),
     ("  owner text not null,\t-- whose it is", "1-> ", r""),
@@ -181,7 +181,7 @@ HABITS = [
     ("END;", "1=> ", r"1 ROLLBACK\n"),
     ("2 begin; 2 update account set cents = 6 where id = 1;", "1=> ", r"2 BEGIN\n2 UPDATE 1\n"),
     ("update account set cents = 7 where id = 1;", "1=> ",
-     r"1 ERROR 40001 row [^\n]*run the transaction again\)\nthe statement was a transaction by itself, of which nothing is left: type it again\n"),
+     r"1 ERROR 40001 row [^\n]*run the transaction again\)\nthe statement was rolled back: run it again\n"),
     ("2 abort", "1=> ", r"2 ROLLBACK\n"),
     ("create table audit (id bigint primary key);", "1=> ", CLOSED),
     ("selec * from account;", "1=> ", SLIP),
@@ -265,7 +265,7 @@ SHOWN = [
     ("update doctor set name = 'a\u202eb\u202ac\u2066d\u2069\u2029\u2065\u206a' where id = 3;", "1*=> ", r"1 UPDATE 1\n"),
     ("select name from doctor where id = 3;", "1*=> ",
      " name +\n-+\n a\\\\u202eb\\\\u202ac\\\\u2066d\\\\u2069\u2029\u2065\u206a *\n\\(1 row\\)\n"),
-    ("\\i \u009b31m", "1*=> ", r"\\x9b31m: there is no such file, or it can't be read\n"),
+    ("\\i \u009b31m", "1*=> ", r"\\x9b31m: no such file, or it can't be read\n"),
     ("\\draw no/\u009b31m", "1*=> ", r"no/\\x9b31m can't be written\n"),
 ]
 
@@ -319,7 +319,7 @@ RECALLED = [
 ]
 
 # What is left out before a transaction begins: a slip must not end the time in which tables are created.
-LEFT_OUT = r"CREATE TABLE or OPEN comes first, then BEGIN: this line was left out\n"
+LEFT_OUT = r"line ignored: CREATE TABLE or OPEN must come first, then BEGIN\n"
 EARLY = [
     ("select 1;", "1=> ", LEFT_OUT),
     ("begin", "1=> ", LEFT_OUT),
@@ -344,14 +344,14 @@ EARLY = [
 ]
 
 # The last events are kept for the ends of transactions, of which a dump is one.
-USED = r"all but the last of --events are used: COMMIT or ROLLBACK each transaction, then CHECKPOINT makes room\n"
+USED = r"line ignored: the history is full (--events); COMMIT or ROLLBACK each transaction, then CHECKPOINT makes room\n"
 FULL = [
     ("create table t (id bigint primary key)", "1=> ", r"CREATE TABLE\n"),
     ("begin", "1*=> ", r"1 BEGIN\n"),
     ("2 begin", "1*=> ", r"2 BEGIN\n"),
     ("insert into t values (1);", "1*=> ", r"1 INSERT 0 1\n"),
     ("wait", "1*=> ", r"ERROR 42601: [^\n]*WAIT[^\n]*\n"),
-    ("\\dump a b", "1*=> ", r"a dump's path has no spaces\n"),
+    ("\\dump a b", "1*=> ", r"a dump's path can't contain spaces\n"),
     ("\\dump d", "1*=> ", r"3 WAIT\nnothing was dumped: [^\n]+\n"),
     ("\\dump d", "1*=> ", USED),
     ("insert into t values (2);", "1*=> ", USED),

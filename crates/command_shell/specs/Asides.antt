@@ -94,7 +94,7 @@ picture_told false path = unwritten_text path
 
 -- what is shown where there is nothing to draw
 abbrev pub undrawn_text : List ℕ
-undrawn_text = codes "there is nothing to draw: no session has begun\n"
+undrawn_text = codes "nothing to draw: no session has begun\n"
 
 -- A picture was written to the file of a path, whole; or it couldn't be.
 abbrev pub TellsDrawing : {Out : Type 0} → (Out → List ℕ) → (Out → List ℕ) → List ℕ → List ℕ → Type 0

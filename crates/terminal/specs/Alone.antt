@@ -18,7 +18,7 @@ ending false = codes "COMMIT;"
 
 -- what is shown behind a refusal for the sake of other transactions
 abbrev pub again_text : List ℕ
-again_text = codes "the statement was a transaction by itself, of which nothing is left: type it again\n"
+again_text = codes "the statement was rolled back: run it again\n"
 
 -- a refusal that is shown so, and what follows it where it is for the sake of other transactions
 abbrev pub with_advice : List ℕ → List ℕ → List ℕ → List ℕ
@@ -38,8 +38,8 @@ autocommit_text false = codes "Autocommit is off.\n"
 
 -- what is shown where something else follows `\autocommit`
 abbrev pub no_autocommit_text : List ℕ
-no_autocommit_text = codes "\\autocommit takes on, off, or nothing\n"
+no_autocommit_text = codes "\\autocommit takes on or off\n"
 
 -- what is shown where there is no such statement
 abbrev pub slip_text : List ℕ
-slip_text = codes "ERROR 42601: there is no such statement or command: \\? lists what may be typed\n"
+slip_text = codes "ERROR 42601: not a valid statement or command: \\? lists them\n"

@@ -9,7 +9,7 @@ use Rattle.terminal.specs.Drawn.{rows_in}
 
 -- what is shown where there is no such table
 abbrev pub no_table_text : List ℕ
-no_table_text = codes "there is no such table: \\d tells which there are\n"
+no_table_text = codes "no such table: \\d lists the tables\n"
 
 -- whether a column may be null, in words
 abbrev pub null_word : Bool → List ℕ

@@ -13,9 +13,9 @@ refused_at = codes "ERROR 42601 byte "
 -- what stands before the number of the byte from which on the statement of a session's line is refused: there may be two reasons
 abbrev pub statement_words : List ℕ → List ℕ
 statement_words line =
-    if starts (codes "insert ") (behind_word line) then codes "ERROR 42601: this is no statement here, or has another number of values than the table has columns: byte "
-    else if starts (codes "update ") (behind_word line) then codes "ERROR 42601: this is no statement here, or sets the key, or a column twice: byte "
-    else codes "ERROR 42601: this is no statement here: byte "
+    if starts (codes "insert ") (behind_word line) then codes "ERROR 42601: not a valid statement, or it doesn't have a value for each column: byte "
+    else if starts (codes "update ") (behind_word line) then codes "ERROR 42601: not a valid statement, or it sets the key, or a column twice: byte "
+    else codes "ERROR 42601: not a valid statement: byte "
 
 -- the refusal of a session's line, with these words; the session's number stands before it
 abbrev pub statement_refused : List ℕ → List ℕ → List ℕ

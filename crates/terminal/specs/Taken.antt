@@ -48,7 +48,7 @@ lacks_file t text = takes_file t && length (behind_word text) == 0
 
 -- what is shown where a word lacks its file's name
 abbrev pub nameless_text : List ℕ → List ℕ
-nameless_text word = word ++ codes " FILE: a file's name is due\n"
+nameless_text word = word ++ codes " FILE: missing file name\n"
 
 -- whether something is on from then on, by what follows its word: `on`, `off`, or the other way where there is nothing
 abbrev pub turned : Bool → List ℕ → Option Bool
@@ -60,14 +60,14 @@ turned was text =
 
 -- what is shown where something else follows `\timing`
 abbrev pub no_timing_text : List ℕ
-no_timing_text = codes "\\timing takes on, off, or nothing\n"
+no_timing_text = codes "\\timing takes on or off\n"
 
 -- what is shown where there is no such word, or psql alone has it
 abbrev pub strange_text : List ℕ → List ℕ
 strange_text word =
     if bytes_eq word (codes "\\r") then codes "Query buffer reset (cleared).\n"
     else if bytes_eq word (codes "\\x") then codes "rows are always shown as a table, each on its line\n"
-    else if bytes_eq word (codes "\\e") then codes "no editor is started here: edit a file elsewhere, and \\i FILE types its lines\n"
-    else if bytes_eq word (codes "\\set") then codes "there are no variables: \\autocommit and \\timing alone are turned on and off\n"
-    else if begins (codes ".") word then codes "words begin with a backslash here: \\? lists them\n"
-    else codes "there is no such word: \\? tells what may be typed\n"
+    else if bytes_eq word (codes "\\e") then codes "no editor here: edit a file elsewhere, and run it by \\i FILE\n"
+    else if bytes_eq word (codes "\\set") then codes "no variables here: \\autocommit and \\timing are the only settings\n"
+    else if begins (codes ".") word then codes "commands begin with a backslash here: \\? lists them\n"
+    else codes "invalid command: \\? lists the commands\n"

@@ -24,39 +24,39 @@ use Rattle.terminal.specs.declared.marks.Mark.TheVariants as mark
 
 -- what may be typed
 abbrev pub help_text : List ℕ
-help_text = codes "SELECT .., INSERT .., UPDATE .., DELETE ..;  a statement, over lines up to its ;\nBEGIN [READ ONLY [DEFERRABLE]]               begins a transaction; COMMIT and ROLLBACK end it\nPOLL, EXPORT, IMPORT n, PRUNE, DUMP ..       other commands; CHECKPOINT makes room for events\nCREATE TABLE .., OPEN path                   before the first transaction\n2                                            goes to session 2, of 64\n2 BEGIN                                      a line of session 2\n\\autocommit [on|off]                         whether a statement without BEGIN is a transaction by itself\n\\d [NAME]                                    the tables, or one of them\n\\serial                                      the committed transactions in their serial order\n\\why                                         why a transaction was refused last\n\\draw FILE                                   a picture of the transactions\n\\dump FILE                                   a dump of a safe snapshot\n\\i FILE                                      the lines of a file\n\\r                                           gives up a statement that goes on\n\\timing [on|off]                             tells how long answers take, or no longer\n\\?, help                                     this\n\\q, exit, quit                               ends the shell\nFor a history of lines and their editing, start it as `rlwrap pgserial shell`.\n"
+help_text = codes "SELECT .., INSERT .., UPDATE .., DELETE ..;  a statement, over lines up to its ;\nBEGIN [READ ONLY [DEFERRABLE]]               begins a transaction; COMMIT and ROLLBACK end it\nPOLL, EXPORT, IMPORT n, PRUNE, DUMP ..       other commands; CHECKPOINT makes room for events\nCREATE TABLE .., OPEN path                   before the first transaction\n2                                            goes to session 2, of 64\n2 BEGIN                                      a line of session 2\n\\autocommit [on|off]                         whether a statement without BEGIN is a transaction by itself\n\\d [NAME]                                    the tables, or one of them\n\\serial                                      the committed transactions in their serial order\n\\why                                         why a transaction was refused last\n\\draw FILE                                   a picture of the transactions\n\\dump FILE                                   a dump of a safe snapshot\n\\i FILE                                      the lines of a file\n\\r                                           clears the statement typed so far\n\\timing [on|off]                             shows how long answers take\n\\?, help                                     this\n\\q, exit, quit                               ends the shell\nFor line editing and history, start it as `rlwrap pgserial shell`.\n"
 
 -- what is shown where no session may begin a dump
 abbrev pub no_session_text : List ℕ
-no_session_text = codes "each session has a transaction: a dump needs one without\n"
+no_session_text = codes "every session has a transaction: a dump needs one without\n"
 
 -- what is shown of a dump whose path has spaces
 abbrev pub spaced_text : List ℕ
-spaced_text = codes "a dump's path has no spaces\n"
+spaced_text = codes "a dump's path can't contain spaces\n"
 
 -- what is shown of a line that comes too early
 abbrev pub early_text : List ℕ
-early_text = codes "CREATE TABLE or OPEN comes first, then BEGIN: this line was left out\n"
+early_text = codes "line ignored: CREATE TABLE or OPEN must come first, then BEGIN\n"
 
 -- what is shown of a line whose event there is no room for
 abbrev pub late_text : List ℕ
-late_text = codes "all but the last of --events are used: COMMIT or ROLLBACK each transaction, then CHECKPOINT makes room\n"
+late_text = codes "line ignored: the history is full (--events); COMMIT or ROLLBACK each transaction, then CHECKPOINT makes room\n"
 
 -- what is shown of a line that needs more room than there ever is
 abbrev pub few_text : List ℕ
-few_text = codes "--events gives too little room for a transaction: start the shell with more\n"
+few_text = codes "line ignored: --events is too small for a transaction; start the shell with more\n"
 
 -- what is shown of tables that come too late
 abbrev pub closed_text : List ℕ
-closed_text = codes "ERROR 42601: tables come before the first transaction: \\q, and start again with all of them\n"
+closed_text = codes "ERROR 42601: CREATE TABLE must come before the first transaction: \\q, and start again with all tables\n"
 
 -- what is shown of a dump that is given up
 abbrev pub not_safe_text : List ℕ
-not_safe_text = codes "nothing was dumped: the snapshot isn't known to be safe while other transactions write\n"
+not_safe_text = codes "nothing was dumped: there is no safe snapshot while other transactions write\n"
 
 -- what is shown once a tenth of the room for events is left
 abbrev pub near_text : List ℕ
-near_text = codes "nearly all of --events are used: CHECKPOINT makes room, but not while a session has a transaction\n"
+near_text = codes "the history is nearly full (--events): CHECKPOINT makes room, once no session has a transaction\n"
 
 -- what is shown where little room is left now, and more was before
 abbrev pub warning : Bool → Bool → List ℕ
@@ -204,11 +204,11 @@ lines_in text = slice_split (λ b. b == 10) (without_last 10 (unmarked text))
 
 -- what is shown of a file that can't be read
 abbrev pub unread_text : List ℕ → List ℕ
-unread_text path = shown path ++ codes ": there is no such file, or it can't be read\n"
+unread_text path = shown path ++ codes ": no such file, or it can't be read\n"
 
 -- what is shown of a file's line that asks for a file's lines
 abbrev pub nested_text : List ℕ
-nested_text = codes "\\i stands alone on a line that is typed: a file can't ask for the lines of another\n"
+nested_text = codes "\\i must be typed on a line of its own: a file can't include another\n"
 
 -- These bytes are what a file has, where it is known what it has.
 abbrev pub IsFile : Option (List ℕ) → List ℕ → Type 0

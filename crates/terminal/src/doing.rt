@@ -330,7 +330,7 @@ pub(crate) fn tell_nameless<A: Allocator, H: Drop>(
     ensures memory { IfErr result (λ e. e ≡ out_of_memory) }
 {
     let mut told = Vec::from_slice(alloc, word)?;
-    told.extend_from_slice(b" FILE: a file's name is due\n")?;
+    told.extend_from_slice(b" FILE: missing file name\n")?;
     Ok((terminal, told))
 }
 

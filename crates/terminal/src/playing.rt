@@ -139,7 +139,7 @@ fn unread_text<A: Allocator>(alloc: A, path: &[u8]) -> Result<Vec<u8, A>, Refusa
     ensures memory { IfErr result (λ e. e ≡ out_of_memory) }
 {
     let mut text = shown(alloc, path)?;
-    text.extend_from_slice(b": there is no such file, or it can't be read\n")?;
+    text.extend_from_slice(b": no such file, or it can't be read\n")?;
     Ok(text)
 }
 

@@ -19,11 +19,11 @@ fn statement_words(line: &[u8]) -> &'static [u8]
 {
     let statement = behind_word(line);
     if starts(b"insert ", statement) {
-        b"ERROR 42601: this is no statement here, or has another number of values than the table has columns: byte "
+        b"ERROR 42601: not a valid statement, or it doesn't have a value for each column: byte "
     } else if starts(b"update ", statement) {
-        b"ERROR 42601: this is no statement here, or sets the key, or a column twice: byte "
+        b"ERROR 42601: not a valid statement, or it sets the key, or a column twice: byte "
     } else {
-        b"ERROR 42601: this is no statement here: byte "
+        b"ERROR 42601: not a valid statement: byte "
     }
 }
 

@@ -100,12 +100,12 @@ pub(crate) fn strange_text(word: &[u8]) -> &'static [u8]
     } else if word == b"\\x".as_slice() {
         b"rows are always shown as a table, each on its line\n"
     } else if word == b"\\e".as_slice() {
-        b"no editor is started here: edit a file elsewhere, and \\i FILE types its lines\n"
+        b"no editor here: edit a file elsewhere, and run it by \\i FILE\n"
     } else if word == b"\\set".as_slice() {
-        b"there are no variables: \\autocommit and \\timing alone are turned on and off\n"
+        b"no variables here: \\autocommit and \\timing are the only settings\n"
     } else if begins(b".", word) {
-        b"words begin with a backslash here: \\? lists them\n"
+        b"commands begin with a backslash here: \\? lists them\n"
     } else {
-        b"there is no such word: \\? tells what may be typed\n"
+        b"invalid command: \\? lists the commands\n"
     }
 }

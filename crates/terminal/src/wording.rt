@@ -24,11 +24,11 @@ pub(crate) fn help_text() -> &'static [u8]
       \\draw FILE                                   a picture of the transactions\n\
       \\dump FILE                                   a dump of a safe snapshot\n\
       \\i FILE                                      the lines of a file\n\
-      \\r                                           gives up a statement that goes on\n\
-      \\timing [on|off]                             tells how long answers take, or no longer\n\
+      \\r                                           clears the statement typed so far\n\
+      \\timing [on|off]                             shows how long answers take\n\
       \\?, help                                     this\n\
       \\q, exit, quit                               ends the shell\n\
-      For a history of lines and their editing, start it as `rlwrap pgserial shell`.\n\
+      For line editing and history, start it as `rlwrap pgserial shell`.\n\
     "
 }
 
@@ -36,63 +36,63 @@ pub(crate) fn help_text() -> &'static [u8]
 pub(crate) fn no_table_text() -> &'static [u8]
     ensures { result.now ≡ absent_text }
 {
-    b"there is no such table: \\d tells which there are\n"
+    b"no such table: \\d lists the tables\n"
 }
 
 /// What is shown where no session may begin a dump.
 pub(crate) fn no_session_text() -> &'static [u8]
     ensures { result.now ≡ spec.no_session_text }
 {
-    b"each session has a transaction: a dump needs one without\n"
+    b"every session has a transaction: a dump needs one without\n"
 }
 
 /// What is shown of a dump whose path has spaces.
 pub(crate) fn spaced_text() -> &'static [u8]
     ensures { result.now ≡ spec.spaced_text }
 {
-    b"a dump's path has no spaces\n"
+    b"a dump's path can't contain spaces\n"
 }
 
 /// What is shown of a line that comes too early.
 pub(crate) fn early_text() -> &'static [u8]
     ensures { result.now ≡ spec.early_text }
 {
-    b"CREATE TABLE or OPEN comes first, then BEGIN: this line was left out\n"
+    b"line ignored: CREATE TABLE or OPEN must come first, then BEGIN\n"
 }
 
 /// What is shown of a line whose event there is no room for.
 pub(crate) fn late_text() -> &'static [u8]
     ensures { result.now ≡ spec.late_text }
 {
-    b"all but the last of --events are used: COMMIT or ROLLBACK each transaction, then CHECKPOINT makes room\n"
+    b"line ignored: the history is full (--events); COMMIT or ROLLBACK each transaction, then CHECKPOINT makes room\n"
 }
 
 /// What is shown of a line that needs more room than there ever is.
 pub(crate) fn few_text() -> &'static [u8]
     ensures { result.now ≡ spec.few_text }
 {
-    b"--events gives too little room for a transaction: start the shell with more\n"
+    b"line ignored: --events is too small for a transaction; start the shell with more\n"
 }
 
 /// What is shown of tables that come too late.
 pub(crate) fn closed_text() -> &'static [u8]
     ensures { result.now ≡ spec.closed_text }
 {
-    b"ERROR 42601: tables come before the first transaction: \\q, and start again with all of them\n"
+    b"ERROR 42601: CREATE TABLE must come before the first transaction: \\q, and start again with all tables\n"
 }
 
 /// What is shown of a dump that is given up.
 pub(crate) fn not_safe_text() -> &'static [u8]
     ensures { result.now ≡ spec.not_safe_text }
 {
-    b"nothing was dumped: the snapshot isn't known to be safe while other transactions write\n"
+    b"nothing was dumped: there is no safe snapshot while other transactions write\n"
 }
 
 /// What is shown once a tenth of the room for events is left.
 pub(crate) fn near_text() -> &'static [u8]
     ensures { result.now ≡ spec.near_text }
 {
-    b"nearly all of --events are used: CHECKPOINT makes room, but not while a session has a transaction\n"
+    b"the history is nearly full (--events): CHECKPOINT makes room, once no session has a transaction\n"
 }
 
 /// What is shown once answers are timed, or no longer.
@@ -110,7 +110,7 @@ pub(crate) fn timing_text(is_timed: bool) -> &'static [u8]
 pub(crate) fn nested_text() -> &'static [u8]
     ensures { result.now ≡ spec.nested_text }
 {
-    b"\\i stands alone on a line that is typed: a file can't ask for the lines of another\n"
+    b"\\i must be typed on a line of its own: a file can't include another\n"
 }
 
 /// What is shown of a line that a terminal may have cut off.
@@ -124,7 +124,7 @@ pub(crate) fn cut_text() -> &'static [u8]
 pub(crate) fn no_timing_text() -> &'static [u8]
     ensures { result.now ≡ taken.no_timing_text }
 {
-    b"\\timing takes on, off, or nothing\n"
+    b"\\timing takes on or off\n"
 }
 
 /// What is shown once a statement is a transaction by itself, or no longer.
@@ -142,19 +142,19 @@ pub(crate) fn autocommit_text(is_auto: bool) -> &'static [u8]
 pub(crate) fn no_autocommit_text() -> &'static [u8]
     ensures { result.now ≡ alone.no_autocommit_text }
 {
-    b"\\autocommit takes on, off, or nothing\n"
+    b"\\autocommit takes on or off\n"
 }
 
 /// What is shown where there is no such statement.
 pub(crate) fn slip_text() -> &'static [u8]
     ensures { result.now ≡ alone.slip_text }
 {
-    b"ERROR 42601: there is no such statement or command: \\? lists what may be typed\n"
+    b"ERROR 42601: not a valid statement or command: \\? lists them\n"
 }
 
 /// What is shown behind a refusal for the sake of other transactions.
 pub(crate) fn again_text() -> &'static [u8]
     ensures { result.now ≡ alone.again_text }
 {
-    b"the statement was a transaction by itself, of which nothing is left: type it again\n"
+    b"the statement was rolled back: run it again\n"
 }

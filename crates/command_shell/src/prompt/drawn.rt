@@ -144,7 +144,7 @@ pub(crate) fn draw<A: Allocator + Copy, F: Files<A>>(
     match shell.core() {
         Some(core) => draw_to(alloc, files, core, recalled, path),
         None => {
-            let text = Vec::from_slice(alloc, b"there is nothing to draw: no session has begun\n")?;
+            let text = Vec::from_slice(alloc, b"nothing to draw: no session has begun\n")?;
             Ok(text)
         }
     }
