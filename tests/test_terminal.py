@@ -192,7 +192,7 @@ HABITS = [
     ("begin; select id from account where id = 1", "1*-> ", r"1 BEGIN\n"),
     (";commit", "1=> ", r" id \n-+\n 1  \n\(1 row\)\n1 COMMIT\n"),
     ("\\e", "1=> ", r"no editor is started here: [^\n]*\\i FILE [^\n]*\n"),
-    ("\\set AUTOCOMMIT off", "1=> ", r"there are no variables: \\autocommit [^\n]*\n"),
+    ("\\set AUTOCOMMIT off", "1=> ", r"no variables here: \\autocommit [^\n]*\n"),
     ("\\h", "1=> ", HELP),
     ("delete from account where id = 3; select id from account;", "1=> ", r"1 DELETE 1\n id \n-+\n 1  \n 2  \n\(2 rows\)\n"),
     ("\\i windows", "1=> ",
@@ -227,10 +227,10 @@ FEW = r"--events gives too little room for a transaction: [^\n]*\n"
 TABLE = ("create table t (id bigint primary key)", "1=> ", r"CREATE TABLE\n")
 ONE_EVENT = [TABLE, ("begin", "1=> ", FEW), ("insert into t values (1);", "1=> ", FEW), ("\\dump d", "1=> ", FEW),
              ("create table u (id bigint primary key)", "1=> ", r"CREATE TABLE\n")]
-TWO_EVENTS = [TABLE, ("insert into t values (1);", "1=> ", FEW), ("\\dump d", "1=> ", FEW), ("begin", "1*=> ", r"1 BEGIN\n(nearly all[^\n]*\n)?"),
-              ("2 begin", "1*=> ", r"all but the last [^\n]*\n"), ("insert into t values (1);", "1*=> ", r"all but the last [^\n]*\n"),
-              ("commit", "1=> ", r"1 COMMIT\n(nearly all[^\n]*\n)?"), ("begin", "1=> ", r"all but the last [^\n]*\n"), ("checkpoint", "1=> ", r"CHECKPOINT\n"),
-              ("begin", "1*=> ", r"1 BEGIN\n(nearly all[^\n]*\n)?"), ("rollback", "1=> ", r"1 ROLLBACK\n(nearly all[^\n]*\n)?")]
+TWO_EVENTS = [TABLE, ("insert into t values (1);", "1=> ", FEW), ("\\dump d", "1=> ", FEW), ("begin", "1*=> ", r"1 BEGIN\n(the history is nearly full[^\n]*\n)?"),
+              ("2 begin", "1*=> ", r"line ignored: the history is full[^\n]*\n"), ("insert into t values (1);", "1*=> ", r"line ignored: the history is full[^\n]*\n"),
+              ("commit", "1=> ", r"1 COMMIT\n(the history is nearly full[^\n]*\n)?"), ("begin", "1=> ", r"line ignored: the history is full[^\n]*\n"), ("checkpoint", "1=> ", r"CHECKPOINT\n"),
+              ("begin", "1*=> ", r"1 BEGIN\n(the history is nearly full[^\n]*\n)?"), ("rollback", "1=> ", r"1 ROLLBACK\n(the history is nearly full[^\n]*\n)?")]
 
 # Lines of which a terminal passes on a part alone, and those that are just short enough.
 LONG = r"ERROR 54000: the line is longer than a terminal passes on; use \\i FILE\n"
@@ -361,7 +361,7 @@ FULL = [
     ("\\d", "1*=> ", r"CREATE TABLE[^\n]+\nTABLES 1\n"),
     ("Commit", "1=> ", r"1 COMMIT\n"),
     ("checkpoint", "1=> ", r"ERROR 55000 [^\n]*\n"),
-    ("2 rollback", "1=> ", r"2 ROLLBACK\n(nearly all[^\n]+\n)?"),
+    ("2 rollback", "1=> ", r"2 ROLLBACK\n(the history is nearly full[^\n]+\n)?"),
     ("begin", "1=> ", USED),
     ("checkpoint", "1=> ", r"CHECKPOINT\n"),
     ("begin", "1*=> ", r"1 BEGIN\n"),
