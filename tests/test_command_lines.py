@@ -37,8 +37,8 @@ EXPLAINED = (
     (f"`{'x' * 200}`: {LINE_BEGINS}", "x" * 900 + ";\n", ()),
     ("no such file or directory", "OPEN gone;\n", ()),
     ("is a directory", "OPEN .;\n", ()),
-    ("not a pgserial dump: the first line must be `-- dump 2` or `-- dump 1`", "OPEN begun;\n", ()),
-    ("unexpected line, or the dump ends too early", "OPEN crossed;\n", ()),
+    ("not a pgserial dump, or its lines end in carriage returns (CRLF): the first line must be `-- dump 2` or `-- dump 1`", "OPEN begun;\n", ()),
+    ("unexpected line, a carriage return at its end (CRLF), or the dump ends too early", "OPEN crossed;\n", ()),
     ("no such file or directory", "OPEN a\x1b[31mb;\n", ()),
 )
 # What the system says of a transcript's path, how that is shown, and the path.

@@ -11,9 +11,11 @@ pub fn words_of_dump(line: u64, code: Code) -> &'static str
     match code {
         Code::OutOfMemory => "out of memory",
         Code::BadCopyFileFormat if line == 1 => {
-            "not a pgserial dump: the first line must be `-- dump 2` or `-- dump 1`"
+            "not a pgserial dump, or its lines end in carriage returns (CRLF): the first line must be `-- dump 2` or `-- dump 1`"
         }
-        Code::BadCopyFileFormat => { "unexpected line, or the dump ends too early" }
+        Code::BadCopyFileFormat => {
+            "unexpected line, a carriage return at its end (CRLF), or the dump ends too early"
+        }
         Code::UniqueViolation => "duplicate key",
         Code::ForeignKeyViolation => "the row that it references doesn't come before it",
         Code::NotNullViolation => "null in a NOT NULL column",
