@@ -76,7 +76,8 @@ impl Reason {
             Reason::Reserved => "reserved word: choose another name",
             Reason::LongName => "name too long: at most 63 bytes",
             Reason::NoKind => "unknown type: use bigint, text or bytea",
-            Reason::NoKey => "expected the first column as name type PRIMARY KEY [REFERENCES table]",
+            Reason::NoKey =>
+                "expected the first column as name type PRIMARY KEY [REFERENCES table]",
             Reason::NoColumn => "expected a column as name type [NOT NULL] [REFERENCES table]",
             Reason::Behind => "expected one `;` at the end, and nothing after it",
             Reason::SameColumn => "duplicate column name",

@@ -41,9 +41,7 @@ impl Reason {
             Reason::CarriageReturn => {
                 "the line ends in a carriage return (CRLF): lines end in a newline alone"
             }
-            Reason::NoMark => {
-                "expected `> `, two spaces, `= `, `--` or an empty line"
-            }
+            Reason::NoMark => { "expected `> `, two spaces, `= `, `--` or an empty line" }
             Reason::NoCommand =>
                 "expected `> ` and a script line: a session's number, a command and `;`",
             Reason::NoTable => "invalid CREATE TABLE or OPEN",
