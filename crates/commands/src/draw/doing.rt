@@ -1,6 +1,7 @@
 //! A script's lines, done one after the other, without what is printed of them.
 
-use history::event::Event;
+use asking::checkpoint::checkpoint;
+use asking::reply_to;
 use history::session_id::SessionId;
 use program::fault::Fault;
 use request::request::Request;
@@ -8,6 +9,7 @@ use retrace::drawing::subject::Dump;
 use script::command::Command;
 use script::script::{Line, Step};
 use session::sessions::Core;
+use statement::reply::Reply;
 use std::alloc::Allocator;
 use value::refusal::Code;
 
@@ -37,10 +39,16 @@ impl<A: Allocator + Copy> Done<A> {
         session: SessionId,
         request: &Request<A>,
     ) -> Result<(), Fault<'p>> {
-        let Ok(action) = request.action(alloc, self.core.history().catalog()) else {
-            return Err(Fault::ScriptOutOfMemory);
-        };
-        let _reply = self.core.step(alloc, Event { session, action });
+        match reply_to(alloc, &mut self.core, session, request) {
+            Reply::Refused(refusal) if refusal.code == Code::OutOfMemory => {
+                Err(Fault::ScriptOutOfMemory)
+            }
+            _ => self.note(line),
+        }
+    }
+
+    // Notes the line of the last event, where it has none yet.
+    fn note<'p>(&mut self, line: u64) -> Result<(), Fault<'p>> {
         if self.lines.len() < self.core.history().records().len()
             && self.lines.push(line).is_err()
         {
@@ -68,13 +76,14 @@ impl<A: Allocator + Copy> Done<A> {
 
     // Lets the history go on from its present tables; where that is refused it stays.
     fn checkpoint<'p>(&mut self, alloc: A, most_events: u32) -> Result<(), Fault<'p>> {
-        match self.core.next(alloc, most_events) {
-            Ok(core) => {
-                *self = Done::nothing(alloc, core);
+        match checkpoint(alloc, &mut self.core, most_events) {
+            None => {
+                self.lines.clear();
+                self.dumps.clear();
                 Ok(())
             }
-            Err(refusal) if refusal.code == Code::OutOfMemory => Err(Fault::ScriptOutOfMemory),
-            Err(_) => Ok(()),
+            Some(refusal) if refusal.code == Code::OutOfMemory => Err(Fault::ScriptOutOfMemory),
+            Some(_) => Ok(()),
         }
     }
 
