@@ -39,7 +39,8 @@ impl<A: Allocator + Copy> Done<A> {
         session: SessionId,
         request: &Request<A>,
     ) -> Result<(), Fault<'p>> {
-        match reply_to(alloc, &mut self.core, session, request) {
+        let reply = reply_to(alloc, &mut self.core, session, request);
+        match &reply {
             Reply::Refused(refusal) if refusal.code == Code::OutOfMemory => {
                 Err(Fault::ScriptOutOfMemory)
             }
