@@ -78,8 +78,8 @@ TYPED = [
 
 # What somebody types who knows psql.
 HELP = r"(?s)SELECT .*\\serial.*\\q, exit, quit +ends the shell\n[^\n]*`rlwrap pgserial shell`\.\n"
-CLOSED = r"ERROR 42601: tables come before the first transaction: [^\n]*\n"
-SLIP = r"ERROR 42601: there is no such statement or command: \\\? lists what may be typed\n"
+CLOSED = r"ERROR 42601: CREATE TABLE must come before the first transaction: [^\n]*\n"
+SLIP = r"ERROR 42601: not a valid statement or command: \\\? lists them\n"
 STUMBLES = [
     ("help", "1=> ", HELP),
     ("Help;", "1=> ", HELP),
@@ -191,7 +191,7 @@ HABITS = [
     ("begin; update account set cents = 0 where id = 2; rollback;", "1=> ", r"1 BEGIN\n1 UPDATE 1\n1 ROLLBACK\n"),
     ("begin; select id from account where id = 1", "1*-> ", r"1 BEGIN\n"),
     (";commit", "1=> ", r" id \n-+\n 1  \n\(1 row\)\n1 COMMIT\n"),
-    ("\\e", "1=> ", r"no editor is started here: [^\n]*\\i FILE [^\n]*\n"),
+    ("\\e", "1=> ", r"no editor here: [^\n]*\\i FILE\n"),
     ("\\set AUTOCOMMIT off", "1=> ", r"no variables here: \\autocommit [^\n]*\n"),
     ("\\h", "1=> ", HELP),
     ("delete from account where id = 3; select id from account;", "1=> ", r"1 DELETE 1\n id \n-+\n 1  \n 2  \n\(2 rows\)\n"),
@@ -199,7 +199,7 @@ HABITS = [
      r"1=> select id from account\n1-> where id = 2;\n id \n-+\n 2  \n\(1 row\)\n1=> delete from account where id = 2; select count\(\*\) from account;\n"
      r"1 DELETE 1\n count \n-+\n 1 +\n\(1 row\)\n"),
     ("\\serial", "1=> ", r"(?s)txn .*\ncheck yes\n"),
-    ("2; begin; \\i windows", "2*=> ", r"2 BEGIN\n\\i stands alone on a line that is typed: [^\n]*\n"),
+    ("2; begin; \\i windows", "2*=> ", r"2 BEGIN\n\\i must be typed on a line of its own: [^\n]*\n"),
 ]
 
 # Statements by themselves, beside transactions of other sessions.
@@ -223,7 +223,7 @@ ALONE = [
 ]
 
 # There must be room for all that a transaction asks, and for its end.
-FEW = r"--events gives too little room for a transaction: [^\n]*\n"
+FEW = r"line ignored: --events is too small for a transaction; [^\n]*\n"
 TABLE = ("create table t (id bigint primary key)", "1=> ", r"CREATE TABLE\n")
 ONE_EVENT = [TABLE, ("begin", "1=> ", FEW), ("insert into t values (1);", "1=> ", FEW), ("\\dump d", "1=> ", FEW),
              ("create table u (id bigint primary key)", "1=> ", r"CREATE TABLE\n")]
@@ -344,7 +344,7 @@ EARLY = [
 ]
 
 # The last events are kept for the ends of transactions, of which a dump is one.
-USED = r"line ignored: the history is full (--events); COMMIT or ROLLBACK each transaction, then CHECKPOINT makes room\n"
+USED = r"line ignored: the history is full \(--events\); COMMIT or ROLLBACK each transaction, then CHECKPOINT makes room\n"
 FULL = [
     ("create table t (id bigint primary key)", "1=> ", r"CREATE TABLE\n"),
     ("begin", "1*=> ", r"1 BEGIN\n"),
