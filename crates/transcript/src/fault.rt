@@ -50,7 +50,7 @@ impl Reason {
             }
             Reason::Awaits => "the session's last line has no reply yet",
             Reason::Unasked => "the session has no line that awaits a reply",
-            Reason::NoReply => "expected expected two spaces and a reply as `run` prints it",
+            Reason::NoReply => "expected two spaces and a reply as `run` prints it",
             Reason::OtherReply => "this reply doesn't fit the line that it answers",
             Reason::IsOpen => "the session's transaction is still open",
             Reason::Outside => "the session has no open transaction",
