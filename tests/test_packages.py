@@ -68,40 +68,43 @@ no() {{ if "$@" > /dev/null 2>&1; then echo "against what is wanted: $*" >&2; ex
 no command -v rt
 no ls {TOP}/README.md
 """
-WHEEL = """
+# How each kind of package is installed and taken away, as `./pgserial package --help` says it.
+WAYS = re.findall(r"^    (\S.*?)  +(\S.*)$", str(package.__doc__), re.M)
+(PIP, UNPIP), (DPKG, PURGE), (TAR, UNTAR) = WAYS
+WHEEL = f"""
 python3 -m venv /tmp/room
 PATH=/tmp/room/bin:$PATH
-pip install --quiet older/*.whl
+(cd older; {PIP} --quiet)
 python -c "$VERSION"
-{install}
+{{install}}
 python -c "$VERSION"
-{run}
+{{run}}
 python application.py /tmp/application.db
-pip uninstall --quiet --yes pgserial
+{UNPIP} --yes --quiet
 find /tmp/room -ipath '*pgserial*'
 """
 DEBIAN = f"""
-dpkg --install older/*.deb > /dev/null
+(cd older; {DPKG}) > /dev/null
 ls /usr/{OLD_FILE}
-dpkg --install *.deb > /dev/null
+{DPKG} > /dev/null
 dpkg-query --show pgserial
 no ls /usr/{OLD_FILE}
 run /usr
 examples /usr
 ! command -v man > /dev/null || man --where pgserial libpgserial
-dpkg --purge pgserial > /dev/null
+{PURGE} > /dev/null
 no ls /usr/bin/pgserial
 """
 ARCHIVE = f"""
-tar -xzf older/*.tar.gz -C /usr/local --strip-components=1
+(cd older; {TAR})
 ls /usr/local/{OLD_FILE}
-tar -tzf older/*.tar.gz | sed 's,^[^/]*/,/usr/local/,' | xargs rm
-tar -xzf *.tar.gz -C /usr/local --strip-components=1
+(cd older; {UNTAR})
+{TAR}
 no ls /usr/local/{OLD_FILE}
 ldconfig
 run /usr/local
 examples /usr/local
-tar -tzf *.tar.gz | sed 's,^[^/]*/,/usr/local/,' | xargs rm
+{UNTAR}
 """
 # What the system notes of packages, libraries and man pages.
 NOTED = ("/var/lib/dpkg/", "/var/cache/", "/var/log/", "/etc/ld.so.cache", "/run/")

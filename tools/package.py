@@ -2,8 +2,13 @@
 """Makes files by which others install pgserial, without the toolchain: a wheel for Python, a Debian package, and an archive.
 
 The wheel has the package for Python with the program and libpgserial in it. The Debian package and the archive have the program
-with its man page and completions, libpgserial with its header and a file for pkg-config. Beside them stand BUILD.txt, which says
-of which sources and toolchain they are and whether these were proved, and SHA256SUMS. The same sources give the same bytes.
+with its man page and completions, libpgserial with its header, a file for pkg-config, its man page, the package for Rust and
+examples. Beside them stand BUILD.txt, which says of which sources and toolchain they are and whether these were proved, and
+SHA256SUMS. The same sources give the same bytes.
+
+    pip install pgserial-*.whl                                       pip uninstall pgserial
+    dpkg --install pgserial_*.deb                                    dpkg --purge pgserial
+    tar -xzf pgserial-*.tar.gz -C /usr/local --strip-components=1    tar -tzf pgserial-*.tar.gz | sed 's,[^/]*/,/usr/local/,' | xargs rm
 """
 
 import argparse
