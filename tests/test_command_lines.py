@@ -7,6 +7,7 @@ RETURNED = "the line ends in a carriage return (CRLF): lines end in a newline al
 ONE_LINE = "CREATE TABLE must stand on one line in a script, up to its `;`"
 COMMENT = "a comment needs a line of its own that starts with `--`, outside CREATE TABLE"
 LINE_BEGINS = "expected a session's number and a space, as in `1 BEGIN;`, or CREATE TABLE, OPEN or `--`"
+NO_DUMP = "not a pgserial dump, or its lines end in carriage returns (CRLF): the first line must be `-- dump 2` or `-- dump 1`"
 # What is told of a script behind the first line, and the words behind `run`.
 EXPLAINED = (
     ("`int`: unknown type: use bigint, text or bytea", "CREATE TABLE t (id int PRIMARY KEY);\n", ()),
@@ -37,7 +38,7 @@ EXPLAINED = (
     (f"`{'x' * 200}`: {LINE_BEGINS}", "x" * 900 + ";\n", ()),
     ("no such file or directory", "OPEN gone;\n", ()),
     ("is a directory", "OPEN .;\n", ()),
-    ("not a pgserial dump, or its lines end in carriage returns (CRLF): the first line must be `-- dump 2` or `-- dump 1`", "OPEN begun;\n", ()),
+    (NO_DUMP, "OPEN begun;\n", ()),
     ("unexpected line, a carriage return at its end (CRLF), or the dump ends too early", "OPEN crossed;\n", ()),
     ("no such file or directory", "OPEN a\x1b[31mb;\n", ()),
 )
@@ -133,6 +134,13 @@ class Explained(Room):
             self.same(f"line {number}", wanted, self.run_it("check", "recorded").stderr.decode())
         self.write("recorded", "".join(f"{line}\r\n" for line in lines))
         self.same("each line", f"transcript line 4\n{RETURNED}\n", self.run_it("check", "recorded").stderr.decode())
+
+    def test_a_dump_whose_lines_end_in_carriage_returns(self) -> None:
+        """Its first line is refused, by which it would be known."""
+        self.write("dumped", self.read("dump").replace(b"\n", b"\r\n").decode())
+        self.write("opens_dumped", "OPEN dumped;\n")
+        for words in (("restore", "dumped", "--out", "out"), ("run", "opens_dumped")):
+            self.same(words[0], f"dump line 1: 22P04\n{NO_DUMP}\n", self.run_it(*words).stderr.decode())
 
     def test_transcripts_that_are_not_there(self) -> None:
         for path, shown, said in UNOPENED:
