@@ -5,12 +5,18 @@
 Databases as in test_recording.py.
 """
 
+import glob
+import os
+import shutil
 import sqlite3
+import subprocess
 import threading
+import time
 import unittest
 from typing import Any, List
 
 from pgserial.ending import END_BEGINS, END_ENDS, UNREAD, without_ends
+from pgserial.keys import Refused
 from pgserial.recording import Recorder, Verdict, verdict
 from test_recording import DSN, OnSqlite, Room, drivers
 
@@ -160,9 +166,8 @@ class End(OnSqlite):
         self.assertEqual(verdict(self.path).status, 4)
 
 
-@unittest.skipUnless(drivers(), "PostgreSQL or psycopg2 isn't there (Debian: postgresql, python3-psycopg2)")
-class EndOnPostgres(Room):
-    """On PostgreSQL."""
+class OfPostgres(Room):
+    """A table of PostgreSQL."""
 
     def connection(self, driver: Any, recorder: Recorder, autocommit: bool) -> Any:
         raw = driver.connect(DSN)
@@ -177,6 +182,11 @@ class EndOnPostgres(Room):
         for text in ("DROP TABLE IF EXISTS t", "CREATE TABLE t (id int PRIMARY KEY, v bigint, n text)"):
             setup.cursor().execute(text)
         setup.close()
+
+
+@unittest.skipUnless(drivers(), "PostgreSQL or psycopg2 isn't there (Debian: postgresql, python3-psycopg2)")
+class EndOnPostgres(OfPostgres):
+    """On PostgreSQL."""
 
     def test_each_driver_and_mode(self) -> None:
         for driver in drivers():
@@ -208,6 +218,81 @@ class EndOnPostgres(Room):
         self.assertEqual(told.answer, "unknown" if is_seen else "yes", told.words)
         if is_seen:
             self.assertIn("the database has (2, 20, x), and that order leaves no such row", told.words)
+
+
+def programs() -> str:
+    """The folder of PostgreSQL's programs, the newest ones; nothing where there are none."""
+    found = sorted(glob.glob("/usr/lib/postgresql/*/bin/pg_basebackup"), key=lambda path: int(path.split("/")[4]))
+    return os.path.dirname(found[-1]) if found else ""
+
+
+@unittest.skipUnless(programs(), "PostgreSQL isn't there (Debian: postgresql)")
+@unittest.skipUnless(drivers(), "PostgreSQL or psycopg2 isn't there (Debian: postgresql, python3-psycopg2)")
+class Replica(OfPostgres):
+    """On a server and one that follows it, whose replay is held back."""
+
+    def does(self, program: str, *words: str) -> None:
+        """One of PostgreSQL's programs, which don't run as root. Its output isn't taken: the server would hold the pipe."""
+        user = ["setpriv", "--reuid=nobody", "--regid=nogroup", "--clear-groups"] if os.geteuid() == 0 else []
+        with open(os.path.join(self.folder, "log"), "ab") as log:
+            subprocess.run([*user, os.path.join(programs(), program), *words], cwd="/", check=True, stdout=log, stderr=log, timeout=120)
+
+    def setUp(self) -> None:
+        super().setUp()
+        self.ask(DSN, "INSERT INTO t VALUES (1, 10, 'a'), (2, 20, 'b')")
+        words = dict(word.split("=", 1) for word in DSN.split())
+        room = os.path.join(self.folder, "room")
+        os.mkdir(room)
+        if os.geteuid() == 0:
+            os.chmod(self.folder, 0o755)
+            shutil.chown(room, "nobody", "nogroup")
+        data = os.path.join(room, "data")
+        self.does("pg_basebackup", "-h", words["host"], "-U", words["user"], "-D", data, "-R", "-X", "stream", "--checkpoint=fast")
+        most = self.ask(DSN, "SHOW max_connections")[0][0]
+        self.does("pg_ctl", "-D", data, "-w", "-o", f"-c listen_addresses= -c unix_socket_directories={room} -c max_connections={most} -c fsync=off", "start")
+        self.addCleanup(self.does, "pg_ctl", "-D", data, "-m", "immediate", "stop")
+        self.replica = f"host={room} user={words['user']} dbname={words['dbname']}"
+        while self.ask(self.replica, "SELECT count(*) FROM t") != [(2,)]:
+            time.sleep(0.05)
+        self.ask(self.replica, "SELECT pg_wal_replay_pause()")
+        while self.ask(self.replica, "SELECT pg_get_wal_replay_pause_state()") != [("paused",)]:
+            time.sleep(0.05)
+
+    def ask(self, dsn: str, text: str) -> List[Any]:
+        """What a query gives on a connection that isn't recorded."""
+        connection = drivers()[0].connect(dsn)
+        try:
+            connection.autocommit = True
+            cursor = connection.cursor()
+            cursor.execute(text)
+            return list(cursor.fetchall()) if cursor.description is not None else []
+        finally:
+            connection.close()
+
+    def test_what_it_has_late(self) -> None:
+        """A read of it is stale, and no end is read there. The recording doesn't begin with its rows."""
+        driver = drivers()[0]
+        for last in ("the replica", "the primary"):
+            with self.subTest(last):
+                recorder = self.recorder(verify_end=True)
+                late = driver.connect(self.replica)
+                self.addCleanup(late.close)
+                with self.assertRaisesRegex(Refused, "is to a read replica, whose rows may be late"):
+                    recorder.wrap(late)
+                one = self.connection(driver, recorder, True)
+                two = recorder.wrap(late)
+                one.cursor().execute("UPDATE t SET v = v + 1 WHERE id = 1")
+                cursor = two.cursor()
+                cursor.execute("SELECT v FROM t WHERE id = 1")
+                self.assertEqual(cursor.fetchall(), [(10,)])
+                two.commit()
+                for connection in (one, two) if last == "the replica" else (two, one):
+                    connection.close()
+                self.assertRegex(recorder.verdict().text, "stale read(.|\n)*serializable: no")
+                told = verdict(self.path, words=["--no-time"])
+                self.assertEqual(told.answer, "unknown" if last == "the replica" else "yes", told.words)
+                self.assertEqual("the rows at the end couldn't be read: Unsaid: a read replica has the rows late" in told.words, last == "the replica", told.words)
+                self.ask(DSN, "UPDATE t SET v = 10 WHERE id = 1")
 
 
 if __name__ == "__main__":

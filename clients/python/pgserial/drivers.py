@@ -495,9 +495,15 @@ class Postgres(Driver):
             raise Refused("the connection is in a transaction: wrap it before its first statement")
         try:
             self._begin()
+            if self._is_replica():
+                raise Refused("the first connection that is recorded is to a read replica, whose rows may be late: wrap one to its primary first")
             return self._tables(postgres_tables, names)
         finally:
             self._end()
+
+    def _is_replica(self) -> bool:
+        """Whether the server follows another, and has what that had a while ago."""
+        return bool(self.ask("SELECT pg_catalog.pg_is_in_recovery()::int")[0][0])
 
     def identity(self) -> Optional[str]:
         try:
@@ -509,6 +515,8 @@ class Postgres(Driver):
     def rows_now(self, tables: Sequence[Table]) -> List[Tuple[Table, Rows]]:
         try:
             self._begin()
+            if self._is_replica():
+                raise Unsaid("a read replica has the rows late")
             return [(table, self._rows_of(table)) for table in tables]
         finally:
             self._end()
