@@ -14,11 +14,13 @@ from unittest import mock
 
 import brute_force
 from pgserial import steps, translation
+from random_forms import FORMS
 from random_recordings import Machine
 from test_recorded_threads import tell
-from test_recording import DSN, HERE
+from test_recording import DSN, HERE, module
 
-RECORDINGS = 200
+RECORDINGS, ROWS = 200, 90
+CALLS = ("copy in", "execute batch", "execute values", "prepared", "several in one text", "server cursor")
 EXAMPLES = os.path.join(HERE, "../../examples/transcripts")
 
 
@@ -57,10 +59,10 @@ class AllOrders(unittest.TestCase):
 class Recordings(unittest.TestCase):
     """Recordings of seeds that are the same each time, but for what threads do."""
 
-    def machine(self, engine: Optional[str] = None) -> Machine:
+    def machine(self, engine: Optional[str] = None, often: bool = False) -> Machine:
         folder = tempfile.TemporaryDirectory(dir="/dev/shm" if os.path.isdir("/dev/shm") else None)
         self.addCleanup(folder.cleanup)
-        machine = Machine(folder.name, DSN if engine is None else "", engine)
+        machine = Machine(folder.name, DSN if engine is None else "", engine, often=often)
         self.addCleanup(machine.close)
         return machine
 
@@ -76,6 +78,17 @@ class Recordings(unittest.TestCase):
         self.assertGreater(counts["compared with all orders of what was seen: yes"], 20)
         if DSN:
             self.assertGreater(sum(counts[f"verdict at {level}: no"] for level in ("READ COMMITTED", "REPEATABLE READ")), 2)
+
+    def test_no_verdict_is_wrong_of_what_is_said_by_its_rows(self) -> None:
+        machine = self.machine(often=True)
+        wrong = machine.run(range(1, ROWS + 1))
+        self.assertEqual([told.split("\n")[0] for told in wrong], [])
+        counts = machine.counts
+        self.assertGreater(sum(counts[name] for name, form in FORMS.items() if form.kind == "by rows"), ROWS)
+        self.assertGreater(counts["verdict at SERIALIZABLE: yes"], ROWS * 0.4)
+        for name in ("ON CONFLICT", "a product", "kinds are written", "a cascade", "a join with keys", "many by rows", *(CALLS if DSN and module("psycopg2") else ())):
+            with self.subTest(name):
+                self.assertGreater(counts[name], 0)
 
     def found(self, *places: Any) -> List[str]:
         """What is found where a fault is planted."""
