@@ -236,14 +236,35 @@ fn reason_of<A: Allocator + Copy>(
     reason_out(alloc, &recording, steps)
 }
 
-// As many steps as mostly serve to follow the order by end, where the transactions have one.
+/// Of no more transactions than so many all orders are tried first.
+const FEW: usize = 16;
+/// In so many steps.
+const STEPS_OF_FEW: usize = 20_000;
+/// In how many steps a reason is sought of a no that all orders of few have shown.
+const REASON_STEPS: u32 = 100_000;
+
+// As many steps as mostly serve to follow the order by end, where the transactions have one; of few transactions, to try
+// all orders.
 fn few_steps(transactions: usize, steps: u32) -> u32 {
-    let few = transactions
-        .saturating_add(transactions / 5 * 3)
-        .saturating_add(1000);
+    let few = if transactions <= FEW {
+        STEPS_OF_FEW
+    } else {
+        transactions
+            .saturating_add(transactions / 5 * 3)
+            .saturating_add(1000)
+    };
     match u32::try_from(few) {
         Ok(few) => few.min(steps),
         Err(_) => steps,
+    }
+}
+
+// In how many steps a reason is sought of a no.
+fn reason_steps(transactions: usize, steps: u32) -> u32 {
+    if transactions <= FEW {
+        steps.min(REASON_STEPS)
+    } else {
+        steps
     }
 }
 
@@ -310,7 +331,54 @@ fn stopped<A: Allocator + Copy>(
     Ok(Some(stop))
 }
 
-// What comes of a search of few steps, of reasons, and of a search of all orders, one after the other.
+// The judgement of a search of all orders: where it stops, if it found none.
+fn judged_by<A: Allocator + Copy>(
+    alloc: A,
+    catalog: &Catalog<A>,
+    tables: &Tables<A>,
+    traces: &Traces<A>,
+    found: Found<A>,
+) -> Result<Judged<A>, Refusal>
+    requires fit { all_fit catalog.now traces.now.transactions.items ≡ true }
+    requires sound { is_sound catalog.now tables.now ≡ true }
+    requires tells { Tells catalog.now tables.now traces.now.transactions.items found.answer }
+    ensures tells { IfOk result (λ j. Tells catalog.now tables.now traces.now.transactions.items j.answer) }
+{
+    let stop = stopped(alloc, catalog, tables, traces, &found)?;
+    let Found { answer, .. } = found;
+    Ok(Judged {
+        answer,
+        certificate: None,
+        stop,
+    })
+}
+
+// What a search of few steps has found: where it has tried all orders, and found none, also a reason, if there is one in
+// some steps.
+fn judged_soon<A: Allocator + Copy>(
+    alloc: A,
+    catalog: &Catalog<A>,
+    tables: &Tables<A>,
+    traces: &Traces<A>,
+    steps: u32,
+    found: Found<A>,
+) -> Result<Judged<A>, Refusal>
+    requires fit { all_fit catalog.now traces.now.transactions.items ≡ true }
+    requires sound { is_sound catalog.now tables.now ≡ true }
+    requires tells { Tells catalog.now tables.now traces.now.transactions.items found.answer }
+    ensures tells { IfOk result (λ j. Tells catalog.now tables.now traces.now.transactions.items j.answer) }
+{
+    if let Answer::No = found.answer {
+        let steps = reason_steps(traces.transactions.len(), steps);
+        let reasoned = reason_of(alloc, catalog, tables, traces, steps)?;
+        if reasoned.is_answer() {
+            return Ok(reasoned);
+        }
+    }
+    judged_by(alloc, catalog, tables, traces, found)
+}
+
+// What comes of a search of few steps, and else of all that takes more, one after the other.
 fn judge_in_turn<A: Allocator + Copy>(
     alloc: A,
     catalog: &Catalog<A>,
@@ -324,9 +392,24 @@ fn judge_in_turn<A: Allocator + Copy>(
 {
     let few = few_steps(traces.transactions.len(), steps);
     let quick = searched(alloc, catalog, tables, traces, few)?;
-    if let Answer::Yes(_) = quick.answer {
-        return Ok(Judged::of_answer(quick.answer));
+    if let Answer::Unknown = quick.answer {
+        return judge_at_length(alloc, catalog, tables, traces, steps);
     }
+    judged_soon(alloc, catalog, tables, traces, steps, quick)
+}
+
+// What comes of guided orders, of reasons, and of a search of all orders, one after the other.
+fn judge_at_length<A: Allocator + Copy>(
+    alloc: A,
+    catalog: &Catalog<A>,
+    tables: &Tables<A>,
+    traces: &Traces<A>,
+    steps: u32,
+) -> Result<Judged<A>, Refusal>
+    requires fit { all_fit catalog.now traces.now.transactions.items ≡ true }
+    requires sound { is_sound catalog.now tables.now ≡ true }
+    ensures tells { IfOk result (λ j. Tells catalog.now tables.now traces.now.transactions.items j.answer) }
+{
     let turns = few_turns(traces.transactions.len());
     let soon = guided(alloc, catalog, tables, traces, turns, steps)?;
     if soon.is_answer() {
@@ -341,13 +424,7 @@ fn judge_in_turn<A: Allocator + Copy>(
         return Ok(late);
     }
     let found = searched(alloc, catalog, tables, traces, steps)?;
-    let stop = stopped(alloc, catalog, tables, traces, &found)?;
-    let Found { answer, .. } = found;
-    Ok(Judged {
-        answer,
-        certificate: None,
-        stop,
-    })
+    judged_by(alloc, catalog, tables, traces, found)
 }
 
 /// Judges what was recorded from these tables on: yes with an order that explains it, no where none does, or unknown,
