@@ -96,6 +96,7 @@ draw gone --out gone/out --events 0
 check
 check gone more
 check gone --no-time --no-time
+check gone --json --json
 check gone --steps 0
 check gone --steps 4294967296
 check gone --certificate

@@ -6,6 +6,7 @@ stand in a test's Rust code too are compared with these, where the constant is m
 """
 
 import contextlib
+import json
 import os
 import re
 import tempfile
@@ -16,7 +17,7 @@ from tests import program, transcripts
 from tests.program import Differs
 from tests.transcripts import CHECKED, MARKS, Script
 
-# How a check ends by its last line.
+# How a check ends by its last line, or by the answer of its object.
 ENDED = {"check yes": 0, "check unknown": program.UNKNOWN, "check no": program.NO}
 
 
@@ -34,13 +35,18 @@ def same_lines(script: Script, what: str, wanted: List[str], came: List[str]) ->
         raise Differs(f"{script.name}: {what} line {place}", line, other, len(script.told))
 
 
+def ended(words: List[str], last: str) -> int:
+    """How a check ends that prints this last line; in JSON it is the only one."""
+    return ENDED[f"check {json.loads(last)['answer']}" if "--json" in words else last]
+
+
 def ends(script: Script, folder: str, words: List[str], wanted: List[str]) -> None:
     """Runs the program, which must end with these lines on standard output, and those of the script on standard error."""
     told = script.lines["! "]
     done = program.run(*words, folder=folder)
     status = 0 if not told else program.DEVICE if told[0].startswith("device: ") else program.REFUSED
     if words[0] == "check" and not told:
-        status = ENDED[wanted[-1]]
+        status = ended(words, wanted[-1])
     said = " ".join(words)
     same_lines(script, f"`{said}` prints", wanted, lines_of(done.stdout))
     # Behind its first line standard error has words for a person.

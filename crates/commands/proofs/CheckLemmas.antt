@@ -1,5 +1,5 @@
 -- How `check` ends, and what it has done.
-use Rattle.std.proofs.Common.{◌≡◌, ◌⊎◌, ◌∙◌, ◌≤◌, ℕ, Bool, List, Option, Result, Ok, Err, OnOk, inl, inr, ap, refl, subst, arith}
+use Rattle.std.proofs.Common.{◌≡◌, ◌⊎◌, ◌∙◌, ◌≤◌, ℕ, Bool, true, false, List, Option, Result, Ok, Err, IfOk, OnOk, Vec, inl, inr, ap, refl, subst, sym, arith}
 use Rattle.std.specs.Io.KnownBytes.{Appends}
 use Rattle.clap.specs.Words.{HasKind, Text, kind_of}
 use Rattle.clap.specs.declared.error.Error.{Error}
@@ -17,10 +17,11 @@ use Rattle.program.specs.declared.fault.Status.TheVariants.{Done, Refused, Usage
 use Rattle.program.proofs.EndLemmas.{among, help_of}
 use Rattle.transcript.specs.Opening.{opening}
 use Rattle.transcript.specs.declared.opening.Opening.{Opening}
+use Rattle.judgement.specs.JsonTelling.{TellsObject}
 use Rattle.judgement.specs.Telling.{TellsOf}
 use Rattle.judgement.specs.declared.judging.Judgement.{Judgement}
 use Rattle.commands.specs.CheckWords.{AsksFor, faults_in, rows_in}
-use Rattle.commands.specs.Checked.{EndsAs, HasChecked, HasDone, HasJudged, IsHelp, IsJudged, IsPrinted, IsTold}
+use Rattle.commands.specs.Checked.{EndsAs, HasChecked, HasDone, HasJudged, IsHelp, IsJudged, IsPrinted, IsTold, TellsAs}
 use Rattle.commands.specs.Statuses.{IsFault, status_of}
 use Rattle.commands.specs.declared.check.task.Task.{Task}
 
@@ -47,28 +48,37 @@ status_within No n e = omega (arith, e)
 status_within Unknown n e = omega (arith, e)
 
 -- a judgement was printed
-pub told : {A : Type 0} (j : Judgement A) (n : ℕ) (before after : Option (List ℕ)) → IsPrinted j before after → IsFault n ⊎ (n ≡ status_of j.answer) → IsFault n ⊎ IsTold j n before after
-told j n before after printed (inl e) = inl e
-told j n before after printed (inr e) = inr (e, printed)
+pub told : {A : Type 0} (json : Bool) (j : Judgement A) (n : ℕ) (before after : Option (List ℕ)) → IsPrinted json j before after → IsFault n ⊎ (n ≡ status_of j.answer) → IsFault n ⊎ IsTold json j n before after
+told json j n before after printed (inl e) = inl e
+told json j n before after printed (inr e) = inr (e, printed)
 
-pub printed : {A E : Type 0} (j : Judgement A) (r : Result (Unit {0}) E) (text shown : List ℕ) (before after : Option (List ℕ)) → shown ≡ text → TellsOf j text → OnOk r (Appends before after shown) → OnOk r (IsPrinted j before after)
-printed j (Ok done) text shown before after is tells appends = (text, tells, subst (λ t. Appends before after t) is appends)
-printed j (Err e) text shown before after is tells appends = tt
+-- an object in JSON is told, or a text
+pub by_object : {A E : Type 0} (json : Bool) (j : Judgement A) (r : Result (Vec ℕ A) E) → json ≡ true → IfOk r (λ t. TellsObject j t.items) → IfOk r (λ t. TellsAs json j t.items)
+by_object json j (Ok t) is told = subst (λ b. TellsAs b j t.items) (sym is) told
+by_object json j (Err e) is told = tt
 
--- the judgement of what a transcript begins with was printed
-pub was_judged : {A : Type 0} (held : List ℕ → Option (List ℕ)) (has_time : Bool) (text : List ℕ) (o : Opening A) (opens : Option (List ℕ)) (j : Judgement A) (n : ℕ) (before after : Option (List ℕ)) → opens ≡ o.opens → IsJudged held has_time text opens o.catalog j → IsFault n ⊎ IsTold j n before after → IsFault n ⊎ HasJudged held has_time text o n before after
-was_judged held has_time text o opens j n before after is judged (inl e) = inl e
-was_judged held has_time text o opens j n before after is judged (inr told) = inr (j, subst (λ path. IsJudged held has_time text path o.catalog j) is judged, told)
+pub by_text : {A E : Type 0} (json : Bool) (j : Judgement A) (r : Result (Vec ℕ A) E) → json ≡ false → IfOk r (λ t. TellsOf j t.items) → IfOk r (λ t. TellsAs json j t.items)
+by_text json j (Ok t) is told = subst (λ b. TellsAs b j t.items) (sym is) told
+by_text json j (Err e) is told = tt
+
+pub printed : {A E : Type 0} (json : Bool) (j : Judgement A) (r : Result (Unit {0}) E) (text shown : List ℕ) (before after : Option (List ℕ)) → shown ≡ text → TellsAs json j text → OnOk r (Appends before after shown) → OnOk r (IsPrinted json j before after)
+printed json j (Ok done) text shown before after is tells appends = (text, tells, subst (λ t. Appends before after t) is appends)
+printed json j (Err e) text shown before after is tells appends = tt
+
+-- the judgement of what a transcript begins with was told
+pub was_judged : {A : Type 0} (held : List ℕ → Option (List ℕ)) (has_time json : Bool) (text : List ℕ) (o : Opening A) (opens : Option (List ℕ)) (j : Judgement A) (n : ℕ) (before after : Option (List ℕ)) → opens ≡ o.opens → IsJudged held has_time text opens o.catalog j → IsFault n ⊎ IsTold json j n before after → IsFault n ⊎ HasJudged held has_time json text o n before after
+was_judged held has_time json text o opens j n before after is judged (inl e) = inl e
+was_judged held has_time json text o opens j n before after is judged (inr told) = inr (j, subst (λ path. IsJudged held has_time text path o.catalog j) is judged, told)
 
 -- a transcript was checked
-pub was_checked : {A : Type 0} (held : List ℕ → Option (List ℕ)) (has_time : Bool) (text : List ℕ) (o : Opening A) (n : ℕ) (before after : Option (List ℕ)) → opening text ≡ Ok o → IsFault n ⊎ HasJudged held has_time text o n before after → IsFault n ⊎ HasChecked A held has_time text n before after
-was_checked held has_time text o n before after is (inl e) = inl e
-was_checked held has_time text o n before after is (inr judged) = inr (o, is, judged)
+pub was_checked : {A : Type 0} (held : List ℕ → Option (List ℕ)) (has_time json : Bool) (text : List ℕ) (o : Opening A) (n : ℕ) (before after : Option (List ℕ)) → opening text ≡ Ok o → IsFault n ⊎ HasJudged held has_time json text o n before after → IsFault n ⊎ HasChecked A held has_time json text n before after
+was_checked held has_time json text o n before after is (inl e) = inl e
+was_checked held has_time json text o n before after is (inr judged) = inr (o, is, judged)
 
 -- what a task asks for was done
-pub was_done : (A : Type 0) (held : List ℕ → Option (List ℕ)) (input : Option (List ℕ)) (task : Task) (text shown : List ℕ) (n : ℕ) (before after : Option (List ℕ)) → shown ≡ text → IsAllOf (read_of held input task.transcript.now) text → IsFault n ⊎ HasChecked A held task.has_time shown n before after → IsFault n ⊎ HasDone A held input task n before after
+pub was_done : (A : Type 0) (held : List ℕ → Option (List ℕ)) (input : Option (List ℕ)) (task : Task) (text shown : List ℕ) (n : ℕ) (before after : Option (List ℕ)) → shown ≡ text → IsAllOf (read_of held input task.transcript.now) text → IsFault n ⊎ HasChecked A held task.has_time task.json shown n before after → IsFault n ⊎ HasDone A held input task n before after
 was_done A held input task text shown n before after same is (inl e) = inl e
-was_done A held input task text shown n before after same is (inr checked) = inr (text, is, subst (λ t. HasChecked A held task.has_time t n before after) same checked)
+was_done A held input task text shown n before after same is (inr checked) = inr (text, is, subst (λ t. HasChecked A held task.has_time task.json t n before after) same checked)
 
 -- how words end that the parser takes
 pub of_task : (A : Type 0) (held : List ℕ → Option (List ℕ)) (input : Option (List ℕ)) (words : List Text) (task : Task) (n : ℕ) (before after : Option (List ℕ)) → AsksFor (rows_in words) task → IsFault n ⊎ HasDone A held input task n before after → EndsAs A held input words n before after

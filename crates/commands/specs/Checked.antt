@@ -1,5 +1,5 @@
 -- What `check` has done where it ends, and what it has printed.
-use Rattle.std.specs.Prelude.{◌≡◌, ◌⊎◌, ℕ, Bool, true, List, Option, Ok}
+use Rattle.std.specs.Prelude.{◌≡◌, ◌⊎◌, ℕ, Bool, true, false, List, Option, Ok}
 use Rattle.std.specs.Io.KnownBytes.{Appends}
 use Rattle.clap.specs.Words.{Text}
 use Rattle.clap.specs.declared.error.ErrorKind.{ErrorKind}
@@ -15,6 +15,7 @@ use Rattle.program.specs.Outcomes.{AreHelp}
 use Rattle.transcript.specs.Opening.{opening}
 use Rattle.transcript.specs.Reading.{traces}
 use Rattle.transcript.specs.declared.opening.Opening.{Opening}
+use Rattle.judgement.specs.JsonTelling.{TellsObject}
 use Rattle.judgement.specs.Telling.{TellsOf, names_of}
 use Rattle.judgement.specs.declared.judging.Judgement.{Judgement}
 use Rattle.commands.specs.CheckWords.{AsksFor, faults_in, rows_in}
@@ -30,25 +31,30 @@ module _ {A : Type 0} where
     pub fit : all_fit j.catalog j.traces.transactions.items ≡ true
     pub tells : Tells j.catalog j.tables j.traces.transactions.items j.answer
 
-  -- the text of a judgement was printed
-  abbrev pub IsPrinted : Judgement A → Option (List ℕ) → Option (List ℕ) → Type 0
-  IsPrinted j before after = (text : List ℕ) × TellsOf j text × Appends before after text
+  -- the text of a judgement, or its object in JSON
+  abbrev pub TellsAs : Bool → Judgement A → List ℕ → Type 0
+  TellsAs true j text = TellsObject j text
+  TellsAs false j text = TellsOf j text
 
-  -- the text of a judgement was printed, and the exit status is that of its answer
-  abbrev pub IsTold : Judgement A → ℕ → Option (List ℕ) → Option (List ℕ) → Type 0
-  IsTold j n before after = (n ≡ status_of j.answer) × IsPrinted j before after
+  -- that was printed
+  abbrev pub IsPrinted : Bool → Judgement A → Option (List ℕ) → Option (List ℕ) → Type 0
+  IsPrinted json j before after = (text : List ℕ) × TellsAs json j text × Appends before after text
 
-  -- A transcript of this text that begins with o was judged, and that was printed.
-  abbrev pub HasJudged : (List ℕ → Option (List ℕ)) → Bool → List ℕ → Opening A → ℕ → Option (List ℕ) → Option (List ℕ) → Type 0
-  HasJudged held has_time text o n before after = (j : Judgement A) × IsJudged held has_time text o.opens o.catalog j × IsTold j n before after
+  -- that was printed, and the exit status is that of its answer
+  abbrev pub IsTold : Bool → Judgement A → ℕ → Option (List ℕ) → Option (List ℕ) → Type 0
+  IsTold json j n before after = (n ≡ status_of j.answer) × IsPrinted json j before after
 
--- A transcript was judged, and that was printed.
-abbrev pub HasChecked : (A : Type 0) → (List ℕ → Option (List ℕ)) → Bool → List ℕ → ℕ → Option (List ℕ) → Option (List ℕ) → Type 0
-HasChecked A held has_time text n before after = (o : Opening A) × (opening text ≡ Ok o) × HasJudged held has_time text o n before after
+  -- A transcript of this text that begins with o was judged, and that was told.
+  abbrev pub HasJudged : (List ℕ → Option (List ℕ)) → Bool → Bool → List ℕ → Opening A → ℕ → Option (List ℕ) → Option (List ℕ) → Type 0
+  HasJudged held has_time json text o n before after = (j : Judgement A) × IsJudged held has_time text o.opens o.catalog j × IsTold json j n before after
+
+-- A transcript was judged, and that was told.
+abbrev pub HasChecked : (A : Type 0) → (List ℕ → Option (List ℕ)) → Bool → Bool → List ℕ → ℕ → Option (List ℕ) → Option (List ℕ) → Type 0
+HasChecked A held has_time json text n before after = (o : Opening A) × (opening text ≡ Ok o) × HasJudged held has_time json text o n before after
 
 -- What a task asks for was done: its transcript was read, judged, and told.
 abbrev pub HasDone : (A : Type 0) → (List ℕ → Option (List ℕ)) → Option (List ℕ) → Task → ℕ → Option (List ℕ) → Option (List ℕ) → Type 0
-HasDone A held input task n before after = (text : List ℕ) × IsAllOf (read_of held input task.transcript.now) text × HasChecked A held task.has_time text n before after
+HasDone A held input task n before after = (text : List ℕ) × IsAllOf (read_of held input task.transcript.now) text × HasChecked A held task.has_time task.json text n before after
 
 -- an error of this kind is a call for help
 abbrev pub IsHelp : ErrorKind → Type 0

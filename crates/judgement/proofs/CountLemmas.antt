@@ -1,18 +1,5 @@
 -- The line that says how much was judged.
-use Rattle.std.proofs.Common.{◌≡◌, ◌∙◌, ◌++◌, [], ℕ, List, length, map, ap, append_assoc, sym}
-use Rattle.std.specs.List.{count_by, sum_by}
-use Rattle.orders.specs.Explains.{Trace}
-use Rattle.transcript.specs.Reading.{Named}
-use Rattle.judgement.specs.Counting.{AreCounts, IsHowMany, is_unanswered, line, statements_of}
-
--- it has the numbers that were counted
-pub counted : {A : Type 0} (names : List Named) (ts : List (Trace A)) (text : List ℕ) (transactions sessions statements unanswered : ℕ) → IsHowMany sessions (map (λ x. x.session) names) → transactions ≡ length ts
-    → statements ≡ sum_by statements_of ts → unanswered ≡ count_by is_unanswered ts → text ≡ line transactions sessions statements unanswered → AreCounts names ts text
-counted names ts text transactions sessions statements unanswered many t s u is = (
-  sessions,
-  many,
-  is ∙ ap (λ n. line n sessions statements unanswered) t ∙ ap (λ n. line (length ts) sessions n unanswered) s ∙ ap (line (length ts) sessions (sum_by statements_of ts)) u,
-)
+use Rattle.std.proofs.Common.{◌≡◌, ◌∙◌, ◌++◌, [], ℕ, List, ap, append_assoc, sym}
 
 -- a word, and a number
 more : (old new word number : List ℕ) → new ≡ old ++ (word ++ number) → new ≡ (old ++ word) ++ number

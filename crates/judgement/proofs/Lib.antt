@@ -1,2 +1,4 @@
 pub mod CountLemmas
+pub mod JsonLemmas
+pub mod JudgedLemmas
 pub mod PlaceLemmas

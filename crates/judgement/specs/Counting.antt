@@ -5,6 +5,7 @@ use Rattle.std.specs.List.{count_by, sum_by}
 use Rattle.std.specs.List.Sorted.{IsNonDecreasing, IsPermutation}
 use Rattle.orders.specs.Explains.{Trace}
 use Rattle.transcript.specs.Reading.{Named}
+use Rattle.judgement.specs.declared.counting.Counts.{Counts}
 
 -- ---- how many different numbers there are
 
@@ -25,9 +26,9 @@ IsHowMany count ns = (sorted : List ℕ) × IsPermutation ns sorted × IsNonDecr
 -- ---- the line of counts
 
 -- of so many transactions, sessions, statements and COMMITs without a reply
-abbrev pub line : ℕ → ℕ → ℕ → ℕ → List ℕ
-line transactions sessions statements unanswered =
-    codes "judged: transactions " ++ decimal transactions ++ codes ", sessions " ++ decimal sessions ++ codes ", statements " ++ decimal statements ++ codes ", without a reply to COMMIT " ++ decimal unanswered ++ codes "\n"
+abbrev pub line_of : Counts → List ℕ
+line_of c =
+    codes "judged: transactions " ++ decimal c.transactions ++ codes ", sessions " ++ decimal c.sessions ++ codes ", statements " ++ decimal c.statements ++ codes ", without a reply to COMMIT " ++ decimal c.unanswered ++ codes "\n"
 
 module _ {A : Type 0} where
   abbrev pub statements_of : Trace A → ℕ
@@ -37,6 +38,13 @@ module _ {A : Type 0} where
   abbrev pub is_unanswered : Trace A → Bool
   is_unanswered t = not (is_some t.end)
 
-  -- The text is the line that says how much was judged: how many transactions, sessions and statements, and how many COMMITs have no reply.
+  -- These are the numbers of transactions, sessions and statements, and of COMMITs without a reply.
+  pub record AreCounted (names : List Named) (ts : List (Trace A)) (c : Counts) : Type 0 where
+    pub transactions : c.transactions ≡ length ts
+    pub sessions : IsHowMany c.sessions (map (λ x. x.session) names)
+    pub statements : c.statements ≡ sum_by statements_of ts
+    pub unanswered : c.unanswered ≡ count_by is_unanswered ts
+
+  -- The text is the line that says how much was judged.
   abbrev pub AreCounts : List Named → List (Trace A) → List ℕ → Type 0
-  AreCounts names ts text = (sessions : ℕ) × IsHowMany sessions (map (λ x. x.session) names) × (text ≡ line (length ts) sessions (sum_by statements_of ts) (count_by is_unanswered ts))
+  AreCounts names ts text = (c : Counts) × AreCounted names ts c × (text ≡ line_of c)

@@ -96,21 +96,44 @@ fn count_unanswered<A: Allocator>(transactions: &[Transaction<A>]) -> u64
     count
 }
 
-// The line of so many transactions, sessions, statements and COMMITs without a reply.
-fn line_of<A: Allocator>(
+/// How much was judged: how many transactions, sessions, statements, and COMMITs without a reply.
+#[derive(Clone, Copy)]
+pub struct Counts {
+    pub transactions: u64,
+    pub sessions: u64,
+    pub statements: u64,
+    pub unanswered: u64,
+}
+
+/// Counts how much was judged. Statements that 64 bits don't count are refused as out of memory.
+pub(crate) fn counts_of<A: Allocator + Copy>(
     alloc: A,
-    transactions: u64,
-    sessions: u64,
-    statements: u64,
-    unanswered: u64,
-) -> Result<Vec<u8, A>, NoMemory>
-    ensures { IfOk result (λ text. text.items ≡ spec.line transactions sessions statements unanswered) }
+    traces: &Traces<A>,
+) -> Result<Counts, NoMemory>
+    ensures { IfOk result (λ counts. spec.AreCounted (names_of traces.now.names.items) traces.now.transactions.items counts) }
+{
+    let transactions = traces.transactions.as_slice();
+    let sessions = count_sessions(alloc, traces.names.as_slice())?;
+    let Some(statements) = count_statements(transactions) else {
+        return Err(NoMemory);
+    };
+    Ok(Counts {
+        transactions: count_all(transactions),
+        sessions,
+        statements,
+        unanswered: count_unanswered(transactions),
+    })
+}
+
+// The line of so many transactions, sessions, statements and COMMITs without a reply.
+fn line_of<A: Allocator>(alloc: A, counts: Counts) -> Result<Vec<u8, A>, NoMemory>
+    ensures { IfOk result (λ text. text.items ≡ spec.line_of counts) }
 {
     let mut text = Vec::new(alloc);
-    append("judged: transactions ", transactions, &mut text)?;
-    append(", sessions ", sessions, &mut text)?;
-    append(", statements ", statements, &mut text)?;
-    append(", without a reply to COMMIT ", unanswered, &mut text)?;
+    append("judged: transactions ", counts.transactions, &mut text)?;
+    append(", sessions ", counts.sessions, &mut text)?;
+    append(", statements ", counts.statements, &mut text)?;
+    append(", without a reply to COMMIT ", counts.unanswered, &mut text)?;
     text.extend_from_slice(b"\n")?;
     Ok(text)
 }
@@ -122,12 +145,6 @@ pub(crate) fn counts_text<A: Allocator + Copy>(
 ) -> Result<Vec<u8, A>, NoMemory>
     ensures { IfOk result (λ text. spec.AreCounts (names_of traces.now.names.items) traces.now.transactions.items text.items) }
 {
-    let transactions = traces.transactions.as_slice();
-    let sessions = count_sessions(alloc, traces.names.as_slice())?;
-    let Some(statements) = count_statements(transactions) else {
-        return Err(NoMemory);
-    };
-    let all = count_all(transactions);
-    let unanswered = count_unanswered(transactions);
-    line_of(alloc, all, sessions, statements, unanswered)
+    let counts = counts_of(alloc, traces)?;
+    line_of(alloc, counts)
 }

@@ -2,7 +2,8 @@
 
 #![tactic(auto)]
 
-mod counting;
+pub mod counting;
+pub mod json;
 pub mod judging;
 mod memory;
 pub mod printing;

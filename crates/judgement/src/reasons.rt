@@ -3,6 +3,7 @@
 pub mod account;
 mod anomaly;
 mod cycle;
+mod facts;
 mod numbers;
 mod origins;
 mod phrases;

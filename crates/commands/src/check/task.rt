@@ -21,6 +21,8 @@ pub(crate) struct Task<'w> {
     pub(crate) steps: u32,
     /// The file that has a certificate, or is given the one that was found.
     pub(crate) certificate: Option<&'w str>,
+    /// Whether the judgement is printed in JSON.
+    pub(crate) json: bool,
 }
 
 // The file of a transcript.
@@ -72,6 +74,17 @@ fn certificate<'w>(alloc: Global) -> Arg<'w>
         )
 }
 
+// The flag by which the judgement is printed in JSON.
+fn json<'w>(alloc: Global) -> Arg<'w>
+    ensures rule { rule_of result ≡ spec.json }
+    ensures local { result.global ≡ false }
+{
+    Arg::new(alloc, "json")
+        .long("json")
+        .action(ArgAction::SetTrue)
+        .help("Print one object in JSON in the place of the text")
+}
+
 // The command, without its arguments.
 fn alone<'w>(alloc: Global) -> Result<Command<'w>, AllocError>
     ensures { IfOk result (λ c. app_of c ≡ spec.alone) }
@@ -91,7 +104,8 @@ fn check<'w>(alloc: Global) -> Result<Command<'w>, AllocError>
         .arg(transcript(alloc))?
         .arg(no_time(alloc))?
         .arg(steps(alloc))?
-        .arg(certificate(alloc))?;
+        .arg(certificate(alloc))?
+        .arg(json(alloc))?;
     Ok(check)
 }
 
@@ -128,6 +142,16 @@ fn certificate_of<'w>(matches: &ArgMatches<'w>) -> Option<&'w str>
     matches.get_str("certificate")
 }
 
+// Whether the judgement is printed in JSON.
+fn is_json(matches: &ArgMatches<'_>) -> bool
+    ensures { result ≡ is_set (codes "json") (rows_of (found_of matches.now)) }
+{
+    match matches.get_str("json") {
+        Some(text) => text == "true",
+        None => false,
+    }
+}
+
 // What words with these matches ask for.
 fn task_of<'w>(matches: &ArgMatches<'w>) -> Task<'w>
     ensures { spec.AsksFor (rows_of (found_of matches.now)) result }
@@ -137,6 +161,7 @@ fn task_of<'w>(matches: &ArgMatches<'w>) -> Task<'w>
         has_time: has_time(matches),
         steps: steps_of(matches),
         certificate: certificate_of(matches),
+        json: is_json(matches),
     }
 }
 

@@ -1,9 +1,9 @@
 //! The command, over any files.
 
-ghost use Rattle.std.specs.Prelude.{◌≡◌, ◌⊎◌, ◌≤◌, map, OnOk};
+ghost use Rattle.std.specs.Prelude.{◌≡◌, ◌⊎◌, ◌≤◌, map, IfOk, OnOk};
 ghost use Rattle.clap.specs.Words.{kind_of};
 ghost use Rattle.program.specs.CommandLine.{IsMistake};
-ghost use Rattle.commands.specs.Checked.{EndsAs, HasChecked, HasDone, HasJudged, IsHelp, IsPrinted, IsTold};
+ghost use Rattle.commands.specs.Checked.{EndsAs, HasChecked, HasDone, HasJudged, IsHelp, IsPrinted, IsTold, TellsAs};
 ghost use Rattle.commands.specs.Statuses as spec;
 ghost use Rattle.commands.specs.Statuses.{IsFault};
 
@@ -15,8 +15,9 @@ use crate::check::task::{Task, read_words};
 use crate::check::telling::write_all;
 use clap::Error;
 use clap::error::ErrorKind;
+use judgement::json::judged::judgement_object;
 use judgement::judging::Judgement;
-use judgement::printing::judgement_text;
+use judgement::printing::{NoMemory, judgement_text};
 use orders::search::Answer;
 use program::files::Files;
 use program::machine::Machine;
@@ -57,15 +58,32 @@ where
     }
 }
 
+// The text of a judgement, or its object in JSON.
+#[tactic(auto, using(crate::proofs::CheckLemmas::by_object, crate::proofs::CheckLemmas::by_text))]
+fn text_of<A: Allocator + Copy>(
+    alloc: A,
+    json: bool,
+    judgement: &Judgement<A>,
+) -> Result<Vec<u8, A>, NoMemory>
+    ensures { IfOk result (λ text. TellsAs json judgement.now text.items) }
+{
+    if json {
+        judgement_object(alloc, judgement)
+    } else {
+        judgement_text(alloc, judgement)
+    }
+}
+
 // Prints a judgement.
 fn print<A: Allocator + Copy, W: Write>(
     alloc: A,
+    json: bool,
     judgement: &Judgement<A>,
     out: &mut W,
 ) -> Result<(), Fault<'static>>
-    ensures { OnOk result (IsPrinted judgement.now (W.contents out.old) (W.contents out.new)) }
+    ensures { OnOk result (IsPrinted json judgement.now (W.contents out.old) (W.contents out.new)) }
 {
-    match judgement_text(alloc, judgement) {
+    match text_of(alloc, json, judgement) {
         Ok(text) => write_all(text.as_slice(), out),
         Err(_) => Err(Fault::Memory),
     }
@@ -76,6 +94,7 @@ fn tell_judgement<A, F, W, E>(
     alloc: A,
     files: &F,
     path: Option<&str>,
+    json: bool,
     judgement: &Judgement<A>,
     out: &mut W,
     err: &mut E,
@@ -85,9 +104,9 @@ where
     F: Files<A>,
     W: Write,
     E: Write,
-    ensures { IsFault result ⊎ IsTold judgement.now result (W.contents out.old) (W.contents out.new) }
+    ensures { IsFault result ⊎ IsTold json judgement.now result (W.contents out.old) (W.contents out.new) }
 {
-    match print(alloc, judgement, out) {
+    match print(alloc, json, judgement, out) {
         Ok(()) => end(alloc, files, path, judgement, err),
         Err(fault) => tell(fault, None, err),
     }
@@ -118,14 +137,22 @@ where
     W: Write,
     E: Write,
     T: Threads + Sync,
-    ensures { IsFault result ⊎ HasJudged (F.held machine.now.files.now) task.entry.has_time text.now opening result
+    ensures { IsFault result ⊎ HasJudged (F.held machine.now.files.now) task.entry.has_time task.entry.json text.now opening result
         (W.contents out.old) (W.contents out.new) }
 {
     let Opening { catalog, opens, .. } = opening;
     match judge(machine, catalog, opens.as_ref(), text, task, certificate) {
         Ok(judgement) => {
             let path = target_of(task, certificate);
-            tell_judgement(machine.alloc, machine.files, path, &judgement, out, err)
+            tell_judgement(
+                machine.alloc,
+                machine.files,
+                path,
+                task.json,
+                &judgement,
+                out,
+                err,
+            )
         }
         Err(fault) => tell(fault, machine.files.reason(), err),
     }
@@ -146,7 +173,7 @@ where
     W: Write,
     E: Write,
     T: Threads + Sync,
-    ensures { IsFault result ⊎ HasChecked A (F.held machine.now.files.now) task.entry.has_time text.now result
+    ensures { IsFault result ⊎ HasChecked A (F.held machine.now.files.now) task.entry.has_time task.entry.json text.now result
         (W.contents out.old) (W.contents out.new) }
 {
     match read_opening(machine.alloc, text) {
@@ -169,7 +196,7 @@ where
     W: Write,
     E: Write,
     T: Threads + Sync,
-    ensures { IsFault result ⊎ HasChecked A (F.held machine.now.files.now) task.entry.has_time text.now result
+    ensures { IsFault result ⊎ HasChecked A (F.held machine.now.files.now) task.entry.has_time task.entry.json text.now result
         (W.contents out.old) (W.contents out.new) }
 {
     match read_file(machine.alloc, machine.files, task.certificate) {

@@ -179,4 +179,23 @@ impl<A: Allocator> Account<'_, A> {
         }
         Ok(steps)
     }
+
+    /// The steps of a cycle of two pairs, by the lines before a place: from the first to the second, and back.
+    pub(crate) fn round(
+        &self,
+        alloc: A,
+        first: usize,
+        second: usize,
+        before: usize,
+    ) -> Result<Vec<Step, A>, Refusal>
+    where
+        A: Copy,
+        ensures memory { IfErr result (λ e. e ≡ out_of_memory) }
+    {
+        let mut steps = self.steps(alloc, first, second, before)?;
+        for step in self.steps(alloc, second, first, before)?.as_slice() {
+            steps.push(*step)?;
+        }
+        Ok(steps)
+    }
 }

@@ -11,8 +11,8 @@ use transcript::places::Place;
 use value::refusal::Refusal;
 
 impl<'r, A: Allocator> Account<'r, A> {
-    // What the comment before the command in a line tells.
-    fn origin(&self, line: u64) -> Option<&'r [u8]> {
+    /// What the comment before the command in a line tells.
+    pub(crate) fn origin(&self, line: u64) -> Option<&'r [u8]> {
         let places = self.places;
         let found = places.binary_search_by_key(&line, |place: &Place<A>| -> u64 { place.line });
         match found {

@@ -196,8 +196,8 @@ impl<A: Allocator> Account<'_, A> {
         self.names.get(place)?.lines.get(statement).copied()
     }
 
-    // The line where a transaction first looked at a spot, or wrote there.
-    fn line_at(&self, place: usize, spot: &Spot<A>, writes: bool) -> Option<u64> {
+    /// The line where a transaction first looked at a spot, or wrote there.
+    pub(crate) fn line_at(&self, place: usize, spot: &Spot<A>, writes: bool) -> Option<u64> {
         let transaction = self.transactions.get(place)?;
         let statement = first_look(transaction.statements.as_slice(), spot, writes)?;
         self.statement_line(place, statement)

@@ -170,6 +170,28 @@ impl<A: Allocator + Copy> Telling<'_, A> {
         self.append_so(step.first, step.second)
     }
 
+    /// Appends the line that says a step: a fact, the contrary of a supposition, or time.
+    pub(crate) fn append_step(&mut self, step: &Step) -> Result<(), Refusal>
+        ensures memory { IfErr result (λ e. e ≡ out_of_memory) }
+    {
+        let account = self.account;
+        let place = match step.why {
+            Why::Time => return self.append_time(step),
+            Why::Line(place) => place,
+            Why::Supposed => return Ok(()),
+        };
+        let Some(line) = account.lines.get(place) else {
+            return Ok(());
+        };
+        if !is_contradiction(line) {
+            return self.append_fact(line);
+        }
+        match account.supposed_at(place) {
+            Some((_, assumption)) => self.append_contrary(assumption),
+            None => Ok(()),
+        }
+    }
+
     // Appends the steps of a cycle that time tells.
     fn append_times(&mut self, depth: usize, steps: &[Step]) -> Result<(), Refusal>
         ensures memory { IfErr result (λ e. e ≡ out_of_memory) }
@@ -209,13 +231,7 @@ impl<A: Allocator + Copy> Telling<'_, A> {
         ensures memory { IfErr result (λ e. e ≡ out_of_memory) }
     {
         let account = self.account;
-        let mut steps = account.steps(self.alloc, first, second, at.place)?;
-        for step in account
-            .steps(self.alloc, second, first, at.place)?
-            .as_slice()
-        {
-            steps.push(*step)?;
-        }
+        let steps = account.round(self.alloc, first, second, at.place)?;
         self.append_times(at.depth, steps.as_slice())?;
         self.append_indent(at.depth)?;
         self.append_round(steps.as_slice())

@@ -5,5 +5,6 @@ use Rattle.judgement.proofs.counting.line_of.Goals as goal
 
 pub returns : goal.returns
 returns g c =
-    whole (codes "judged: transactions ") (decimal c.args.transactions) (codes ", sessions ") (decimal c.args.sessions) (codes ", statements ") (decimal c.args.statements) (codes ", without a reply to COMMIT ") (decimal c.args.unanswered) (codes "\n")
+    let n = c.args.counts in
+    whole (codes "judged: transactions ") (decimal n.transactions) (codes ", sessions ") (decimal n.sessions) (codes ", statements ") (decimal n.statements) (codes ", without a reply to COMMIT ") (decimal n.unanswered) (codes "\n")
     _ _ _ _ _ _ c.new-text.ensures.items c.in_ok-append.ensures c.in_ok-append-2.ensures c.in_ok-append-3.ensures c.in_ok-append-4.ensures c.in_ok-extend_from_slice.ensures.items
