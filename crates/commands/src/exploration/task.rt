@@ -1,7 +1,7 @@
 //! What the words of the command line ask for.
 
 use clap::builder::ValueParser;
-use clap::{Arg, ArgAction, Command, Error};
+use clap::{Arg, ArgAction, ArgMatches, Command, Error};
 use program::arguments::{events, most_events_of, path_of, script};
 use std::alloc::{AllocError, Global};
 
@@ -16,6 +16,17 @@ const SEED: u64 = 0;
 pub(crate) struct Draw {
     pub(crate) count: u64,
     pub(crate) seed: u64,
+}
+
+/// A list of outcomes that was kept.
+#[derive(Clone, Copy)]
+pub(crate) struct Expected<'w> {
+    /// The file that has it.
+    pub(crate) path: &'w str,
+    /// Whether the numbers of schedules are compared too, and no new replies may have come.
+    pub(crate) is_exact: bool,
+    /// Whether it is written anew.
+    pub(crate) is_updated: bool,
 }
 
 /// A script that is explored.
@@ -34,6 +45,8 @@ pub(crate) struct Task<'w> {
     pub(crate) has_orders: bool,
     /// The one order whose script is printed.
     pub(crate) order: Option<&'w str>,
+    /// The list that the outcomes are compared with.
+    pub(crate) expected: Option<Expected<'w>>,
 }
 
 // How many events there is room for.
@@ -97,6 +110,34 @@ fn orders<'w>(alloc: Global) -> Arg<'w> {
         .help("Print the order of sessions in each outcome's first schedule")
 }
 
+// The file of a list that was kept.
+fn expect<'w>(alloc: Global) -> Result<Arg<'w>, AllocError> {
+    Arg::new(alloc, "expect")
+        .long("expect")
+        .value_name("FILE")
+        .action(ArgAction::Set)
+        .help("Compare the outcomes with the list in FILE, and print what differs")
+        .conflicts_with("orders")
+}
+
+// The flag by which numbers of schedules aren't compared.
+fn expect_outcomes<'w>(alloc: Global) -> Result<Arg<'w>, AllocError> {
+    Arg::new(alloc, "expect-outcomes")
+        .long("expect-outcomes")
+        .action(ArgAction::SetTrue)
+        .help("Don't compare numbers of schedules, nor the replies to new lines")
+        .requires_arg("expect")
+}
+
+// The flag by which the list is written anew.
+fn update<'w>(alloc: Global) -> Result<Arg<'w>, AllocError> {
+    Arg::new(alloc, "update")
+        .long("update")
+        .action(ArgAction::SetTrue)
+        .help("Write the list to FILE if it differs or isn't there")
+        .requires_arg("expect")
+}
+
 // The order whose script is printed.
 fn order<'w>(alloc: Global) -> Result<Arg<'w>, AllocError> {
     Arg::new(alloc, "order")
@@ -107,6 +148,7 @@ fn order<'w>(alloc: Global) -> Result<Arg<'w>, AllocError> {
         .conflicts_with("most")?
         .conflicts_with("sample")?
         .conflicts_with("orders")?
+        .conflicts_with("expect")?
         .conflicts_with("jobs")
 }
 
@@ -123,14 +165,22 @@ fn on_script<'w>(alloc: Global) -> Result<Command<'w>, AllocError> {
         .arg(jobs(alloc))
 }
 
-// The command.
-fn command<'w>(alloc: Global) -> Result<Command<'w>, AllocError> {
+// The command, without what says what is done with outcomes.
+fn on_schedules<'w>(alloc: Global) -> Result<Command<'w>, AllocError> {
     on_script(alloc)?
         .arg(most(alloc))?
         .arg(sample(alloc)?)?
         .arg(seed(alloc)?)?
-        .arg(orders(alloc))?
         .arg(order(alloc)?)
+}
+
+// The command.
+fn command<'w>(alloc: Global) -> Result<Command<'w>, AllocError> {
+    on_schedules(alloc)?
+        .arg(orders(alloc))?
+        .arg(expect(alloc)?)?
+        .arg(expect_outcomes(alloc)?)?
+        .arg(update(alloc)?)
 }
 
 // A number of a word, or what stands for it where there is none.
@@ -150,6 +200,15 @@ fn draw_of(count: Option<i64>, seed: Option<i64>) -> Option<Draw> {
     })
 }
 
+// The list that the outcomes are compared with, where one is named.
+fn expected_of<'w>(matches: &ArgMatches<'w>) -> Option<Expected<'w>> {
+    Some(Expected {
+        path: matches.get_str("expect")?,
+        is_exact: !matches.get_flag("expect-outcomes"),
+        is_updated: matches.get_flag("update"),
+    })
+}
+
 /// What the words after `explore` ask for. The error is a mistake in the words, `--help`, or out of memory.
 pub(crate) fn read_words<'w>(alloc: Global, words: &'w [&'w str]) -> Result<Task<'w>, Error> {
     let command = command(alloc)?;
@@ -158,13 +217,15 @@ pub(crate) fn read_words<'w>(alloc: Global, words: &'w [&'w str]) -> Result<Task
         matches.get_one::<i64>("sample"),
         matches.get_one::<i64>("seed"),
     );
+    let expected = expected_of(&matches);
     Ok(Task {
         script: path_of(&matches, "SCRIPT"),
         events: most_events_of(&matches),
         jobs: matches.get_one::<u32>("jobs").unwrap_or(1),
         most: number_of(matches.get_one::<i64>("most"), MOST),
         draw: draw_of(count, seed),
-        has_orders: matches.get_flag("orders"),
+        has_orders: matches.get_flag("orders") || expected.is_some(),
         order: matches.get_str("order"),
+        expected,
     })
 }

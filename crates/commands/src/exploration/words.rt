@@ -1,12 +1,15 @@
 //! The command, over any files.
 
-ghost use Rattle.std.specs.Prelude.{◌≤◌};
+ghost use Rattle.std.specs.Prelude.{◌≡◌, ◌≤◌, ◌⊎◌};
 
+use crate::check::places::Places;
+use crate::exploration::expected::{Told, compared, kept_text};
 use crate::exploration::exploring::explored_text;
 use crate::exploration::fault::{Fault, tell};
 use crate::exploration::one_schedule::ordered_text;
 use crate::exploration::setup::{lines_like_a_setup, set_up};
-use crate::exploration::task::{Task, read_words};
+use crate::exploration::task::{Expected, Task, read_words};
+use explore::setup::Setup;
 use program::explaining::{Room, tell_line};
 use program::fault::{self, Status};
 use program::files::Files;
@@ -21,6 +24,73 @@ use std::sync::Wait;
 use std::thread::Threads;
 use value::text::Text;
 
+// How the command ends: so, or since the outcomes are others than those that were kept.
+#[derive(Clone, Copy)]
+enum End {
+    Of(Status),
+    Other,
+}
+
+impl End {
+    // How the program ends.
+    fn status(self) -> Status {
+        match self {
+            End::Of(status) => status,
+            End::Other => Status::Done,
+        }
+    }
+
+    // The exit status.
+    fn code(self) -> u8
+        ensures { (result ≤ 3) ⊎ (result ≡ 5) }
+    {
+        match self {
+            End::Of(status) => status.code(),
+            End::Other => 5,
+        }
+    }
+}
+
+// What is printed of a setup's schedules beside a list that was kept.
+fn expected_text<'p, A, F, T>(
+    machine: &Machine<'_, F, T, A>,
+    setup: &Setup<A>,
+    expected: Expected<'p>,
+    task: Task<'p>,
+) -> Result<Told<A>, Fault<'p>>
+where
+    A: Allocator + Copy + Send + Sync,
+    F: Files<A> + Places,
+    T: Threads + Wait + Sync,
+{
+    let kept = kept_text(machine.alloc, machine.files, expected)?;
+    let now = explored_text(machine, setup, task)?;
+    compared(machine.alloc, machine.files, expected, kept, now.as_slice())
+}
+
+// What is printed of a setup's schedules.
+fn told<'p, A, F, T>(
+    machine: &Machine<'_, F, T, A>,
+    text: &[u8],
+    setup: &Setup<A>,
+    task: Task<'p>,
+) -> Result<Told<A>, Fault<'p>>
+where
+    A: Allocator + Copy + Send + Sync,
+    F: Files<A> + Places,
+    T: Threads + Wait + Sync,
+{
+    let text = match (task.order, task.expected) {
+        (Some(order), _) => ordered_text(machine.alloc, text, setup, order)?,
+        (None, Some(expected)) => return expected_text(machine, setup, expected, task),
+        (None, None) => explored_text(machine, setup, task)?,
+    };
+    Ok(Told {
+        text,
+        is_other: false,
+    })
+}
+
 // What is printed of a script that was read, of these parts.
 fn text_of<'p, A, F, T>(
     machine: &Machine<'_, F, T, A>,
@@ -29,30 +99,30 @@ fn text_of<'p, A, F, T>(
     opens: Option<&'p Text<A>>,
     lines: Vec<Line<A>, A>,
     task: Task<'p>,
-) -> Result<Vec<u8, A>, Fault<'p>>
+) -> Result<Told<A>, Fault<'p>>
 where
     A: Allocator + Copy + Send + Sync,
-    F: Files<A>,
+    F: Files<A> + Places,
     T: Threads + Wait + Sync,
 {
-    let alloc = machine.alloc;
     let setup = set_up(machine, catalog, opens, lines, task.events)?;
-    match task.order {
-        Some(order) => ordered_text(alloc, text, &setup, order),
-        None => explored_text(machine, &setup, task),
-    }
+    told(machine, text, &setup, task)
 }
 
-// Prints a text.
-fn print<W: Write, E: Write>(text: &[u8], out: &mut W, err: &mut E) -> Status {
-    if out.write_all(text).is_err() || out.flush().is_err() {
-        return fault::tell(&fault::Fault::Device { path: "-" }, err);
+// Prints what is told of a script.
+fn print<A: Allocator, W: Write, E: Write>(told: &Told<A>, out: &mut W, err: &mut E) -> End {
+    if out.write_all(told.text.as_slice()).is_err() || out.flush().is_err() {
+        return End::Of(fault::tell(&fault::Fault::Device { path: "-" }, err));
     }
-    Status::Done
+    if told.is_other {
+        End::Other
+    } else {
+        End::Of(Status::Done)
+    }
 }
 
 // Whether schedules were run, or were too many: then lines that were interleaved too may have been meant as the setup.
-fn may_be_setup<A: Allocator>(done: &Result<Vec<u8, A>, Fault<'_>>) -> bool {
+fn may_be_setup<A: Allocator>(done: &Result<Told<A>, Fault<'_>>) -> bool {
     matches!(done, Ok(_) | Err(Fault::TooMany(_, _)))
 }
 
@@ -60,10 +130,10 @@ fn may_be_setup<A: Allocator>(done: &Result<Vec<u8, A>, Fault<'_>>) -> bool {
 fn end<A, F, T, W, E>(
     machine: &Machine<'_, F, T, A>,
     task: Task<'_>,
-    done: Result<Vec<u8, A>, Fault<'_>>,
+    done: Result<Told<A>, Fault<'_>>,
     out: &mut W,
     err: &mut E,
-) -> Status
+) -> End
 where
     A: Allocator + Copy,
     F: Files<A>,
@@ -75,8 +145,8 @@ where
         most_events: task.events,
     };
     match done {
-        Ok(told) => print(told.as_slice(), out, err),
-        Err(fault) => tell(room, &fault, err),
+        Ok(told) => print(&told, out, err),
+        Err(fault) => End::Of(tell(room, &fault, err)),
     }
 }
 
@@ -98,10 +168,10 @@ fn explore_script<A, F, T, W, E>(
     task: Task<'_>,
     out: &mut W,
     err: &mut E,
-) -> Status
+) -> End
 where
     A: Allocator + Copy + Send + Sync,
-    F: Files<A>,
+    F: Files<A> + Places,
     T: Threads + Wait + Sync,
     W: Write,
     E: Write,
@@ -114,11 +184,11 @@ where
     };
     let done = text_of(machine, text, catalog, opens.as_ref(), lines, task);
     let may_warn = may_be_setup(&done);
-    let status = end(machine, task, done, out, err);
-    if may_warn && status != Status::Device {
+    let end = end(machine, task, done, out, err);
+    if may_warn && end.status() != Status::Device {
         warn(count, err);
     }
-    status
+    end
 }
 
 // Explores the script of a path, or of standard input.
@@ -127,27 +197,27 @@ fn explore_file<A, F, T, W, E>(
     task: Task<'_>,
     out: &mut W,
     err: &mut E,
-) -> Status
+) -> End
 where
     A: Allocator + Copy + Send + Sync,
-    F: Files<A>,
+    F: Files<A> + Places,
     T: Threads + Wait + Sync,
     W: Write,
     E: Write,
 {
     let bytes = match machine.read_path(task.script, fault::Fault::ScriptOutOfMemory) {
         Ok(bytes) => bytes,
-        Err(fault) => return fault::tell(&fault, err),
+        Err(fault) => return End::Of(fault::tell(&fault, err)),
     };
     let text = bytes.as_slice();
     match read_script(machine.alloc, Schedule::InOrder, text) {
         Ok(script) => explore_script(machine, text, script, task, out, err),
-        Err(fault) => tell_line(machine.alloc, Schedule::InOrder, text, fault.line, err),
+        Err(fault) => End::Of(tell_line(machine.alloc, Schedule::InOrder, text, fault.line, err)),
     }
 }
 
 /// Does what the words after `pgserial explore` ask for, over these files, and returns the exit status: 0 where every
-/// schedule that was asked for was run; 1 where the script or its dump is refused, there are more schedules than may be
+/// schedule that was asked for was run, and comes to what was expected; 5 where it doesn't; 1 where the script or its dump is refused, there are more schedules than may be
 /// run, or it was out of memory; 2 for mistaken words; 3 where a file or standard output failed.
 pub fn explore_words<A, F, W, E, T>(
     machine: &Machine<'_, F, T, A>,
@@ -157,16 +227,16 @@ pub fn explore_words<A, F, W, E, T>(
 ) -> u8
 where
     A: Allocator + Copy + Send + Sync,
-    F: Files<A>,
+    F: Files<A> + Places,
     W: Write,
     E: Write,
     T: Threads + Wait + Sync,
-    ensures within { result ≤ 3 }
+    ensures within { (result ≤ 3) ⊎ (result ≡ 5) }
 {
-    let status = match read_words(machine.words_memory, words) {
+    let end = match read_words(machine.words_memory, words) {
         Ok(task) => explore_file(machine, task, out, err),
-        Err(error) => tell_words(&error, out, err),
+        Err(error) => End::Of(tell_words(&error, out, err)),
     };
-    tell_reason(status, machine.files.reason(), err);
-    status.code()
+    tell_reason(end.status(), machine.files.reason(), err);
+    end.code()
 }
