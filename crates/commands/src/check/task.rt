@@ -82,7 +82,7 @@ fn json<'w>(alloc: Global) -> Arg<'w>
     Arg::new(alloc, "json")
         .long("json")
         .action(ArgAction::SetTrue)
-        .help("Print one object in JSON in the place of the text")
+        .help("Print one JSON object instead of text")
 }
 
 // The command, without its arguments.
