@@ -54,7 +54,10 @@ fn lines_of<A: Allocator + Copy>(alloc: A, text: &[u8]) -> Result<Vec<Vec<u8, A>
 {
     let mut lines = Vec::new(alloc);
     let mut rest = text;
-    while let Some((line, more)) = cut(b'\n', rest) {
+    for _ in 0..text.len() {
+        let Some((line, more)) = cut(b'\n', rest) else {
+            break;
+        };
         lines.push(Vec::from_slice(alloc, line)?)?;
         rest = more;
     }
