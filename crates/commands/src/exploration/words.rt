@@ -26,17 +26,17 @@ use value::text::Text;
 
 // How the command ends: so, or since the outcomes are others than those that were kept.
 #[derive(Clone, Copy)]
-enum End {
+enum Ending {
     Of(Status),
     Other,
 }
 
-impl End {
+impl Ending {
     // How the program ends.
     fn status(self) -> Status {
         match self {
-            End::Of(status) => status,
-            End::Other => Status::Done,
+            Ending::Of(status) => status,
+            Ending::Other => Status::Done,
         }
     }
 
@@ -45,8 +45,8 @@ impl End {
         ensures { (result ≤ 3) ⊎ (result ≡ 5) }
     {
         match self {
-            End::Of(status) => status.code(),
-            End::Other => 5,
+            Ending::Of(status) => status.code(),
+            Ending::Other => 5,
         }
     }
 }
@@ -110,14 +110,14 @@ where
 }
 
 // Prints what is told of a script.
-fn print<A: Allocator, W: Write, E: Write>(told: &Told<A>, out: &mut W, err: &mut E) -> End {
+fn print<A: Allocator, W: Write, E: Write>(told: &Told<A>, out: &mut W, err: &mut E) -> Ending {
     if out.write_all(told.text.as_slice()).is_err() || out.flush().is_err() {
-        return End::Of(fault::tell(&fault::Fault::Device { path: "-" }, err));
+        return Ending::Of(fault::tell(&fault::Fault::Device { path: "-" }, err));
     }
     if told.is_other {
-        End::Other
+        Ending::Other
     } else {
-        End::Of(Status::Done)
+        Ending::Of(Status::Done)
     }
 }
 
@@ -127,13 +127,13 @@ fn may_be_setup<A: Allocator>(done: &Result<Told<A>, Fault<'_>>) -> bool {
 }
 
 // Prints the outcomes of a script, or reports why it isn't explored.
-fn end<A, F, T, W, E>(
+fn reported<A, F, T, W, E>(
     machine: &Machine<'_, F, T, A>,
     task: Task<'_>,
     done: Result<Told<A>, Fault<'_>>,
     out: &mut W,
     err: &mut E,
-) -> End
+) -> Ending
 where
     A: Allocator + Copy,
     F: Files<A>,
@@ -146,7 +146,7 @@ where
     };
     match done {
         Ok(told) => print(&told, out, err),
-        Err(fault) => End::Of(tell(room, &fault, err)),
+        Err(fault) => Ending::Of(tell(room, &fault, err)),
     }
 }
 
@@ -168,7 +168,7 @@ fn explore_script<A, F, T, W, E>(
     task: Task<'_>,
     out: &mut W,
     err: &mut E,
-) -> End
+) -> Ending
 where
     A: Allocator + Copy + Send + Sync,
     F: Files<A> + Places,
@@ -184,7 +184,7 @@ where
     };
     let done = text_of(machine, text, catalog, opens.as_ref(), lines, task);
     let may_warn = may_be_setup(&done);
-    let end = end(machine, task, done, out, err);
+    let end = reported(machine, task, done, out, err);
     if may_warn && end.status() != Status::Device {
         warn(count, err);
     }
@@ -197,7 +197,7 @@ fn explore_file<A, F, T, W, E>(
     task: Task<'_>,
     out: &mut W,
     err: &mut E,
-) -> End
+) -> Ending
 where
     A: Allocator + Copy + Send + Sync,
     F: Files<A> + Places,
@@ -207,12 +207,18 @@ where
 {
     let bytes = match machine.read_path(task.script, fault::Fault::ScriptOutOfMemory) {
         Ok(bytes) => bytes,
-        Err(fault) => return End::Of(fault::tell(&fault, err)),
+        Err(fault) => return Ending::Of(fault::tell(&fault, err)),
     };
     let text = bytes.as_slice();
     match read_script(machine.alloc, Schedule::InOrder, text) {
         Ok(script) => explore_script(machine, text, script, task, out, err),
-        Err(fault) => End::Of(tell_line(machine.alloc, Schedule::InOrder, text, fault.line, err)),
+        Err(fault) => Ending::Of(tell_line(
+            machine.alloc,
+            Schedule::InOrder,
+            text,
+            fault.line,
+            err,
+        )),
     }
 }
 
@@ -235,7 +241,7 @@ where
 {
     let end = match read_words(machine.words_memory, words) {
         Ok(task) => explore_file(machine, task, out, err),
-        Err(error) => End::Of(tell_words(&error, out, err)),
+        Err(error) => Ending::Of(tell_words(&error, out, err)),
     };
     tell_reason(end.status(), machine.files.reason(), err);
     end.code()
