@@ -1,4 +1,4 @@
-"""What pictures show, and graphs for graphviz, some of which are compared whole. docs/FORMATS.md says what there must be."""
+"""What pictures show, and graphs for graphviz, some of which are compared whole. docs/PROGRAM.md says what there must be."""
 
 import re
 import xml.etree.ElementTree as xml

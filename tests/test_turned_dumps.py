@@ -6,7 +6,7 @@ from typing import Iterable, List, Union
 
 from tests.room import Room
 
-# The example of docs/FORMATS.md, and the same in version 1.
+# The example of docs/DUMPS.md, and the same in version 1.
 WHOLE = """-- dump 2
 CREATE TABLE p (id bigint PRIMARY KEY, name text NOT NULL);
 CREATE TABLE c (id bigint PRIMARY KEY, p bigint REFERENCES p, raw bytea);
