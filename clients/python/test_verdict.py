@@ -239,7 +239,7 @@ class Verdicts(OnSqlite):
             file.write("nonsense\n")
         told = verdict(self.path)
         self.assertEqual((told.answer, told.status, self.cli().returncode), ("refused", 1, 1))
-        self.assertRegex(told.words, "^no verdict: transcript line 1; a line of text begins with")
+        self.assertRegex(told.words, "^no verdict: transcript line 1; expected `> `, two spaces,")
 
     def test_the_steps_ran_out(self) -> None:
         self.anomaly()
