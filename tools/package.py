@@ -31,7 +31,7 @@ HERE = os.path.dirname(os.path.abspath(__file__))
 TOP = os.path.dirname(HERE)
 sys.path.insert(0, TOP)
 
-from tools import install, library, manual  # noqa: E402
+from tools import install, library, manual, quick  # noqa: E402
 
 PYTHON = os.path.join(TOP, "clients/python/pgserial")
 RUST = os.path.join(TOP, "clients/rust")
@@ -87,6 +87,7 @@ class Build:
     is_proved: bool
     sources: str
     toolchain: str
+    proofs: Tuple[str, ...]
     helps: Tuple[install.Help, Dict[str, install.Help]]
 
     @property
@@ -105,7 +106,8 @@ class Build:
 
     def text(self) -> str:
         """Of which sources, toolchain and proof it is."""
-        return f"pgserial {self.named('+')}\nsources: {self.sources}\ntoolchain: {self.toolchain}\n{self.proof()}\n"
+        lines = [f"pgserial {self.named('+')}", f"sources: {self.sources}", f"toolchain: {self.toolchain}", *(f"proved by {it}" for it in self.proofs)]
+        return "\n".join([*lines, self.proof(), ""])
 
 
 # ---- what is packaged
@@ -129,25 +131,23 @@ def read(path: str) -> bytes:
 
 
 def sources_sum() -> str:
-    """The sum of all that a proof reads, and the commit that these sources are, where they are one."""
-    words = ["bash", "-c", 'top=$1; . "$0"; sum_of "${proof_parts[@]}"', os.path.join(HERE, "sources"), TOP]
-    return subprocess.run(words, stdout=subprocess.PIPE, text=True, check=True).stdout.strip()
+    """The sum of all that a proof reads."""
+    return str(quick.ask_sources('sum_of "${proof_parts[@]}"')[0])
 
 
 def toolchain() -> str:
     """The toolchain's own line."""
-    words = ["bash", "-c", 'top=$1; . "$0"; ask_kit; echo "$kit"', os.path.join(HERE, "sources"), TOP]
-    return subprocess.run(words, stdout=subprocess.PIPE, text=True, check=True).stdout.strip()
+    return str(quick.ask_sources('ask_kit; echo "$kit"')[0])
+
+
+def proofs() -> Tuple[str, ...]:
+    """What has proved the program and the library, and what of each."""
+    return tuple(quick.ask_sources(f"told_proved; {library.OF_CALLS} told_proved"))
 
 
 def build_library(folder: str, is_proved: bool) -> None:
     """Makes libpgserial in a folder, of calls that were proved or, where the program wasn't, compiled without proof."""
-    if is_proved:
-        library.run(["rt", "lib"], cwd=os.path.join(TOP, "crates/library_c"))
-        archive = os.path.join(TOP, "crates/library_c/out/liblibrary_c.a")
-    else:
-        archive = library.compiled_calls()
-    library.build(folder, archive)
+    library.build(folder, library.proved_calls() if is_proved else library.compiled_calls())
 
 
 def built(folder: str, unproved: bool) -> Build:
@@ -157,7 +157,7 @@ def built(folder: str, unproved: bool) -> Build:
         print("pgserial: the program is proved, so what is packaged is", file=sys.stderr)
     build_library(folder, is_proved)
     version = subprocess.run([program, "--version"], stdout=subprocess.PIPE, text=True, check=True).stdout.split()[1]
-    return Build(read(program), folder, version, is_proved, sources_sum(), toolchain(), install.helps_of(program))
+    return Build(read(program), folder, version, is_proved, sources_sum(), toolchain(), proofs() if is_proved else (), install.helps_of(program))
 
 
 # ---- files of each package
