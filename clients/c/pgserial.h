@@ -140,7 +140,8 @@ int pgserial_reply(struct pgserial_handle *handle, char *out, size_t room, struc
  * A session's line, as `1 INSERT INTO t VALUES (0, 'a');` or `1 COMMIT;`, can be read once, kept by its handle, and done many
  * times. Each of its literals is a place, counted from 1 as they are written, of an UPDATE those behind SET first; of a sum, as
  * `v + 1`, the number that is added, -1 of `v - 1`. A place has the literal that was written until it is given another value.
- * What is done is what the line says with these values for its literals, and so is its reply.
+ * What is done is what the line says with these values for its literals, and so is its reply. A value may be longer than a
+ * line's text may be.
  */
 
 /* Reads a line once, which stands here without its newline: `report->line` is its number, counted from 1 since the handle was
@@ -156,8 +157,8 @@ int pgserial_bind_null(struct pgserial_handle *handle, size_t number, size_t pla
 
 /* Does what the line with a number says with the values of its places. PGSERIAL_DONE, or PGSERIAL_REFUSED where the reply is a
  * refusal; `report->line` is how many rows are shown or were changed. The reply is the last answer, whose text pgserial_reply
- * makes, and `report->length` is 0. PGSERIAL_MISUSE where there is no such line, or a value isn't of its column's kind: nothing
- * is done then. */
+ * makes, and `report->length` is 0. PGSERIAL_MISUSE where there is no such line, or a value isn't of its column's kind or is a
+ * text with a zero byte: nothing is done then. */
 int pgserial_execute(struct pgserial_handle *handle, size_t number, struct pgserial_report *report);
 
 /* Forgets the lines that were read once. */

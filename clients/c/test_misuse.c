@@ -137,6 +137,23 @@ static void threads(void)
     }
 }
 
+/* No call takes a handle whose flag is neither 0 nor 1. */
+static void strange(struct pgserial_handle *handle)
+{
+    struct pgserial_report report = {1, 2};
+    char out[8];
+    check(pgserial_open(handle, 9) == PGSERIAL_MISUSE && pgserial_close(handle) == PGSERIAL_MISUSE, "a strange flag");
+    check(pgserial_open_dump(handle, "", 0, 9, out, 8, &report) == PGSERIAL_MISUSE, "a dump by a strange flag");
+    check(pgserial_call(handle, "1 BEGIN;", 8, &report) == PGSERIAL_MISUSE && pgserial_reply(handle, out, 8, &report) == PGSERIAL_MISUSE, "a line by a strange flag");
+    check(pgserial_dump(handle, 1, &report) == PGSERIAL_MISUSE && pgserial_tables(handle, &report) == PGSERIAL_MISUSE
+          && pgserial_serial_order(handle, &report) == PGSERIAL_MISUSE, "what a strange flag tells");
+    check(pgserial_prepare(handle, "1 BEGIN;", 8, &report) == PGSERIAL_MISUSE && pgserial_execute(handle, 1, &report) == PGSERIAL_MISUSE
+          && pgserial_forget(handle) == PGSERIAL_MISUSE, "a line that is read by a strange flag");
+    check(pgserial_bind_bigint(handle, 1, 1, 1) == PGSERIAL_MISUSE && pgserial_bind_text(handle, 1, 1, "", 0) == PGSERIAL_MISUSE
+          && pgserial_bind_bytea(handle, 1, 1, "", 0) == PGSERIAL_MISUSE && pgserial_bind_null(handle, 1, 1) == PGSERIAL_MISUSE, "a place by a strange flag");
+    check(report.length == 1 && report.line == 2, "what a strange flag leaves");
+}
+
 /* A handle: its lines, and what is wrong with it. */
 static void handles(void)
 {
@@ -149,6 +166,8 @@ static void handles(void)
     check(pgserial_call(&handle, lines[0], 1, &report) == PGSERIAL_MISUSE, "a line to a shut handle");
     check(pgserial_reply(&handle, out, 64, &report) == PGSERIAL_MISUSE, "an answer of a shut handle");
     check(pgserial_open(NULL, 9) == PGSERIAL_MISUSE && pgserial_open(&wrong, 9) == PGSERIAL_MISUSE, "no handle");
+    for (int flag = 2; flag < 256; flag++)
+        strange(&(struct pgserial_handle){out, (unsigned char)flag});
     check(pgserial_open(&handle, 0) == PGSERIAL_FULL, "a handle with room for no event");
     check(pgserial_open(&handle, EVENTS) == PGSERIAL_DONE, "a handle that is opened");
     check(pgserial_open(&handle, EVENTS) == PGSERIAL_MISUSE, "an open handle that is opened");
@@ -262,6 +281,7 @@ static void reads(struct pgserial_handle *handle, const char *line, size_t numbe
 /* What lines that are read once do, and what is wrong with them. */
 static void prepared(void)
 {
+    static char longer[65537];
     static const char select[] = "1 SELECT * FROM t WHERE id = 0 AND v BETWEEN -9 AND 9 AND n IS NOT NULL;";
     struct pgserial_handle handle = PGSERIAL_SHUT;
     struct pgserial_report report = {1, 2};
@@ -299,6 +319,12 @@ static void prepared(void)
     executes(&handle, 4, PGSERIAL_DONE, 2, "1 UPDATE 2\n");
     answers(&handle, "1 SELECT * FROM t;", "1 SELECT 2\n1 | -8\t\\N\t\t\\\\xff00\n1 | 7\t\\N\t\t\\N\n");
     executes(&handle, 5, PGSERIAL_DONE, 1, "1 DELETE 1\n");
+    check(pgserial_bind_text(&handle, 2, 3, "a\0b", 3) == PGSERIAL_DONE && pgserial_execute(&handle, 2, &report) == PGSERIAL_MISUSE, "a zero byte");
+    is_answer(&handle, "1 DELETE 1\n", "what a zero byte leaves");
+    memset(longer, 'x', sizeof longer);
+    check(pgserial_bind_text(&handle, 2, 3, longer, sizeof longer) == PGSERIAL_DONE && pgserial_bind_bigint(&handle, 2, 1, 9) == PGSERIAL_DONE, "a text above a line's limit");
+    executes(&handle, 2, PGSERIAL_DONE, 1, "1 INSERT 0 1\n");
+    answers(&handle, "1 DELETE FROM t WHERE id = 9;", "1 DELETE 1\n");
     check(pgserial_bind_text(&handle, 5, 1, "a", 1) == PGSERIAL_DONE && pgserial_execute(&handle, 5, &report) == PGSERIAL_MISUSE, "a key of another kind");
     is_answer(&handle, "1 DELETE 1\n", "what a value of another kind leaves");
     executes(&handle, 6, PGSERIAL_REFUSED, 0, "1 ERROR 42P01 byte 14\n");
