@@ -1,3 +1,4 @@
+pub mod AdditionLemmas
 pub mod AmongLemmas
 pub mod CertificateLemmas
 pub mod FrameLemmas

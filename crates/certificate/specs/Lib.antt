@@ -1,3 +1,4 @@
+pub mod Additions
 pub mod Board
 pub mod Cells
 pub mod Certificates

@@ -6,6 +6,7 @@ ghost use Rattle.schema.specs.declared.tables.Tables.{Tables as AnyTables};
 ghost use Rattle.schema.specs.Plain.{is_sound};
 ghost use Rattle.value.specs.declared.value.Value.{Value as AnyValue};
 ghost use Rattle.orders.specs.Explains.{Trace, Explains, all_fit};
+ghost use Rattle.certificate.specs.Additions as addition;
 ghost use Rattle.certificate.specs.Board.{Board};
 ghost use Rattle.certificate.specs.declared.certificate.Assumption.{Assumption};
 ghost use Rattle.certificate.specs.Frames.{Frame, IsAssumed, Sound, contrary, is_fair, supposed};
@@ -83,6 +84,14 @@ pub fn numbers_hold<W, S, P>()
         (k : Known S P) → Valid b order turns k → (w : W) → (m y j n : ℕ) → (s : P) → (ss : List P) →
         slice_get (b.ways y s) m ≡ Some w → sum.would_lack b k w y j n s ss ≡ true →
         IsExcluded b order turns (record { place = y; spot = s; way = m }) }
+{}
+
+/// No play has a reader that found a number above the most, or below the least, that the numbers between it and a base come
+/// to: a base is the opening, or a transaction that leaves a known number, and all who may stand between the two only add.
+pub fn additions_hold<W, S, P>()
+    ensures { (b : Board W S P) → Exact b → (reads : addition.Numbers W S) → addition.AreCounted b reads →
+        (order : List ℕ) → (turns : P → ℕ → Turn S) → Play b order turns → (k : Known S P) → Valid b order turns k →
+        (c : Cell P) → (y : ℕ) → addition.is_beyond b reads k c y ≡ true → ⊥ }
 {}
 
 /// What is known under suppositions stays so: by a rule, by one more supposition, and where one has come to a
