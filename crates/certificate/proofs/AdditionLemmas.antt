@@ -165,7 +165,7 @@ module _ {W S P : Type 0} (b : Board W S P) (exact : Exact b) (reads : addition.
   none-some x e = cc
 
   -- an effect adds what it is said to add
-  added-so : (before : ℕ → S) (n : ℕ) (after : S) (e : Effect S) (d a : ℤ) → addition.addition b reads k n e ≡ Some d → Does b before n after e → reads.number (before n) ≡ Some a → reads.number after ≡ Some (a +ℤ d)
+  added-so : (before : ℕ → S) (n : ℕ) (after : S) (e : Effect S) (d a : ℤ) → addition.addition n e ≡ Some d → Does b before n after e → reads.number (before n) ≡ Some a → reads.number after ≡ Some (a +ℤ d)
   added-so before n after Keeps d a h does at =
       let zero-is : pos 0 ≡ d = same_Some (pos 0) d h in
       let same : a ≡ a +ℤ d = omega (arith, ints, zero-is) in
@@ -181,7 +181,7 @@ module _ {W S P : Type 0} (b : Board W S P) (exact : Exact b) (reads : addition.
   sum-so (Some a) d v h = (a, refl, sym (cond_some (in_range (a +ℤ d)) (a +ℤ d) v h).1)
 
   -- a way leaves the number that it is said to leave
-  leaves-so : (before : ℕ → S) (n : ℕ) (after : S) (e : Effect S) (wanted : Option ℤ) (v : ℤ) → ((a : ℤ) → wanted ≡ Some a → reads.number (before n) ≡ Some a) → addition.outcome b reads k wanted n e ≡ Some v → Does b before n after e → reads.number after ≡ Some v
+  leaves-so : (before : ℕ → S) (n : ℕ) (after : S) (e : Effect S) (wanted : Option ℤ) (v : ℤ) → ((a : ℤ) → wanted ≡ Some a → reads.number (before n) ≡ Some a) → addition.outcome reads.number wanted n e ≡ Some v → Does b before n after e → reads.number after ≡ Some v
   leaves-so before n after Keeps wanted v is h does = ap reads.number does ∙ is v h
   leaves-so before n after (Leaves s) wanted v is h does = ap reads.number does ∙ h
   leaves-so before n after (Adds m z) wanted v is h does =

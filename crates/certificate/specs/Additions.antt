@@ -57,28 +57,28 @@ module _ {W S P : Type 0} (b : Board W S P) (reads : Numbers W S) where
     pub added : (s : S) (d n : ℤ) → reads.number s ≡ Some n → reads.number (b.plus s d) ≡ Some (n +ℤ d)
     pub wanted : (w : W) (column : ℕ) (s : S) (n : ℤ) → b.allows w column s ≡ true → reads.wants w column ≡ Some n → reads.number s ≡ Some n
 
+-- what an effect adds to its column
+abbrev pub addition : {S : Type 0} → ℕ → Effect S → Option ℤ
+addition n Keeps = Some (pos 0)
+addition n (Leaves s) = None
+addition n (Adds from d) = if from == n then Some d else None
+addition n Unknown = None
+
+-- the number that an effect leaves in its column, where states are read as numbers, and this was there before
+abbrev pub outcome : {S : Type 0} → (S → Option ℤ) → Option ℤ → ℕ → Effect S → Option ℤ
+outcome number before n Keeps = before
+outcome number before n (Leaves s) = number s
+outcome number before n (Adds from d) = if from == n then sum_of before d else None
+outcome number before n Unknown = None
+
 module _ {W S P : Type 0} (b : Board W S P) (reads : Numbers W S) (k : Known S P) where
   -- ---- ways
-
-  -- what an effect adds to its column
-  abbrev pub addition : ℕ → Effect S → Option ℤ
-  addition n Keeps = Some (pos 0)
-  addition n (Leaves s) = None
-  addition n (Adds from d) = if from == n then Some d else None
-  addition n Unknown = None
-
-  -- the number that an effect leaves in its column, where this was there before
-  abbrev pub outcome : Option ℤ → ℕ → Effect S → Option ℤ
-  outcome before n Keeps = before
-  outcome before n (Leaves s) = reads.number s
-  outcome before n (Adds from d) = if from == n then sum_of before d else None
-  outcome before n Unknown = None
 
   abbrev pub way_adds : Cell P → W → Option ℤ
   way_adds c w = addition c.column (b.effect c.spot w c.column)
 
   abbrev pub way_leaves : Cell P → W → Option ℤ
-  way_leaves c w = outcome (reads.wants w c.column) c.column (b.effect c.spot w c.column)
+  way_leaves c w = outcome reads.number (reads.wants w c.column) c.column (b.effect c.spot w c.column)
 
   -- what a transaction adds to a cell, the number that it leaves there, and the one that it needs there, by all of its ways that are left
   abbrev pub adds : Cell P → ℕ → Option ℤ

@@ -1,20 +1,26 @@
 -- The board of a recording: what its transactions, each by its place, may have done to each row.
-use Rattle.std.specs.Prelude.{ℕ, ℤ, ◌==◌, Bool, true, false, not, ◌&&◌, ◌||◌, Option, Some, None, is_some, option_to_list, List, [], ◌++◌, length, map, slice_get}
+use Rattle.std.specs.Prelude.{ℕ, ℤ, ◌==◌, Bool, true, false, not, ◌&&◌, ◌||◌, if◌then◌else◌, Option, Some, None, is_some, option_to_list, List, [], ◌++◌, length, find, map, slice_get}
 use Rattle.std.specs.List.{flat_map, list_any}
-use Rattle.std.specs.Option.{option_map_or}
+use Rattle.std.specs.Option.{option_and_then, option_map_or}
 use Rattle.value.specs.declared.value.Value.{Value}
+use Rattle.value.specs.declared.value.Value.TheVariants.{Int}
 use Rattle.schema.specs.Definition.{Catalog}
 use Rattle.schema.specs.declared.tables.Tables.{Tables}
 use Rattle.schema.specs.declared.row.Row.{Row}
 use Rattle.schema.specs.Plain.{same, row_at, rows_of}
 use Rattle.statement.specs.Evaluation.{added, out_of_range}
+use Rattle.statement.specs.declared.condition.Comparison.TheVariants as is
+use Rattle.statement.specs.declared.condition.Condition.{Condition}
+use Rattle.statement.specs.declared.condition.Condition.TheVariants.{Compare}
 use Rattle.orders.specs.Explains.{Trace, precedes}
+use Rattle.orders.specs.declared.ways.way.Atom.{Atom}
 use Rattle.orders.specs.declared.ways.way.Way.{Way}
 use Rattle.orders.specs.Ways as way
 use Rattle.orders.specs.Counts.{has, inserted_key, named_at, number_at}
-use Rattle.orders.specs.Ways.{allows, cell}
+use Rattle.orders.specs.Ways.{allows, cell, column_of}
 use Rattle.orders.specs.Symbolic.{ways_of}
 use Rattle.certificate.specs.declared.known.Spot.{Spot}
+use Rattle.certificate.specs.Additions.{Numbers}
 use Rattle.certificate.specs.Board.{Board, Effect, Keeps, Leaves, Adds, Unknown}
 use Rattle.certificate.specs.Cells.{same_spot}
 
@@ -66,6 +72,29 @@ module _ {A : Type 0} where
   leaves_same v found (Leaves s) = same_state s v
   leaves_same v found (Adds m d) = is_sum v d (found m)
   leaves_same v found Unknown = false
+
+  -- ---- numbers
+
+  -- a state that is a bigint
+  abbrev pub number_of : Option (Value A) → Option ℤ
+  number_of (Some (Int n)) = Some n
+  number_of _ = None
+
+  -- the number to which a condition holds its column
+  abbrev pub number_in : Condition A → Option ℤ
+  number_in (Compare n is.Equal v) = number_of (Some v)
+  number_in _ = None
+
+  -- an atom holds column n to a number
+  abbrev pub is_held : ℕ → Atom A → Bool
+  is_held n a = a.truth && column_of a.condition == n && is_some (number_in a.condition)
+
+  -- the number that column n must have before a way, where a row must be there
+  abbrev pub wants : Way A → ℕ → Option ℤ
+  wants w n = if w.is_absent then None else option_and_then (λ a. number_in a.condition) (find (is_held n) w.atoms)
+
+  abbrev pub numbers : Numbers (Way A) (Option (Value A))
+  numbers = record { number = λ s. number_of s; wants = λ w n. wants w n }
 
   -- ---- rows that statements choose
 

@@ -12,7 +12,7 @@ ghost use Rattle.certificate.specs.declared.certificate.Assumption.{Assumption};
 ghost use Rattle.certificate.specs.Frames.{Frame, IsAssumed, Sound, contrary, is_fair, supposed};
 ghost use Rattle.certificate.specs.Knowledge.{Cell, Known};
 ghost use Rattle.certificate.specs.Order.{Exact, IsBefore, IsExcluded, IsFound, IsThere, Play, Turn, Valid};
-ghost use Rattle.certificate.specs.Recorded.{board_of};
+ghost use Rattle.certificate.specs.Recorded.{board_of, numbers};
 ghost use Rattle.certificate.specs.Rules as rule;
 ghost use Rattle.certificate.specs.Sums as sum;
 ghost use Rattle.certificate.specs.declared.known.Spot.{Spot as AnySpot};
@@ -92,6 +92,11 @@ pub fn additions_hold<W, S, P>()
     ensures { (b : Board W S P) → Exact b → (reads : addition.Numbers W S) → addition.AreCounted b reads →
         (order : List ℕ) → (turns : P → ℕ → Turn S) → Play b order turns → (k : Known S P) → Valid b order turns k →
         (c : Cell P) → (y : ℕ) → addition.is_beyond b reads k c y ≡ true → ⊥ }
+{}
+
+/// On the board of a recording bigints are the numbers, and a way wants the one to which a condition holds a column.
+pub fn bigints_are_counted<A: Allocator>()
+    ensures { (c : AnyCatalog) → (X : AnyTables A) → (ts : List (Trace A)) → addition.AreCounted (board_of c X ts) numbers }
 {}
 
 /// What is known under suppositions stays so: by a rule, by one more supposition, and where one has come to a
