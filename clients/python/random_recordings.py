@@ -390,13 +390,17 @@ class Actor:
         return True
 
     def _copy_in(self, chance: random.Random) -> bool:
-        """COPY of some rows into a table, by psycopg2."""
-        if self.engine != "psycopg2":
+        """COPY of some rows into a table, by psycopg2 and psycopg."""
+        if self.engine == "sqlite3":
             return False
         rows = [(chance.randint(6, 14), chance.choice((1, 5, None)), chance.choice(("x", "it's", "a\\tb", "\\\\", ""))) for _ in range(chance.randint(1, 3))]
         text = "".join("\t".join("\\N" if value is None else str(value) for value in row) + "\n" for row in rows)
         self.play.tell(f"session {self.number}: COPY {text!r}")
-        if chance.random() < 0.5:
+        if self.engine == "psycopg":
+            with self.connection.cursor().copy("COPY t (id, v, name) FROM STDIN") as copy:
+                for piece in [text[: len(text) // 2], text[len(text) // 2 :]] if chance.random() < 0.3 else rows:
+                    (copy.write if isinstance(piece, str) else copy.write_row)(piece)
+        elif chance.random() < 0.5:
             self.connection.cursor().copy_from(io.StringIO(text), "t", columns=("id", "v", "name"))
         else:
             self.connection.cursor().copy_expert("COPY t (id, v, name) FROM STDIN", io.StringIO(text))

@@ -9,7 +9,8 @@ from typing import Any, AsyncIterator, Awaitable, Callable, Dict, Iterator, List
 
 from .cascades import Counts
 from .catalog import Cascade, Table
-from .copy_steps import copy_of
+from .copy_steps import copy_of, only_reads
+from .copying import Written, written_by
 from .drivers import NOTHING, Came, Postgres, Rows, tuple_row
 from .effects import Control
 from .proxies import Proxy, parameters_of, text_of
@@ -96,21 +97,22 @@ async def _fetched(raw: Any) -> Any:
 class AsyncConnection(Proxy):
     """An asynchronous connection that is recorded; `wrapped` is psycopg's own."""
 
-    _own = frozenset(("wrapped", "_session", "_mutex"))
+    _own = frozenset(("wrapped", "_session", "_mutex", "_lasts"))
     _special = {"pipeline": "_pipeline", "tpc_begin": "_tpc_begin"}
 
     def __init__(self, wrapped: Any, session: Session) -> None:
         super().__init__(wrapped)
         self._session = session
         self._mutex: Optional[asyncio.Lock] = None
+        self._lasts = False  # whether a block is under way, which nobody waits for: calls amid it fail
         weakref.finalize(self, session.recorder.drop, session).atexit = False
 
     async def take(self, planned: Callable[[], Step], call: Callable[[], Awaitable[Any]]) -> Any:
         """Does a call of the application, as the step that is planned for it."""
-        if self._mutex is None:
-            self._mutex = asyncio.Lock()
-        async with self._mutex:
+        async with self._alone():
             session = self._session
+            if self._lasts:
+                session.recorder.stop("two tasks use one connection at once")
             step = None if session.is_closed else session.guarded(planned)
             if step is None:
                 return await call()
@@ -120,6 +122,35 @@ class AsyncConnection(Proxy):
             finally:
                 if session.is_leaving and session.driver.is_dead():  # another task has closed it meanwhile
                     session.close()
+
+    def _alone(self) -> asyncio.Lock:
+        """What a call holds, so that others wait for it."""
+        if self._mutex is None:
+            self._mutex = asyncio.Lock()
+        return self._mutex
+
+    @contextlib.asynccontextmanager
+    async def lasting(self, planned: Callable[[], Step]) -> AsyncIterator[None]:
+        """Takes the step that is planned for what the application does in a block."""
+        session = self._session
+        async with self._alone():
+            if self._lasts:
+                session.recorder.stop("two tasks use one connection at once")
+            step = None if session.is_closed else session.guarded(planned)
+            if step is not None:
+                session.guarded(step.before)
+        if step is None:
+            yield
+            return
+        self._lasts = True
+        try:
+            yield
+        except BaseException as error:
+            session.guarded(step.failed, error)
+            raise
+        finally:
+            self._lasts = False
+        session.finished(step)
 
     async def _taken(self, step: Step, call: Callable[[], Awaitable[Any]]) -> Any:
         try:
@@ -303,7 +334,19 @@ class AsyncCursor(Proxy):
 
     def _copy(self, text: Any, *words: Any, **named: Any) -> Any:
         session, said = self._connection._session, text_of(text, self._connection.wrapped) or ""
-        return session.take(lambda: copy_of(session, said), lambda: self.wrapped.copy(text, *words, **named))
+        writer = None if only_reads(said) or "writer" in named else written_by(self.wrapped, "AsyncLibpqWriter")
+        if writer is None:
+            return session.take(lambda: copy_of(session, said), lambda: self.wrapped.copy(text, *words, **named))
+        return self._written(said, writer, lambda: self.wrapped.copy(text, *words, writer=writer, **named))
+
+    @contextlib.asynccontextmanager
+    async def _written(self, text: str, writer: Written, call: Callable[[], Any]) -> AsyncIterator[Any]:
+        """A COPY whose rows the application writes in a block."""
+        session = self._connection._session
+        async with self._connection.lasting(lambda: copy_of(session, text, writer, self._looked_at())):
+            async with call() as copy:
+                yield copy
+            self._fetched = _Fetched(self.wrapped, [])
 
     async def _stream(self, operation: Any, *words: Any, **named: Any) -> AsyncIterator[Any]:
         """Rows as they come: what is executed only when the first is asked for is taken for read then."""

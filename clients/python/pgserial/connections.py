@@ -7,8 +7,8 @@ import weakref
 from functools import partial
 from typing import Any, Callable, Dict, Iterator, List, Optional, Tuple, Union
 
-from .copy_steps import copied_step, copy_of
-from .copying import Teed, copied_from
+from .copy_steps import copied_step, copy_of, only_reads
+from .copying import Teed, Written, copied_from, written_by
 from .drivers import Came, Sqlite
 from .effects import Control
 from .proxies import Proxy, parameters_of, text_of
@@ -565,7 +565,18 @@ class Cursor(Proxy):
 
     def _copy(self, text: Any, *words: Any, **named: Any) -> Any:
         said = text_of(text, self._connection.wrapped) or ""
-        return self._taken(lambda session: copy_of(session, said), lambda: self.wrapped.copy(text, *words, **named))
+        writer = None if only_reads(said) or "writer" in named else written_by(self.wrapped, "LibpqWriter")
+        if writer is None:
+            return self._taken(lambda session: copy_of(session, said), lambda: self.wrapped.copy(text, *words, **named))
+        return self._written(said, writer, lambda: self.wrapped.copy(text, *words, writer=writer, **named))
+
+    @contextlib.contextmanager
+    def _written(self, text: str, writer: Written, call: Callable[[], Any]) -> Iterator[Any]:
+        """A COPY whose rows the application writes in a block."""
+        self._forget()
+        session = self._connection._session
+        with session.lasting(lambda: copy_of(session, text, writer, self._looked_at())), call() as copy:
+            yield copy
 
     def _executescript(self, text: str) -> Any:
         value = self._taken(

@@ -3,7 +3,7 @@
 import re
 from typing import Callable, Optional
 
-from .copying import Copied, Copying, Teed, copied_by
+from .copying import Copied, Copying, Given, Teed, copied_by
 from .session import Session
 from .steps import Executed, LeftOut, Spoils, Step
 from .values import Unsaid
@@ -28,15 +28,25 @@ class CopiedIn(Spoils):
         session.write("".join([session.asked(command) + session.answered(reply) for command, reply in exchanges]))
         session.settle(True)
 
+    def failed(self, error: BaseException) -> None:
+        if self.session.driver.leaves_nothing(error, self._text):
+            Step.failed(self, error)
+        else:
+            Spoils.after(self)  # nobody knows whether it was done
 
-def copy_of(session: Session, text: str, teed: Optional[Teed] = None, cursor: Optional[Executed] = None) -> Step:
-    """The step of a COPY; `teed` has what it copies, where that can be read."""
-    reads = re.search(r"\bto\s+(stdout|'|program)", text, re.IGNORECASE) is not None
-    if reads:
+
+def only_reads(text: str) -> bool:
+    """Whether a COPY reads the tables."""
+    return re.search(r"\bto\s+(stdout|'|program)", text, re.IGNORECASE) is not None
+
+
+def copy_of(session: Session, text: str, given: Optional[Given] = None, cursor: Optional[Executed] = None) -> Step:
+    """The step of a COPY; `given` has what it copies, where that can be read."""
+    if only_reads(text):
         return LeftOut(session, text, "COPY")
     try:
         translator = session.recorder.translator(session.driver)
-        return _copied_step(session, text, copied_by(translator.tokens(text, False)), teed, cursor)
+        return _copied_step(session, text, copied_by(translator.tokens(text, False)), given, cursor)
     except Unsaid as unsaid:
         return Spoils(session, text, f"COPY writes: {unsaid}")
 
@@ -49,11 +59,11 @@ def copied_step(session: Session, copied: Callable[[], Copied], teed: Teed, curs
         return Spoils(session, "copy_from", f"COPY writes: {unsaid}", True)
 
 
-def _copied_step(session: Session, text: str, copied: Copied, teed: Optional[Teed], cursor: Optional[Executed]) -> Step:
+def _copied_step(session: Session, text: str, copied: Copied, given: Optional[Given], cursor: Optional[Executed]) -> Step:
     recorder = session.recorder
-    if teed is None or cursor is None:
+    if given is None or cursor is None:
         raise Unsaid("its rows aren't known")
     translator = recorder.translator(session.driver)
     if translator.names.is_ignored(copied.table.name):
         raise Unsaid("the table isn't recorded")
-    return CopiedIn(session, text, Copying(translator, recorder.spelling, copied, teed.text), cursor)
+    return CopiedIn(session, text, Copying(translator, recorder.spelling, copied, given.text), cursor)

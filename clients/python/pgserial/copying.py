@@ -1,6 +1,8 @@
 """COPY into a table: the rows that an application gives, read beside the driver, are said as an INSERT each."""
 
 import re
+import sys
+from itertools import groupby
 from typing import Any, Callable, List, NamedTuple, Optional, Tuple
 
 from . import sql
@@ -40,13 +42,40 @@ def copied_by(tokens: List[Token]) -> Copied:
     return Copied(sql.Table(schema, name, None), columns)
 
 
-class Teed:
+class Given:
+    """What an application gives to be copied, of which what the driver takes is kept."""
+
+    def __init__(self, encoding: str = "ascii") -> None:
+        self._encoding = encoding
+        self._pieces: List[Any] = []
+        self._size = 0
+
+    def keep(self, data: Any) -> None:
+        """Keeps a piece, a text or bytes."""
+        if self._size <= _MOST_TEXT:
+            self._pieces.append(data if isinstance(data, str) else bytes(data))
+            self._size += len(data)
+
+    def text(self) -> str:
+        """What was kept."""
+        if self._size > _MOST_TEXT:
+            raise Unsaid("it copies more than is kept")
+        try:
+            # A letter's bytes may stand in two pieces.
+            return "".join(
+                "".join(pieces) if is_text else b"".join(pieces).decode(self._encoding)
+                for is_text, pieces in groupby(self._pieces, lambda piece: isinstance(piece, str))
+            )
+        except UnicodeDecodeError:
+            raise Unsaid("nobody knows how its bytes are encoded") from None
+
+
+class Teed(Given):
     """A file that the driver reads, of which what was read is kept."""
 
     def __init__(self, file: Any) -> None:
+        super().__init__()
         self._file = file
-        self._read: List[Any] = []
-        self._size = 0
 
     def __getattr__(self, name: str) -> Any:
         return getattr(self._file, name)
@@ -60,19 +89,32 @@ class Teed:
         return self._kept(self._file.readline(*words))
 
     def _kept(self, data: Any) -> Any:
-        if isinstance(data, (str, bytes)) and self._size <= _MOST_TEXT:
-            self._read.append(data)
-            self._size += len(data)
+        if isinstance(data, (str, bytes)):
+            self.keep(data)
         return data
 
-    def text(self) -> str:
-        """What was read."""
-        if self._size > _MOST_TEXT:
-            raise Unsaid("it copies more than is kept")
-        try:
-            return "".join(data if isinstance(data, str) else data.decode("ascii") for data in self._read)
-        except UnicodeDecodeError:
-            raise Unsaid("nobody knows how its bytes are encoded") from None
+
+class Written(Given):
+    """What writes to the server in a COPY of psycopg, by its own writer, which may have to be awaited."""
+
+    def __init__(self, own: Any, encoding: str) -> None:
+        super().__init__(encoding)
+        self._own = own
+
+    def write(self, data: Any) -> Any:
+        """Sends a piece."""
+        self.keep(data)
+        return self._own.write(data)
+
+    def finish(self, error: Optional[BaseException] = None) -> Any:
+        """Ends the COPY, which fails where there is an error."""
+        return self._own.finish(error)
+
+
+def written_by(cursor: Any, kind: str) -> Optional[Written]:
+    """What writes for a cursor of psycopg in the place of its own writer of that kind; nothing where it takes none, as before 3.1."""
+    made = getattr(sys.modules.get("psycopg.copy"), kind, None)
+    return None if made is None else Written(made(cursor), cursor.connection.info.encoding)
 
 
 def _field(text: str, null: str) -> Optional[str]:

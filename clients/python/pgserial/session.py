@@ -1,7 +1,8 @@
 """A session of a recording: the transaction that its connection has open, and what is written of it."""
 
+import contextlib
 import threading
-from typing import Any, Callable, Dict, List, NamedTuple, Optional
+from typing import Any, Callable, Dict, Iterator, List, NamedTuple, Optional
 
 from .catalog import Table
 from .drivers import NOTHING, Driver
@@ -252,6 +253,33 @@ class Session:
                 self.is_busy = False
                 self._place = _UNKNOWN
             return call()
+
+    @contextlib.contextmanager
+    def lasting(self, planned: Callable[[], Any]) -> Iterator[None]:
+        """Takes the step that is planned for what the application does in a block."""
+        with self.lock:
+            if self.is_busy:
+                self.recorder.stop("two tasks use one connection at once")
+                yield
+                return
+            self.is_busy = True
+            self.calls += 1
+            self._place = _UNKNOWN
+            try:
+                step = None if self.is_closed else self.guarded(planned)
+                if step is None:
+                    yield
+                    return
+                self.guarded(step.before)
+                try:
+                    yield
+                except BaseException as error:
+                    self.guarded(step.failed, error)
+                    raise
+                self.finished(step)
+            finally:
+                self.is_busy = False
+                self._place = _UNKNOWN
 
     def _taken(self, step: Any, call: Callable[[], Any]) -> Any:
         self.guarded(step.before)
