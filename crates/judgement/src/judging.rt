@@ -268,6 +268,17 @@ fn reason_steps(transactions: usize, steps: u32) -> u32 {
     }
 }
 
+// For how many transactions a search takes the steps that it is given; of more it takes them once more for each as many.
+const PER_STEPS: usize = 20_000;
+
+// How many steps a search of all these transactions takes.
+fn steps_for(transactions: usize, steps: u32) -> u32 {
+    match u32::try_from(transactions / PER_STEPS) {
+        Ok(times) => steps.saturating_mul(times.saturating_add(1)),
+        Err(_) => u32::MAX,
+    }
+}
+
 // How many transactions a guided search runs or takes back, before reasons are looked for.
 fn few_turns(transactions: usize) -> u64 {
     (transactions as u64)
@@ -428,7 +439,8 @@ fn judge_at_length<A: Allocator + Copy>(
 }
 
 /// Judges what was recorded from these tables on: yes with an order that explains it, no where none does, or unknown,
-/// which says nothing. Each search takes so many steps at most. Out of memory is the only refusal.
+/// which says nothing. Each search takes this number of steps at most, for each 20,000 transactions that were begun. Out of
+/// memory is the only refusal.
 pub fn judge<A: Allocator + Copy>(
     alloc: A,
     catalog: Catalog<A>,
@@ -442,6 +454,7 @@ pub fn judge<A: Allocator + Copy>(
         (j.traces ≡ traces)) }
     ensures tells { IfOk result (λ j. Tells catalog tables traces.transactions.items j.answer) }
 {
+    let steps = steps_for(traces.transactions.len(), steps);
     let Judged {
         answer,
         certificate,

@@ -3,7 +3,7 @@ use Rattle.std.proofs.Common.{◌≡◌, ◌⊎◌, refl, sym, ap, ◌∙◌, su
 use Rattle.std.proofs.lemmas.Bool.{cases_eq}
 use Rattle.std.proofs.lemmas.Option.{same_Some}
 use Rattle.orders.specs.Explains.{Trace}
-use Rattle.orders.specs.Turns.{AreLeast, IsEarliest, IsLeastFrom, begin_at, end_at}
+use Rattle.orders.specs.Turns.{AreEarliestOfRest, AreLeast, IsEarliest, IsEarliestOfRest, IsLeastFrom, begin_at, end_at}
 use Rattle.orders.proofs.PlaceLemmas.{get-other, get-set}
 use Rattle.orders.proofs.TimeLemmas.{end-past, get-past}
 
@@ -112,3 +112,57 @@ module _ {A : Type 0} (ts : List (Trace A)) where
       go : (k m : ℕ) → (slice_get begins k ≡ Some m) ⊎ ((k ≡ length begins) × (b ≡ m)) → IsEarliest ts k m
       go k m (inl g) = h.1 k m g
       go k m (inr g) = subst (λ i. IsEarliest ts i m) (sym (g.0 ∙ h.0)) (subst (IsEarliest ts place) g.1 e)
+
+  -- ---- the earliest begin of all from a place on
+
+  -- those from a place on are found
+  pub record BeginsFrom (place earliest : ℕ) (begins : List ℕ) : Type 0 where
+    pub count : length begins ≡ length ts
+    pub within : place ≤ length ts
+    pub from : IsEarliestOfRest ts place earliest
+    pub each : (k e : ℕ) → place ≤ k → slice_get begins k ≡ Some e → IsEarliestOfRest ts k e
+
+  -- none is found yet
+  pub none-begins : (begins : List ℕ) → length begins ≡ length ts → BeginsFrom (length ts) (2 ^ 64 - 1) begins
+  none-begins begins e = record {
+    count = e;
+    within = omega arith;
+    from = λ j l. subst (λ n. 2 ^ 64 - 1 ≤ n) (begin-past j l) (omega arith);
+    each = λ k m l g. absurd (past k m l (sym e) g);
+  }
+    where
+      past : (k m : ℕ) → length ts ≤ k → length ts ≡ length begins → slice_get begins k ≡ Some m → ⊥
+      past k m l q g = none-some (sym (get-past ts begins k (omega (arith, l, q))) ∙ g)
+        where
+          none-some : {B : Type 0} {x : B} → None ≡ Some x → ⊥
+          none-some r = cc
+
+  -- one more is found
+  pub one-begins : (above place earliest m : ℕ) (begins now : List ℕ) → above ≡ place + 1 → BeginsFrom above earliest begins → m ≡ min earliest (begin_at (slice_get ts place)) → now ≡ slice_set begins place m → BeginsFrom place m now
+  one-begins above place earliest m begins now u h e q = record {
+    count = ap length q ∙ length-set begins place m ∙ h.count;
+    within = omega (arith, u, h.within);
+    from = reaches;
+    each = λ k n l g. go k n (cases_eq k place) l (ap (λ x. slice_get x k) (sym q) ∙ g);
+  }
+    where
+      reaches : IsEarliestOfRest ts place m
+      reaches j l = at (cases_eq j place)
+        where
+          at : (j ≡ place) ⊎ (j ≡ place → ⊥) → m ≤ begin_at (slice_get ts j)
+          at (inl p) = subst (λ i. m ≤ begin_at (slice_get ts i)) (sym p) (omega (arith, e))
+          at (inr p) = let k = h.from j (omega (arith, u, p, l)) in omega (arith, e, k)
+
+      go : (k n : ℕ) → (k ≡ place) ⊎ (k ≡ place → ⊥) → place ≤ k → slice_get (slice_set begins place m) k ≡ Some n → IsEarliestOfRest ts k n
+      go k n (inl p) l g = subst (λ i. IsEarliestOfRest ts i n) (sym p) (subst (IsEarliestOfRest ts place) (same_Some m n (sym (is-set) ∙ ap (slice_get (slice_set begins place m)) (sym p) ∙ g)) reaches)
+        where
+          is-set : slice_get (slice_set begins place m) place ≡ Some m
+          is-set = let s = some-at begins place (omega (arith, u, h.within, h.count)) in get-set begins place s.0 m s.1
+      go k n (inr p) l g = h.each k n (omega (arith, u, p, l)) (sym (get-other begins place k m p) ∙ g)
+
+  pub all-begins : (earliest : ℕ) (begins : List ℕ) → BeginsFrom 0 earliest begins → AreEarliestOfRest ts begins
+  all-begins earliest begins h = (h.count, λ k e g. h.each k e (omega arith) g)
+
+  -- of a place beyond them
+  pub rest-past : (place : ℕ) → length ts ≤ place → IsEarliestOfRest ts place (2 ^ 64 - 1)
+  rest-past place l j m = subst (λ n. 2 ^ 64 - 1 ≤ n) (begin-past j (omega (arith, l, m))) (omega arith)

@@ -4,7 +4,7 @@ use Rattle.std.proofs.lemmas.Bool.{le-ltb, lt-ltb, cases_eq, cases_lt}
 use Rattle.std.specs.List.{list_all}
 use Rattle.std.proofs.lemmas.Option.{same_Some}
 use Rattle.orders.specs.Explains.{Trace, precedes, ended_before}
-use Rattle.orders.specs.Turns.{AreLate, AreSet, IsEarliest, IsLeastEnd, IsLeastFrom, are_done, begin_at, behind_few, comes, comes_so, end_at, end_or_last, lesser_end, settled}
+use Rattle.orders.specs.Turns.{AreLate, AreSet, IsEarliest, IsEarliestOfRest, IsLeastEnd, IsLeastFrom, are_done, begin_at, behind_few, comes, comes_so, end_at, end_or_last, lesser_end, settled}
 use Rattle.orders.proofs.WalkLemmas.{free-at, free-from}
 
 and-both : (a b : Bool) → a ≡ true → b ≡ true → (a && b) ≡ true
@@ -229,6 +229,14 @@ module _ {A : Type 0} (ts : List (Trace A)) where
       go : (j < place) ⊎ (place ≤ j) → (e < 2 ^ 64 - 1) × (e < begin_at (slice_get ts j))
       go (inl p) = h j f p
       go (inr p) = let r = m j p (subst (λ n. j < n) q k) in (omega (arith, fits, l), omega (arith, l, r))
+
+  -- all from a place on begin too late
+  pub late-rest : (e from place until b : ℕ) → AreLate ts e from place → IsEarliestOfRest ts place b → b < 2 ^ 64 → e < b → AreLate ts e from until
+  late-rest e from place until b h m fits l j f k = go (cases_lt j place)
+    where
+      go : (j < place) ⊎ (place ≤ j) → (e < 2 ^ 64 - 1) × (e < begin_at (slice_get ts j))
+      go (inl p) = h j f p
+      go (inr p) = let r = m j p in (omega (arith, fits, l), omega (arith, l, r))
 
   -- none up to a place, that one neither, and those behind it begin too late
   pub none-late : (done : List Bool) (e from place next : ℕ) → IsLeastEnd ts done e → comes ts done place ≡ false → AreLate ts e (place + 1) next → ((j : ℕ) → from ≤ j → j < place → comes ts done j ≡ false) → (j : ℕ) → from ≤ j → j < next → comes ts done j ≡ false

@@ -68,6 +68,14 @@ module _ {A : Type 0} where
   abbrev pub AreEarliest : List (Trace A) → List ℕ → Type 0
   AreEarliest ts begins = (length begins ≡ length ts) × ((k b : ℕ) → slice_get begins k ≡ Some b → IsEarliest ts k b)
 
+  -- none from a place on begins before this one
+  abbrev pub IsEarliestOfRest : List (Trace A) → ℕ → ℕ → Type 0
+  IsEarliestOfRest ts place b = (j : ℕ) → place ≤ j → b ≤ begin_at (slice_get ts j)
+
+  -- such a begin for each place
+  abbrev pub AreEarliestOfRest : List (Trace A) → List ℕ → Type 0
+  AreEarliestOfRest ts begins = (length begins ≡ length ts) × ((k b : ℕ) → slice_get begins k ≡ Some b → IsEarliestOfRest ts k b)
+
   -- the transactions from one place up to another begin behind an end, which isn't the last place that there is
   abbrev pub AreLate : List (Trace A) → ℕ → ℕ → ℕ → Type 0
   AreLate ts e from until = (j : ℕ) → from ≤ j → j < until → (e < 2 ^ 64 - 1) × (e < begin_at (slice_get ts j))

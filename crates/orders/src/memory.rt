@@ -32,6 +32,8 @@ const COMPARED: u64 = 64;
 #[derive(Drop)]
 pub(crate) struct Dead<A: Allocator> {
     done: Vec<bool, A>,
+    // A number made of those that are done.
+    mixed: u64,
     tables: Tables<A>,
 }
 
@@ -111,7 +113,11 @@ impl<A: Allocator> Dead<A> {
     {
         let done = copy_flags(alloc, walk.done().as_slice())?;
         let tables = walk.tables().copy(alloc)?;
-        Ok(Dead { done, tables })
+        Ok(Dead {
+            done,
+            mixed: walk.done().mixed(),
+            tables,
+        })
     }
 
     // Which transactions are done.
@@ -176,7 +182,10 @@ impl<A: Allocator> Memory<A> {
     // Whether the same are done where what is remembered at a place is, and where a walk stands.
     fn is_alike(&self, place: usize, walk: &Walk<A>) -> bool {
         match self.dead.get(place) {
-            Some(dead) => are_same_flags(dead.known_done(), walk.done().as_slice()),
+            Some(dead) => {
+                dead.mixed == walk.done().mixed()
+                    && are_same_flags(dead.known_done(), walk.done().as_slice())
+            }
             None => false,
         }
     }

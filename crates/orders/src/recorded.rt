@@ -2,31 +2,33 @@
 
 ghost use Rattle.std.specs.Prelude.{◌≡◌, min, ◌+◌, ◌-◌, ◌^◌, Some, length, slice_get, IfOk, IfErr};
 ghost use Rattle.value.specs.Refusals.{out_of_memory};
-ghost use Rattle.orders.specs.Turns.{AreEarliest, AreLeast, IsEarliest, IsLeastFrom, begin_at, behind_few, end_at, end_or_last};
+ghost use Rattle.orders.specs.Turns.{AreEarliest, AreEarliestOfRest, AreLeast, IsEarliest, IsEarliestOfRest, IsLeastFrom, begin_at, behind_few, end_at, end_or_last};
 
 use crate::transaction::Transaction;
 use std::alloc::Allocator;
 use std::marker::Model;
 use value::refusal::Refusal;
 
-/// The transactions, with the least end of those from each place on, and the earliest begin of the next few.
+/// The transactions, with the least end of those from each place on, and the earliest begin of the next few and of all.
 #[derive(Drop)]
 pub(crate) struct Recorded<'t, A: Allocator> {
     transactions: &'t [Transaction<A>],
     ends: Vec<u64, A>,
     begins: Vec<u64, A>,
+    rests: Vec<u64, A>,
 }
 
 impl<'t, A: Allocator> Model for Recorded<'t, A> {
     ghost use Rattle.std.specs.Prelude.{List};
     ghost use Rattle.orders.specs.Explains.{Trace};
-    ghost use Rattle.orders.specs.Turns.{AreEarliest, AreLeast};
+    ghost use Rattle.orders.specs.Turns.{AreEarliest, AreEarliestOfRest, AreLeast};
 
     ghost Value = { List (Trace A) };
 
     ghost view = { λ r. r.transactions.now };
 
-    ghost invariant = { λ r. AreLeast r.transactions.now r.ends.items × AreEarliest r.transactions.now r.begins.items };
+    ghost invariant = { λ r. AreLeast r.transactions.now r.ends.items × AreEarliest r.transactions.now r.begins.items
+        × AreEarliestOfRest r.transactions.now r.rests.items };
 }
 
 // An end, or the last place that there is.
@@ -112,6 +114,25 @@ fn earliest_begins<A: Allocator>(
     Ok(begins)
 }
 
+// For each place the earliest begin from there on.
+fn earliest_of_rest<A: Allocator>(
+    alloc: A,
+    transactions: &[Transaction<A>],
+) -> Result<Vec<u64, A>, Refusal>
+    ensures ok { IfOk result (λ begins. AreEarliestOfRest transactions.now begins.items) }
+    ensures memory { IfErr result (λ e. e ≡ out_of_memory) }
+{
+    let mut begins = vec![in alloc; 0; transactions.len()]?;
+    let mut earliest = u64::MAX;
+    let mut place = transactions.len();
+    while place > 0 {
+        place -= 1;
+        earliest = earliest.min(begin_at(transactions, place));
+        begins[place] = earliest;
+    }
+    Ok(begins)
+}
+
 impl<'t, A: Allocator> Recorded<'t, A> {
     /// These transactions.
     pub(crate) fn of(
@@ -125,10 +146,12 @@ impl<'t, A: Allocator> Recorded<'t, A> {
     {
         let ends = least_ends(alloc, transactions)?;
         let begins = earliest_begins(alloc, transactions)?;
+        let rests = earliest_of_rest(alloc, transactions)?;
         Ok(Recorded {
             transactions,
             ends,
             begins,
+            rests,
         })
     }
 
@@ -152,6 +175,16 @@ impl<'t, A: Allocator> Recorded<'t, A> {
     {
         match self.ends.get(place) {
             Some(end) => *end,
+            None => u64::MAX,
+        }
+    }
+
+    /// A place before which none begins from a place on.
+    pub(crate) fn earliest_of_rest(&self, place: usize) -> u64
+        ensures { IsEarliestOfRest self.now place result }
+    {
+        match self.rests.get(place) {
+            Some(begin) => *begin,
             None => u64::MAX,
         }
     }

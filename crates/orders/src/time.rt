@@ -103,13 +103,16 @@ fn begins_behind(begin: u64, end: u64) -> bool
     end < begin
 }
 
-// The first place from this one on where one of the next few begins by an end.
+// The first place from this one on where one of the next few begins by an end; the last one where none does from there on.
 fn skip_late<A: Allocator>(recorded: &Recorded<'_, A>, end: u64, from: usize) -> usize
     ensures late { AreLate recorded.now end from result }
     ensures behind { from ≤ result }
 {
     let mut place = from;
     while place < recorded.len() {
+        if begins_behind(recorded.earliest_of_rest(place), end) {
+            return recorded.len();
+        }
         if !begins_behind(recorded.earliest_from(place), end) {
             return place;
         }
