@@ -91,7 +91,9 @@ int pgserial_explore(const char *script, size_t script_length, uint32_t most_eve
  * the other, from whichever threads.
  *
  * Where memory is refused, PGSERIAL_MEMORY, nothing is lost: what the handle keeps is as it was, the last answer too, and the
- * call can be made again. One that is open stays open until it is closed.
+ * call can be made again. One that is open stays open until it is closed. Where it is refused to a session's statement or to
+ * CHECKPOINT, the reply says so, as `1 ERROR 53200`, and so does that to a CREATE TABLE line, `ERROR 42601 out of memory`: of
+ * these the status is PGSERIAL_DONE, and PGSERIAL_REFUSED where the statement was read once.
  *
  * What can't be seen of a handle is undefined: a copy of an open one that is used beside it or after it; one whose fields
  * were written; calls on it from two threads at once.

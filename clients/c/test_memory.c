@@ -85,8 +85,14 @@ static int ask(struct pgserial_handle *handle, const char *what, struct pgserial
     return pgserial_call(handle, what, strlen(what), report);
 }
 
+/* Whether an answer says itself that there was no memory. */
+static int says_so(const char *text)
+{
+    return strstr(text, "ERROR 53200\n") != NULL || strcmp(text, "ERROR 42601 out of memory\n") == 0;
+}
+
 /* Appends the answer to what is asked. Out of memory it is asked once more, and so is the text of a line that is done. An
- * answer that says itself that there was no memory is asked for again, too. */
+ * answer that says itself that there was no memory is asked for again, too: its status is that of a reply. */
 static void answer(struct pgserial_handle *handle, const char *what, char *text)
 {
     struct pgserial_report report = {0, 0};
@@ -97,13 +103,16 @@ static void answer(struct pgserial_handle *handle, const char *what, char *text)
     unprinted += status == PGSERIAL_UNPRINTED;
     if (status != PGSERIAL_DONE && status != PGSERIAL_UNPRINTED && status != PGSERIAL_REFUSED)
         exit(3);
+    int done = status;
     status = pgserial_reply(handle, text + length, ROOM - 1 - length, &report);
     if (status == PGSERIAL_MEMORY)
         status = pgserial_reply(handle, text + length, ROOM - 1 - length, &report);
     if (status != PGSERIAL_DONE)
         exit(4);
     text[length + report.length] = '\0';
-    if (strstr(text + length, "ERROR 53200\n") != NULL || strcmp(text + length, "ERROR 42601 out of memory\n") == 0) {
+    if (says_so(text + length)) {
+        if (done != (strncmp(what, ONCE, strlen(ONCE)) == 0 ? PGSERIAL_REFUSED : PGSERIAL_DONE))
+            exit(8);
         text[length] = '\0';
         answer(handle, what, text);
     }
