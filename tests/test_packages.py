@@ -19,7 +19,7 @@ from unittest import mock
 
 from tests import roots
 from tests.program import TOP, program
-from tools import install, library, package
+from tools import install, library, package, quick
 
 NO_COMPILER = "a C compiler isn't there (Debian: gcc)"
 NO_PIP = "Python's venv with pip isn't there (Debian: python3-venv)"
@@ -149,11 +149,18 @@ def elsewhere(folder: str) -> "Iterator[None]":
         yield
 
 
+def are_proved() -> bool:
+    """Whether the program that is tested is the proved one of these sources, and the calls of the library are proved, too."""
+    told = quick.ask_sources(f"ask_kit; if is_proved; then echo program; fi; {library.OF_CALLS} if is_proved; then echo calls; fi")
+    return os.path.realpath(program()) == os.path.join(TOP, "crates/pgserial/out/pgserial") and told == ["program", "calls"]
+
+
 @unittest.skipUnless(shutil.which("cc") and shutil.which("readelf"), NO_COMPILER)
 class Made(unittest.TestCase):
-    """The packages of the program that is tested, which counts as unproved here, and older ones."""
+    """The packages of the program that is tested, and older ones. Where that is the proved one, and so are the calls of the library, they
+    are of a proved build; else they are unproved."""
 
-    folder, outs, names = "", ["", ""], [""]
+    folder, outs, names, is_proved = "", ["", ""], [""], False
 
     @classmethod
     def setUpClass(cls) -> None:
@@ -162,7 +169,8 @@ class Made(unittest.TestCase):
         folder = tempfile.TemporaryDirectory()
         unittest.addModuleCleanup(folder.cleanup)
         outs = [os.path.join(folder.name, name) for name in ("first", "second")]
-        with mock.patch.object(install, "find_program", lambda unproved: (program(), False)), contextlib.redirect_stderr(io.StringIO()):
+        Made.is_proved = are_proved()
+        with mock.patch.object(install, "find_program", lambda unproved: (program(), Made.is_proved)), contextlib.redirect_stderr(io.StringIO()):
             Made.names = package.package(outs[0], True)
             with elsewhere(os.path.join(folder.name, "elsewhere")):
                 package.package(outs[1], True)
@@ -181,6 +189,10 @@ class Made(unittest.TestCase):
         """The package whose name ends so."""
         return os.path.join(self.outs[0], next(name for name in self.names if name.endswith(ending)))
 
+    def version(self, number: str, local: str = "+") -> str:
+        """A version as packages have it: behind `local` it says that nothing was proved."""
+        return number if self.is_proved else f"{number}{local}unproved"
+
     def scratch(self, name: str) -> str:
         path = os.path.join(self.folder, name)
         os.makedirs(path, exist_ok=True)
@@ -196,10 +208,12 @@ class Packages(Made):
         self.assertEqual(*sums)
         self.assertEqual(len(sums[0].splitlines()), len(self.names))
 
-    def test_names_and_texts_say_that_nothing_was_proved(self) -> None:
-        self.assertEqual([name for name in self.names if "unproved" not in name], ["BUILD.txt"])
+    def test_names_and_texts_say_whether_it_was_proved(self) -> None:
+        silent = [name for name in self.names if "unproved" not in name]
+        self.assertEqual(silent, self.names if self.is_proved else ["BUILD.txt"])
         text = package.read(self.path("BUILD.txt")).decode()
-        self.assertIn("compiled without proof: nothing is claimed", text)
+        self.assertEqual("compiled without proof: nothing is claimed" in text, not self.is_proved)
+        self.assertEqual(len(re.findall(r"(?m)^proved by .+$", text)), 2 if self.is_proved else 0)
         self.assertRegex(text, r"(?m)^sources: [0-9a-f]{32}$")
         self.assertRegex(text, r"(?m)^toolchain: rattle-kit-")
 
@@ -225,7 +239,7 @@ class Packages(Made):
         subprocess.run([*pip, "install", "--no-index", "--no-deps", "--no-compile", "-q", self.path(".whl")], check=True, env=nothing(self.folder))
         done = subprocess.run([os.path.join(room, "bin/python"), "-B", "-c", APPLICATION, os.path.join(self.folder, "of_wheel.db")],
                               capture_output=True, text=True, env=nothing(self.folder))
-        self.assertEqual((done.returncode, done.stdout.splitlines()), (0, ["[1]", "[1]", "yes", "0.1.0+unproved"]), done.stderr)
+        self.assertEqual((done.returncode, done.stdout.splitlines()), (0, ["[1]", "[1]", "yes", self.version("0.1.0")]), done.stderr)
         for words in ([os.path.join(room, "bin/pgserial")], [os.path.join(room, "bin/python"), "-B", "-m", "pgserial"]):
             done = subprocess.run([*words, "run", "-"], input=SCRIPT, capture_output=True, text=True, env=nothing(self.folder))
             self.assertEqual((done.returncode, done.stdout), (0, "1 BEGIN\n1 COMMIT\n"), done.stderr)
@@ -242,10 +256,10 @@ class Packages(Made):
             archive.extractall(self.scratch("archive"))
         return os.path.join(self.scratch("archive"), os.listdir(self.scratch("archive"))[0])
 
-    def test_the_archives_program_says_that_it_is_unproved(self) -> None:
+    def test_the_archives_program_says_where_it_is_unproved(self) -> None:
         done = subprocess.run([os.path.join(self.unpacked(), "bin/pgserial"), "--version"], capture_output=True, text=True)
-        self.assertEqual((done.returncode, done.stdout), (0, "pgserial 0.1.0 (unproved)\n"), done.stderr)
-        self.assertIn("unproved", done.stderr)
+        self.assertEqual((done.returncode, done.stdout), (0, f"pgserial 0.1.0{'' if self.is_proved else ' (unproved)'}\n"), done.stderr)
+        self.assertEqual("unproved" in done.stderr, not self.is_proved)
 
     def test_the_archives_library_for_c(self) -> None:
         folder, made = self.unpacked(), os.path.join(self.scratch("c"), "example")
@@ -274,7 +288,7 @@ class Packages(Made):
                   "usr/share/doc/pgserial/examples/example.c"}
         self.assertEqual(wanted - names, set())
         control = subprocess.run(["dpkg-deb", "--field", self.path(".deb")], stdout=subprocess.PIPE, text=True, check=True).stdout
-        self.assertIn("Version: 0.1.0~unproved\n", control)
+        self.assertIn(f"Version: {self.version('0.1.0', '~')}\n", control)
         self.assertRegex(control, r"Depends: libc6 \(>= 2\.\d+\)")
 
     def test_the_version_is_the_programs(self) -> None:
@@ -327,14 +341,14 @@ class InARoot(Made):
         done = self.in_root(WHEEL.format(install=asked + " --quiet", run=ran.replace("SCRIPT", "write_skew.script --why")))
         self.the_readmes_example(done)
         lines = done.printed.splitlines()
-        self.assertEqual(lines[:2], ["0.0.9+unproved True", "0.1.0+unproved False"])
-        self.assertEqual(lines[-4:], ["[1]", "[1]", "yes", "0.1.0+unproved"])
+        self.assertEqual(lines[:2], [f"{self.version('0.0.9')} True", f"{self.version('0.1.0')} False"])
+        self.assertEqual(lines[-4:], ["[1]", "[1]", "yes", self.version("0.1.0")])
         self.leaves_nothing(done)
 
     @unittest.skipUnless(shutil.which("dpkg-deb"), NO_DPKG)
     def test_the_debian_package(self) -> None:
         done = self.in_root(DEBIAN)
-        self.assertIn("pgserial\t0.1.0~unproved\n", done.printed)
+        self.assertIn(f"pgserial\t{self.version('0.1.0', '~')}\n", done.printed)
         self.the_readmes_example(done)
         self.the_examples(done)
         if shutil.which("man"):
