@@ -15,3 +15,4 @@ pub mod Histories
 pub mod Steps
 pub mod Classes
 pub mod Matter
+mod Beginnings

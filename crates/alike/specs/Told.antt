@@ -1,9 +1,11 @@
 -- What a session is shown of a reply, whatever other sessions did before.
-use Rattle.std.specs.Prelude.{List, [], ◌∷◌}
+use Rattle.std.specs.Prelude.{ℕ, List, [], ◌∷◌}
+use Rattle.value.specs.declared.refusal.Mode.{Mode}
 use Rattle.value.specs.declared.refusal.Place.{Place}
 use Rattle.value.specs.declared.refusal.Place.TheVariants.{Cause}
 use Rattle.statement.specs.declared.reply.Reply.{Reply}
-use Rattle.statement.specs.declared.reply.Reply.TheVariants.{Safe, Exported, Refused}
+use Rattle.statement.specs.declared.reply.Reply.TheVariants.{Begun, Safe, Exported, Refused}
+use Rattle.history.specs.declared.event.Action.TheVariants.{Begin}
 use Rattle.history.specs.declared.event.Event.{Event}
 use Rattle.history.specs.declared.event.Record.{Record}
 use Rattle.history.specs.Transactions.{World}
@@ -26,6 +28,10 @@ module _ {A : Type 0} where
   -- the event of an action, with its reply
   abbrev pub answered_in : World A → Event A → Record A
   answered_in w e = record { session = e.session; action = e.action; reply = reply_in w e.session e.action }
+
+  -- a BEGIN that is done
+  abbrev pub begins : ℕ → Mode → Record A
+  begins s m = record { session = s; action = Begin m; reply = Begun }
 
   -- the replies to these actions, done one after the other, without those numbers
   abbrev pub told_after : World A → List (Event A) → List (Reply A)

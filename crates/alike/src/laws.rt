@@ -1,14 +1,15 @@
 //! What holds of worlds that are alike, after legal histories.
 
-ghost use Rattle.std.specs.Prelude.{◌≡◌, ℕ, List};
+ghost use Rattle.std.specs.Prelude.{◌≡◌, ◌≢◌, ℕ, List, [], ◌∷◌};
 ghost use Rattle.std.specs.List.{AllByRecursion};
+ghost use Rattle.value.specs.declared.refusal.Mode.TheVariants.{ReadOnly, ReadWrite};
 ghost use Rattle.history.specs.declared.event.Action.{Action as AnyAction};
 ghost use Rattle.history.specs.declared.event.Event.{Event as AnyEvent};
 ghost use Rattle.history.specs.declared.event.Record.{Record as AnyRecord};
 ghost use Rattle.history.specs.Opening.{Opening};
 ghost use Rattle.history.specs.Events.{follows, world_of};
 ghost use Rattle.history.specs.Answer.{Allowed, Legal, answer};
-ghost use Rattle.alike.specs.Told.{answered_in, as_told, told_after, world_after};
+ghost use Rattle.alike.specs.Told.{answered_in, as_told, begins, told_after, world_after};
 ghost use Rattle.alike.specs.Worlds.{Alike, MatterAlike};
 
 use std::alloc::Allocator;
@@ -64,4 +65,12 @@ pub fn what_matters_tells_the_same<A: Allocator>()
         AllByRecursion (λ e. Allowed (world_of o es).catalog e.action) events
         → (told_after (world_of o es) events ≡ told_after (world_of p fs) events)
         × MatterAlike (world_after (world_of o es) events) (world_after (world_of p fs) events) }
+{}
+
+/// An example: where one session begins a transaction that may write and another one that only reads, the order of the
+/// two doesn't matter.
+pub fn a_writer_and_a_reader_begin_in_either_order<A: Allocator>()
+    ensures { (o : Opening A) → (s t : ℕ) → s ≢ t →
+        Alike (world_of o (begins s ReadWrite ∷ begins t ReadOnly ∷ [])) (world_of o
+        (begins t ReadOnly ∷ begins s ReadWrite ∷ [])) }
 {}
