@@ -268,7 +268,7 @@ fn reason_steps(transactions: usize, steps: u32) -> u32 {
     }
 }
 
-// For how many transactions a search takes the steps that it is given; of more it takes them once more for each as many.
+// For each of how many transactions a search takes the steps that it is given once more.
 const PER_STEPS: usize = 20_000;
 
 // How many steps a search of all these transactions takes.
@@ -439,8 +439,8 @@ fn judge_at_length<A: Allocator + Copy>(
 }
 
 /// Judges what was recorded from these tables on: yes with an order that explains it, no where none does, or unknown,
-/// which says nothing. Each search takes this number of steps at most, for each 20,000 transactions that were begun. Out of
-/// memory is the only refusal.
+/// which says nothing. Each search takes this number of steps at most, and as many again for each 20,000 transactions. Out
+/// of memory is the only refusal.
 pub fn judge<A: Allocator + Copy>(
     alloc: A,
     catalog: Catalog<A>,
